@@ -3,7 +3,7 @@ use Rattle.std.proofs.Common.{◌≡◌, ◌≢◌, ◌∙◌, ap, refl, sym, �
 use Rattle.std.specs.Prelude.{All, IfSome, codes, nat_eq, ◌==◌, ◌&&◌, if◌then◌else◌}
 use Rattle.std.specs.Cmp.Lexicographic.{pointwise}
 use Rattle.std.specs.Option.{option_map}
-use Rattle.std.proofs.lemmas.Bool.{eq-eqb, ne_eqb}
+use Rattle.std.proofs.lemmas.Bool.{eq-eqb, ne_eqb, and_from}
 use Rattle.std.proofs.lemmas.Bool.Decides.{Decides-eqb}
 use Rattle.std.proofs.lemmas.List.Elements.{All-head, All-tail}
 use Rattle.std.proofs.lemmas.Slice.Eq.{slice_eq-Decides}
@@ -26,9 +26,6 @@ use Rattle.gix_object_commit.proofs.OwnTexts.{folded_is}
 
 -- ---- a piece that is accepted, before others
 
-and_true : (a b : Bool) → a ≡ true → b ≡ true → (a && b) ≡ true
-and_true a b p q = λ i. p i && q i
-
 not_held : (byte : ℕ) (text : List ℕ) → Lacks byte text → not (holds byte text) ≡ true
 not_held byte text lacks = ap not lacks
 
@@ -44,17 +41,17 @@ module _ {X : Type 0} (f : X → Piece) (Fits : X → Type 0) (fits : (x : X) �
 -- ---- what passes each test
 
 id_like : (kind : hash.Kind) (tree digits : List ℕ) → IsHex (hex_len kind) tree → IsHex (hex_len kind) digits → is_id_like tree digits ≡ true
-id_like kind tree digits t d = and_true (length digits == length tree) (is_id digits) (eq-eqb (length digits) (length tree) (d.0 ∙ sym t.0)) (is_id_of_hex kind digits d)
+id_like kind tree digits t d = and_from (length digits == length tree) (is_id digits) (eq-eqb (length digits) (length tree) (d.0 ∙ sym t.0)) (is_id_of_hex kind digits d)
 
 plain : (part : List ℕ) → IsPlain part → is_plain part ≡ true
 plain part is =
-    and_true (not (holds 60 part)) (not (holds 62 part) && not (holds 10 part)) (not_held 60 part is.no_open)
-    (and_true (not (holds 62 part)) (not (holds 10 part)) (not_held 62 part is.no_close) (not_held 10 part is.in_line))
+    and_from (not (holds 60 part)) (not (holds 62 part) && not (holds 10 part)) (not_held 60 part is.no_open)
+    (and_from (not (holds 62 part)) (not (holds 10 part)) (not_held 62 part is.no_close) (not_held 10 part is.in_line))
 
 person : (who : Person) → IsPlainPerson who → TellsTime who.time → is_person who ≡ true
 person who is told =
-    and_true (is_plain who.name) (is_plain who.email && tells_time who.time) (plain who.name is.name)
-    (and_true (is_plain who.email) (tells_time who.time) (plain who.email is.email) ((tells_time-Decides who.time).1 told))
+    and_from (is_plain who.name) (is_plain who.email && tells_time who.time) (plain who.name is.name)
+    (and_from (is_plain who.email) (tells_time who.time) (plain who.email is.email) ((tells_time-Decides who.time).1 told))
 
 not_empty : (text : List ℕ) → text ≢ [] → is_empty text ≡ false
 not_empty [] some = absurd (some refl)
@@ -62,9 +59,9 @@ not_empty (byte ∷ text) some = ne_eqb (length (byte ∷ text)) 0 (λ e. omega 
 
 field : (f : Field) → IsField f → is_field f ≡ true
 field f is =
-    and_true (is_word f.name) (is_folded f.value)
-    (and_true (not (is_empty f.name)) (not (holds 32 f.name) && not (holds 10 f.name)) (ap not (not_empty f.name is.named))
-    (and_true (not (holds 32 f.name)) (not (holds 10 f.name)) (not_held 32 f.name is.name_one_word) (not_held 10 f.name is.name_in_line)))
+    and_from (is_word f.name) (is_folded f.value)
+    (and_from (not (is_empty f.name)) (not (holds 32 f.name) && not (holds 10 f.name)) (ap not (not_empty f.name is.named))
+    (and_from (not (holds 32 f.name)) (not (holds 10 f.name)) (not_held 32 f.name is.name_one_word) (not_held 10 f.name is.name_in_line)))
     (ap is_folded is.value_folded.1 ∙ folded_is is.value_folded.0)
 
 -- the test of an encoding's name among the headers

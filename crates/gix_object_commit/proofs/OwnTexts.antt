@@ -2,7 +2,7 @@
 use Rattle.std.proofs.Common.{◌≡◌, ◌∙◌, ap, refl, sym, ℕ, ◌%◌, ◌+◌, ◌<◌, ◌≤◌, ◌^◌, Bool, true, false, cond, ◌&&◌, List, [], ◌∷◌, ◌++◌, length, length-append, Option, None, Some, arith}
 use Rattle.std.specs.Option.{SomeIff, option_map}
 use Rattle.std.specs.Prelude.{MatchOption, codes, count_by, filter, ◌==◌, nat_lt, unsigned_abs}
-use Rattle.std.proofs.lemmas.Bool.{ne_eqb}
+use Rattle.std.proofs.lemmas.Bool.{ne_eqb, and_parts}
 use Rattle.std.proofs.lemmas.List.Sums.{length-filter}
 use Rattle.std.proofs.lemmas.Bool.Decides.{Decides-eqb, Decides-ltb}
 use Rattle.gix_object_lines.specs.Actor.{IsSpellable}
@@ -18,16 +18,16 @@ use Rattle.gix_object_commit_lines.specs.declared.header.ExtraHeader.{ExtraHeade
 use Rattle.gix_object_commit_lines.proofs.Folds.{by_feed, feed_folded, plain_folded}
 use Rattle.gix_object_commit.proofs.FoldedTests.{plain_byte}
 use Rattle.gix_object_commit.proofs.OwnPieces.{line_piece}
-use Rattle.gix_object_commit.proofs.Written.{both, fine, plain_name}
+use Rattle.gix_object_commit.proofs.Written.{fine, plain_name}
 
 -- ---- actors
 
 pub own_spellable : (actor : Actor) → is_own_person actor ≡ true → IsSpellable actor.name actor.email actor.time
 own_spellable actor e =
-    let a = both (is_plain actor.name) (is_plain actor.email && is_whole_offset actor.time.offset) e in
-    let b = both (is_plain actor.email) (is_whole_offset actor.time.offset) a.1 in
+    let a = and_parts (is_plain actor.name) (is_plain actor.email && is_whole_offset actor.time.offset) e in
+    let b = and_parts (is_plain actor.email) (is_whole_offset actor.time.offset) a.1 in
     let amount = unsigned_abs actor.time.offset in
-    let c = both (amount % 60 == 0) (nat_lt amount 360_000) b.1 in
+    let c = and_parts (amount % 60 == 0) (nat_lt amount 360_000) b.1 in
     let n = plain_name actor.name a.0 in
     let m = plain_name actor.email b.0 in
     record {

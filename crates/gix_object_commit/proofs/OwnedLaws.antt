@@ -15,7 +15,8 @@ use Rattle.gix_object_lines.specs.Pieces.{Piece, first_refused, refused_or}
 use Rattle.gix_object_lines.specs.Person.{own_person}
 use Rattle.gix_object_commit.specs.declared.commit.owned.Commit.{Commit}
 use Rattle.gix_object_commit.proofs.OwnTexts.{own_spellable}
-use Rattle.gix_object_commit.proofs.Written.{both, fine, none_refused, written}
+use Rattle.gix_object_commit.proofs.Written.{fine, none_refused, written}
+use Rattle.std.proofs.lemmas.Bool.{and_parts}
 
 -- ---- one piece in the place of another of the same text
 
@@ -44,8 +45,8 @@ told actor fits e = (actor.time, time_written actor.time fits (own_spellable act
 
 person_fits : (actor : Actor) → FitsSigned w64 actor.time.seconds → is_own_person actor ≡ true → is_person (own_person actor) ≡ true
 person_fits actor fits e =
-    let a = both (is_plain actor.name) (is_plain actor.email && is_whole_offset actor.time.offset) e in
-    let b = both (is_plain actor.email) (is_whole_offset actor.time.offset) a.1 in
+    let a = and_parts (is_plain actor.name) (is_plain actor.email && is_whole_offset actor.time.offset) e in
+    let b = and_parts (is_plain actor.email) (is_whole_offset actor.time.offset) a.1 in
     all_true (is_plain actor.name) (is_plain actor.email) (tells_time (time_text actor.time)) a.0 b.0 ((tells_time-Decides (time_text actor.time)).1 (told actor fits e))
 
 piece_fits : (word : List ℕ) (actor : Actor) → FitsSigned w64 actor.time.seconds → (own_person_piece word actor).cause ≡ None → (person_piece word (own_person actor)).cause ≡ None

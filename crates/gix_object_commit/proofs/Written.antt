@@ -19,12 +19,9 @@ use Rattle.gix_object_lines.specs.Pieces.{Piece, first_refused, refused_or}
 use Rattle.gix_object_lines.specs.Person.{Person}
 use Rattle.gix_object_commit_lines.proofs.Folds.{by_feed, plain_folded}
 use Rattle.gix_object_commit.proofs.FoldedTests.{plain_byte}
+use Rattle.std.proofs.lemmas.Bool.{and_parts}
 
 -- ---- tests that hold
-
-pub both : (a b : Bool) → (a && b) ≡ true → (a ≡ true) × (b ≡ true)
-both true b e = (refl, e)
-both false b e = absurd cc
 
 lacks_of : (byte : ℕ) (text : List ℕ) → not (holds byte text) ≡ true → Lacks byte text
 lacks_of byte text e = go (holds byte text) e
@@ -66,19 +63,19 @@ module _ {X : Type 0} (f : X → Piece) (Fits : X → Type 0) (fits : (x : X) �
 
 id_fits : (tree digits : List ℕ) → is_id_like tree digits ≡ true → IsHex (length tree) digits
 id_fits tree digits e =
-    let parts = both (length digits == length tree) (is_id digits) e in
-    ((Decides-eqb (length digits) (length tree)).0 parts.0, (both (length digits == 40 || length digits == 64) (is_hex digits) parts.1).1)
+    let parts = and_parts (length digits == length tree) (is_id digits) e in
+    ((Decides-eqb (length digits) (length tree)).0 parts.0, (and_parts (length digits == 40 || length digits == 64) (is_hex digits) parts.1).1)
 
 pub plain_name : (part : List ℕ) → is_plain part ≡ true → Lacks 60 part × Lacks 62 part × Lacks 10 part
 plain_name part e =
-    let a = both (not (holds 60 part)) (not (holds 62 part) && not (holds 10 part)) e in
-    let b = both (not (holds 62 part)) (not (holds 10 part)) a.1 in
+    let a = and_parts (not (holds 60 part)) (not (holds 62 part) && not (holds 10 part)) e in
+    let b = and_parts (not (holds 62 part)) (not (holds 10 part)) a.1 in
     (lacks_of 60 part a.0, lacks_of 62 part b.0, lacks_of 10 part b.1)
 
 person_fits : (person : Person) → is_person person ≡ true → IsPerson person
 person_fits person e =
-    let a = both (is_plain person.name) (is_plain person.email && tells_time person.time) e in
-    let b = both (is_plain person.email) (tells_time person.time) a.1 in
+    let a = and_parts (is_plain person.name) (is_plain person.email && tells_time person.time) e in
+    let b = and_parts (is_plain person.email) (tells_time person.time) a.1 in
     let told = (tells_time-Decides person.time).0 b.1 in
     record {
       cut = record { spelled = refl; first = (plain_name person.name a.0).0; last = marks.time_lacks person.time told.0 told.1; name_in_line = (plain_name person.name a.0).2; email_in_line = (plain_name person.email b.0).2 };
@@ -97,7 +94,7 @@ folded_fits (byte ∷ []) e =
     (λ differs. (byte ∷ [], sym (plain_folded byte [] differs)))
 folded_fits (byte ∷ (next ∷ rest)) e =
     by_feed byte
-    (λ is. let p = both (next == 32) (is_folded (next ∷ rest)) (sym (told_feed byte (next ∷ rest) is) ∙ e) in
+    (λ is. let p = and_parts (next == 32) (is_folded (next ∷ rest)) (sym (told_feed byte (next ∷ rest) is) ∙ e) in
     let space = (Decides-eqb next 32).0 p.0 in
     let inner = sym (plain_byte next rest (λ feed. let clash : ◌≡◌ {A = ℕ} 32 10 = sym space ∙ feed in omega arith)) ∙ p.1 in
     let value = folded_fits rest inner in
@@ -107,9 +104,9 @@ folded_fits (byte ∷ (next ∷ rest)) e =
 
 field_fits : (field : Field) → is_field field ≡ true → IsField field
 field_fits field e =
-    let f = both (is_word field.name) (is_folded field.value) e in
-    let a = both (not (is_empty field.name)) (not (holds 32 field.name) && not (holds 10 field.name)) f.0 in
-    let b = both (not (holds 32 field.name)) (not (holds 10 field.name)) a.1 in
+    let f = and_parts (is_word field.name) (is_folded field.value) e in
+    let a = and_parts (not (is_empty field.name)) (not (holds 32 field.name) && not (holds 10 field.name)) f.0 in
+    let b = and_parts (not (holds 32 field.name)) (not (holds 10 field.name)) a.1 in
     record {
       named = λ none. (let clash : false ≡ true = sym (ap (λ n. not (is_empty n)) none) ∙ a.0 in cc);
       name_one_word = lacks_of 32 field.name b.0;
@@ -148,7 +145,7 @@ written parts none =
     let told = encoding_fits parts.encoding parts.headers (no_cause (encoding_cause parts.encoding parts.headers) e.0) in
     record {
       spelled = refl;
-      tree = (refl, (both (length tree == 40 || length tree == 64) (is_hex tree) (fine (is_id tree) t.0)).1);
+      tree = (refl, (and_parts (length tree == 40 || length tree == 64) (is_hex tree) (fine (is_id tree) t.0)).1);
       parents = ps.0;
       author = person_fits parts.author (fine (is_person parts.author) a.0);
       committer = person_fits parts.committer (fine (is_person parts.committer) c.0);

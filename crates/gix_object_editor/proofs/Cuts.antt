@@ -71,7 +71,7 @@ null_itself kind = id_equivalence.refl (null_id kind)
 null_leaf : (s : Slot) (kind : Kind) → leaf_in s ≡ made_leaf kind → is_null (id_of s.oid) ≡ true
 null_leaf s kind e = ap (λ (l : Leaf). is_null l.id) e ∙ null_itself kind
 
-one_slot : (a b : Slot) → Some a ≡ Some b → a ≡ b
+pub one_slot : (a b : Slot) → Some a ≡ Some b → a ≡ b
 one_slot a b e = cc
 
 pub hung_null : (old mid new : Slots) (bound at : ℕ) (name : Bytes) (top : Slot) (tail : Path) (leaf : Leaf) → IsForest old bound → ((i : ℕ) (m : Bytes) → i < bound → mid i m ≡ old i m)

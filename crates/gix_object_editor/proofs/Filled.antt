@@ -12,6 +12,7 @@ use Rattle.gix_object_editor.proofs.Paths.{by_test}
 use Rattle.gix_object_editor.proofs.Slots.{key_cmp, is_named}
 use Rattle.gix_object_editor.proofs.Ways.{child_files, child_no_file}
 use Rattle.gix_object_editor.proofs.ReachedTrees.{found_first, found_later}
+use Rattle.std.proofs.lemmas.Bool.{not-true, not-false}
 
 -- the slot has no file, over each table of trees
 abbrev pub NoFile : Slots → Slot → Type 0
@@ -77,11 +78,3 @@ found_entry trees slots at m s stands closed h =
 pub found_child : (trees : Trees) (slots : Slots) (at : ℕ) (m : Bytes) (s : Slot) (c : ℕ) → slots at m ≡ Some s → child_of (Some s) ≡ Some c → HasFileBelow trees slots c → HasFileBelow trees slots at
 found_child trees slots at m s c stands e h =
     (m, h.0 ∷ h.1, h.2, ap (λ o. through o (files_of_slot trees slots (h.0 ∷ h.1))) stands ∙ child_files trees slots h.0 h.1 (Some s) c e ∙ h.3)
-
-pub isnt : (b : Bool) → not b ≡ true → b ≡ false
-isnt true e = cc
-isnt false e = refl
-
-pub is_so : (b : Bool) → not b ≡ false → b ≡ true
-is_so true e = refl
-is_so false e = cc

@@ -9,7 +9,7 @@ use Rattle.gix_object_editor.proofs.Opening.{at_or_off}
 use Rattle.gix_object_editor.proofs.Paths.{same_name, name_itself, by_test, behind_is, onto-append}
 use Rattle.gix_object_editor.proofs.Ways.{down, child_no_file, removes, way_above, way_kept}
 use Rattle.gix_object_editor.proofs.Walked.{names}
-use Rattle.gix_object_editor.proofs.Entered.{none_met, cut_entries}
+use Rattle.gix_object_editor.proofs.Entered.{none_met, cut_entries, not_flipped}
 use Rattle.gix_object_editor.proofs.Edits.{below_end, none_left}
 
 -- ---- paths
@@ -28,12 +28,6 @@ same_front (n ∷ p) (m ∷ q) x y e =
     let first : n ≡ m = cc in
     let rest : p ++ x ∷ [] ≡ q ++ y ∷ [] = cc in
     ap (λ k. k ∷ p) first ∙ ap (λ r. m ∷ r) (same_front p q x y rest)
-
-not_flipped : (x m : Bytes) → bytes_eq x m ≡ false → bytes_eq m x ≡ false
-not_flipped x m f = elim (by_test (bytes_eq m x)) [
-  | inr g ↦ g
-  | inl t ↦ let yes : bytes_eq x m ≡ true = ap (bytes_eq x) (same_name m x t) ∙ name_itself x in absurd (cc (sym yes ∙ f))
-]
 
 -- what begins a path with one name more begins the path, unless it is the longer one
 same_beginnings : (p q : Path) (x : Bytes) → behind (p ++ x ∷ []) q ≡ None → is_some (behind q (p ++ x ∷ [])) ≡ is_some (behind q p)

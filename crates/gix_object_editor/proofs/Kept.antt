@@ -21,9 +21,7 @@ use Rattle.gix_object_editor.specs.Entries.{Property, EachHas, PassesDown, Holds
 use Rattle.gix_object_editor.proofs.Paths.{same_name, name_itself, by_test}
 use Rattle.gix_object_editor.proofs.Opening.{at_or_off}
 use Rattle.gix_object_editor.proofs.WrittenEntries.{named_found}
-
-one_slot : (a b : Slot) → Some a ≡ Some b → a ≡ b
-one_slot a b e = cc
+use Rattle.gix_object_editor.proofs.Cuts.{one_slot}
 
 -- the property is that of the slot's leaf
 pub has_of : (has : Property) (name : Bytes) (s t : Slot) → Some s ≡ Some t → has name (leaf_in t) ≡ true → has name (leaf_in s) ≡ true

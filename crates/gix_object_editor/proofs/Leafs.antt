@@ -12,7 +12,7 @@ use Rattle.gix_object_editor.specs.Nodes.{leaf_in}
 use Rattle.gix_object_editor.specs.Files.{Path, Leaf, HasSomeBelow, no_trees, is_null, unless_tree, tree_under, files_of_entry}
 
 -- over the table without trees an entry that isn't null is a file
-entry_is_file : (leaf : Leaf) → is_null leaf.id ≡ false → files_of_entry no_trees [] leaf ≡ Some leaf
+pub entry_is_file : (leaf : Leaf) → is_null leaf.id ≡ false → files_of_entry no_trees [] leaf ≡ Some leaf
 entry_is_file leaf some = ap (λ b. if b then None else unless_tree (tree_under no_trees leaf) leaf) some ∙ alone (is_tree_value leaf.mode.value)
   where
     alone : (b : Bool) → unless_tree (if b then no_trees leaf.id else None) leaf ≡ Some leaf

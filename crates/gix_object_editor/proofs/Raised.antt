@@ -21,7 +21,7 @@ use Rattle.gix_object_editor.proofs.Ways.{same_first, after_first}
 
 -- ---- paths
 
-begins_behind : (q r : Path) → behind q (q ++ r) ≡ Some r
+pub begins_behind : (q r : Path) → behind q (q ++ r) ≡ Some r
 begins_behind [] r = refl
 begins_behind (n ∷ q) r = ap (λ b. if b then behind q (q ++ r) else None) (name_itself n) ∙ begins_behind q r
 

@@ -37,7 +37,7 @@ folder_entry trees rest name id items stands some =
         ap (λ b. if b then None else through (trees id) (λ xs. through (named n xs) (λ item. files_of_entry trees rest (leaf_of item)))) some
         ∙ ap (λ o. through o (λ xs. through (named n xs) (λ item. files_of_entry trees rest (leaf_of item)))) stands
 
-no_files : (trees : Trees) (rest : Path) → files_of_tree trees [] rest ≡ None
+pub no_files : (trees : Trees) (rest : Path) → files_of_tree trees [] rest ≡ None
 no_files trees [] = refl
 no_files trees (n ∷ rest) = refl
 

@@ -13,6 +13,7 @@ use Rattle.gix_object_lines.proofs.Cuts.{cut_once, lacks_not}
 use Rattle.gix_object_lines.proofs.CutLemmas.{lacks_cons}
 use Rattle.gix_object_entries.specs.ModeText.{Mode, SpellsMode}
 use Rattle.gix_object_entries.specs.Entry.{Item, SpellsEntry, SpellsEntries, SpellsTree, SpellsNoEntry, LacksMode, LacksNameEnd, LacksId}
+use Rattle.gix_hash_id.proofs.KindLemmas.{byte_len-injective}
 
 -- octal digits are no spaces
 pub lacks_space : (text : List ℕ) → AllDigits 8 text → Lacks 32 text
@@ -28,16 +29,10 @@ one_mode text a b one other =
     let zeros = one.padded ∙ ap (λ n. (slice_index text 0 == 48) && (n == 16384)) values ∙ sym other.padded in
     ap (λ n. make n a.padded) values ∙ ap (make b.value) zeros
 
-pub one_kind : (a b : Kind) → byte_len a ≡ byte_len b → a ≡ b
-one_kind Sha1 Sha1 e = refl
-one_kind Sha1 Sha256 e = absurd (omega arith)
-one_kind Sha256 Sha1 e = absurd (omega arith)
-one_kind Sha256 Sha256 e = refl
-
 one_id : (bytes : List ℕ) (a b : Id) → IsBytesOf bytes a → IsBytesOf bytes b → a ≡ b
 one_id bytes a b one other =
     let make : Kind → List ℕ → Id = λ kind digits. record { kind = kind; digits = digits } in
-    ap (λ k. make k a.digits) (one_kind a.kind b.kind (sym one.whole ∙ other.whole)) ∙ ap (make b.kind) (sym one.digits ∙ other.digits)
+    ap (λ k. make k a.digits) (byte_len-injective a.kind b.kind (sym one.whole ∙ other.whole)) ∙ ap (make b.kind) (sym one.digits ∙ other.digits)
 
 -- two cuts behind as many bytes
 one_front : (a b c d : List ℕ) → length a ≡ length c → a ++ b ≡ c ++ d → (a ≡ c) × (b ≡ d)

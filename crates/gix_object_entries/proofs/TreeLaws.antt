@@ -16,8 +16,9 @@ use Rattle.gix_object_entries.specs.WellFormed.{IsFilename, IsWellFormed}
 use Rattle.gix_object_entries.specs.Writing.{entry_text, tree_text, has_zero, tree_refusal, HasIds, IsToldAgain, SpellsAsWritten}
 use Rattle.gix_object_entries.specs.declared.tree.entry.EntryRef.{EntryRef}
 use Rattle.gix_object_entries.proofs.Octals.{padded_text}
-use Rattle.gix_object_entries.proofs.Spelled.{read_first, none_left, append_none, one_kind}
+use Rattle.gix_object_entries.proofs.Spelled.{read_first, none_left, append_none}
 use Rattle.gix_object_entries.proofs.Written.{no_refusal, refused, raw_of}
+use Rattle.gix_hash_id.proofs.KindLemmas.{byte_len-injective}
 
 pub one_tree : (ids : Kind) (content : List ℕ) (one other : List Item) → SpellsTree ids content one → SpellsTree ids content other → one ≡ other
 one_tree ids content one other is also =
@@ -31,7 +32,7 @@ all_cons P item items first rest (suc k) d within = rest k d (omega arith)
 pub has_ids : (ids : Kind) (input : List ℕ) (items : List Item) (rest : List ℕ) → SpellsEntries ids input items rest → HasIds ids items
 has_ids ids input [] rest is = λ k d within. absurd (omega arith)
 has_ids ids input (item ∷ items) rest is =
-    all_cons (λ (i : Item). i.id.kind ≡ ids) item items (one_kind item.id.kind ids (sym is.1.id.whole ∙ is.1.whole)) (has_ids ids is.0 items rest is.2)
+    all_cons (λ (i : Item). i.id.kind ≡ ids) item items (byte_len-injective item.id.kind ids (sym is.1.id.whole ∙ is.1.whole)) (has_ids ids is.0 items rest is.2)
 
 plain_names : (ids : Kind) (input : List ℕ) (items : List Item) (rest : List ℕ) → SpellsEntries ids input items rest → list_any has_zero items ≡ false
 plain_names ids input [] rest is = refl

@@ -20,6 +20,7 @@ use Rattle.gix_object_lines.specs.declared.write.FilenameError.TheVariants.{Null
 use Rattle.gix_object_entries.specs.Entry.{Item}
 use Rattle.gix_object_entries.specs.ModeText.{mode_text}
 use Rattle.gix_object_entries.specs.Writing.{entry_text, tree_text, has_zero, written_front, tree_refusal}
+use Rattle.std.proofs.lemmas.Bool.{or_parts}
 
 pub raw_of : (bytes : List ℕ) (id : Id) → IsBytesOf bytes id → bytes ≡ raw_bytes id
 raw_of bytes id is = sym (bytes_from-digits_of bytes) ∙ ap bytes_from is.digits
@@ -44,20 +45,16 @@ head_fine item rest fine = take_while-cons (λ (i : Item). not (has_zero i)) ite
 head_bad : (item : Item) (rest : List Item) → has_zero item ≡ true → written_front (item ∷ rest) ≡ []
 head_bad item rest bad = take_while-cons (λ (i : Item). not (has_zero i)) item rest ∙ ap (λ b. cond (not b) (item ∷ written_front rest) []) bad
 
-both_false : (a b : Bool) → (a || b) ≡ false → (a ≡ false) × (b ≡ false)
-both_false true b e = absurd cc
-both_false false b e = (refl, e)
-
 front_plain : (done rest : List Item) → list_any has_zero done ≡ false → written_front (done ++ rest) ≡ done ++ written_front rest
 front_plain [] rest fine = refl
 front_plain (item ∷ done) rest fine =
-    let parts = both_false (has_zero item) (list_any has_zero done) fine in
+    let parts = or_parts (has_zero item) (list_any has_zero done) fine in
     head_fine item (done ++ rest) parts.0 ∙ ap (λ t. item ∷ t) (front_plain done rest parts.1)
 
 front_all : (items : List Item) → list_any has_zero items ≡ false → written_front items ≡ items
 front_all [] fine = refl
 front_all (item ∷ items) fine =
-    let parts = both_false (has_zero item) (list_any has_zero items) fine in
+    let parts = or_parts (has_zero item) (list_any has_zero items) fine in
     head_fine item items parts.0 ∙ ap (λ t. item ∷ t) (front_all items parts.1)
 
 writable_by : (items : List Item) (b : Bool) → list_any has_zero items ≡ b → writable (tree_text items) (tree_refusal items) ≡ tree_text (written_front items)

@@ -24,7 +24,7 @@ tied_of Less e = absurd cc
 tied_of Equal e = refl
 tied_of Greater e = absurd cc
 
-one_number : (a b : ℕ) → nat_cmp a b ≡ Equal → a ≡ b
+pub one_number : (a b : ℕ) → nat_cmp a b ≡ Equal → a ≡ b
 one_number a b e =
     subst (λ o. MatchOrdering o (a < b) (a ≡ b) (b < a)) e (ranked a b (nat_cmp a b) refl)
 

@@ -2,7 +2,7 @@
 use Rattle.std.proofs.Common.{◌≡◌, ◌∙◌, ap, refl, sym, ℕ, ◌+◌, ◌<◌, Bool, true, false, not, ◌||◌, List, [], ◌∷◌, ◌++◌, length, take, drop, length-drop, get_or-drop, arith}
 use Rattle.std.specs.Prelude.{◌==◌, slice_index}
 use Rattle.std.specs.List.{list_any}
-use Rattle.std.proofs.lemmas.Bool.{ne_eqb}
+use Rattle.std.proofs.lemmas.Bool.{ne_eqb, not-false}
 use Rattle.std.proofs.lemmas.List.Folds.{list_any-append}
 use Rattle.gix_object_lines.specs.Bytes.{Lacks}
 use Rattle.gix_object_lines.proofs.Cuts.{lacks_from, lacks_head, lacks_tail, lacks_not, cut_at}
@@ -39,10 +39,6 @@ pub lacks_it : (byte : ℕ) (text front rest : List ℕ) → text ≡ front ++ b
 lacks_it byte text front rest is l = lacks_not byte front rest (ap (list_any (λ other. other == byte)) (sym is) ∙ l)
 
 -- ---- tests
-
-pub not_not : (b : Bool) → not b ≡ false → b ≡ true
-not_not true e = refl
-not_not false e = cc
 
 pub lacks_front : (byte : ℕ) (a b : List ℕ) → Lacks byte (a ++ b) → Lacks byte a
 lacks_front byte [] b l = refl

@@ -3,7 +3,7 @@ use Rattle.std.proofs.Common.{◌≡◌, ◌∙◌, ap, refl, sym, ℕ, suc, ◌
 use Rattle.std.specs.Prelude.{◌==◌, slice_index}
 use Rattle.std.specs.List.{list_any}
 use Rattle.std.proofs.Math.Seq.{drop-cons}
-use Rattle.std.proofs.lemmas.Bool.{ne_eqb, eqb-false}
+use Rattle.std.proofs.lemmas.Bool.{ne_eqb, eqb-false, or_parts}
 use Rattle.std.proofs.lemmas.List.{take-append-drop, get_or-take}
 use Rattle.gix_object_lines.specs.Bytes.{Lacks}
 
@@ -29,15 +29,11 @@ lacks_before byte text at below nowhere =
     let before : k < at = omega arith in
     nowhere k before (sym (get_or-take at text k 0 before) ∙ is))
 
-or_false : (a b : Bool) → (a || b) ≡ false → (a ≡ false) × (b ≡ false)
-or_false true b h = absurd cc
-or_false false b h = (refl, h)
-
 pub lacks_head : (byte x : ℕ) (text : List ℕ) → Lacks byte (x ∷ text) → x ≡ byte → ⊥
-lacks_head byte x text lacks = eqb-false x byte (or_false _ _ lacks).0
+lacks_head byte x text lacks = eqb-false x byte (or_parts _ _ lacks).0
 
 pub lacks_tail : (byte x : ℕ) (text : List ℕ) → Lacks byte (x ∷ text) → Lacks byte text
-lacks_tail byte x text lacks = (or_false _ _ lacks).1
+lacks_tail byte x text lacks = (or_parts _ _ lacks).1
 
 -- there is one first place
 pub cut_once : (byte : ℕ) (front rest front' rest' : List ℕ) → Lacks byte front → Lacks byte front' → front ++ byte ∷ rest ≡ front' ++ byte ∷ rest' → (front ≡ front') × (rest ≡ rest')

@@ -18,10 +18,7 @@ use Rattle.gix_hash_id.specs.declared.object_id.decode.Error.TheVariants.{Invali
 use Rattle.gix_object_lines.specs.Bytes.{Lacks}
 use Rattle.gix_object_lines.specs.HexLine.{IsHex, is_hex, is_id}
 use Rattle.gix_object_lines.proofs.CutLemmas.{lacks_cons}
-
-both : (a b : Bool) → (a && b) ≡ true → (a ≡ true) × (b ≡ true)
-both true b e = (refl, e)
-both false b e = absurd cc
+use Rattle.std.proofs.lemmas.Bool.{and_parts}
 
 -- ---- digits have values
 
@@ -37,7 +34,7 @@ has_value c = one_of (nat_le 65 c && nat_le c 70) (nat_le 97 c && nat_le c 102) 
 values_of : (text : List ℕ) → is_hex text ≡ true → (values : List ℕ) × (map hex_digit_value text ≡ map (λ (d : ℕ). Some d) values)
 values_of [] all = ([], refl)
 values_of (c ∷ text) all =
-    let parts = both (is_ascii_hexdigit c) (is_hex text) all in
+    let parts = and_parts (is_ascii_hexdigit c) (is_hex text) all in
     let first = has_value c parts.0 in
     let rest = values_of text parts.1 in
     (first.0 ∷ rest.0, ap (λ (o : Option ℕ). o ∷ map hex_digit_value text) first.1 ∙ ap (λ t. Some first.0 ∷ t) rest.1)
@@ -51,7 +48,7 @@ id_of_hex kind text hex = let values = values_of text hex.1 in (record { kind = 
 -- the text has the length of an id, and each of its digits a value
 pub not_refused : (text : List ℕ) (e : Error) → is_id text ≡ true → IsFaultOf hex_digit_value text e → ⊥
 not_refused text (InvalidHexEncodingLength n) is fault =
-    of_length (length text == 40) (length text == 64) (both (length text == 40 || length text == 64) (is_hex text) is).0
+    of_length (length text == 40) (length text == 64) (and_parts (length text == 40 || length text == 64) (is_hex text) is).0
     (λ t. fault.1 (fault.0 ∙ (Decides-eqb (length text) 40).0 t)) (λ t. fault.2 (fault.0 ∙ (Decides-eqb (length text) 64).0 t))
   where
     of_length : (a b : Bool) → (a || b) ≡ true → (a ≡ true → ⊥) → (b ≡ true → ⊥) → ⊥
@@ -59,7 +56,7 @@ not_refused text (InvalidHexEncodingLength n) is fault =
     of_length false b e not_a not_b = not_b e
 not_refused text Invalid is fault =
     let bad = fault.1 in
-    let digit = AllPass-from_list_all is_ascii_hexdigit text (both (length text == 40 || length text == 64) (is_hex text) is).1 bad.0 bad.1 bad.2 in
+    let digit = AllPass-from_list_all is_ascii_hexdigit text (and_parts (length text == 40 || length text == 64) (is_hex text) is).1 bad.0 bad.1 bad.2 in
     let value = has_value bad.1 (ap is_ascii_hexdigit (sym bad.3) ∙ digit) in
     let clash : None ≡ Some value.0 = sym bad.4 ∙ value.1 in
     cc
@@ -103,8 +100,8 @@ spells_none text none id is = none (id_of_spelled text id is)
 hex_lacks : (byte : ℕ) (text : List ℕ) → is_ascii_hexdigit byte ≡ false → is_hex text ≡ true → Lacks byte text
 hex_lacks byte [] none hex = refl
 hex_lacks byte (c ∷ text) none hex =
-    let parts = both (is_ascii_hexdigit c) (is_hex text) hex in
+    let parts = and_parts (is_ascii_hexdigit c) (is_hex text) hex in
     lacks_cons byte c text (λ same. let clash : true ≡ false = sym parts.0 ∙ ap is_ascii_hexdigit same ∙ none in cc) (hex_lacks byte text none parts.1)
 
 pub id_lacks : (byte : ℕ) (text : List ℕ) → is_ascii_hexdigit byte ≡ false → is_id text ≡ true → Lacks byte text
-id_lacks byte text none is = hex_lacks byte text none (both (length text == 40 || length text == 64) (is_hex text) is).1
+id_lacks byte text none is = hex_lacks byte text none (and_parts (length text == 40 || length text == 64) (is_hex text) is).1

@@ -133,7 +133,7 @@ digit_is n low = omega (arith, digit_value_digit (48 + n) (omega arith, omega ar
 clock_digits : (h m : ℕ) → h < 100 → m < 100 → AllDigits 10 (two_digits h ++ two_digits m)
 clock_digits h m hl ml = (digit_is (h / 10) (omega arith), (digit_is (h % 10) (omega arith), (digit_is (m / 10) (omega arith), (digit_is (m % 10) (omega arith), tt))))
 
-heads : (x y : ℕ) (xs ys : List ℕ) → x ∷ xs ≡ y ∷ ys → x ≡ y
+pub heads : (x y : ℕ) (xs ys : List ℕ) → x ∷ xs ≡ y ∷ ys → x ≡ y
 heads x y xs ys e = cc
 
 tails : (x y : ℕ) (xs ys : List ℕ) → x ∷ xs ≡ y ∷ ys → xs ≡ ys

@@ -16,14 +16,11 @@ use Rattle.gix_object_tag.specs.Tag.{Parts, SpellsTag}
 use Rattle.gix_object_tag.specs.TagText.{head_text, name_line, name_refusal, is_marked_tagger, is_bad_tagger, unspellable_unless, tagger_piece, body_piece, tag_refusal}
 use Rattle.gix_object_tag.proofs.BodyTests.{is_whole_body-Decides}
 use Rattle.gix_object_tag.proofs.ReadFormat.{read_in_format}
-
-either : (a b : Bool) → b ≡ true → (a || b) ≡ true
-either true b e = refl
-either false b e = e
+use Rattle.std.proofs.lemmas.Bool.{or_right}
 
 pub target_is_id : (kind : hash.Kind) (target : List ℕ) → IsHex (hex_len kind) target → is_id target ≡ true
 target_is_id Sha1 target is = let len = (Decides-eqb (length target) 40).1 is.0 in λ i. (len i || length target == 64) && is.1 i
-target_is_id Sha256 target is = let len = either (length target == 40) (length target == 64) ((Decides-eqb (length target) 64).1 is.0) in λ i. len i && is.1 i
+target_is_id Sha256 target is = let len = or_right (length target == 40) (length target == 64) ((Decides-eqb (length target) 64).1 is.0) in λ i. len i && is.1 i
 
 tagger_is_good : (tagger : Option Person) → is_marked_tagger tagger ≡ false → TellsWhen tagger → is_bad_tagger tagger ≡ false
 tagger_is_good None plain tells = refl

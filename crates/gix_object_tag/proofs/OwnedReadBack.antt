@@ -17,19 +17,20 @@ use Rattle.gix_object_tag.specs.declared.tag.owned.Tag.{Tag}
 use Rattle.gix_object_tag.proofs.ActorLines.{spellable}
 use Rattle.gix_object_tag.specs.BodyTest.{is_whole_body}
 use Rattle.gix_object_tag.proofs.BodyTests.{is_whole_body-Decides}
-use Rattle.gix_object_tag.proofs.ReadBack.{or_left, passes, written_spells}
+use Rattle.gix_object_tag.proofs.ReadBack.{passes, written_spells}
+use Rattle.std.proofs.lemmas.Bool.{or_parts}
 
 -- ---- taggers
 
 pub good_tagger : (tagger : Option Actor) → is_bad_actor tagger ≡ false → is_marked_tagger (own_tagger tagger) ≡ false
 good_tagger None e = refl
-good_tagger (Some actor) e = (or_left (is_marked actor.name || is_marked actor.email) (is_bad_offset actor.time.offset) e).0
+good_tagger (Some actor) e = (or_parts (is_marked actor.name || is_marked actor.email) (is_bad_offset actor.time.offset) e).0
 
 tells_when : (tagger : Option Actor) → IfSome tagger (λ actor. FitsSigned w64 actor.time.seconds) → is_bad_actor tagger ≡ false → TellsWhen (own_tagger tagger)
 tells_when None fits e = tt
 tells_when (Some actor) fits e =
-    let both = or_left (is_marked actor.name || is_marked actor.email) (is_bad_offset actor.time.offset) e in
-    let marks = or_left (is_marked actor.name) (is_marked actor.email) both.0 in
+    let both = or_parts (is_marked actor.name || is_marked actor.email) (is_bad_offset actor.time.offset) e in
+    let marks = or_parts (is_marked actor.name) (is_marked actor.email) both.0 in
     (actor.time, time_written actor.time fits (spellable actor.name actor.email actor.time marks.0 marks.1 both.1).1.offset_spellable)
 
 -- ---- the whole

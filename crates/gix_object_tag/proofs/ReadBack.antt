@@ -2,7 +2,7 @@
 use Rattle.std.proofs.Common.{◌≡◌, ◌∙◌, ap, refl, sym, subst, ℕ, ℤ, ◌+◌, ◌/◌, ◌%◌, ◌<◌, ◌≤◌, Bool, true, false, not, ◌||◌, ◌&&◌, List, [], ◌∷◌, ◌++◌, length, length-append, append_assoc, Option, Some, None, inl, inr, arith}
 use Rattle.std.specs.Prelude.{codes, ◌==◌, ◌⊎◌, if◌then◌else◌}
 use Rattle.std.specs.List.{list_any}
-use Rattle.std.proofs.lemmas.Bool.{true≢false, cases_lt}
+use Rattle.std.proofs.lemmas.Bool.{true≢false, cases_lt, or_parts, not-false, and_parts}
 use Rattle.std.proofs.lemmas.Bool.Decides.{Decides-eqb}
 use Rattle.std.proofs.lemmas.List.{append-nil}
 use Rattle.std.proofs.lemmas.List.Folds.{Any-from_list_any, list_any-from_Any}
@@ -95,10 +95,6 @@ in_line name is = by (list_any (λ other. other == 10) name) refl
 
 -- ---- taggers
 
-pub or_left : (a b : Bool) → (a || b) ≡ false → (a ≡ false) × (b ≡ false)
-or_left true b e = absurd cc
-or_left false b e = (refl, e)
-
 yes_left : (a b c : Bool) → a ≡ true → ((a || b) || c) ≡ true
 yes_left true b c e = refl
 yes_left false b c e = absurd cc
@@ -145,7 +141,7 @@ shape a b c d e = simp append_assoc
 tagger_reads : (tagger : Option Person) (after : List ℕ) → is_marked_tagger tagger ≡ false → TellsWhen tagger → ((rest : List ℕ) → after ≡ codes "tagger " ++ rest → ⊥) → SpellsTagger (tagger_line tagger ++ after) tagger after
 tagger_reads None after good tells other = (refl, λ h. other h.0 h.1)
 tagger_reads (Some tagger) after good tells other =
-    let both = or_left (is_marked tagger.name) (is_marked tagger.email) good in
+    let both = or_parts (is_marked tagger.name) (is_marked tagger.email) good in
     let name = unmarked tagger.name both.0 in
     let email = unmarked tagger.email both.1 in
     record {
@@ -243,22 +239,14 @@ written_spells kind parts named plain format =
 
 -- ---- what isn't refused is in the format
 
-and_right : (a b : Bool) → (a && b) ≡ true → b ≡ true
-and_right true b e = e
-and_right false b e = absurd cc
-
-not_false : (b : Bool) → not b ≡ false → b ≡ true
-not_false true e = refl
-not_false false e = absurd cc
-
 good_tagger : (tagger : Option Person) → is_bad_tagger tagger ≡ false → (is_marked_tagger tagger ≡ false) × TellsWhen tagger
 good_tagger None e = (refl, tt)
 good_tagger (Some tagger) e =
-    let both = or_left (is_marked tagger.name || is_marked tagger.email) (not (tells_time tagger.time)) e in
-    (both.0, (tells_time-Decides tagger.time).0 (not_false (tells_time tagger.time) both.1))
+    let both = or_parts (is_marked tagger.name || is_marked tagger.email) (not (tells_time tagger.time)) e in
+    (both.0, (tells_time-Decides tagger.time).0 (not-false (tells_time tagger.time) both.1))
 
 pub target_hex : (kind : hash.Kind) (target : List ℕ) → is_id target ≡ true → length target ≡ hex_len kind → IsHex (hex_len kind) target
-target_hex kind target is len = (len, and_right (length target == 40 || length target == 64) (is_hex target) is)
+target_hex kind target is len = (len, (and_parts (length target == 40 || length target == 64) (is_hex target) is).1)
 
 pub written_back : (kind : hash.Kind) (parts : Parts) → cause_of (tag_refusal parts (is_bad_tagger parts.tagger)) ≡ None → length parts.target ≡ hex_len kind → SpellsTag kind (tag_text parts) parts
 written_back kind parts ok len =

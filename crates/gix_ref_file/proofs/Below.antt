@@ -25,6 +25,7 @@ use Rattle.std.proofs.lemmas.List.{get_or-reverse, reverse-append, length-revers
 use Rattle.std.proofs.lemmas.List.Sums.{prefix_len_stops}
 use Rattle.gix_ref_file.specs.Tree.{path_cmp, same_path, is_slash, parent, name_in}
 use Rattle.gix_ref_file.proofs.Trees.{one_path, same_path_itself}
+use Rattle.std.proofs.lemmas.Bool.{and_parts, not-true}
 
 -- ---- the order of paths that begin alike
 nat_cmp_itself : (x : ℕ) → nat_cmp x x ≡ Equal
@@ -232,7 +233,7 @@ module _ (folder : List ℕ) (q q' : Pair → Bool) where
           )
 
 -- ---- behind an entry
-when_lt : (o : Ordering) → is_lt o ≡ true → o ≡ Less
+pub when_lt : (o : Ordering) → is_lt o ≡ true → o ≡ Less
 when_lt Less h = refl
 when_lt Equal h = cc
 when_lt Greater h = cc
@@ -319,13 +320,6 @@ forward_first (b ∷ folder) (Excluded first) hi start end = absurd start
 forward_first (b ∷ folder) Unbounded hi start end = absurd start
 
 -- ---- one step of a listing
-both_true : (a b : Bool) → (a && b) ≡ true → (a ≡ true) × (b ≡ true)
-both_true true b h = (refl, h)
-both_true false b h = absurd (cc h)
-
-not_true : (b : Bool) → not b ≡ true → b ≡ false
-not_true true h = cc
-not_true false h = refl
 
 first_passes : (q : Pair → Bool) (es tail : List Pair) (e : Pair) → filter q es ≡ e ∷ tail → q e ≡ true
 first_passes q [] tail e is = cc
@@ -340,15 +334,15 @@ first_passes q (x ∷ xs) tail e is = by_case (q x) refl is (first_passes q xs t
 pub listing_step : (folder : List ℕ) (lo hi next : Bound Key) (e : Pair) (tail es : List Pair) → IsEnd folder hi → IsBehind folder e.0.items next → IsInOrder es → filter (is_within lo hi) es ≡ e ∷ tail
     → (filter_map (name_here folder) (filter (is_within next hi) es) ≡ filter_map (name_here folder) tail) × (length (filter (is_within next hi) es) ≤ length tail) × IsForward (IsLeBy key_cmp) (IsLtBy key_cmp) next hi
 listing_step folder lo hi next e tail es end behind order is =
-    let here = both_true (is_from_start key_cmp lo e.0) (not (is_past_end key_cmp hi e.0)) (first_passes (is_within lo hi) es tail e is) in
+    let here = and_parts (is_from_start key_cmp lo e.0) (not (is_past_end key_cmp hi e.0)) (first_passes (is_within lo hi) es tail e is) in
     let names = next_names folder (is_within lo hi) (is_within next hi) e tail
-    (λ x less within. ⊎_elim (λ from. inl (λ i. from i && (both_true (is_from_start key_cmp lo x.0) (not (is_past_end key_cmp hi x.0)) within).1 i)) inr (behind_none folder e.0 next x.0 behind less))
+    (λ x less within. ⊎_elim (λ from. inl (λ i. from i && (and_parts (is_from_start key_cmp lo x.0) (not (is_past_end key_cmp hi x.0)) within).1 i)) inr (behind_none folder e.0 next x.0 behind less))
     (λ x within.
-    let parts = both_true (is_from_start key_cmp next x.0) (not (is_past_end key_cmp hi x.0)) within in
+    let parts = and_parts (is_from_start key_cmp next x.0) (not (is_past_end key_cmp hi x.0)) within in
     let less = behind_less folder e.0 next x.0 behind parts.0 in
     ((λ i. from_later lo e.0 x.0 here.0 less i && parts.1 i), less))
     es order is in
-    (names.0, names.1, forward_next folder e.0 next hi end behind (not_true _ here.1))
+    (names.0, names.1, forward_next folder e.0 next hi end behind (not-true _ here.1))
 
 -- what a range gives is what lies between its bounds
 pub run_is : (lo lo' hi hi' : Bound Key) (es run : List Pair) → lo' ≡ lo → hi' ≡ hi → run ≡ filter (is_within lo' hi') es → filter (is_within lo hi) es ≡ run

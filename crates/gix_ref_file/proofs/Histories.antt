@@ -30,7 +30,7 @@ adds_joined old mid new first second = record {
 pub adds_nothing : {P : Tree → Type 0} (old : History) → Adds P old old
 adds_nothing old = record { during = []; added = sym (append-nil (trees old)); all = tt }
 
-all_both : (P Q : Tree → Type 0) (ts : List Tree) → AllByRecursion P ts → AllByRecursion Q ts → AllByRecursion (λ t. P t × Q t) ts
+pub all_both : (P Q : Tree → Type 0) (ts : List Tree) → AllByRecursion P ts → AllByRecursion Q ts → AllByRecursion (λ t. P t × Q t) ts
 all_both P Q [] p q = tt
 all_both P Q (t ∷ ts) p q = ((p.0, q.0), all_both P Q ts p.1 q.1)
 

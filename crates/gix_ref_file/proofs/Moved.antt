@@ -74,7 +74,7 @@ file_stands t [] there = cc
 file_stands t (b ∷ p) there = some_of_file (get t (b ∷ p)) there
 
 -- ---- a folder that is there, and isn't the root
-some_of_folder : (o : Option Node) → IsTrue (is_folder o) → IsSome o
+pub some_of_folder : (o : Option Node) → IsTrue (is_folder o) → IsSome o
 some_of_folder None there = cc
 some_of_folder (Some n) there = refl
 

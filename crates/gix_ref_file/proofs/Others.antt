@@ -7,10 +7,7 @@ use Rattle.gix_ref_file.specs.Tree.{Tree, Node, file, folder, same_path, node_at
 use Rattle.gix_ref_file.specs.Changes.{Change, to_create, to_write, to_append, to_rename, to_remove_file, to_make_folder, to_remove_folder, allows, after, paths_of, is_file_at, may_hold_file}
 use Rattle.gix_ref_file.proofs.Trees.{get_inserted, get-inserted, get-removed, bytes_at_inserted, same_path_itself}
 use Rattle.gix_ref_file.proofs.Rooted.{both}
-
-neither : (a b : Bool) → (a || b) ≡ false → (a ≡ false) × (b ≡ false)
-neither true b h = absurd (cc h)
-neither false b h = (refl, h)
+use Rattle.std.proofs.lemmas.Bool.{or_parts}
 
 inserted_elsewhere : (t : Tree) (p : List ℕ) (n : Node) (q : List ℕ) → same_path q p ≡ false → node_at (insert t p n) q ≡ node_at t q
 inserted_elsewhere t p n [] apart = refl
@@ -25,15 +22,15 @@ others_stay (to_create p) tree path apart = by_case (is_some (node_at tree p))
   where
     by_case : (there : Bool) → node_at (cond there tree (insert tree p (file []))) path ≡ node_at tree path
     by_case true = refl
-    by_case false = inserted_elsewhere tree p (file []) path (neither (same_path path p) false apart).0
-others_stay (to_write p bytes) tree path apart = inserted_elsewhere tree p (file bytes) path (neither (same_path path p) false apart).0
-others_stay (to_append p bytes) tree path apart = inserted_elsewhere tree p (file (bytes_at tree p ++ bytes)) path (neither (same_path path p) false apart).0
+    by_case false = inserted_elsewhere tree p (file []) path (or_parts (same_path path p) false apart).0
+others_stay (to_write p bytes) tree path apart = inserted_elsewhere tree p (file bytes) path (or_parts (same_path path p) false apart).0
+others_stay (to_append p bytes) tree path apart = inserted_elsewhere tree p (file (bytes_at tree p ++ bytes)) path (or_parts (same_path path p) false apart).0
 others_stay (to_rename from to) tree path apart =
-    let parts = neither (same_path path from) (same_path path to || false) apart in
-    inserted_elsewhere (remove tree from) to (file (bytes_at tree from)) path (neither (same_path path to) false parts.1).0 ∙ removed_elsewhere tree from path parts.0
-others_stay (to_remove_file p) tree path apart = removed_elsewhere tree p path (neither (same_path path p) false apart).0
-others_stay (to_make_folder p) tree path apart = inserted_elsewhere tree p folder path (neither (same_path path p) false apart).0
-others_stay (to_remove_folder p) tree path apart = removed_elsewhere tree p path (neither (same_path path p) false apart).0
+    let parts = or_parts (same_path path from) (same_path path to || false) apart in
+    inserted_elsewhere (remove tree from) to (file (bytes_at tree from)) path (or_parts (same_path path to) false parts.1).0 ∙ removed_elsewhere tree from path parts.0
+others_stay (to_remove_file p) tree path apart = removed_elsewhere tree p path (or_parts (same_path path p) false apart).0
+others_stay (to_make_folder p) tree path apart = inserted_elsewhere tree p folder path (or_parts (same_path path p) false apart).0
+others_stay (to_remove_folder p) tree path apart = removed_elsewhere tree p path (or_parts (same_path path p) false apart).0
 
 pub append_read : (tree : Tree) (path bytes : List ℕ) → IsTrue (allows tree (to_append path bytes)) → bytes_at (after (to_append path bytes) tree) path ≡ bytes_at tree path ++ bytes
 append_read tree path bytes may = bytes_at_inserted tree path (bytes_at tree path ++ bytes) may

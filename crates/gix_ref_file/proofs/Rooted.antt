@@ -53,7 +53,7 @@ remove_stays t p [] apart h = refl
 remove_stays t p (b ∷ q) apart h = ap is_folder (get-removed t p (b ∷ q) ∙ ap (λ x. cond x None (get t (b ∷ q))) apart) ∙ h
 
 -- a file's path is no folder's
-file_no_folder : (o : Option Node) → IsTrue (is_some (bytes_of o)) → IsFalse (is_folder o)
+pub file_no_folder : (o : Option Node) → IsTrue (is_some (bytes_of o)) → IsFalse (is_folder o)
 file_no_folder None h = cc
 file_no_folder (Some (file bytes)) h = refl
 file_no_folder (Some folder) h = cc

@@ -52,7 +52,7 @@ from_and : (a b : Bool) → IsTrue (a && b) → IsTrue a × IsTrue b
 from_and true b h = (refl, h)
 from_and false b h = absurd (cc h)
 
-from_not : (b : Bool) → IsTrue (not b) → IsFalse b
+pub from_not : (b : Bool) → IsTrue (not b) → IsFalse b
 from_not true h = cc
 from_not false h = refl
 

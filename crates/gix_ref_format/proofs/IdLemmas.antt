@@ -10,20 +10,11 @@ use Rattle.gix_hash_id.specs.Spelling.{IsHexOf}
 use Rattle.gix_hash_id.proofs.ReadBack.{all_values}
 use Rattle.gix_hash_id.specs.OrderLaws.{same_id}
 use Rattle.gix_ref_format.specs.Ids.{id_from_hex}
+use Rattle.std.proofs.lemmas.Bool.{and_parts, eqb-true}
+use Rattle.std.proofs.lemmas.Option.{same_Some}
 
-one_number : (a b : ℕ) → (a == b) ≡ true → a ≡ b
-one_number a b h = grind (arith, tests)
-
-same_number : (a b : ℕ) → a ≡ b → (a == b) ≡ true
+pub same_number : (a b : ℕ) → a ≡ b → (a == b) ≡ true
 same_number a b h = grind (arith, tests)
-
-both : (a b : Bool) → (a && b) ≡ true → (a ≡ true) × (b ≡ true)
-both true true e = (refl, refl)
-both true false e = cc
-both false b e = cc
-
-some_inside : {X : Type 0} (x y : X) → Some x ≡ Some y → x ≡ y
-some_inside x y e = cc
 
 none_is_some : {X A : Type 0} (x : X) → None ≡ Some x → A
 none_is_some x e = cc
@@ -48,7 +39,7 @@ spelled_all (c ∷ text) (d ∷ digits) e =
 all_spelled : (text : List ℕ) → all_read text ≡ true → IsHexOf text (read_all text)
 all_spelled [] h = refl
 all_spelled (c ∷ text) h =
-    let parts = both (is_some (hex_digit_value c)) (all_read text) h in
+    let parts = and_parts (is_some (hex_digit_value c)) (all_read text) h in
     rw (some_read (hex_digit_value c) parts.0, all_spelled text parts.1) refl
   where
     some_read : (o : Option ℕ) → is_some o ≡ true → o ≡ Some (unwrap_or o 0)
@@ -65,7 +56,7 @@ module _ (kind : Kind) (text : List ℕ) where
   read_if whole all = cond whole (option_map of_digits (cond all (Some (read_all text)) None)) None
 
   read_parts : (whole all : Bool) (id : Id) → read_if whole all ≡ Some id → (whole ≡ true) × (all ≡ true) × (of_digits (read_all text) ≡ id)
-  read_parts true true id e = (refl, refl, some_inside (of_digits (read_all text)) id e)
+  read_parts true true id e = (refl, refl, same_Some (of_digits (read_all text)) id e)
   read_parts true false id e = none_is_some id e
   read_parts false all id e = none_is_some id e
 
@@ -81,7 +72,7 @@ module _ (kind : Kind) (text : List ℕ) where
   id_from_hex-tells id e =
       let parts = read_parts (length text == hex_len kind) (all_read text) id e in
       let same = parts.2 in (
-        one_number (length text) (hex_len kind) parts.0,
+        eqb-true (length text) (hex_len kind) parts.0,
         subst (λ (i : Id). IsHexOf text i.digits) same (all_spelled text parts.1),
         sym (ap (λ (i : Id). i.kind) same),
       )
@@ -91,7 +82,7 @@ module _ (kind : Kind) (text : List ℕ) where
   id_from_hex-other other = go (length text == hex_len kind) refl
     where
       go : (t : Bool) → (length text == hex_len kind) ≡ t → read_if t (all_read text) ≡ None
-      go true e = absurd (other (one_number (length text) (hex_len kind) e))
+      go true e = absurd (other (eqb-true (length text) (hex_len kind) e))
       go false e = refl
 
   -- nor is one with a character that is no digit

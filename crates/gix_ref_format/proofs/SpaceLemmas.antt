@@ -2,9 +2,7 @@
 use Rattle.std.proofs.Common.{◌≡◌, ◌≢◌, ap, refl, ℕ, Bool, true, false, cond, List, [], ◌∷◌, arith, tests}
 use Rattle.std.specs.Prelude.{◌==◌}
 use Rattle.gix_ref_format.specs.Loose.{without_spaces}
-
-same_byte : (a b : ℕ) → (a == b) ≡ true → a ≡ b
-same_byte a b h = grind (arith, tests)
+use Rattle.std.proofs.lemmas.Bool.{eqb-true}
 
 -- where no space begins the text, none is taken off
 pub no_space : (text : List ℕ) → ((rest : List ℕ) → text ≢ 32 ∷ rest) → without_spaces text ≡ text
@@ -12,5 +10,5 @@ no_space [] none = refl
 no_space (byte ∷ rest) none = go (byte == 32) refl
   where
     go : (t : Bool) → (byte == 32) ≡ t → cond t (without_spaces rest) (byte ∷ rest) ≡ byte ∷ rest
-    go true e = absurd (none rest (ap (λ b. b ∷ rest) (same_byte byte 32 e)))
+    go true e = absurd (none rest (ap (λ b. b ∷ rest) (eqb-true byte 32 e)))
     go false e = refl

@@ -14,6 +14,7 @@ use Rattle.gix_ref_format.specs.Ids.{id_from_hex}
 use Rattle.gix_ref_format.specs.Lines.{without_last}
 use Rattle.gix_ref_format.specs.Loose.{loose_target, loose_text, without_spaces, referent, leading_id, is_symbolic, ends_word}
 use Rattle.gix_ref_format.proofs.IdLemmas.{id_from_hex-reads}
+use Rattle.std.proofs.lemmas.Bool.{or_parts, and_parts, not-true, eqb-true}
 
 -- ---- the last byte
 
@@ -37,15 +38,6 @@ feed_cut name =
 
 -- ---- names hold no space and no carriage return
 
-both : (a b : Bool) → (a && b) ≡ true → (a ≡ true) × (b ≡ true)
-both true true e = (refl, refl)
-both true false e = cc
-both false b e = cc
-
-is_false : (b : Bool) → not b ≡ true → b ≡ false
-is_false true e = cc
-is_false false e = refl
-
 clash : {A : Type 0} → true ≡ false → A
 clash e = absurd (go e)
   where
@@ -54,46 +46,39 @@ clash e = absurd (go e)
 
 seventh : (a b c d e f g h : Bool) → (a && (b && (c && (d && (e && (f && (g && h))))))) ≡ true → g ≡ true
 seventh a b c d e f g h t =
-    let t1 = (both a (b && (c && (d && (e && (f && (g && h)))))) t).1 in
-    let t2 = (both b (c && (d && (e && (f && (g && h))))) t1).1 in
-    let t3 = (both c (d && (e && (f && (g && h)))) t2).1 in
-    let t4 = (both d (e && (f && (g && h))) t3).1 in
-    let t5 = (both e (f && (g && h)) t4).1 in
-    let t6 = (both f (g && h) t5).1 in
-    (both g h t6).0
+    let t1 = (and_parts a (b && (c && (d && (e && (f && (g && h)))))) t).1 in
+    let t2 = (and_parts b (c && (d && (e && (f && (g && h))))) t1).1 in
+    let t3 = (and_parts c (d && (e && (f && (g && h)))) t2).1 in
+    let t4 = (and_parts d (e && (f && (g && h))) t3).1 in
+    let t5 = (and_parts e (f && (g && h)) t4).1 in
+    let t6 = (and_parts f (g && h) t5).1 in
+    (and_parts g h t6).0
 
 pub unbarred : (name : List ℕ) → is_full_name name ≡ true → list_any is_barred name ≡ false
 unbarred name full =
-    is_false (list_any is_barred name)
+    not-true (list_any is_barred name)
     (seventh (not (bytes_eq name [])) (not (begins (codes ".") name)) (not (holds (codes "/.") name)) (not (ends (codes ".lock") name)) (not (holds (codes ".lock/") name))
     (not (holds (codes "..") name)) (not (list_any is_barred name))
     (not (begins (codes "/") name) && (not (ends (codes "/") name) && (not (holds (codes "//") name) && (not (ends (codes ".") name) && (not (holds (codes "@{") name) && not (bytes_eq name (codes "@")))))))
-    (both (is_partial_name name) (has_slash name || is_capitals name) full).0)
-
-or_false : (a b : Bool) → (a || b) ≡ false → (a ≡ false) × (b ≡ false)
-or_false true b e = cc
-or_false false b e = (refl, e)
+    (and_parts (is_partial_name name) (has_slash name || is_capitals name) full).0)
 
 behind_unbarred : (k : ℕ) (name : List ℕ) → list_any is_barred name ≡ false → list_any is_barred (drop k name) ≡ false
 behind_unbarred zero name h = h
 behind_unbarred (suc k) [] h = refl
-behind_unbarred (suc k) (b ∷ name) h = behind_unbarred k name (or_false (is_barred b) (list_any is_barred name) h).1
-
-same_byte : (a b : ℕ) → (a == b) ≡ true → a ≡ b
-same_byte a b h = grind (arith, tests)
+behind_unbarred (suc k) (b ∷ name) h = behind_unbarred k name (or_parts (is_barred b) (list_any is_barred name) h).1
 
 barred_return : (b : ℕ) → (13 == b) ≡ true → is_barred b ≡ true
-barred_return b e = ap is_barred (sym (same_byte 13 b e))
+barred_return b e = ap is_barred (sym (eqb-true 13 b e))
 
 barred_space : (b : ℕ) → (b == 32) ≡ true → is_barred b ≡ true
-barred_space b e = ap is_barred (same_byte b 32 e)
+barred_space b e = ap is_barred (eqb-true b 32 e)
 
 tail_differs : (tail : List ℕ) → list_any is_barred tail ≡ false → bytes_eq (13 ∷ []) tail ≡ false
 tail_differs [] h = refl
 tail_differs (b ∷ rest) h = go (13 == b) refl
   where
     go : (t : Bool) → (13 == b) ≡ t → (t && bytes_eq [] rest) ≡ false
-    go true e = clash (sym (barred_return b e) ∙ (or_false (is_barred b) (list_any is_barred rest) h).0)
+    go true e = clash (sym (barred_return b e) ∙ (or_parts (is_barred b) (list_any is_barred rest) h).0)
     go false e = refl
 
 pub no_return : (name : List ℕ) → list_any is_barred name ≡ false → without_last 13 name ≡ name
@@ -105,7 +90,7 @@ no_spaces [] h = refl
 no_spaces (b ∷ rest) h = go (b == 32) refl
   where
     go : (t : Bool) → (b == 32) ≡ t → cond t (without_spaces (rest ++ 10 ∷ [])) (b ∷ (rest ++ 10 ∷ [])) ≡ b ∷ (rest ++ 10 ∷ [])
-    go true e = clash (sym (barred_space b e) ∙ (or_false (is_barred b) (list_any is_barred rest) h).0)
+    go true e = clash (sym (barred_space b e) ∙ (or_parts (is_barred b) (list_any is_barred rest) h).0)
     go false e = refl
 
 pub name_reads : (kind : Kind) (name : List ℕ) → is_full_name name ≡ true → loose_target kind (loose_text (ToName name)) ≡ Some (ToName name)
@@ -126,7 +111,7 @@ not_r (d ∷ digits) rest e = go (114 == hex_character d) refl
     go false is = refl
     go true is =
         let value : hex_digit_value (hex_character d) ≡ Some d = cc in
-        let none : hex_digit_value (hex_character d) ≡ None = ap hex_digit_value (sym (same_byte 114 (hex_character d) is)) in
+        let none : hex_digit_value (hex_character d) ≡ None = ap hex_digit_value (sym (eqb-true 114 (hex_character d) is)) in
         absurd (differ (sym none ∙ value))
       where
         differ : None ≡ Some d → ⊥

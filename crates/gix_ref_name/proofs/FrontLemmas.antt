@@ -5,16 +5,13 @@ use Rattle.std.proofs.lemmas.List.{drop_at}
 use Rattle.gix_object_lines.specs.NameTest.{begins}
 use Rattle.gix_object_lines.proofs.NameTests.{begins-Decides}
 use Rattle.gix_ref_name.specs.Fronts.{with_front, without_front}
+use Rattle.std.proofs.lemmas.Bool.{false_from_ne_true}
 
 pub begins_some : (front text rest : List ℕ) → text ≡ front ++ rest → begins front text ≡ true
 begins_some front text rest is = (begins-Decides front text).1 (rest, is)
 
-only_false : (b : Bool) → (b ≡ true → ⊥) → b ≡ false
-only_false true h = absurd (h refl)
-only_false false h = refl
-
 pub begins_none : (front text : List ℕ) → ((rest : List ℕ) → text ≢ front ++ rest) → begins front text ≡ false
-begins_none front text never = only_false (begins front text) (λ e. let h = (begins-Decides front text).0 e in never h.0 h.1)
+begins_none front text never = false_from_ne_true (begins front text) (λ e. let h = (begins-Decides front text).0 e in never h.0 h.1)
 
 pub without_some : (front text rest : List ℕ) → text ≡ front ++ rest → rest ≡ without_front front text
 without_some front text rest is =

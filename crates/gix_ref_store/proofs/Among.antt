@@ -21,6 +21,7 @@ use Rattle.gix_ref_store.proofs.MetLemmas.{found_first, fault_first, one_name}
 use Rattle.gix_ref_store.specs.declared.reference.Reference.{Reference}
 use Rattle.gix_ref_store.specs.declared.store.file.find.Error.{Error}
 use Rattle.gix_ref_store.specs.declared.store.file.find.Error.TheVariants.{ReadFileContents, ReferenceCreation, PackedOpen, Memory}
+use Rattle.std.proofs.lemmas.Bool.{and_parts, not-true}
 
 -- ---- records
 
@@ -181,15 +182,6 @@ fault_by_first b tree word (PackedOpen e) (first, rest, names, told) = absurd to
 fault_by_first b tree word ReadFileContents told = tt
 fault_by_first b tree word Memory told = tt
 
-and_parts : (a b : Bool) → (a && b) ≡ true → (a ≡ true) × (b ≡ true)
-and_parts true true h = (refl, refl)
-and_parts true false h = cc
-and_parts false b h = cc
-
-not_is : (b : Bool) → not b ≡ true → b ≡ false
-not_is true h = cc
-not_is false h = refl
-
 list_head : {a b : List ℕ} {xs ys : List (List ℕ)} → a ∷ xs ≡ b ∷ ys → a ≡ b
 list_head e = cc
 
@@ -199,7 +191,7 @@ none_unpacked b tree word is (first, rest, names, told) =
     let p = and_parts (is_complete word) (not (is_some (packed_key word))) is in
     let one = complete_names word p.0 in
     let same : word ≡ first = list_head (sym one ∙ names) in
-    let absent = absent_unpacked b tree word (not_is (is_some (packed_key word)) p.1) (ap (reading_among b tree []) same ∙ told) in
+    let absent = absent_unpacked b tree word (not-true (is_some (packed_key word)) p.1) (ap (reading_among b tree []) same ∙ told) in
     sym (ap (first_met (reading b tree)) one ∙ ap (λ x. met_or word x None) absent)
 
 pub then_opened : (b : Base) (tree : Tree) (word : List ℕ) (result : Result (Option Reference) Error) → TellsFirst (reading_among b tree []) word (Ok None) → FindsOpened b tree (lookup_names word) result

@@ -13,18 +13,8 @@ use Rattle.gix_ref_store.specs.Listings.{is_within, is_listed}
 use Rattle.gix_ref_store.specs.declared.store.file.asked.Asked.{Asked}
 use Rattle.gix_ref_store.proofs.Descents.{IsAtOrBelow}
 use Rattle.gix_ref_store.proofs.WalkSteps.{HasFront, IsLed, cancel, split}
-
-and_left : (a b : Bool) → (a && b) ≡ true → a ≡ true
-and_left true b h = refl
-and_left false b h = cc
-
-and_right : (a b : Bool) → (a && b) ≡ true → b ≡ true
-and_right true b h = h
-and_right false b h = cc
-
-or_cases : (a b : Bool) → (a || b) ≡ true → (a ≡ true) ⊎ (b ≡ true)
-or_cases true b h = inl refl
-or_cases false b h = inr h
+use Rattle.std.proofs.lemmas.Bool.{and_from, and_parts, or_cases}
+use Rattle.gix_object_lines.proofs.TimeTests.{heads}
 
 within_front : (folder name : List ℕ) → IsTrue (is_within folder name) → IsTrue (begins folder name)
 within_front folder name so = by_case (or_cases (bytes_eq name folder) (is_below folder name || (ends (codes "/") folder && begins folder name)) so)
@@ -33,8 +23,8 @@ within_front folder name so = by_case (or_cases (bytes_eq name folder) (is_below
     itself text = begins_some text text [] (sym (append-nil text))
 
     at_slash : (is_below folder name ≡ true) ⊎ ((ends (codes "/") folder && begins folder name) ≡ true) → IsTrue (begins folder name)
-    at_slash (inl below) = and_left (begins folder name) (begins (47 ∷ []) (drop (length folder) name)) below
-    at_slash (inr so) = and_right (ends (codes "/") folder) (begins folder name) so
+    at_slash (inl below) = (and_parts (begins folder name) (begins (47 ∷ []) (drop (length folder) name)) below).0
+    at_slash (inr so) = (and_parts (ends (codes "/") folder) (begins folder name) so).1
 
     by_case : (bytes_eq name folder ≡ true) ⊎ ((is_below folder name || (ends (codes "/") folder && begins folder name)) ≡ true) → IsTrue (begins folder name)
     by_case (inl same) = subst (λ n. IsTrue (begins folder n)) (sym ((bytes_eq-Decides name folder).0 same)) (itself folder)
@@ -42,38 +32,33 @@ within_front folder name so = by_case (or_cases (bytes_eq name folder) (is_below
 
 -- all begin with the front, and stand below `refs/`
 pub asked_front : (asked : Asked) → HasFront asked.front.now (is_asked asked)
-asked_front asked name so = by_whole asked.is_whole (and_left (fits asked name) (is_known asked.composes name) (and_right (begins (codes "refs/") name) (fits asked name && is_known asked.composes name) so))
+asked_front asked name so = by_whole asked.is_whole (and_parts (fits asked name) (is_known asked.composes name) (and_parts (begins (codes "refs/") name) (fits asked name && is_known asked.composes name) so).1).0
   where
     by_whole : (whole : Bool) → (if whole then is_within asked.front.now name else begins asked.front.now name) ≡ true → IsTrue (begins asked.front.now name)
     by_whole true h = within_front asked.front.now name h
     by_whole false h = h
 
 pub asked_refs : (asked : Asked) → HasFront (codes "refs/") (is_asked asked)
-asked_refs asked name so = and_left (begins (codes "refs/") name) (fits asked name && is_known asked.composes name) so
+asked_refs asked name so = (and_parts (begins (codes "refs/") name) (fits asked name && is_known asked.composes name) so).0
 
 pub asked_fits : (asked : Asked) (name : List ℕ) → IsTrue (is_asked asked name) → fits asked name ≡ true
-asked_fits asked name so = and_left (fits asked name) (is_known asked.composes name) (and_right (begins (codes "refs/") name) (fits asked name && is_known asked.composes name) so)
+asked_fits asked name so = (and_parts (fits asked name) (is_known asked.composes name) (and_parts (begins (codes "refs/") name) (fits asked name && is_known asked.composes name) so).1).0
 
 -- what is asked for is known
 pub asked_known : (asked : Asked) (name : List ℕ) → IsTrue (is_asked asked name) → known_as asked.composes name ≡ name
 asked_known asked name so =
-    (bytes_eq-Decides (known_as asked.composes name) name).0 (and_right (fits asked name) (is_known asked.composes name) (and_right (begins (codes "refs/") name) (fits asked name && is_known asked.composes name) so))
+    (bytes_eq-Decides (known_as asked.composes name) name).0 (and_parts (fits asked name) (is_known asked.composes name) (and_parts (begins (codes "refs/") name) (fits asked name && is_known asked.composes name) so).1).1
 
 -- ---- where names that are asked for may stand
-and_both : (a b : Bool) → a ≡ true → b ≡ true → (a && b) ≡ true
-and_both a b p q = ap (λ x. x && b) p ∙ q
 
 or_of : (a b : Bool) → (a ≡ true) ⊎ (b ≡ true) → (a || b) ≡ true
 or_of a b (inl p) = ap (λ x. x || b) p
 or_of true b (inr q) = refl
 or_of false b (inr q) = q
 
-head_of : (x y : ℕ) (xs ys : List ℕ) → x ∷ xs ≡ y ∷ ys → x ≡ y
-head_of x y xs ys e = cc
-
 below_is : (folder path rest : List ℕ) → path ≡ folder ++ 47 ∷ rest → is_below folder path ≡ true
 below_is folder path rest is =
-    and_both (begins folder path) (begins (47 ∷ []) (drop (length folder) path)) (begins_some folder path (47 ∷ rest) is)
+    and_from (begins folder path) (begins (47 ∷ []) (drop (length folder) path)) (begins_some folder path (47 ∷ rest) is)
     (begins_some (47 ∷ []) (drop (length folder) path) rest (ap (drop (length folder)) is ∙ drop-append_seam folder (47 ∷ rest)))
 
 -- the first of two beginnings of a text is all of the other, or a slash stands behind it
@@ -81,7 +66,7 @@ same_or_below : (short long rest t r : List ℕ) → short ++ 47 ∷ rest ≡ lo
 same_or_below short long rest [] r e is = inl (is ∙ append-nil short)
 same_or_below short long rest (b ∷ t) r e is =
     let tails = cancel short (47 ∷ rest) (b ∷ t ++ r) (e ∙ ap (λ f. f ++ r) is ∙ append_assoc short (b ∷ t) r) in
-    inr (below_is short long t (is ∙ ap (λ x. short ++ x ∷ t) (sym (head_of 47 b rest (t ++ r) tails))))
+    inr (below_is short long t (is ∙ ap (λ x. short ++ x ∷ t) (sym (heads 47 b rest (t ++ r) tails))))
 
 front_leads : (front path name : List ℕ) → IsTrue (begins front name) → IsAtOrBelow name path → (begins front path ≡ true) ⊎ (is_below path front ≡ true)
 front_leads front path name so (inl is) = inl (subst (λ n. begins front n ≡ true) is so)
@@ -124,18 +109,18 @@ within_leads front path name so at = by_case (or_cases (bytes_eq name front) (is
 
     behind : is_below front name ≡ true → (rest : List ℕ) × (name ≡ front ++ 47 ∷ rest)
     behind below =
-        let b = (begins-Decides front name).0 (and_left (begins front name) (begins (47 ∷ []) (drop (length front) name)) below) in
-        let s = (begins-Decides (47 ∷ []) (drop (length front) name)).0 (and_right (begins front name) (begins (47 ∷ []) (drop (length front) name)) below) in
+        let b = (begins-Decides front name).0 (and_parts (begins front name) (begins (47 ∷ []) (drop (length front) name)) below).0 in
+        let s = (begins-Decides (47 ∷ []) (drop (length front) name)).0 (and_parts (begins front name) (begins (47 ∷ []) (drop (length front) name)) below).1 in
         let d = ap (drop (length front)) b.1 ∙ drop-append_seam front b.0 in
         (s.0, b.1 ∙ ap (λ t. front ++ t) (sym d ∙ s.1))
 
     slashed : IsTrue (ends (codes "/") front) → (begins front path ≡ true) ⊎ (is_below path front ≡ true) → (is_within front path ≡ true) ⊎ (is_below path front ≡ true)
-    slashed slash (inl so) = inl (or_of (bytes_eq path front) _ (inr (or_of (is_below front path) _ (inr (and_both (ends (codes "/") front) (begins front path) slash so)))))
+    slashed slash (inl so) = inl (or_of (bytes_eq path front) _ (inr (or_of (is_below front path) _ (inr (and_from (ends (codes "/") front) (begins front path) slash so)))))
     slashed slash (inr below) = inr below
 
     at_slash : (is_below front name ≡ true) ⊎ ((ends (codes "/") front && begins front name) ≡ true) → (is_within front path ≡ true) ⊎ (is_below path front ≡ true)
     at_slash (inl below) = let b = behind below in below_leads front path name b.0 b.1 at
-    at_slash (inr both) = slashed (and_left (ends (codes "/") front) (begins front name) both) (front_leads front path name (and_right (ends (codes "/") front) (begins front name) both) at)
+    at_slash (inr both) = slashed (and_parts (ends (codes "/") front) (begins front name) both).0 (front_leads front path name (and_parts (ends (codes "/") front) (begins front name) both).1 at)
 
     by_case : (bytes_eq name front ≡ true) ⊎ ((is_below front name || (ends (codes "/") front && begins front name)) ≡ true) → (is_within front path ≡ true) ⊎ (is_below path front ≡ true)
     by_case (inl same) = itself ((bytes_eq-Decides name front).0 same) at

@@ -8,6 +8,7 @@ use Rattle.std.proofs.lemmas.List.{length-take-le}
 use Rattle.gix_ref_file.specs.Tree.{Tree, Node, is_slash, parent, names_at, node_at, is_folder, IsRooted, under}
 use Rattle.gix_ref_file.proofs.Below.{inside, path_in_folder, parent_behind}
 use Rattle.gix_ref_file.proofs.Listings.{in_folder, names_in, found}
+use Rattle.gix_ref_file.proofs.Moved.{some_of_folder}
 
 -- what stands in a folder is listed there
 pub is_found : (tree : Tree) (place : List ℕ) (names : List (List ℕ)) (path : List ℕ) → IsRooted tree → names ≡ names_at tree place → IsSome (get tree path) → parent path ≡ place
@@ -38,10 +39,6 @@ folder_below place rest =
     let n = length path - suffix_len inside path - 1 in
     take_behind place rest n (omega (arith, parent_behind place rest, length-take-le n path (omega arith)))
 
-stands : (o : Option Node) → IsTrue (is_folder o) → IsSome o
-stands None h = absurd (cc h)
-stands (Some n) h = refl
-
 shorter : (path : List ℕ) → 0 < length path → length (parent path) < length path
 shorter path some = omega (arith, some, length-take-le (length path - suffix_len inside path - 1) path (omega arith))
 
@@ -67,7 +64,7 @@ on_way tree rooted b place (suc left) path rest short is there = by_case (folder
     by_case (inl at) deeper = record { step = path; here = ap parent is ∙ at; there = there; leads = inl refl }
     by_case (inr (more, at)) deeper =
         let above : parent path ≡ (b ∷ place) ++ 47 ∷ more = ap parent is ∙ at in
-        let w = deeper more above (subst (λ q. IsSome (get tree q)) (sym above) (stands (get tree ((b ∷ place) ++ 47 ∷ more)) (up ((b ∷ place) ++ 47 ∷ more) above))) in
+        let w = deeper more above (subst (λ q. IsSome (get tree q)) (sym above) (some_of_folder (get tree ((b ∷ place) ++ 47 ∷ more)) (up ((b ∷ place) ++ 47 ∷ more) above))) in
         let whole : path ≡ parent path ++ 47 ∷ after_last is_slash path = path_in_folder path (omega (arith, ap length above)) in
         record { step = w.step; here = w.here; there = w.there; leads = inr (joined w.step w.leads whole) }
       where

@@ -14,10 +14,7 @@ use Rattle.std.specs.List.{filter}
 use Rattle.std.proofs.lemmas.Slice.Eq.{bytes_eq-Decides}
 use Rattle.gix_ref_format.specs.Packed.{Record}
 use Rattle.gix_ref_format.specs.PackedBuffer.{hit}
-
-and_left : (a b : Bool) → (a && b) ≡ true → a ≡ true
-and_left true b h = refl
-and_left false b h = cc
+use Rattle.std.proofs.lemmas.Bool.{and_parts}
 
 -- ---- all names below `refs/`
 pub gathers_all : (tree : Tree) (base : List ℕ) (asked : List ℕ → Bool) (names : List (List ℕ)) → HasFront (codes "refs/") asked → GathersBelow tree base asked (codes "refs") names → Gathers tree base asked names
@@ -54,7 +51,7 @@ still_all tree base asked old new keeps gathers name it = keeps name (gathers na
 -- pseudo references stand in the worktree's own folder
 pub own_places : (b : Base) (tree : Tree) (names : List (List ℕ)) → Gathers tree b.git is_pseudo names → GathersPlaces b tree is_pseudo names
 own_places b tree names own name file full asked =
-    own name (record { file = subst (λ p. IsTrue (is_file_at tree p)) (at_own (is_capitals name) refl (and_left (is_capitals name) (ends (codes "HEAD") name) asked)) file; full = full; asked_for = asked })
+    own name (record { file = subst (λ p. IsTrue (is_file_at tree p)) (at_own (is_capitals name) refl (and_parts (is_capitals name) (ends (codes "HEAD") name) asked).0) file; full = full; asked_for = asked })
   where
     at_own : (c : Bool) → is_capitals name ≡ c → c ≡ true → place b name ≡ under b.git name
     at_own c is so =

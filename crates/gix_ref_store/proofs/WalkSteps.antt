@@ -17,6 +17,8 @@ use Rattle.gix_ref_file.proofs.Listings.{listed_stands, item_is, map_length}
 use Rattle.gix_ref_store.specs.Listings.{is_pseudo}
 use Rattle.gix_ref_store.specs.Walks.{has, Keeps, HasFile, Gathers, GathersBelow}
 use Rattle.gix_ref_store.proofs.Descents.{IsAtOrBelow, on_way, is_found, folder_below}
+use Rattle.std.proofs.lemmas.Bool.{and_parts}
+use Rattle.gix_ref_file.proofs.Moved.{file_stands}
 
 -- ---- beginnings
 pub split : (front path r s : List ℕ) → front ++ r ≡ path ++ s → ((t : List ℕ) × (path ≡ front ++ t)) ⊎ ((t : List ℕ) × (front ≡ path ++ t))
@@ -33,10 +35,6 @@ split (f ∷ front) (p ∷ path) r s is = by_case (split front path r s (tails i
     by_case : ((t : List ℕ) × (path ≡ front ++ t)) ⊎ ((t : List ℕ) × (front ≡ path ++ t)) → ((t : List ℕ) × (p ∷ path ≡ f ∷ front ++ t)) ⊎ ((t : List ℕ) × (f ∷ front ≡ p ∷ path ++ t))
     by_case (inl (t, e)) = inl (t, λ i. sym (heads is) i ∷ e i)
     by_case (inr (t, e)) = inr (t, λ i. heads is i ∷ e i)
-
-and_right : (a b : Bool) → (a && b) ≡ true → b ≡ true
-and_right true b h = h
-and_right false b h = cc
 
 -- ---- below a base
 pub cancel : (front xs ys : List ℕ) → front ++ xs ≡ front ++ ys → xs ≡ ys
@@ -87,14 +85,6 @@ HasFront front asked = (name : List ℕ) → IsTrue (asked name) → IsTrue (beg
 -- the test holds of each path at which a name that is asked for may stand, or below which it may
 abbrev pub IsLed : (List ℕ → Bool) → (List ℕ → Bool) → Type 0
 IsLed lead asked = (path name : List ℕ) → IsTrue (asked name) → IsAtOrBelow name path → IsTrue (lead path)
-
-file_stands : (tree : Tree) (path : List ℕ) → IsTrue (is_file_at tree path) → IsSome (get tree path)
-file_stands tree [] is = absurd (cc is)
-file_stands tree (b ∷ path) is = by_case (get tree (b ∷ path)) is
-  where
-    by_case : (o : Option Node) → IsTrue (is_some (bytes_of o)) → IsSome o
-    by_case None h = absurd (cc h)
-    by_case (Some n) h = refl
 
 -- a folder stands above what stands
 folder_above : (tree : Tree) → IsRooted tree → (path place rest : List ℕ) → 0 < length place → path ≡ place ++ 47 ∷ rest → IsTrue (is_file_at tree path) → IsTrue (is_folder (node_at tree place))
@@ -237,21 +227,17 @@ no_slash (b ∷ name) is rest [] e = at_slash b (sym (heads e)) is
 
     at_slash : (b : ℕ) → b ≡ 47 → IsTrue (is_capital b && list_all is_capital name) → ⊥
     at_slash b same h = absurd (cc (sym (ap (λ x. is_capital x && list_all is_capital name) same) ∙ h))
-no_slash (b ∷ name) is rest (f ∷ front) e = no_slash name (and_right (is_capital b) (list_all is_capital name) is) rest front (tails e)
+no_slash (b ∷ name) is rest (f ∷ front) e = no_slash name (and_parts (is_capital b) (list_all is_capital name) is).1 rest front (tails e)
   where
     tails : b ∷ name ≡ f ∷ front ++ 47 ∷ rest → name ≡ front ++ 47 ∷ rest
     tails h = cc
-
-and_left : (a b : Bool) → (a && b) ≡ true → a ≡ true
-and_left true b h = refl
-and_left false b h = cc
 
 pub all_pseudo : (tree : Tree) (base : List ℕ) (listed names : List (List ℕ)) → IsRooted tree → listed ≡ names_at tree base
     → ((i : ℕ) → i < length listed → IsTrue (is_full_name (get_or listed i [])) → IsTrue (is_pseudo (get_or listed i [])) → IsTrue (has names (get_or listed i [])))
     → Gathers tree base is_pseudo names
 all_pseudo tree base listed names rooted listed_is all name it =
     let there = file_stands tree (under base name) it.file in
-    let capitals = and_left (is_capitals name) (ends (codes "HEAD") name) it.asked_for in
+    let capitals = (and_parts (is_capitals name) (ends (codes "HEAD") name) it.asked_for).0 in
     let here = in_base base name capitals (rooted (under base name) there).0 in
     let f = is_found tree base listed (under base name) rooted listed_is there here in
     let same : get_or listed f.0 [] ≡ name = same_name base (get_or listed f.0 []) name f.2 in

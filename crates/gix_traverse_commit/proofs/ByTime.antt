@@ -26,31 +26,32 @@ use Rattle.gix_traverse_commit.proofs.Chosen.{reached_turn, taken_next, timed_en
 use Rattle.gix_traverse_commit.proofs.Cutoff.{in_time_too, in_time_yes}
 use Rattle.gix_traverse_commit.proofs.Listing.{listed_reached, reached_more}
 use Rattle.gix_traverse_commit.proofs.Painting.{known_fit}
-use Rattle.gix_traverse_commit.proofs.Simply.{and_both, and_left, and_right, fewer_known, from_not, known_push, not_from}
+use Rattle.gix_traverse_commit.proofs.Simply.{fewer_known, from_not, known_push, not_from}
+use Rattle.std.proofs.lemmas.Bool.{and_from, and_parts}
 
 module _ (g : Commits ObjectId) (a : Asked) (t : Timing) (is : timing a ≡ Some t) (hides : ObjectId → Bool) (painted : (x : ObjectId) → (hides x ≡ true) ↔ ReachedFrom g a.hidden x) where
   keep : ObjectId → Bool
   keep = keep_since t.since g hides a.accepts
 
   pub keeps_since : (y : ObjectId) → Listed g (request_in (Some t) a) y → keep_since t.since g hides a.accepts y ≡ true
-  keeps_since y l = and_both (not (hides y)) (a.accepts (id_of y) && in_time t.since (g y).time) (not_from (hides y) (λ h. l.1 ((painted y).0 h))) (passes l.0)
+  keeps_since y l = and_from (not (hides y)) (a.accepts (id_of y) && in_time t.since (g y).time) (not_from (hides y) (λ h. l.1 ((painted y).0 h))) (passes l.0)
     where
       passes : {y : ObjectId} → Reached (asked_parents a.parents g) (Passes g (request_in (Some t) a)) a.tips y → (a.accepts (id_of y) && in_time t.since (g y).time) ≡ true
-      passes (tip {x = y} c p) = and_both (a.accepts (id_of y)) (in_time t.since (g y).time) p.0 (in_time_too t.since (g y).time p.1)
-      passes (parent {y = y} r n p) = and_both (a.accepts (id_of y)) (in_time t.since (g y).time) p.0 (in_time_too t.since (g y).time p.1)
+      passes (tip {x = y} c p) = and_from (a.accepts (id_of y)) (in_time t.since (g y).time) p.0 (in_time_too t.since (g y).time p.1)
+      passes (parent {y = y} r n p) = and_from (a.accepts (id_of y)) (in_time t.since (g y).time) p.0 (in_time_too t.since (g y).time p.1)
 
   to_since : (x : ObjectId) → Listed g (request_in (Some t) a) x → Reached (asked_parents a.parents g) (λ y. IsTrue (keep_since t.since g hides a.accepts y)) a.tips x
   to_since x l = reached_more (asked_parents a.parents g) (Listed g (request_in (Some t) a)) (λ y. IsTrue (keep_since t.since g hides a.accepts y)) a.tips keeps_since (listed_reached g (request_in (Some t) a) l.0 l.1)
 
   passes_from : (y : ObjectId) → keep_since t.since g hides a.accepts y ≡ true → Passes g (request_in (Some t) a) y
   passes_from y k =
-      let r = and_right (not (hides y)) (a.accepts (id_of y) && in_time t.since (g y).time) k in
-      (and_left (a.accepts (id_of y)) (in_time t.since (g y).time) r, in_time_yes t.since (g y).time (and_right (a.accepts (id_of y)) (in_time t.since (g y).time) r))
+      let r = (and_parts (not (hides y)) (a.accepts (id_of y) && in_time t.since (g y).time) k).1 in
+      ((and_parts (a.accepts (id_of y)) (in_time t.since (g y).time) r).0, in_time_yes t.since (g y).time (and_parts (a.accepts (id_of y)) (in_time t.since (g y).time) r).1)
 
   pub from_since : (x : ObjectId) → Reached (asked_parents a.parents g) (λ y. IsTrue (keep_since t.since g hides a.accepts y)) a.tips x → Listed g (request_in (Some t) a) x
   from_since x r = (
     reached_more (asked_parents a.parents g) (λ y. IsTrue (keep_since t.since g hides a.accepts y)) (Passes g (request_in (Some t) a)) a.tips passes_from r,
-    (λ h. from_not (hides x) (and_left (not (hides x)) (a.accepts (id_of x) && in_time t.since (g x).time) (kept r)) ((painted x).1 h)),
+    (λ h. from_not (hides x) (and_parts (not (hides x)) (a.accepts (id_of x) && in_time t.since (g x).time) (kept r)).0 ((painted x).1 h)),
   )
     where
       kept : {y : ObjectId} → Reached (asked_parents a.parents g) (λ z. IsTrue (keep_since t.since g hides a.accepts z)) a.tips y → keep_since t.since g hides a.accepts y ≡ true

@@ -5,7 +5,7 @@ use Rattle.std.specs.List.{list_any, list_all}
 use Rattle.std.specs.Int.Signed.{lt_z}
 use Rattle.std.specs.Ordering.{int_eq}
 use Rattle.std.specs.Int.Signed.{lt_z_yes}
-use Rattle.std.proofs.lemmas.Bool.{ltb-true}
+use Rattle.std.proofs.lemmas.Bool.{ltb-true, or_right, and_parts, or_cases, or_left}
 use Rattle.std.proofs.lemmas.Bool.Decides.{Decides-int_eq, nat_tests}
 use Rattle.std.proofs.Common.{T}
 use Rattle.gix_traverse_commit.specs.Order.{At, Before, IsListOf, IsChosen, IsOpen, IsReady, NamedBy, IsLastName, HasNoChild, IsFirstAt, Outranks, later_child, has_child, newer, given_later}
@@ -16,26 +16,18 @@ use Rattle.gix_traverse_commit.proofs.Slow.{TellsApart, contains_from_any, any_f
 pub T_from : {b : Bool} → b ≡ true → T b
 T_from e = subst T (sym e) tt
 
-pub and_left : (a b : Bool) → (a && b) ≡ true → a ≡ true
-and_left true b e = refl
-and_left false b e = e
-
-pub and_right : (a b : Bool) → (a && b) ≡ true → b ≡ true
-and_right true b e = e
-and_right false b e = let z : ⊥ = cc in absurd z
-
 pub pass_at : {I : Type 0} (p : I → Bool) (xs : List I) (k : ℕ) (x : I) → list_all p xs ≡ true → At xs k x → p x ≡ true
 pass_at p [] k x e a = let z : ⊥ = cc in absurd z
-pass_at p (y ∷ ys) zero x e a = let same : y ≡ x = cc in subst (λ (z : _). p z ≡ true) same (and_left (p y) (list_all p ys) e)
-pass_at p (y ∷ ys) (suc k) x e a = pass_at p ys k x (and_right (p y) (list_all p ys) e) a
+pass_at p (y ∷ ys) zero x e a = let same : y ≡ x = cc in subst (λ (z : _). p z ≡ true) same (and_parts (p y) (list_all p ys) e).0
+pass_at p (y ∷ ys) (suc k) x e a = pass_at p ys k x (and_parts (p y) (list_all p ys) e).1 a
 
 -- one after another, from any place on
 chosen_from : {I : Type 0} (fit : List I → I → Bool) (comes : List I → I → I → Bool) (before rest : List I) → check_chosen fit comes before rest ≡ true → ((k : ℕ) (x : I) → At rest k x → fit (before ++ take k rest) x ≡ true) × ((k l : ℕ) (x y : I) → k < l → At rest k x → At rest l y → fit (before ++ take k rest) y ≡ true → comes (before ++ take k rest) x y ≡ true)
 chosen_from {I} fit comes before [] e = ((λ k x a. let z : ⊥ = cc in absurd z), (λ k l x y lt a b f. let z : ⊥ = cc in absurd z))
 chosen_from {I} fit comes before (w ∷ rest) e =
-    let fits = and_left (fit before w) _ e in
-    let others = and_left (list_all (λ y. not (fit before y) || comes before w y) rest) _ (and_right (fit before w) _ e) in
-    let later = chosen_from fit comes (before ++ w ∷ []) rest (and_right (list_all (λ y. not (fit before y) || comes before w y) rest) _ (and_right (fit before w) _ e)) in
+    let fits = (and_parts (fit before w) _ e).0 in
+    let others = (and_parts (list_all (λ y. not (fit before y) || comes before w y) rest) _ (and_parts (fit before w) _ e).1).0 in
+    let later = chosen_from fit comes (before ++ w ∷ []) rest (and_parts (list_all (λ y. not (fit before y) || comes before w y) rest) _ (and_parts (fit before w) _ e).1).1 in
     (fitted fits later.0, firsts others later.1)
   where
     none : before ++ [] ≡ before
@@ -68,18 +60,6 @@ chosen_from_check S Fit Comes fit comes out list fit_yes fit_too comes_yes e =
       fit = λ k x a. fit_yes _ x (r.0 k x a);
       chosen = λ k l x y lt a b f. comes_yes _ x y (r.1 k l x y lt a b (fit_too _ y f));
     }
-
-or_cases : (a b : Bool) → (a || b) ≡ true → (a ≡ true) ⊎ (b ≡ true)
-or_cases true b e = inl refl
-or_cases false b e = inr e
-
-or_left : (a b : Bool) → a ≡ true → (a || b) ≡ true
-or_left true b e = refl
-or_left false b e = let z : ⊥ = cc in absurd z
-
-or_right : (a b : Bool) → b ≡ true → (a || b) ≡ true
-or_right true b e = refl
-or_right false b e = e
 
 -- a test that one of a list passes
 any_place : {I : Type 0} (p : I → Bool) (xs : List I) → list_any p xs ≡ true → (k : ℕ) × (x : I) × At xs k x × (p x ≡ true)
@@ -224,7 +204,7 @@ module _ {I : Type 0} (eq : I → I → Bool) (apart : TellsApart eq) (along : I
       pair : (a b c d : ℕ) → (nat_lt b a || (not (nat_lt a b) && nat_lt d c)) ≡ true → Before b d a c
       pair a b c d f = elim (or_cases (nat_lt b a) _ f) [
         | inl g ↦ inl (ltb-true b a g)
-        | inr g ↦ (let l = ltb-true d c (and_right (not (nat_lt a b)) _ g) in let n = and_left (not (nat_lt a b)) _ g in later b a d c n l)
+        | inr g ↦ (let l = ltb-true d c (and_parts (not (nat_lt a b)) _ g).1 in let n = (and_parts (not (nat_lt a b)) _ g).0 in later b a d c n l)
       ]
         where
           later : (b a d c : ℕ) → not (nat_lt a b) ≡ true → d < c → Before b d a c
@@ -234,12 +214,12 @@ module _ {I : Type 0} (eq : I → I → Bool) (apart : TellsApart eq) (along : I
       alone nx ny f = elim (or_cases (lt_z (time y) (time x)) _ f) [
         | inl g ↦ newer nx ny (lt_z_yes (T_from g))
         | inr g ↦ (
-            let same = and_left (int_eq (time y) (time x)) _ g in
-            let h = and_right (int_eq (time y) (time x)) _ g in
-            let tx = and_left (list_any (eq x) tips) _ h in
-            let k = and_right (list_any (eq x) tips) _ h in
-            let ty = and_left (list_any (eq y) tips) _ k in
-            given_later nx ny ((Decides-int_eq (time y) (time x)).0 same) (first_index_is x tips tx) (first_index_is y tips ty) (ltb-true (first_index eq y tips) (first_index eq x tips) (and_right (list_any (eq y) tips) _ k)))
+            let same = (and_parts (int_eq (time y) (time x)) _ g).0 in
+            let h = (and_parts (int_eq (time y) (time x)) _ g).1 in
+            let tx = (and_parts (list_any (eq x) tips) _ h).0 in
+            let k = (and_parts (list_any (eq x) tips) _ h).1 in
+            let ty = (and_parts (list_any (eq y) tips) _ k).0 in
+            given_later nx ny ((Decides-int_eq (time y) (time x)).0 same) (first_index_is x tips tx) (first_index_is y tips ty) (ltb-true (first_index eq y tips) (first_index eq x tips) (and_parts (list_any (eq y) tips) _ k).1))
       ]
 
       go : (a b : Option (ℕ × ℕ)) → last_name eq along x before ≡ a → last_name eq along y before ≡ b → Outranks along tips time before x y

@@ -15,7 +15,7 @@ use Rattle.gix_traverse_commit.proofs.Lists.{at_from_contains, at_from_push, at_
 use Rattle.gix_traverse_commit.proofs.Simply.{in_push}
 use Rattle.gix_traverse_commit.proofs.Timely.{comes_itself, in_nil, met_renamed, same_turn, taken_first, taken_other, taken_some}
 
-take_before : {I : Type 0} (xs : List I) (y : I) (k : ℕ) → k ≤ length xs → take k (xs ++ y ∷ []) ≡ take k xs
+pub take_before : {I : Type 0} (xs : List I) (y : I) (k : ℕ) → k ≤ length xs → take k (xs ++ y ∷ []) ≡ take k xs
 take_before [] y zero l = refl
 take_before [] y (suc k) l = absurd (omega arith)
 take_before (x ∷ xs) y zero l = refl

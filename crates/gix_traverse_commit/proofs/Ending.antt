@@ -24,8 +24,8 @@ use Rattle.gix_traverse_commit.specs.declared.simple.waiting.Turn.{Turn}
 use Rattle.gix_traverse_commit.proofs.Ids.{same_from_test}
 use Rattle.gix_traverse_commit.proofs.Lists.{at_from_contains, none_at_nil}
 use Rattle.gix_traverse_commit.proofs.NodeLemmas.{find_none}
-use Rattle.gix_traverse_commit.proofs.Pending.{in_head, in_tail, is_false}
-use Rattle.gix_traverse_commit.proofs.Simply.{and_left, and_right}
+use Rattle.gix_traverse_commit.proofs.Pending.{in_head, in_tail}
+use Rattle.std.proofs.lemmas.Bool.{and_parts, false_from_ne_true}
 
 -- ---- counting
 
@@ -177,7 +177,7 @@ value_of id = go (id_eq id (id_of (object_id_of id))) refl
   where
     go : (b : Bool) → id_eq id (id_of (object_id_of id)) ≡ b → ((y : ObjectId) × (id_of y ≡ id)) ⊎ ((y : ObjectId) → id_eq id (id_of y) ≡ false)
     go true e = inl (object_id_of id, sym (id_eq-same id (id_of (object_id_of id)) e))
-    go false e = inr (λ y. is_false (id_eq id (id_of y)) (λ t.
+    go false e = inr (λ y. false_from_ne_true (id_eq id (id_of y)) (λ t.
         let s : object_id_of id ≡ y = ap object_id_of (id_eq-same id (id_of y) t) ∙ object_id_of-id_of y in
         let u : id_eq id (id_of (object_id_of id)) ≡ true = subst (λ (z : ObjectId). id_eq id (id_of z) ≡ true) (sym s) t in
         let z : ⊥ = cc in z))
@@ -258,11 +258,11 @@ empty_test xs e = ap is_empty e
 
 pub over_from : {F P : Type 0} (walk : Simple F P) → is_over walk ≡ true → IsOver walk
 over_from walk e =
-    let rest = and_right walk.begun (is_empty walk.known.queue && is_empty (turns_of walk.known)) e in
+    let rest = (and_parts walk.begun (is_empty walk.known.queue && is_empty (turns_of walk.known)) e).1 in
     record {
-      begun = and_left walk.begun (is_empty walk.known.queue && is_empty (turns_of walk.known)) e;
-      empty = empty_from walk.known.queue (and_left (is_empty walk.known.queue) (is_empty (turns_of walk.known)) rest);
-      none_waits = empty_from (turns_of walk.known) (and_right (is_empty walk.known.queue) (is_empty (turns_of walk.known)) rest);
+      begun = (and_parts walk.begun (is_empty walk.known.queue && is_empty (turns_of walk.known)) e).0;
+      empty = empty_from walk.known.queue (and_parts (is_empty walk.known.queue) (is_empty (turns_of walk.known)) rest).0;
+      none_waits = empty_from (turns_of walk.known) (and_parts (is_empty walk.known.queue) (is_empty (turns_of walk.known)) rest).1;
     }
 
 pub over_test : {F P : Type 0} (walk : Simple F P) → IsOver walk → is_over walk ≡ true

@@ -10,6 +10,7 @@ use Rattle.gix_traverse_commit.specs.Timely.{AllRowed, Waits}
 use Rattle.gix_traverse_commit.specs.declared.rows.Row.{Row}
 use Rattle.gix_traverse_commit.specs.declared.simple.waiting.Turn.{Turn}
 use Rattle.gix_traverse_commit.proofs.Lists.{at_from_contains, contains_from_at, none_at_nil}
+use Rattle.std.proofs.lemmas.Bool.{false_from_ne_true}
 
 pub in_head : {I : Type 0} (x : I) (xs : List I) → Contains (x ∷ xs) x
 in_head x xs = contains_from_at (x ∷ xs) 0 x refl
@@ -45,10 +46,6 @@ pass_push {A} {B} f p xs x = ap (map f) (filter-append p xs (x ∷ [])) ∙ map-
     one : (b : Bool) → map f (cond b (x ∷ []) []) ≡ cond b (f x ∷ []) []
     one true = refl
     one false = refl
-
-pub is_false : (b : Bool) → (b ≡ true → ⊥) → b ≡ false
-is_false false h = refl
-is_false true h = absurd (h refl)
 
 pub nothing_in : (xs : List ObjectId) → ((x : ObjectId) → Contains xs x → ⊥) → xs ≡ []
 nothing_in [] h = refl

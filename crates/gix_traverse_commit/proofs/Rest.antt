@@ -13,14 +13,14 @@ use Rattle.gix_traverse_commit.specs.Known.{waited_of}
 use Rattle.gix_traverse_commit.specs.declared.simple.Simple.{Simple}
 use Rattle.gix_traverse_commit.proofs.Lists.{at_from_contains}
 use Rattle.gix_traverse_commit.proofs.KnownLemmas.{none_waited, waited_waits}
-use Rattle.gix_traverse_commit.proofs.Simply.{and_left, and_right}
 use Rattle.gix_traverse_commit.proofs.Timely.{in_nil}
+use Rattle.std.proofs.lemmas.Bool.{and_parts}
 
 -- what is queued in breadth order is accepted
 kept_accepted : (along : ObjectId → List ObjectId) (tips : List ObjectId) (hides : ObjectId → Bool) (accepts : Id → Bool) (has : ObjectId → Bool) (listed queue : List ObjectId) → KeptAll along tips (keep_of hides accepts) has (listed ++ queue) (length listed) → (x : ObjectId) → Contains queue x → accepts (id_of x) ≡ true
 kept_accepted along tips hides accepts has listed queue w x c =
     let (k, a) = at_from_contains (listed ++ queue) x (Contains-append_right listed queue x c) in
-    and_right (not (hides x)) (accepts (id_of x)) (kept (w.kept.read.reached k x a))
+    (and_parts (not (hides x)) (accepts (id_of x)) (kept (w.kept.read.reached k x a))).1
   where
     kept : {y : ObjectId} → Reached along (λ q. IsTrue (keep_of hides accepts q)) tips y → keep_of hides accepts y ≡ true
     kept (tip t k) = k
@@ -35,7 +35,7 @@ module _ {F P : Type 0} (accepts : P → Id → Bool) (walk : Simple F P) where
     ]
     | inr w ↦ elim (Contains-append_cases walk.known.queue (waited_of walk.known) x c) [
       | inl d ↦ absurd (in_nil x (subst (λ (zs : List ObjectId). Contains zs x) w.empty d))
-      | inr d ↦ (let kept = (w.met.some x (waited_waits walk.known x d)).0 in and_left (a.accepts (id_of x)) (in_time w.by_time.since (g x).time) (and_right (not (w.hides x)) (a.accepts (id_of x) && in_time w.by_time.since (g x).time) kept))
+      | inr d ↦ (let kept = (w.met.some x (waited_waits walk.known x d)).0 in (and_parts (a.accepts (id_of x)) (in_time w.by_time.since (g x).time) (and_parts (not (w.hides x)) (a.accepts (id_of x) && in_time w.by_time.since (g x).time) kept).1).0)
     ]
   ]
 

@@ -14,7 +14,9 @@ use Rattle.gix_traverse_commit.proofs.Lists.{at_from_contains, contains_from_at}
 use Rattle.gix_traverse_commit.proofs.Slow.{TellsApart, contains_from_any, any_from_contains, breadth_list_is}
 use Rattle.gix_traverse_commit.proofs.Cutoff.{in_time_yes, in_time_too}
 use Rattle.gix_traverse_commit.proofs.Listing.{listed_reached}
-use Rattle.gix_traverse_commit.proofs.Check.{T_from, and_left, and_right, pass_at, chosen_from_check, is_open_yes, is_open_too, is_ready_yes, is_ready_too, outranks_yes}
+use Rattle.gix_traverse_commit.proofs.Check.{T_from, pass_at, chosen_from_check, is_open_yes, is_open_too, is_ready_yes, is_ready_too, outranks_yes}
+use Rattle.std.proofs.lemmas.Bool.{and_from, and_parts}
+use Rattle.gix_traverse_commit.proofs.Simply.{not_from}
 
 -- numbers are told apart by their test
 pub nat_eq_apart : TellsApart nat_eq
@@ -27,13 +29,6 @@ true_from_T false t = absurd t
 not_true : (b : Bool) → not b ≡ true → b ≡ true → ⊥
 not_true true e f = cc
 not_true false e f = cc
-
-not_false : (b : Bool) → (b ≡ true → ⊥) → not b ≡ true
-not_false true h = absurd (h refl)
-not_false false h = refl
-
-both : (a b : Bool) → a ≡ true → b ≡ true → (a && b) ≡ true
-both a b e f = rw (e, f) refl
 
 module _ (commits : List (Commit ℕ)) (q : WalkRequest ℕ) where
   g : Commits ℕ
@@ -53,17 +48,17 @@ module _ (commits : List (Commit ℕ)) (q : WalkRequest ℕ) where
 
     kept_yes : (x : ℕ) → keeps commits q x ≡ true → Kept x
     kept_yes x e =
-        let a = and_left (q.accepts x) _ e in
-        let r = and_right (q.accepts x) _ e in
-        let t = and_left (in_time q.since (graph_of commits x).time) _ r in
-        let n = and_right (in_time q.since (graph_of commits x).time) _ r in
+        let a = (and_parts (q.accepts x) _ e).0 in
+        let r = (and_parts (q.accepts x) _ e).1 in
+        let t = (and_parts (in_time q.since (graph_of commits x).time) _ r).0 in
+        let n = (and_parts (in_time q.since (graph_of commits x).time) _ r).1 in
         let m : not (list_any (nat_eq x) hs) ≡ true = subst (λ (zs : List ℕ). not (list_any (nat_eq x) zs) ≡ true) same_hidden n in
         ((a, in_time_yes q.since (graph_of commits x).time t), λ h. not_true (list_any (nat_eq x) hs) m (any_from_contains nat_eq nat_eq_apart hs x (((hidden_list hs found).list.each x).1 h)))
 
     kept_too : (x : ℕ) → Kept x → keeps commits q x ≡ true
     kept_too x k =
-        let m : not (list_any (nat_eq x) hs) ≡ true = not_false (list_any (nat_eq x) hs) (λ e. k.1 (((hidden_list hs found).list.each x).0 (contains_from_any nat_eq nat_eq_apart hs x e))) in
-        both (q.accepts x) _ k.0.0 (both (in_time q.since (graph_of commits x).time) _ (in_time_too q.since (graph_of commits x).time k.0.1) (subst (λ (zs : List ℕ). not (list_any (nat_eq x) zs) ≡ true) (sym same_hidden) m))
+        let m : not (list_any (nat_eq x) hs) ≡ true = not_from (list_any (nat_eq x) hs) (λ e. k.1 (((hidden_list hs found).list.each x).0 (contains_from_any nat_eq nat_eq_apart hs x e))) in
+        and_from (q.accepts x) _ k.0.0 (and_from (in_time q.since (graph_of commits x).time) _ (in_time_too q.since (graph_of commits x).time k.0.1) (subst (λ (zs : List ℕ). not (list_any (nat_eq x) zs) ≡ true) (sym same_hidden) m))
 
     to_kept : {x : ℕ} → Reached (asked_parents q.parents (graph_of commits)) (Listed (graph_of commits) q) q.tips x → Reached (asked_parents q.parents (graph_of commits)) Kept q.tips x
     to_kept (tip {x = x} t l) = tip t (passes l.0, l.1)
@@ -88,19 +83,19 @@ module _ (commits : List (Commit ℕ)) (q : WalkRequest ℕ) where
     once_from : (out : List ℕ) → is_distinct nat_eq out ≡ true → (j k : ℕ) (x : ℕ) → At out j x → At out k x → j ≡ k
     once_from [] e j k x a b = let z : ⊥ = cc in absurd z
     once_from (y ∷ ys) e zero zero x a b = refl
-    once_from (y ∷ ys) e zero (suc k) x a b = absurd (not_true (list_any (nat_eq y) ys) (and_left (not (list_any (nat_eq y) ys)) _ e) (any_from_contains nat_eq nat_eq_apart ys y (contains_from_at ys k y (let same : x ≡ y = cc in subst (λ (z : ℕ). At ys k z) same b))))
-    once_from (y ∷ ys) e (suc j) zero x a b = absurd (not_true (list_any (nat_eq y) ys) (and_left (not (list_any (nat_eq y) ys)) _ e) (any_from_contains nat_eq nat_eq_apart ys y (contains_from_at ys j y (let same : x ≡ y = cc in subst (λ (z : ℕ). At ys j z) same a))))
-    once_from (y ∷ ys) e (suc j) (suc k) x a b = ap suc (once_from ys (and_right (not (list_any (nat_eq y) ys)) _ e) j k x a b)
+    once_from (y ∷ ys) e zero (suc k) x a b = absurd (not_true (list_any (nat_eq y) ys) (and_parts (not (list_any (nat_eq y) ys)) _ e).0 (any_from_contains nat_eq nat_eq_apart ys y (contains_from_at ys k y (let same : x ≡ y = cc in subst (λ (z : ℕ). At ys k z) same b))))
+    once_from (y ∷ ys) e (suc j) zero x a b = absurd (not_true (list_any (nat_eq y) ys) (and_parts (not (list_any (nat_eq y) ys)) _ e).0 (any_from_contains nat_eq nat_eq_apart ys y (contains_from_at ys j y (let same : x ≡ y = cc in subst (λ (z : ℕ). At ys j z) same a))))
+    once_from (y ∷ ys) e (suc j) (suc k) x a b = ap suc (once_from ys (and_parts (not (list_any (nat_eq y) ys)) _ e).1 j k x a b)
 
     same_members : (zs out : List ℕ) → list_all (λ x. list_any (nat_eq x) zs) out ≡ true → (x : ℕ) → Contains out x → Contains zs x
     same_members zs out e x c = let (k, a) = at_from_contains out x c in contains_from_any nat_eq nat_eq_apart zs x (pass_at (λ x. list_any (nat_eq x) zs) out k x e a)
 
     list_is : (S : ℕ → Type 0) (zs out : List ℕ) → IsListOf S zs → is_list_of zs out ≡ true → IsListOf S out
     list_is S zs out l e =
-        let within = and_left (list_all (λ x. list_any (nat_eq x) zs) out) _ e in
-        let r = and_right (list_all (λ x. list_any (nat_eq x) zs) out) _ e in
-        let all = and_left (list_all (λ x. list_any (nat_eq x) out) zs) _ r in
-        let once = and_right (list_all (λ x. list_any (nat_eq x) out) zs) _ r in
+        let within = (and_parts (list_all (λ x. list_any (nat_eq x) zs) out) _ e).0 in
+        let r = (and_parts (list_all (λ x. list_any (nat_eq x) zs) out) _ e).1 in
+        let all = (and_parts (list_all (λ x. list_any (nat_eq x) out) zs) _ r).0 in
+        let once = (and_parts (list_all (λ x. list_any (nat_eq x) out) zs) _ r).1 in
         record {
           each = λ x. ((λ c. (l.each x).0 (same_members zs out within x c)), (λ s. same_members out zs all x ((l.each x).1 s)));
           once = once_from out once;
@@ -118,41 +113,41 @@ module _ (commits : List (Commit ℕ)) (q : WalkRequest ℕ) where
           let ys = unwrap_or (slow_list commits q) [] in
           let along = asked_parents q.parents (graph_of commits) in
           chosen_from_check (Listed (graph_of commits) q) (IsReady along (Listed (graph_of commits) q)) (Outranks along q.tips (λ x. (graph_of commits x).time)) (is_ready nat_eq along ys) (outranks nat_eq along q.tips (λ x. (graph_of commits x).time)) out
-          (list_is (Listed (graph_of commits) q) ys out members (and_left (is_list_of ys out) _ e))
+          (list_is (Listed (graph_of commits) q) ys out members (and_parts (is_list_of ys out) _ e).0)
           (is_ready_yes nat_eq nat_eq_apart along (Listed (graph_of commits) q) ys (λ x s. (members.each x).1 s) (λ x c. (members.each x).0 c))
           (is_ready_too nat_eq nat_eq_apart along (Listed (graph_of commits) q) ys (λ x s. (members.each x).1 s) (λ x c. (members.each x).0 c))
           (outranks_yes nat_eq nat_eq_apart along q.tips (λ x. (graph_of commits x).time))
-          (and_right (is_list_of ys out) _ e)
+          (and_parts (is_list_of ys out) _ e).1
 
       pub date_is : (out : List ℕ) → date_rows commits q out ≡ true → FinishedByDate (graph_of commits) q out
       date_is out e =
           let ys = unwrap_or (slow_list commits q) [] in
           let along = asked_parents q.parents (graph_of commits) in
           chosen_from_check (Listed (graph_of commits) q) (IsReady along (Listed (graph_of commits) q)) (NewestFirst (λ x. (graph_of commits x).time)) (is_ready nat_eq along ys) (newest_first (λ x. (graph_of commits x).time)) out
-          (list_is (Listed (graph_of commits) q) ys out members (and_left (is_list_of ys out) _ e))
+          (list_is (Listed (graph_of commits) q) ys out members (and_parts (is_list_of ys out) _ e).0)
           (is_ready_yes nat_eq nat_eq_apart along (Listed (graph_of commits) q) ys (λ x s. (members.each x).1 s) (λ x c. (members.each x).0 c))
           (is_ready_too nat_eq nat_eq_apart along (Listed (graph_of commits) q) ys (λ x s. (members.each x).1 s) (λ x c. (members.each x).0 c))
           (λ b x y t. le_z_yes (T_from t))
-          (and_right (is_list_of ys out) _ e)
+          (and_parts (is_list_of ys out) _ e).1
 
       pub newest_is : (out : List ℕ) → newest_rows commits q out ≡ true → ByNewest (graph_of commits) q out
       newest_is out e =
           let ys = unwrap_or (slow_list commits q) [] in
           let along = asked_parents q.parents (graph_of commits) in
           chosen_from_check (Listed (graph_of commits) q) (IsOpen along q.tips) (NewestFirst (λ x. (graph_of commits x).time)) (is_open nat_eq along q.tips) (newest_first (λ x. (graph_of commits x).time)) out
-          (list_is (Listed (graph_of commits) q) ys out members (and_left (is_list_of ys out) _ e))
+          (list_is (Listed (graph_of commits) q) ys out members (and_parts (is_list_of ys out) _ e).0)
           (is_open_yes nat_eq nat_eq_apart along q.tips)
           (is_open_too nat_eq nat_eq_apart along q.tips)
           (λ b x y t. le_z_yes (T_from t))
-          (and_right (is_list_of ys out) _ e)
+          (and_parts (is_list_of ys out) _ e).1
 
       pub oldest_is : (out : List ℕ) → oldest_rows commits q out ≡ true → ByOldest (graph_of commits) q out
       oldest_is out e =
           let ys = unwrap_or (slow_list commits q) [] in
           let along = asked_parents q.parents (graph_of commits) in
           chosen_from_check (Listed (graph_of commits) q) (IsOpen along q.tips) (OldestFirst (λ x. (graph_of commits x).time)) (is_open nat_eq along q.tips) (oldest_first (λ x. (graph_of commits x).time)) out
-          (list_is (Listed (graph_of commits) q) ys out members (and_left (is_list_of ys out) _ e))
+          (list_is (Listed (graph_of commits) q) ys out members (and_parts (is_list_of ys out) _ e).0)
           (is_open_yes nat_eq nat_eq_apart along q.tips)
           (is_open_too nat_eq nat_eq_apart along q.tips)
           (λ b x y t. le_z_yes (T_from t))
-          (and_right (is_list_of ys out) _ e)
+          (and_parts (is_list_of ys out) _ e).1

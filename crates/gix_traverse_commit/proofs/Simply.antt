@@ -29,6 +29,7 @@ use Rattle.gix_traverse_commit.proofs.Lists.{at_from_contains, contains_from_at,
 use Rattle.gix_traverse_commit.proofs.Listing.{listed_reached, reached_more}
 use Rattle.gix_traverse_commit.proofs.Painting.{known_fit}
 use Rattle.gix_traverse_commit.proofs.Turn.{at_first, next_first}
+use Rattle.std.proofs.lemmas.Bool.{and_from, and_parts}
 
 -- ---- tips are asked
 
@@ -169,17 +170,6 @@ module _ (nodes nodes' : List Node) (id : ObjectId) (marks : Marks) (new : (q : 
 
 -- ---- the listed set
 
-pub and_left : (a b : Bool) → (a && b) ≡ true → a ≡ true
-and_left true b e = refl
-and_left false b e = let z : ⊥ = cc in absurd z
-
-pub and_right : (a b : Bool) → (a && b) ≡ true → b ≡ true
-and_right true b e = e
-and_right false b e = let z : ⊥ = cc in absurd z
-
-pub and_both : (a b : Bool) → a ≡ true → b ≡ true → (a && b) ≡ true
-and_both a b e f = rw (e, f) refl
-
 pub not_from : (a : Bool) → (a ≡ true → ⊥) → not a ≡ true
 not_from true h = absurd (h refl)
 not_from false h = refl
@@ -197,10 +187,10 @@ module _ (g : Commits ObjectId) (a : Asked) (hides : ObjectId → Bool) (painted
       passes (parent r n p) = p.0
 
       keeps : (y : ObjectId) → Listed g (request_in None a) y → keep_of hides a.accepts y ≡ true
-      keeps y k = and_both (not (hides y)) (a.accepts (id_of y)) (not_from (hides y) (λ h. k.1 ((painted y).0 h))) (passes k.0)
+      keeps y k = and_from (not (hides y)) (a.accepts (id_of y)) (not_from (hides y) (λ h. k.1 ((painted y).0 h))) (passes k.0)
 
   pub from_kept : (x : ObjectId) → Reached (asked_parents a.parents g) (λ q. IsTrue (keep_of hides a.accepts q)) a.tips x → Listed g (request_in None a) x
-  from_kept x r = (reached_more (asked_parents a.parents g) (λ q. IsTrue (keep_of hides a.accepts q)) (Passes g (request_in None a)) a.tips (λ y k. (and_right (not (hides y)) (a.accepts (id_of y)) k, tt)) r, λ h. from_not (hides x) (and_left (not (hides x)) (a.accepts (id_of x)) (kept r)) ((painted x).1 h))
+  from_kept x r = (reached_more (asked_parents a.parents g) (λ q. IsTrue (keep_of hides a.accepts q)) (Passes g (request_in None a)) a.tips (λ y k. ((and_parts (not (hides y)) (a.accepts (id_of y)) k).1, tt)) r, λ h. from_not (hides x) (and_parts (not (hides x)) (a.accepts (id_of x)) (kept r)).0 ((painted x).1 h))
     where
       kept : {y : ObjectId} → Reached (asked_parents a.parents g) (λ q. IsTrue (keep_of hides a.accepts q)) a.tips y → keep_of hides a.accepts y ≡ true
       kept (tip t k) = k
@@ -269,4 +259,4 @@ kept_tip hides accepts x e = go (not (hides x)) (accepts (id_of x)) e
     go false b e = refl
 
 pub refused_tip : (hides : ObjectId → Bool) (accepts : Id → Bool) (x : ObjectId) → accepts (id_of x) ≡ false → keep_of hides accepts x ≡ true → ⊥
-refused_tip hides accepts x e k = let a = and_right (not (hides x)) (accepts (id_of x)) k in let z : ⊥ = cc in z
+refused_tip hides accepts x e k = let a = (and_parts (not (hides x)) (accepts (id_of x)) k).1 in let z : ⊥ = cc in z

@@ -17,6 +17,7 @@ use Rattle.gix_traverse_commit.specs.declared.simple.waiting.Turn.{Turn}
 use Rattle.gix_traverse_commit.proofs.Keeping.{Meets, met_itself, met_more, met_other}
 use Rattle.gix_traverse_commit.proofs.Lists.{at_from_contains, contains_from_at, none_at_nil}
 use Rattle.gix_traverse_commit.proofs.Simply.{in_push, take_push}
+use Rattle.gix_traverse_commit.proofs.Ending.{and_not}
 
 -- ---- turns and lists
 
@@ -57,10 +58,6 @@ module _ (so : Bool) (old : List Turn) (turn : Turn) (new : List Turn) (j : Join
 
   joins_new : so ≡ true → Waits new turn.id
   joins_new e = (turn, (j turn).1 (inl (e, refl)), refl)
-
-not_met : (a b : Bool) → (not a && b) ≡ true → a ≡ false
-not_met false b e = refl
-not_met true b e = let z : ⊥ = cc in absurd z
 
 was_kept : (a b : Bool) → (not a && b) ≡ true → b ≡ true
 was_kept false b e = e
@@ -103,7 +100,7 @@ module _ (g : Commits ObjectId) (keep : ObjectId → Bool) (listed : List Object
             subst (λ (z : ObjectId). Contains listed z ⊎ Waits turns' z) same (now (subst (λ (z : ObjectId). keep z ≡ true) (sym same) k))
 
     fresh : (not (has y) && keep y) ≡ true → Contains listed y → ⊥
-    fresh s c = let a = not_met (has y) (keep y) s in let b = w.known y (inl c) in let z : ⊥ = cc in z
+    fresh s c = let a = and_not (has y) (keep y) s in let b = w.known y (inl c) in let z : ⊥ = cc in z
 
     some_now : (x : ObjectId) → Waits turns' x → (keep x ≡ true) × (Contains listed x → ⊥) × named' x
     some_now x p = elim (joins_from (not (has y) && keep y) turns (turn_of g y) turns' j x p) [

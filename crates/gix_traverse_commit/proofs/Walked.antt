@@ -25,6 +25,7 @@ use Rattle.gix_traverse_commit.proofs.Ids.{same_from_test, test_from_same, same_
 use Rattle.gix_traverse_commit.proofs.Listing.{listed_reached}
 use Rattle.gix_traverse_commit.specs.declared.parents.Parents.TheVariants.{All as AllParents}
 use Rattle.gix_traverse_commit.proofs.Slow.{contains_from_any, any_from_contains}
+use Rattle.gix_traverse_commit.proofs.Turn.{at_left}
 
 module _ (along : ObjectId → List ObjectId) (tips hs : List ObjectId) where
   pub walked_none : (has : ObjectId → Bool) → ((q : ObjectId) → has q ≡ list_any (same_id q) hs) → Walked along tips hs has [] 0 0
@@ -186,11 +187,6 @@ walked_end rows tips hs parents has listed queue w e =
     let same : listed ++ queue ≡ listed = ap (λ (zs : List ObjectId). listed ++ zs) e ∙ append-nil listed in
     subst (λ (zs : List ObjectId). WalkedAll (asked_parents parents (commits_of rows)) tips hs has zs (length listed)) same w
 
-at_append_left : {I : Type 0} (xs ys : List I) (k : ℕ) (x : I) → At xs k x → At (xs ++ ys) k x
-at_append_left [] ys k x a = let z : ⊥ = cc in absurd z
-at_append_left (y ∷ xs) ys zero x a = a
-at_append_left (y ∷ xs) ys (suc k) x a = at_append_left xs ys k x a
-
 -- a row's commit is among the rows' ids
 row_id_in : (rows : List Row) (row : Row) (k : ℕ) → At rows k row → At (map (λ (r : Row). r.id) rows) k row.id
 row_id_in [] row k a = let z : ⊥ = cc in absurd z
@@ -206,7 +202,7 @@ pub listed_fits : (rows : List Row) (along : ObjectId → List ObjectId) (tips h
 listed_fits rows along tips hs has listed queue w held =
     let ids = map (λ (r : Row). r.id) rows in
     let fits : length listed ≤ length ids = length-le_from_is_member (equivalence {K = ObjectId} id_of) listed ids
-    (distinct_from_once listed (λ j k x a b. w.walked.read.once j k x (at_append_left listed queue j x a) (at_append_left listed queue k x b)))
+    (distinct_from_once listed (λ j k x a b. w.walked.read.once j k x (at_left listed queue j x a) (at_left listed queue k x b)))
     (λ q e. member q (held q (contains_from_any same_id same_id_apart listed q e))) in
     omega (arith, length-ids rows)
   where

@@ -39,7 +39,7 @@ pick_in f none [] told x = none
 pick_in f none (k ∷ ks) [] x = none
 pick_in f none (k ∷ ks) (r ∷ rs) x = cond (same_id x k) (f r) (pick_in f none ks rs x)
 
-once_tail : (k : ObjectId) (ks : List ObjectId) → IsOnce (k ∷ ks) → IsOnce ks
+pub once_tail : (k : ObjectId) (ks : List ObjectId) → IsOnce (k ∷ ks) → IsOnce ks
 once_tail k ks once i j y a b = let e = once (suc i) (suc j) y a b in omega arith
 
 pub pick_at : {A : Type 0} (f : Reading → A) (none : A) (keys : List ObjectId) (told : List Reading) (n : ℕ) (x : ObjectId) (reading : Reading) → IsOnce keys → At keys n x → At told n reading → pick_in f none keys told x ≡ f reading

@@ -9,11 +9,7 @@ use Rattle.gix_traverse_commit.proofs.Lists.{at_from_contains, contains_from_at,
 use Rattle.gix_traverse_commit.proofs.Slow.{TellsApart}
 use Rattle.gix_traverse_topo.proofs.Turns.{times_append, contains_times, is_in, contains_take}
 use Rattle.gix_traverse_topo.proofs.Degree.{room_for, ready_from_names, names_from_ready, total_push}
-
-pub take_at : {I : Type 0} (xs : List I) (m : ℕ) (y : I) → At xs m y → take (m + 1) xs ≡ take m xs ++ y ∷ []
-take_at [] m y a = let z : ⊥ = cc in absurd z
-take_at (x ∷ xs) zero y a = let e : x ≡ y = cc in ap (λ (z : _). z ∷ []) e
-take_at (x ∷ xs) (suc m) y a = let r = take_at xs m y a in let e : suc m + 1 ≡ suc (m + 1) = omega arith in rw e (ap (λ (zs : List _). x ∷ zs) r)
+use Rattle.gix_traverse_commit.proofs.Simply.{take_push}
 
 times_take : {I : Type 0} (p : I → Bool) (xs : List I) (m : ℕ) → times p (take m xs) ≤ times p xs
 times_take p [] zero = omega arith
@@ -25,7 +21,7 @@ module _ {I : Type 0} (eq : I → I → Bool) (apart : TellsApart eq) (along : I
   module _ (m : ℕ) (y : I) (here : At row m y) where
     one_more : (z : I) → named_so_far eq along before row (m + 1) z ≡ named_so_far eq along before row m z + cond (eq z y) 1 0
     one_more z =
-        let e : times (eq z) (take (m + 1) row) ≡ times (eq z) (take m row) + times (eq z) (y ∷ []) = ap (times (eq z)) (take_at row m y here) ∙ times_append (eq z) (take m row) (y ∷ []) in
+        let e : times (eq z) (take (m + 1) row) ≡ times (eq z) (take m row) + times (eq z) (y ∷ []) = ap (times (eq z)) (take_push row m y here) ∙ times_append (eq z) (take m row) (y ∷ []) in
         omega arith
 
     grows : (z : I) → named_so_far eq along before row m z ≤ named_so_far eq along before row (m + 1) z
@@ -42,13 +38,13 @@ module _ {I : Type 0} (eq : I → I → Bool) (apart : TellsApart eq) (along : I
         go false e = let f = one_more z in let g : named_so_far eq along before row (m + 1) z ≡ named_so_far eq along before row m z + cond false 1 0 = rw e at f in omega arith
 
     front : (z : I) → Contains (take m row) z → Contains (take (m + 1) row) z
-    front z c = subst (λ (ys : List I). Contains ys z) (sym (take_at row m y here)) (Contains-append_left (take m row) (y ∷ []) z c)
+    front z c = subst (λ (ys : List I). Contains ys z) (sym (take_push row m y here)) (Contains-append_left (take m row) (y ∷ []) z c)
 
     front_cases : (z : I) → Contains (take (m + 1) row) z → Contains (take m row) z ⊎ (y ≡ z)
-    front_cases z c = Contains-push_cases (take m row) y z (subst (λ (ys : List I). Contains ys z) (take_at row m y here) c)
+    front_cases z c = Contains-push_cases (take m row) y z (subst (λ (ys : List I). Contains ys z) (take_push row m y here) c)
 
     last_step : (z : I) (i : ℕ) → (z ≡ y → ⊥) → IsLastAt (take m row) z i → IsLastAt (take (m + 1) row) z i
-    last_step z i d l = subst (λ (ys : List I). IsLastAt ys z i) (sym (take_at row m y here)) (record {
+    last_step z i d l = subst (λ (ys : List I). IsLastAt ys z i) (sym (take_push row m y here)) (record {
       at = at_push (take m row) y i z l.at;
       last = λ j a. elim (at_from_push (take m row) y j z a) [ inl b ↦ l.last j b | inr e ↦ absurd (d e.1) ];
     })

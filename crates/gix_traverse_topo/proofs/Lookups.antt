@@ -9,8 +9,8 @@ use Rattle.gix_traverse_commit.specs.Order.{At}
 use Rattle.gix_traverse_commit.specs.declared.rows.Row.{Row}
 use Rattle.gix_traverse_commit.proofs.Lists.{none_at_nil}
 use Rattle.gix_traverse_commit.proofs.Meeting.{counts_more, counts_one}
-use Rattle.gix_traverse_topo.proofs.Freeing.{take_at}
 use Rattle.gix_traverse_topo.proofs.Turns.{take_whole}
+use Rattle.gix_traverse_commit.proofs.Simply.{take_push}
 
 -- one was asked for each time that one more was read, as far as the counter goes
 pub record IsCountedFrom (first few count many : ℕ) : Type 0 where
@@ -52,5 +52,5 @@ counts_start rows xs ys k a b kept e before =
 pub counts_next : (rows : List Row) (xs ys : List ObjectId) (k : ℕ) (x : ObjectId) (a b c : ℕ) → At xs k x → ((j : ℕ) (y : ObjectId) → At xs j y → At ys j y) → CountsAll rows (take k xs) a b → CountsOne rows x b c → CountsAll rows (take (k + 1) ys) a c
 counts_next rows xs ys k x a b c here kept before one =
     let within = slice_get_within xs k x here in
-    let same : take (k + 1) ys ≡ take k xs ++ x ∷ [] = take_at ys k x (kept k x here) ∙ ap (λ (zs : List ObjectId). zs ++ x ∷ []) (take_kept xs ys k kept (omega arith)) in
+    let same : take (k + 1) ys ≡ take k xs ++ x ∷ [] = take_push ys k x (kept k x here) ∙ ap (λ (zs : List ObjectId). zs ++ x ∷ []) (take_kept xs ys k kept (omega arith)) in
     subst (λ (zs : List ObjectId). CountsAll rows zs a c) (sym same) (counts_more rows (take k xs) (x ∷ []) a b c before (counts_one rows x b c one))

@@ -25,6 +25,7 @@ use Rattle.gix_traverse_topo.specs.Walking.{Visits, Walking}
 use Rattle.gix_traverse_topo.specs.declared.known.Node.{Node}
 use Rattle.gix_traverse_topo.specs.declared.known.Reading.{Reading}
 use Rattle.gix_traverse_topo.proofs.Turns.{at_append_cases}
+use Rattle.gix_traverse_commit.proofs.NodeLemmas.{find_passes}
 
 -- the first m names of a row are met
 pub record MetSo (way : ObjectId → List ObjectId) (tips hs keys : List ObjectId) (p m : ℕ) (names : List ObjectId) : Type 0 where
@@ -158,14 +159,6 @@ asked_held rows First ids held = λ x c. let (k, a) = at_from_contains (take 1 i
 -- what passes in a list of keys
 pub not_among : (keys : List ObjectId) (n : ℕ) (x : ObjectId) → list_any (same_id x) keys ≡ false → At keys n x → ⊥
 not_among keys n x e a = let t = any_from_contains same_id same_id_apart keys x (contains_from_at keys n x a) in let z : ⊥ = cc in z
-
-pub find_passes : {I : Type 0} (p : I → Bool) (xs : List I) (y : I) → find p xs ≡ Some y → p y ≡ true
-find_passes p [] y e = let z : ⊥ = cc in absurd z
-find_passes {I} p (x ∷ xs) y e = go (p x) refl (find_passes p xs y)
-  where
-    go : (b : Bool) → p x ≡ b → (find p xs ≡ Some y → p y ≡ true) → p y ≡ true
-    go true f r = let g : Some x ≡ Some y = rw f at e in let same : x ≡ y = cc in ap p (sym same) ∙ f
-    go false f r = let g : find p xs ≡ Some y = rw f at e in r g
 
 pub at_map : {A B : Type 0} (f : A → B) (xs : List A) (k : ℕ) (x : A) → At xs k x → At (map f xs) k (f x)
 at_map f [] k x a = let z : ⊥ = cc in absurd z

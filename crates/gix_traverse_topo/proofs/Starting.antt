@@ -38,7 +38,7 @@ use Rattle.gix_traverse_topo.specs.declared.ready.Ready.{Ready}
 use Rattle.gix_traverse_topo.specs.declared.ready.Ready.TheVariants.{ByDate, Topological}
 use Rattle.gix_traverse_topo.proofs.Begins.{waits_first, first_outranks}
 use Rattle.gix_traverse_topo.proofs.Counting.{at_id, number_in, in_set}
-use Rattle.gix_traverse_topo.proofs.Found.{read_is, edges_read, reached_read, fault_in, fault_at, causes, tells_so, parents_so}
+use Rattle.gix_traverse_topo.proofs.Found.{read_is, edges_read, reached_read, fault_in, fault_at, causes, tells_so, parents_so, once_tail}
 use Rattle.gix_traverse_topo.proofs.Meeting.{at_length_append, length_map, at_map, from_map}
 use Rattle.gix_traverse_topo.proofs.Stepping.{ids_permuted, from_ids}
 use Rattle.gix_traverse_topo.proofs.Turning.{in_walk}
@@ -71,12 +71,9 @@ sorted_ranks stack k l p q sorted lt a b =
 
 -- ---- each once
 
-once_rest : (x : ObjectId) (xs : List ObjectId) → IsOnce (x ∷ xs) → IsOnce xs
-once_rest x xs once i j z a b = let e = once (suc i) (suc j) z a b in omega arith
-
 once_times : (xs : List ObjectId) (y : ObjectId) → IsOnce xs → times (same_id y) xs ≤ 1
 once_times [] y once = omega arith
-once_times (x ∷ xs) y once = go (same_id y x) refl (once_times xs y (once_rest x xs once))
+once_times (x ∷ xs) y once = go (same_id y x) refl (once_times xs y (once_tail x xs once))
   where
     one : same_id y x ≡ true → (n : ℕ) → times (same_id y) xs ≡ n → times (same_id y) xs ≤ 0
     one e zero f = omega arith

@@ -25,9 +25,9 @@ use Rattle.gix_traverse_topo.specs.declared.known.Node.{Node}
 use Rattle.gix_traverse_topo.specs.declared.known.Reading.{Reading}
 use Rattle.gix_traverse_topo.proofs.Counting.{names_as, names_more, names_none, names_pushed}
 use Rattle.gix_traverse_topo.proofs.Degree.{total_push}
-use Rattle.gix_traverse_topo.proofs.Freeing.{take_at}
 use Rattle.gix_traverse_topo.proofs.Meeting.{MetSo, asked_same, at_back, at_length_append, keys_more, length_map, map_push, meet_more, met_all, met_once, row_met}
 use Rattle.gix_traverse_topo.proofs.Updates.{at_within, whole}
+use Rattle.gix_traverse_commit.proofs.Simply.{take_push}
 
 long_told : (nodes : List Node) → length (readings nodes) ≡ length nodes
 long_told nodes = length_map (λ (node : Node). node.reading) nodes
@@ -237,7 +237,7 @@ module _ (honest may_fail : Type 0) (rows : List Row) (table : Table) (along : P
           let next : Met way tips keys keys'' (suc w.place) = v.meets.met way tips keys m.xs (suc w.place) m.keys_are (read_next way tips (NotIn keys) m.xs w.place m.count m.read m.all (omega arith)) (id, there, same_row) in
           let more : NamesAre (length keys) keys'' (counts nodes'') (λ y. names_of same_id way y (take w.place m.xs) + times (same_id y) row) = v.names (length keys) (λ y. names_of same_id way y (take w.place m.xs)) (w.once o) (w.many e) named in
           let one : suc w.place ≡ w.place + 1 = omega arith in
-          let front : take (suc w.place) next.xs ≡ take w.place m.xs ++ id ∷ [] = same_front m.xs next.xs (suc w.place) (omega arith) (behind_kept keys keys' keys'' m.xs next.xs v.meets.kept m.keys_are next.keys_are) ∙ ap (λ (n : ℕ). take n m.xs) one ∙ take_at m.xs w.place id there in (
+          let front : take (suc w.place) next.xs ≡ take w.place m.xs ++ id ∷ [] = same_front m.xs next.xs (suc w.place) (omega arith) (behind_kept keys keys' keys'' m.xs next.xs v.meets.kept m.keys_are next.keys_are) ∙ ap (λ (n : ℕ). take n m.xs) one ∙ take_push m.xs w.place id there in (
             next,
             names_as (length keys) keys'' (counts nodes'') (λ y. names_of same_id way y (take w.place m.xs) + times (same_id y) row) (λ y. names_of same_id way y (take (suc w.place) next.xs)) more
                 (λ y. named_next way m.xs next.xs w.place id row front same_row y),

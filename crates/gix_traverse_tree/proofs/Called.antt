@@ -4,14 +4,11 @@ use Rattle.std.specs.Prelude.{OnOk, IfErr}
 use Rattle.gix_traverse_tree.specs.Calls.{Call, Runs}
 use Rattle.gix_traverse_tree.specs.Nodes.{MemoryOr}
 use Rattle.gix_traverse_tree.specs.declared.error.Error.{Error}
+use Rattle.std.proofs.lemmas.List.{append-nil}
 
 pub runs_more : {S : Type 0} (G : S → Call → S → Type 0) (xs ys : List Call) (a m b : S) → Runs G a xs m → Runs G m ys b → Runs G a (xs ++ ys) b
 runs_more G [] ys a m b e h = let P : _ → Type 0 = λ s. Runs G s ys b in subst P e h
 runs_more G (x ∷ xs) ys a m b (next, step, later) h = (next, step, runs_more G xs ys next m b later h)
-
-pub append_nil : {A : Type 0} (xs : List A) → xs ++ [] ≡ xs
-append_nil [] = refl
-append_nil (x ∷ xs) = ap (λ (zs : List _). x ∷ zs) (append_nil xs)
 
 pub on_ok : {A E : Type 0} (r : Result A E) (P Q : Type 0) → (P → Q) → OnOk r P → OnOk r Q
 on_ok (Ok x) P Q f h = f h

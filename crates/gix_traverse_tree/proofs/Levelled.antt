@@ -1,6 +1,6 @@
 -- How far the trees of a level are read, and how far the levels.
 use Rattle.std.proofs.Common.{◌≡◌, ◌∙◌, sym, ap, subst, ℕ, suc, ◌+◌, ◌<◌, ◌≤◌, true, List, [], ◌∷◌, ◌++◌, length, Some, map, refl, append_assoc, arith, length-append}
-use Rattle.std.proofs.lemmas.List.{length-map}
+use Rattle.std.proofs.lemmas.List.{length-map, append-nil}
 use Rattle.gix_hash_id.specs.Id.{Id, id_of}
 use Rattle.gix_object_find.specs.Table.{Table}
 use Rattle.gix_traverse_tree.specs.Breadth as breadth
@@ -10,7 +10,7 @@ use Rattle.gix_traverse_tree.specs.Nodes.{IsWayUp, StandsAt, StandFrom, AreAllFr
 use Rattle.gix_traverse_tree.specs.Trees.{End, whole, failed, is_among, IsRead, TreeFault}
 use Rattle.gix_traverse_tree.specs.declared.breadthfirst.Node.{Node}
 use Rattle.gix_traverse_tree.specs.declared.error.Error.{Error}
-use Rattle.gix_traverse_tree.proofs.Called.{runs_more, append_nil, memory_or}
+use Rattle.gix_traverse_tree.proofs.Called.{runs_more, memory_or}
 use Rattle.gix_traverse_tree.proofs.Ways.{stand_more, stand_append, stand_added, all_under, under_append}
 
 -- what was read of a level's trees, where `left` are to come
@@ -102,11 +102,11 @@ module _ {S : Type 0} (G : S → Call → S → Type 0) (H M : Type 0) (table : 
       go (t ∷ ts) e = let c = so.count in let f = ap (λ (l : List Tree). length l) e in absurd (omega arith)
       go [] e =
           let last = so.later [] [] whole (subst (λ (l : List Tree). Level H M table l [] [] whole) (sym e) breadth.Level.none) in
-          let a = subst (λ (cs : List Call). Level H M table trees cs (so.below ++ []) whole) (append_nil so.calls) last in
+          let a = subst (λ (cs : List Call). Level H M table trees cs (so.below ++ []) whole) (append-nil so.calls) last in
           record {
             calls = so.calls;
             below = so.below;
-            level = subst (λ (bs : List Tree). Level H M table trees so.calls bs whole) (append_nil so.below) a;
+            level = subst (λ (bs : List Tree). Level H M table trees so.calls bs whole) (append-nil so.below) a;
             runs = so.runs;
             all = so.all;
             deeper = λ depth u. (so.deep depth u).1;

@@ -1,7 +1,7 @@
 -- How far the entries of a tree are shown, in breadth order.
 use Rattle.std.proofs.Common.{◌≡◌, ◌≢◌, ◌∙◌, sym, ap, subst, ℕ, Bool, List, [], ◌++◌, Option, Some, Ok, Err, map, refl, append_assoc}
 use Rattle.std.specs.declared.ops.ControlFlow.TheVariants.{Continue, Break}
-use Rattle.std.proofs.lemmas.List.{map-append}
+use Rattle.std.proofs.lemmas.List.{map-append, append-nil}
 use Rattle.gix_hash_id.specs.Id.{Id, id_of}
 use Rattle.gix_hash_id.specs.declared.kind.Kind.{Kind}
 use Rattle.gix_object_lines.specs.declared.decode.Error as decode
@@ -14,10 +14,10 @@ use Rattle.gix_traverse_tree.specs.Nodes.{node_under, Queues, ShowsListing, Stop
 use Rattle.gix_traverse_tree.specs.Trees.{End, whole, failed}
 use Rattle.gix_traverse_tree.specs.declared.breadthfirst.Node.{Node}
 use Rattle.gix_traverse_tree.specs.declared.error.Error.TheVariants.{Cancelled, ObjectDecode}
-use Rattle.gix_traverse_tree.proofs.Called.{runs_more, append_nil}
+use Rattle.gix_traverse_tree.proofs.Called.{runs_more}
 
 pub queues_none : (above : Option ℕ) (nodes : List Node) → Queues above nodes nodes []
-queues_none above nodes = ([], refl, sym (append_nil nodes))
+queues_none above nodes = ([], refl, sym (append-nil nodes))
 
 pub queues_more : (above : Option ℕ) (a b c : List Node) (xs ys : List Id) → Queues above a b xs → Queues above b c ys → Queues above a c (xs ++ ys)
 queues_more above a b c xs ys (first, named, put) (second, named2, put2) = (
@@ -70,8 +70,8 @@ module _ {S : Type 0} (G : S → Call → S → Type 0) (ids : Kind) (above : Op
   pub listed_done : (start now : List ℕ) (before after : S) (nodes queued : List Node) → now ≡ [] → Listed G ids start now above before nodes after queued → ShowsListing G ids start above before nodes after queued
   listed_done start now before after nodes queued e so =
       let end = so.later [] [] whole (subst (λ (t : List ℕ). Listing ids t [] [] whole) (sym e) none) in
-      let a = subst (λ (cs : List Call). Listing ids start cs (so.below ++ []) whole) (append_nil so.calls) end in
-      (so.calls, so.below, so.runs, subst (λ (bs : List Id). Listing ids start so.calls bs whole) (append_nil so.below) a, so.queues)
+      let a = subst (λ (cs : List Call). Listing ids start cs (so.below ++ []) whole) (append-nil so.calls) end in
+      (so.calls, so.below, so.runs, subst (λ (bs : List Id). Listing ids start so.calls bs whole) (append-nil so.below) a, so.queues)
 
   pub listed_ended : (start now next : List ℕ) (before after last : S) (nodes queued : List Node) (item : Item) → Listed G ids start now above before nodes after queued → SpellsEntry ids now item next
       → Runs G after (shown item (Break tt)) last → StopsListing G ids start before last Cancelled

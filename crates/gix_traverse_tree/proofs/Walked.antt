@@ -1,6 +1,6 @@
 -- How far the levels are read, and how many can come.
 use Rattle.std.proofs.Common.{◌≡◌, ◌∙◌, sym, ap, subst, ℕ, zero, suc, ◌-◌, ◌<◌, ◌≤◌, List, [], ◌∷◌, ◌++◌, length, Option, Some, None, slice_get, map, refl, append_assoc, arith}
-use Rattle.std.proofs.lemmas.List.{length-map}
+use Rattle.std.proofs.lemmas.List.{length-map, append-nil}
 use Rattle.std.proofs.lemmas.Map.Made.{IsDistinct-from_count}
 use Rattle.gix_hash_id.specs.Id.{Id, id_of}
 use Rattle.gix_hash_id.specs.OrderLaws.{id_equivalence}
@@ -13,7 +13,7 @@ use Rattle.gix_traverse_tree.specs.Nodes.{IsWayUp, StandFrom, AreAllFrom, node_u
 use Rattle.gix_traverse_tree.specs.Trees.{End, whole, failed}
 use Rattle.gix_traverse_tree.specs.declared.breadthfirst.Node.{Node}
 use Rattle.gix_traverse_tree.specs.declared.error.Error.{Error}
-use Rattle.gix_traverse_tree.proofs.Called.{runs_more, append_nil}
+use Rattle.gix_traverse_tree.proofs.Called.{runs_more}
 use Rattle.gix_traverse_tree.proofs.Ways.{stand_first, deep_within}
 
 abbrev above_of : Option Node → Option ℕ
@@ -101,7 +101,7 @@ module _ {S : Type 0} (G : S → Call → S → Type 0) (H M : Type 0) (table : 
       go (t ∷ ts) e = let c = so.all.1 in let f = ap (λ (l : List Tree). length l) e in absurd (omega arith)
       go [] e =
           let last = so.later [] whole (subst (λ (l : List Tree). Levels H M table l [] whole) (sym e) breadth.Levels.none) in
-          (so.calls, so.runs, subst (λ (cs : List Call). InBreadth H M table kind content cs whole) (append_nil so.calls) last)
+          (so.calls, so.runs, subst (λ (cs : List Call). InBreadth H M table kind content cs whole) (append-nil so.calls) last)
 
   pub walked_stopped : (start : ℕ) (before after last : S) (nodes : List Node) (error : Error) → (so : Walked G H M table ids kind content start before after nodes)
       → StopsLevel G H M table so.trees after last error → Walks G H M table kind content before last (failed error)

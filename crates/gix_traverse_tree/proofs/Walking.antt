@@ -9,8 +9,9 @@ use Rattle.gix_traverse_tree.specs.Opened.{left_of, ids_of, Rest, AreOpen, Opens
 use Rattle.gix_traverse_tree.specs.Trees.{End, whole, failed, TreeFault, IsRead, is_among}
 use Rattle.gix_traverse_tree.specs.declared.depthfirst.Open.{Open}
 use Rattle.gix_traverse_tree.specs.declared.error.Error.{Error}
-use Rattle.gix_traverse_tree.proofs.Called.{runs_more, append_nil}
+use Rattle.gix_traverse_tree.proofs.Called.{runs_more}
 use Rattle.gix_traverse_tree.proofs.Opening.{open_nothing, open_one_more}
+use Rattle.std.proofs.lemmas.List.{append-nil}
 
 abbrev pub steps_left : Bool → ℕ → ℕ
 steps_left true n = suc n
@@ -38,7 +39,7 @@ module _ {S : Type 0} (G : S → Call → S → Type 0) (H M : Type 0) (table : 
     where
       first : (tree : Open) (more : List Call) (end : End) → id_of tree.id ≡ root → IsRead H table [] root (left_of tree) → Rest H M table (tree ∷ []) more end → InDepth H M table [] (before root) (pop_back ∷ more) end
       first tree more end named read (inl (f, l, is, (none, good), eq)) =
-          let whole_eq = eq ∙ ap (λ (cs : List Call). f ++ cs) none ∙ append_nil f in
+          let whole_eq = eq ∙ ap (λ (cs : List Call). f ++ cs) none ∙ append-nil f in
           let is2 = subst (λ (id : Id). InDepth H M table [] (inside id (left_of tree)) f whole) named is in
           let is3 = subst (λ (cs : List Call). InDepth H M table [] (inside root (left_of tree)) cs whole) (sym whole_eq) is2 in
           subst (λ (e : End). InDepth H M table [] (before root) (pop_back ∷ more) e) (sym good) (depth.tree read is3)

@@ -35,6 +35,7 @@ use Rattle.history.specs.Acts.{AnswersReading, Gives, ReadsWord, IsReadingFault,
 use Rattle.history.specs.Shown.{shown_commit, shown_content}
 use Rattle.history.specs.declared.stopped.Stopped.{Stopped}
 use Rattle.history.specs.declared.stopped.Stopped.TheVariants.{Refused, Fault}
+use Rattle.history_model.proofs.EntryLemmas.{same_mode}
 
 -- a fault of reading is no refusal
 pub reading_fault : (MayFail : Type 0) (r : Repository) (order : Command) (stopped : Stopped) → IsReadingFault MayFail stopped → AnswersReading MayFail r order (Err stopped)
@@ -175,17 +176,6 @@ no_file_mode File e = texts_differ _ _ refl e
 no_file_mode Exec e = texts_differ _ _ refl e
 no_file_mode Link e = texts_differ _ _ refl e
 
-one_mode : (a b : FileKind) → mode_of a ≡ mode_of b → a ≡ b
-one_mode File File e = refl
-one_mode Exec Exec e = refl
-one_mode Link Link e = refl
-one_mode File Exec e = texts_differ _ _ refl e
-one_mode File Link e = texts_differ _ _ refl e
-one_mode Exec File e = texts_differ _ _ refl e
-one_mode Exec Link e = texts_differ _ _ refl e
-one_mode Link File e = texts_differ _ _ refl e
-one_mode Link Exec e = texts_differ _ _ refl e
-
 module _ (kind : Kind) (files : FileMap) (path : Bytes) where
   -- what is found is what the files have at the path
   abbrev pub IsFound : Option Found → Type 0
@@ -223,7 +213,7 @@ module _ (kind : Kind) (files : FileMap) (path : Bytes) where
       go false e None f is = cc
       go false e (Some content) f is =
           let same = some_same is in
-          (e, (content, f, one_mode its content.kind (ap (λ (x : Bytes × Id). x.0) same), ap (λ (x : Bytes × Id). x.1) same))
+          (e, (content, f, same_mode its content.kind (ap (λ (x : Bytes × Id). x.0) same), ap (λ (x : Bytes × Id). x.1) same))
 
 -- the bytes of a stored folder's file are stored under the id that is found
 pub bytes_at : (r : Repository) → IsWholeStore r → (folder : Id) (files : FileMap) (path : Bytes) → get r.objects folder ≡ Some (StoredFolder files) → (id : ObjectId) (content : Content) → get files path ≡ Some content

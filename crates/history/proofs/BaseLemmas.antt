@@ -31,7 +31,6 @@ use Rattle.history.specs.declared.base.Expected.{Expected}
 use Rattle.history.specs.declared.base.Expected.TheVariants as expected
 use Rattle.history.specs.declared.stopped.Stopped.{Stopped}
 use Rattle.history.specs.declared.stopped.Stopped.TheVariants.{Refused, Fault}
-use Rattle.history.proofs.ReplyTexts.{map-map}
 use Rattle.history.proofs.WordReads.{stands_so}
 use Rattle.gix_ref_file.specs.History.{History}
 use Rattle.gix_ref_file.specs.declared.files.FileError.{FileError}
@@ -43,6 +42,7 @@ use Rattle.history.specs.Faults.{file_fault}
 use Rattle.history.specs.Serving.{Serves}
 use Rattle.history.specs.declared.repository.Repository as own_repository
 use Rattle.history.proofs.NameReads.{held, refs_front}
+use Rattle.history_files.proofs.Lines.{map_twice}
 
 -- ---- what is expected
 
@@ -95,7 +95,7 @@ module _ (r : Repository) (order : CommitCommand) where
   -- what the parents' words read as
   pub parent_readings : (words : List (Vec ℕ Global)) (readings : List own.WordReading) → map (λ (word : Vec ℕ Global). word.items) words ≡ order.parents
       → map reading_of readings ≡ map (λ (word : Vec ℕ Global). word_reading r word.items) words → map reading_of readings ≡ map (word_reading r) order.parents
-  parent_readings words readings are is = is ∙ sym (map-map (word_reading r) (λ (word : Vec ℕ Global). word.items) words) ∙ ap (map (word_reading r)) are
+  parent_readings words readings are is = is ∙ sym (map_twice (word_reading r) (λ (word : Vec ℕ Global). word.items) words) ∙ ap (map (word_reading r)) are
 
   pub words_so : (what : Expected) (readings : List own.WordReading) → IsExpected r order.expect what → map reading_of readings ≡ map (word_reading r) order.parents
       → first_among word_causes r (Commit order) ≡ words_cause (expected_readings what ++ map reading_of readings)

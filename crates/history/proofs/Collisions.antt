@@ -13,10 +13,11 @@ use Rattle.history_model.specs.Meaning.{branch_or_name}
 use Rattle.history_model.specs.Causes.{do_collide, some_collide}
 use Rattle.history_model.specs.declared.Cause.TheVariants.{Collides}
 use Rattle.history_steps.proofs.OfferedFiles.{each_key}
-use Rattle.history_store.proofs.NameFolders.{begins_parts}
 use Rattle.history_store.specs.Stores.{IsAbove}
 use Rattle.history.specs.CommitCauses.{first_among, place_causes}
 use Rattle.history.specs.Halves.{FitsAmong}
+use Rattle.std.proofs.lemmas.Bool.{not-true, or_from}
+use Rattle.history_model.proofs.WholePaths.{begins_parts}
 
 -- ---- lists
 
@@ -35,14 +36,6 @@ all_not p (x ∷ xs) h = go (p x) h (all_not p xs)
     go : (b : Bool) → (b || list_any p xs) ≡ false → (list_any p xs ≡ false → list_all (λ x. not (p x)) xs ≡ true) → (not b && list_all (λ x. not (p x)) xs) ≡ true
     go true h rest = cc
     go false h rest = rest h
-
-is_not : (b : Bool) → not b ≡ true → b ≡ false
-is_not true h = cc
-is_not false h = refl
-
-pub neither : (a b : Bool) → a ≡ false → b ≡ false → (a || b) ≡ false
-neither true b e f = cc
-neither false b e f = f
 
 -- ---- names
 
@@ -74,7 +67,7 @@ module _ (r : plain.Repository) (order : CommitCommand) where
   pub new_collides : stands r name ≡ false → some_collide r (Commit order) ≡ list_any (do_collide name) (keys r.names)
   new_collides is =
       ap by_standing is ∙ ap (λ b. b || false) (list_any-append (do_collide name) (keys r.names) (name ∷ []))
-      ∙ ap (λ b. (list_any (do_collide name) (keys r.names) || (b || false)) || false) (neither _ _ (below_itself name) (below_itself name))
+      ∙ ap (λ b. (list_any (do_collide name) (keys r.names) || (b || false)) || false) (or_from _ _ (below_itself name) (below_itself name))
       ∙ last (list_any (do_collide name) (keys r.names))
     where
       last : (b : Bool) → ((b || false) || false) ≡ b
@@ -86,8 +79,8 @@ module _ (r : plain.Repository) (order : CommitCommand) where
   fits_so whole formed none = record { named = formed; apart = by_standing_name (stands r name) refl }
     where
       by_standing_name : (s : Bool) → stands r name ≡ s → (other : Bytes) → stands r other ≡ true → do_collide name other ≡ false
-      by_standing_name true is other there = neither (is_below name other) (is_below other name) (whole.apart name other is there) (whole.apart other name there is)
-      by_standing_name false is other there = is_not (do_collide name other) (each_key (λ k. not (do_collide name k)) r.names (all_not (do_collide name) (keys r.names) (sym (new_collides is) ∙ none)) other there)
+      by_standing_name true is other there = or_from (is_below name other) (is_below other name) (whole.apart name other is there) (whole.apart other name there is)
+      by_standing_name false is other there = not-true (do_collide name other) (each_key (λ k. not (do_collide name k)) r.names (all_not (do_collide name) (keys r.names) (sym (new_collides is) ∙ none)) other there)
 
   pub place_told : (found : Bool) → some_collide r (Commit order) ≡ found → first_among place_causes r (Commit order) ≡ cond found (Some Collides) None
   place_told found is = ap (λ b. cond b (Some Collides) None) is

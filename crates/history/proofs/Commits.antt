@@ -14,7 +14,6 @@ use Rattle.history_model.specs.Repository.{Reference, HasWholeNames, stands, Hav
 use Rattle.history_steps.specs.TreeSteps.{MovesName}
 use Rattle.history_store.specs.Formats.{entry_of}
 use Rattle.gix_ref_file.specs.Tree.{Tree}
-use Rattle.history_model.proofs.PartLemmas.{both_true}
 use Rattle.history_model.specs.Commands.{CommitCommand, Commit}
 use Rattle.history_model.specs.Replies.{Committed, reply_text}
 use Rattle.history_model.specs.Spelling.{Line, part_text}
@@ -42,8 +41,10 @@ use Rattle.history.specs.Serving.{Serves}
 use Rattle.history.specs.declared.planning.Moves.{Moves}
 use Rattle.history.specs.declared.repository.Repository.{Repository}
 use Rattle.history.proofs.Collisions.{fits_so}
-use Rattle.history.proofs.FirstCauses.{none_of, passed}
+use Rattle.history.proofs.FirstCauses.{passed}
 use Rattle.history.proofs.NamesTold.{named_so}
+use Rattle.std.proofs.lemmas.Bool.{and_parts}
+use Rattle.history_model.proofs.StepLemmas.{passed as none_of}
 
 -- the name that an accepted commit moves is one
 pub moved_is_name : (r : plain.Repository) (order : CommitCommand) → IsWritten r → first_cause r (Commit order) ≡ None → is_name (branch_or_name r order.name) ≡ true
@@ -58,7 +59,7 @@ name_formed r written name stood = of_ref (get r.names name) refl stood
   where
     of_ref : (o : Option Reference) → get r.names name ≡ o → is_some o ≡ true → is_name name ≡ true
     of_ref None e there = cc
-    of_ref (Some ref) e there = (both_true (is_name name) (not (is_private name)) (both_true (is_name name && not (is_private name)) (is_reference r.kind ref) (written.names name ref e)).0).0
+    of_ref (Some ref) e there = (and_parts (is_name name) (not (is_private name)) (and_parts (is_name name && not (is_private name)) (is_reference r.kind ref) (written.names name ref e)).0).0
 
 -- The name of an accepted commit may stand: it doesn't collide.
 pub commit_fits : (r : plain.Repository) (order : CommitCommand) (moves : Moves) → IsWritten r → HasWholeNames r → first_cause r (Commit order) ≡ None → IsMove r order moves → FitsAmong r moves.name.items

@@ -25,8 +25,10 @@ use Rattle.history_word.specs.declared.command.Edit.TheVariants.{Put, Remove, Re
 use Rattle.history.specs.CommitCauses.{is_long}
 use Rattle.history.specs.Files.{AreChangesOf, IsChangeOf, change_parts, edit_parts, kept_edit}
 use Rattle.history.specs.declared.editing.PathChange.{PathChange}
-use Rattle.history.proofs.FieldLemmas.{either_false, good_path, whole_path, whole_content}
+use Rattle.history.proofs.FieldLemmas.{good_path, whole_path, whole_content}
 use Rattle.history.proofs.Shapes.{IsAlike}
+use Rattle.history_model.proofs.PartLemmas.{head_same, tail_same}
+use Rattle.std.proofs.lemmas.Bool.{or_parts}
 
 -- ---- lists
 
@@ -44,12 +46,6 @@ zipped_joined R (x ∷ xs) more (y ∷ ys) others first second = (first.0, zippe
 
 -- ---- changes as edits of files
 
-head_is : {X : Type 0} {x y : X} {xs ys : List X} → x ∷ xs ≡ y ∷ ys → x ≡ y
-head_is e = cc
-
-tail_is : {X : Type 0} {x y : X} {xs ys : List X} → x ∷ xs ≡ y ∷ ys → xs ≡ ys
-tail_is e = cc
-
 pub changes_named : (kind : Kind) (edits : List editing.Edit) (changes : List PathChange) (made : List model.Edit) → map edit_parts edits ≡ map change_parts changes → AreChangesOf kind changes made → NameEdits kind edits made
 changes_named kind [] [] [] same are = tt
 changes_named kind [] [] (m ∷ made) same are = absurd are
@@ -57,8 +53,8 @@ changes_named kind [] (change ∷ changes) made same are = absurd (cc same)
 changes_named kind (edit ∷ edits) [] made same are = absurd (cc same)
 changes_named kind (edit ∷ edits) (change ∷ changes) [] same are = absurd are
 changes_named kind (edit ∷ edits) (change ∷ changes) (m ∷ made) same are = (
-  subst (λ (parts : Bytes × Change). Names kind parts.0 parts.1 m) (sym (head_is same)) are.0,
-  changes_named kind edits changes made (tail_is same) are.1,
+  subst (λ (parts : Bytes × Change). Names kind parts.0 parts.1 m) (sym (head_same same)) are.0,
+  changes_named kind edits changes made (tail_same same) are.1,
 )
 
 -- ---- edits and their lines
@@ -69,22 +65,22 @@ no_paths p f line lines none = go (f line) none
     go : (xs : List Bytes) → list_any p (xs ++ flat_map f lines) ≡ false → (list_any p xs ≡ false) × (list_any p (flat_map f lines) ≡ false)
     go [] e = (refl, e)
     go (x ∷ xs) e =
-        let parts = either_false (p x) (list_any p (xs ++ flat_map f lines)) e in
+        let parts = or_parts (p x) (list_any p (xs ++ flat_map f lines)) e in
         let rest = go xs parts.1 in
         (ap (λ b. b || list_any p xs) parts.0 ∙ rest.0, rest.1)
 
 module _ (r : plain.Repository) where
   -- one edit whose path isn't bad
   one_alike : (edit : Edit) (line : EditLine) → IsEdit edit line → list_any is_bad_path (edit_paths line) ≡ false → IsAlike (kept_edit edit) (read_edit r line)
-  one_alike (Put put) (PutLine kind path bytes) is good = whole_path put.path path is.1 (either_false (is_bad_path path) false good).0
+  one_alike (Put put) (PutLine kind path bytes) is good = whole_path put.path path is.1 (or_parts (is_bad_path path) false good).0
   one_alike (Put put) (RemoveLine path) is good = absurd is
   one_alike (Put put) (RemoveFileLine path) is good = absurd is
   one_alike (Remove field) (PutLine kind path bytes) is good = absurd is
-  one_alike (Remove field) (RemoveLine path) is good = whole_path field path is (either_false (is_bad_path path) false good).0
+  one_alike (Remove field) (RemoveLine path) is good = whole_path field path is (or_parts (is_bad_path path) false good).0
   one_alike (Remove field) (RemoveFileLine path) is good = absurd is
   one_alike (RemoveFile field) (PutLine kind path bytes) is good = absurd is
   one_alike (RemoveFile field) (RemoveLine path) is good = absurd is
-  one_alike (RemoveFile field) (RemoveFileLine path) is good = whole_path field path is (either_false (is_bad_path path) false good).0
+  one_alike (RemoveFile field) (RemoveFileLine path) is good = whole_path field path is (or_parts (is_bad_path path) false good).0
 
   pub edits_alike : (edits : List Edit) (lines : List EditLine) → AreEdits edits lines → list_any is_bad_path (flat_map edit_paths lines) ≡ false → AllZip IsAlike (map kept_edit edits) (map (read_edit r) lines)
   edits_alike [] [] are good = tt
@@ -97,17 +93,17 @@ module _ (r : plain.Repository) where
   -- and its content is within the limit
   one_same : (edit : Edit) (line : EditLine) → IsEdit edit line → list_any is_bad_path (edit_paths line) ≡ false → list_any is_long (put_contents line) ≡ false → kept_edit edit ≡ read_edit r line
   one_same (Put put) (PutLine kind path bytes) is good short =
-      let path_is = whole_path put.path path is.1 (either_false (is_bad_path path) false good).0 in
-      let bytes_are = whole_content max_content put.content bytes is.2 (either_false (is_long bytes) false short).0 in
+      let path_is = whole_path put.path path is.1 (or_parts (is_bad_path path) false good).0 in
+      let bytes_are = whole_content max_content put.content bytes is.2 (or_parts (is_long bytes) false short).0 in
       λ i. model.Put (is.0 i) (path_is i) (bytes_are i)
   one_same (Put put) (RemoveLine path) is good short = absurd is
   one_same (Put put) (RemoveFileLine path) is good short = absurd is
   one_same (Remove field) (PutLine kind path bytes) is good short = absurd is
-  one_same (Remove field) (RemoveLine path) is good short = ap model.Remove (whole_path field path is (either_false (is_bad_path path) false good).0)
+  one_same (Remove field) (RemoveLine path) is good short = ap model.Remove (whole_path field path is (or_parts (is_bad_path path) false good).0)
   one_same (Remove field) (RemoveFileLine path) is good short = absurd is
   one_same (RemoveFile field) (PutLine kind path bytes) is good short = absurd is
   one_same (RemoveFile field) (RemoveLine path) is good short = absurd is
-  one_same (RemoveFile field) (RemoveFileLine path) is good short = ap model.RemoveFile (whole_path field path is (either_false (is_bad_path path) false good).0)
+  one_same (RemoveFile field) (RemoveFileLine path) is good short = ap model.RemoveFile (whole_path field path is (or_parts (is_bad_path path) false good).0)
 
   pub edits_same : (edits : List Edit) (lines : List EditLine) → AreEdits edits lines → list_any is_bad_path (flat_map edit_paths lines) ≡ false → list_any is_long (flat_map put_contents lines) ≡ false
       → map kept_edit edits ≡ map (read_edit r) lines
@@ -121,15 +117,15 @@ module _ (r : plain.Repository) where
 
 -- each path is one
 one_path : (edit : Edit) (line : EditLine) → IsEdit edit line → list_any is_bad_path (edit_paths line) ≡ false → is_path (edit_path (kept_edit edit)) ≡ true
-one_path (Put put) (PutLine kind path bytes) is good = let fine = (either_false (is_bad_path path) false good).0 in ap is_path (whole_path put.path path is.1 fine) ∙ good_path path fine
+one_path (Put put) (PutLine kind path bytes) is good = let fine = (or_parts (is_bad_path path) false good).0 in ap is_path (whole_path put.path path is.1 fine) ∙ good_path path fine
 one_path (Put put) (RemoveLine path) is good = absurd is
 one_path (Put put) (RemoveFileLine path) is good = absurd is
 one_path (Remove field) (PutLine kind path bytes) is good = absurd is
-one_path (Remove field) (RemoveLine path) is good = let fine = (either_false (is_bad_path path) false good).0 in ap is_path (whole_path field path is fine) ∙ good_path path fine
+one_path (Remove field) (RemoveLine path) is good = let fine = (or_parts (is_bad_path path) false good).0 in ap is_path (whole_path field path is fine) ∙ good_path path fine
 one_path (Remove field) (RemoveFileLine path) is good = absurd is
 one_path (RemoveFile field) (PutLine kind path bytes) is good = absurd is
 one_path (RemoveFile field) (RemoveLine path) is good = absurd is
-one_path (RemoveFile field) (RemoveFileLine path) is good = let fine = (either_false (is_bad_path path) false good).0 in ap is_path (whole_path field path is fine) ∙ good_path path fine
+one_path (RemoveFile field) (RemoveFileLine path) is good = let fine = (or_parts (is_bad_path path) false good).0 in ap is_path (whole_path field path is fine) ∙ good_path path fine
 
 pub have_paths : (edits : List Edit) (lines : List EditLine) → AreEdits edits lines → list_any is_bad_path (flat_map edit_paths lines) ≡ false → HavePaths (map kept_edit edits)
 have_paths [] [] are good = refl

@@ -13,16 +13,7 @@ use Rattle.history_word.specs.Fields.{Keeps}
 use Rattle.history_word.specs.declared.command.Field.{Field}
 use Rattle.history_word.specs.declared.command.Field.TheVariants.{Whole, TooLong}
 use Rattle.history.specs.Fields.{kept_bytes}
-
--- ---- tests
-
-pub either_false : (a b : Bool) → (a || b) ≡ false → (a ≡ false) × (b ≡ false)
-either_false true b h = cc
-either_false false b h = (refl, h)
-
-pub both_true : (a b : Bool) → (a && b) ≡ true → (a ≡ true) × (b ≡ true)
-both_true true b h = (refl, h)
-both_true false b h = cc
+use Rattle.std.proofs.lemmas.Bool.{or_parts, and_parts, not-false}
 
 -- ---- limits
 
@@ -64,7 +55,7 @@ bad_beyond path large = ap (λ over. not (is_path path) || over) (beyond max_pat
 
 -- a path that isn't bad is one
 pub good_path : (path : Bytes) → is_bad_path path ≡ false → is_path path ≡ true
-good_path path good = turned_back (is_path path) (either_false (not (is_path path)) (nat_lt max_path (length path)) good).0
+good_path path good = turned_back (is_path path) (or_parts (not (is_path path)) (nat_lt max_path (length path)) good).0
   where
     turned_back : (b : Bool) → not b ≡ false → b ≡ true
     turned_back true e = refl
@@ -93,20 +84,16 @@ no_part part large =
 -- a name or an email is within its limit
 pub part_fits : (part : Bytes) → is_actor_part part ≡ true → length part ≤ 512
 part_fits part good =
-    let fits = (both_true (not (list_any (λ b. has_byte b (60 ∷ 62 ∷ 0 ∷ 9 ∷ 13 ∷ 10 ∷ [])) part) && not (begins (32 ∷ []) part) && not (ends (32 ∷ []) part)) (nat_le (length part) 512) good).1 in
+    let fits = (and_parts (not (list_any (λ b. has_byte b (60 ∷ 62 ∷ 0 ∷ 9 ∷ 13 ∷ 10 ∷ [])) part) && not (begins (32 ∷ []) part) && not (ends (32 ∷ []) part)) (nat_le (length part) 512) good).1 in
     grind (arith, nat_tests)
-
-pub turned : (b : Bool) → not b ≡ false → b ≡ true
-turned true e = refl
-turned false e = cc
 
 -- of a good actor the name and the email are whole
 pub whole_actor : (actor : ActorLine) (order : model.ActorLine) → IsActor actor order → is_bad_actor order ≡ false → (kept_bytes actor.name ≡ order.name) × (kept_bytes actor.email ≡ order.email)
 whole_actor actor order is good =
-    let parts = either_false (is_empty order.name || not (is_actor_part order.name)) (not (is_actor_part order.email)) good in
-    let names = either_false (is_empty order.name) (not (is_actor_part order.name)) parts.0 in (
-      kept_whole 512 actor.name order.name is.name (part_fits order.name (turned (is_actor_part order.name) names.1)),
-      kept_whole 512 actor.email order.email is.email (part_fits order.email (turned (is_actor_part order.email) parts.1)),
+    let parts = or_parts (is_empty order.name || not (is_actor_part order.name)) (not (is_actor_part order.email)) good in
+    let names = or_parts (is_empty order.name) (not (is_actor_part order.name)) parts.0 in (
+      kept_whole 512 actor.name order.name is.name (part_fits order.name (not-false (is_actor_part order.name) names.1)),
+      kept_whole 512 actor.email order.email is.email (part_fits order.email (not-false (is_actor_part order.email) parts.1)),
     )
 
 -- a part within its limit is good where it passes the other tests
@@ -127,7 +114,7 @@ part_within part small clean front = sym (
 
 -- a path that isn't bad is kept whole
 pub whole_path : (field : Field) (path : Bytes) → Keeps max_path field path → is_bad_path path ≡ false → kept_bytes field ≡ path
-whole_path field path keeps good = kept_whole max_path field path keeps (not_beyond max_path (length path) (either_false (not (is_path path)) (nat_lt max_path (length path)) good).1)
+whole_path field path keeps good = kept_whole max_path field path keeps (not_beyond max_path (length path) (or_parts (not (is_path path)) (nat_lt max_path (length path)) good).1)
 
 -- and so is a content within its limit
 pub whole_content : (limit : ℕ) (field : Field) (content : Bytes) → Keeps limit field content → nat_lt limit (length content) ≡ false → kept_bytes field ≡ content

@@ -18,7 +18,9 @@ use Rattle.history_model.specs.declared.Cause.{Cause}
 use Rattle.history_model.specs.declared.Cause.TheVariants.{BadPath, IsFolder, NoSuchPath, BadActor, BadTime, BadMessage, TooLarge}
 use Rattle.history_steps.proofs.OfferedCauses.{first_offered_cause}
 use Rattle.history.specs.CommitCauses.{first_among, name_causes, form_causes, is_long}
-use Rattle.history.proofs.FieldLemmas.{beyond, either_false}
+use Rattle.history.proofs.FieldLemmas.{beyond}
+use Rattle.history_model.proofs.StepLemmas.{passed as none_of}
+use Rattle.std.proofs.lemmas.Bool.{or_parts}
 
 -- ---- lists in two parts
 
@@ -37,11 +39,6 @@ find_in_front p (y ∷ xs) ys x e = by_test (p y) e (find_in_front p xs ys x)
     by_test : (b : Bool) → cond b (Some y) (find p xs) ≡ Some x → (find p xs ≡ Some x → find p (xs ++ ys) ≡ Some x) → cond b (Some y) (find p (xs ++ ys)) ≡ Some x
     by_test true e rest = e
     by_test false e rest = rest e
-
--- no test before one that fails
-pub none_of : {X : Type 0} (b : Bool) (x : X) (rest : Option X) → cond b (Some x) rest ≡ None → (b ≡ false) × (rest ≡ None)
-none_of true x rest e = cc
-none_of false x rest e = (refl, e)
 
 find_none : {X : Type 0} (p : X → Bool) (x : X) (xs : List X) → find p (x ∷ xs) ≡ None → (p x ≡ false) × (find p xs ≡ None)
 find_none p x xs e = none_of (p x) x (find p xs) e
@@ -121,5 +118,5 @@ module _ (r : Repository) (order : CommitCommand) (formed : first_among form_cau
   pub good_actors : (is_bad_actor order.author ≡ false) × (is_bad_actor order.committer ≡ false)
   good_actors =
       let bad : (is_bad_actor order.author || (is_bad_actor order.committer || false)) ≡ false = (find_none Holds BadActor (BadTime ∷ BadMessage ∷ []) behind_paths).0 in
-      let actors = either_false (is_bad_actor order.author) (is_bad_actor order.committer || false) bad in
-      (actors.0, (either_false (is_bad_actor order.committer) false actors.1).0)
+      let actors = or_parts (is_bad_actor order.author) (is_bad_actor order.committer || false) bad in
+      (actors.0, (or_parts (is_bad_actor order.committer) false actors.1).0)

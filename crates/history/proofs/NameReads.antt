@@ -10,7 +10,6 @@ use Rattle.history_model.specs.Repository.{Repository, Reference, id_at, stands}
 use Rattle.history_model.specs.Forms.{is_name, max_name}
 use Rattle.gix_object_lines.specs.NameTest.{is_partial_name}
 use Rattle.std.specs.Str.{is_utf8}
-use Rattle.history.proofs.FieldLemmas.{both_true}
 use Rattle.history_model.specs.PackedNames.{id_from_hex, line_text}
 use Rattle.history_model.specs.Places.{Pair, file_at, packed_place, head_place, is_log_place}
 use Rattle.history_model.specs.Readings.{Reading, Holds, Symbolic, Absent, Faulty, reading, loose_reading, loose_line, packed_text_reading}
@@ -23,25 +22,9 @@ use Rattle.history.specs.Stands.{pair_of}
 use Rattle.history.specs.Serving.{Serves}
 use Rattle.history.specs.Face.{names_part}
 use Rattle.history.specs.declared.repository.Repository as own
-
--- ---- lines
-
-ends_so : (text : Bytes) → ends (10 ∷ []) text ≡ true → text ≡ line (take (length text - 1) text)
-ends_so text e =
-    sym (take-append-drop (length text - 1) text)
-    ∙ ap (λ back. take (length text - 1) text ++ back) (sym (one_text (10 ∷ []) (drop (length text - 1) text) e))
-
-line_read : (text : Bytes) → line_text (line text) ≡ Some text
-line_read text = ap (λ b. cond b (Some (take (length (line text) - 1) (line text))) None) ended ∙ ap Some (ap (λ n. take n (line text)) shorter ∙ take-append_seam text (10 ∷ []))
-  where
-    shorter : length (line text) - 1 ≡ length text
-    shorter = let sum = length-append text (10 ∷ []) in omega arith
-
-    ended : ends (10 ∷ []) (line text) ≡ true
-    ended = ap (λ n. bytes_eq (10 ∷ []) (drop n (line text))) shorter ∙ ap (bytes_eq (10 ∷ [])) (drop-append_seam text (10 ∷ []))
-
-holds_same : {a b : Id} → Holds a ≡ Holds b → a ≡ b
-holds_same e = cc
+use Rattle.history_model.proofs.FormatLemmas.{ends_so, holds_same}
+use Rattle.history_steps.proofs.TreeMoves.{line_read}
+use Rattle.std.proofs.lemmas.Bool.{and_parts}
 
 -- ---- one file
 
@@ -156,9 +139,9 @@ module _ (pair : Pair) (r : Repository) (stand : StandsFor r.kind pair r) (unpac
 -- a name begins with `refs/`
 pub refs_front : (name : Bytes) → is_name name ≡ true → begins (codes "refs/") name ≡ true
 refs_front name h =
-    (both_true (is_partial_name name) (begins (codes "refs/") name)
-    (both_true (is_partial_name name && begins (codes "refs/") name) (is_utf8 name)
-    (both_true (is_partial_name name && begins (codes "refs/") name && is_utf8 name) (nat_le (length name) max_name) h).0).0).1
+    (and_parts (is_partial_name name) (begins (codes "refs/") name)
+    (and_parts (is_partial_name name && begins (codes "refs/") name) (is_utf8 name)
+    (and_parts (is_partial_name name && begins (codes "refs/") name && is_utf8 name) (nat_le (length name) max_name) h).0).0).1
 
 -- ---- a repository with its files
 
@@ -168,4 +151,4 @@ module _ {F : Type 0} (IsHonest : F → Type 0) (history : F → History) (repos
   held name front found holds = name_tells (pair_of history repository) r stand.stands.whole.stands stand.stage.unpacked name front found holds
 
   pub branch_is_name : begins (codes "refs/") repository.branch.items ≡ true
-  branch_is_name = ap (begins (codes "refs/")) stand.stands.branch ∙ refs_front r.branch (both_true (is_name r.branch) (begins (codes "refs/heads/") r.branch) stand.stands.whole.written.branch).0
+  branch_is_name = ap (begins (codes "refs/")) stand.stands.branch ∙ refs_front r.branch (and_parts (is_name r.branch) (begins (codes "refs/heads/") r.branch) stand.stands.whole.written.branch).0

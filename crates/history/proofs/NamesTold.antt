@@ -13,9 +13,9 @@ use Rattle.history_model.specs.Meaning.{branch_or_name}
 use Rattle.history_model.specs.declared.Cause.{Cause}
 use Rattle.history_model.specs.declared.Cause.TheVariants.{BadName, PrivateName}
 use Rattle.gix_object_lines.specs.NameTest.{is_partial_name, is_full_name, is_capitals, has_slash}
-use Rattle.history_store.proofs.NameFolders.{begins_parts}
 use Rattle.history.specs.CommitCauses.{first_among, name_form_causes, form_cause}
-use Rattle.history.proofs.FieldLemmas.{both_true}
+use Rattle.std.proofs.lemmas.Bool.{and_parts}
+use Rattle.history_model.proofs.WholePaths.{begins_parts}
 
 -- below `refs/` each partial name is a full one
 slash_there : (name : Bytes) → begins (codes "refs/") name ≡ true → has_slash name ≡ true
@@ -73,7 +73,7 @@ module _ (r : Repository) (order : CommitCommand) where
   other_means is = ap (λ b. cond b r.branch order.name) is
 
 pub branch_formed : (r : Repository) → IsWritten r → is_name r.branch ≡ true
-branch_formed r written = (both_true (is_name r.branch) (begins (codes "refs/heads/") r.branch) written.branch).0
+branch_formed r written = (and_parts (is_name r.branch) (begins (codes "refs/heads/") r.branch) written.branch).0
 
 pub formed_of : (name : Bytes) → form_cause name ≡ None → is_name name ≡ true
 formed_of name h = go (is_name name) h

@@ -19,7 +19,7 @@ use Rattle.history_steps.specs.Passing.{AreNewFolders}
 use Rattle.history_steps.specs.TreeSteps.{HasText}
 use Rattle.history_model.specs.Wholeness.{IsSound}
 use Rattle.history_model.proofs.IdLemmas.{digest_is_id, has_kind}
-use Rattle.history_model.proofs.WholeLists.{In, all_in, in_left, in_either, in_map, of_map, none_or, none_passes, one_passes, passes_one, clash}
+use Rattle.history_model.proofs.WholeLists.{In, all_in, in_left, in_either, in_map, of_map, none_passes, one_passes, passes_one, clash}
 use Rattle.history_model.proofs.WholeSteps.{contains_in, in_contains}
 use Rattle.history_model.proofs.WholeStores.{none_reserved}
 use Rattle.history_model.proofs.WholeTexts.{text_same}
@@ -32,12 +32,14 @@ use Rattle.history.specs.CommitCauses.{is_long}
 use Rattle.history.specs.Plans.{is_long_tree, object_parts, tree_parts}
 use Rattle.history.proofs.Befores.{entries-empty, held_commit, held_files}
 use Rattle.history.proofs.FieldLemmas.{within}
+use Rattle.history_model.proofs.PartLemmas.{head_same, tail_same}
+use Rattle.std.proofs.lemmas.Bool.{or_from}
 
 -- ---- lists
 
 pub none_pass : {X : Type 0} (p : X → Bool) (xs : List X) → ((x : X) → In x xs → p x ≡ false) → list_any p xs ≡ false
 none_pass p [] h = refl
-none_pass p (x ∷ xs) h = none_or (p x) (list_any p xs) (h x (inl refl)) (none_pass p xs (λ y i. h y (inr i)))
+none_pass p (x ∷ xs) h = or_from (p x) (list_any p xs) (h x (inl refl)) (none_pass p xs (λ y i. h y (inr i)))
 
 -- ---- the folders that stood
 
@@ -90,12 +92,6 @@ trees_long kind (m ∷ folders) (tree ∷ trees) are = λ i. is_long (are.0.cont
 parts_are : {A B C : Type 0} {a d : A} {b e : B} {c f : C} → ◌≡◌ {A = A × B × C} (a, b, c) (d, e, f) → (a ≡ d) × (b ≡ e) × (c ≡ f)
 parts_are {A} {B} {C} same = (ap (λ (x : A × B × C). x.0) same, ap (λ (x : A × B × C). x.1) same, ap (λ (x : A × B × C). x.2) same)
 
-front_is : {X : Type 0} {x y : X} {xs ys : List X} → x ∷ xs ≡ y ∷ ys → x ≡ y
-front_is e = cc
-
-back_is : {X : Type 0} {x y : X} {xs ys : List X} → x ∷ xs ≡ y ∷ ys → xs ≡ ys
-back_is e = cc
-
 pub trees_put : (kind : Kind) (values : List Value) (folders : List FileMap) (blobs objects : List NewObject) (trees : List EditedTree)
     → AreObjectsOf kind values blobs → AreTreesOf kind folders trees → map object_parts objects ≡ map object_parts blobs ++ map tree_parts trees → AreObjectsOf kind (values ++ map StoredFolder folders) objects
 trees_put kind [] [] [] [] [] first second is = tt
@@ -104,17 +100,17 @@ trees_put kind [] [] [] objects (tree ∷ trees) first second is = absurd second
 trees_put kind [] (m ∷ folders) [] objects [] first second is = absurd second
 trees_put kind [] (m ∷ folders) [] [] (tree ∷ trees) first second is = absurd (cc is)
 trees_put kind [] (m ∷ folders) [] (object ∷ objects) (tree ∷ trees) first second is =
-    let same = parts_are (front_is is) in (
+    let same = parts_are (head_same is) in (
       record { id = ap object_id.id_of same.0 ∙ second.0.id; kind = same.1; content = same.2 ∙ second.0.content },
-      trees_put kind [] folders [] objects trees tt second.1 (back_is is),
+      trees_put kind [] folders [] objects trees tt second.1 (tail_same is),
     )
 trees_put kind [] folders (blob ∷ blobs) objects trees first second is = absurd first
 trees_put kind (value ∷ values) folders [] objects trees first second is = absurd first
 trees_put kind (value ∷ values) folders (blob ∷ blobs) [] trees first second is = absurd (cc is)
 trees_put kind (value ∷ values) folders (blob ∷ blobs) (object ∷ objects) trees first second is =
-    let same = parts_are (front_is is) in (
+    let same = parts_are (head_same is) in (
       record { id = ap object_id.id_of same.0 ∙ first.0.id; kind = same.1 ∙ first.0.kind; content = same.2 ∙ first.0.content },
-      trees_put kind values folders blobs objects trees first.1 second (back_is is),
+      trees_put kind values folders blobs objects trees first.1 second (tail_same is),
     )
 
 -- ---- their sizes

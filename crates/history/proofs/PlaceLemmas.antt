@@ -22,10 +22,11 @@ use Rattle.history.specs.Stands.{pair_of}
 use Rattle.history.specs.Serving.{Serves}
 use Rattle.history.specs.Halves.{NamesStand}
 use Rattle.history.specs.declared.repository.Repository.{Repository}
-use Rattle.history.proofs.Collisions.{none_any, neither, above_it, new_collides, fits_so}
+use Rattle.history.proofs.Collisions.{none_any, above_it, new_collides, fits_so}
 use Rattle.history.proofs.Commits.{names_stand}
 use Rattle.history.proofs.Moving.{way}
 use Rattle.history.proofs.NameReads.{file_stands}
+use Rattle.std.proofs.lemmas.Bool.{or_from}
 
 -- ---- a repository with its files
 
@@ -60,7 +61,7 @@ module _ {F : Type 0} (IsHonest : F → Type 0) (history : F → History) (repos
       has_file k there none = let f = file_stands (pair_of history repository) r stand.stands.whole.stands stand.stage.unpacked k there in absurd (cc (sym none ∙ f.1))
 
       apart : (k : Bytes) → contains_key r.names k ≡ true → do_collide (branch_or_name r order.name) k ≡ false
-      apart k there = neither _ _ (below (is_below (branch_or_name r order.name) k) refl) (above (is_below k (branch_or_name r order.name)) refl)
+      apart k there = or_from _ _ (below (is_below (branch_or_name r order.name) k) refl) (above (is_below k (branch_or_name r order.name)) refl)
         where
           below : (b : Bool) → is_below (branch_or_name r order.name) k ≡ b → is_below (branch_or_name r order.name) k ≡ false
           below false is = is

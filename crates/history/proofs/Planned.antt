@@ -64,6 +64,7 @@ use Rattle.history.proofs.FirstCauses.{passed, here, refused_by_form, refused_by
 use Rattle.history.proofs.NewFolders.{contents, new_folders, none_long, null_taken, some_long, trees_put}
 use Rattle.history.proofs.Shapes.{refused_alike}
 use Rattle.history.proofs.Storing.{bytes_put}
+use Rattle.history_store.proofs.Spelled.{and_from}
 
 -- ---- sizes
 
@@ -95,13 +96,10 @@ reading_planned MayFail r order Memory h = h
 reading_planned MayFail r order File h = h
 reading_planned MayFail r order IdTaken h = absurd h
 
-both : (a b : Bool) → IsTrue a → IsTrue b → IsTrue (a && b)
-both a b p q = λ i. p i && q i
-
 -- stored commits have ids of the kind
 pub commits_have_ids : (r : plain.Repository) → IsWholeStore r → (ids : List Id) → AllByRecursion (HoldsCommit r) ids → IsTrue (list_all (is_id r.kind) ids)
 commits_have_ids r store [] hold = refl
-commits_have_ids r store (id ∷ ids) hold = both (is_id r.kind id) (list_all (is_id r.kind) ids) (of_value (get r.objects id) refl hold.0) (commits_have_ids r store ids hold.1)
+commits_have_ids r store (id ∷ ids) hold = and_from (is_id r.kind id) (list_all (is_id r.kind) ids) (of_value (get r.objects id) refl hold.0) (commits_have_ids r store ids hold.1)
   where
     of_value : (o : Option Value) → get r.objects id ≡ o → IsSome (option_and_then as_commit o) → IsTrue (is_id r.kind id)
     of_value None e h = absurd cc
@@ -114,7 +112,7 @@ pub commit_is : (kind : Kind) (tree : ObjectId) (parents : List ObjectId) (actor
 commit_is kind tree parents actors message value said commit same_tree same_parents author committer text plain =
     let tree_told = ap id_of same_tree ∙ said.tree_is in
     let parents_told = ap (map id_of) same_parents ∙ said.parents_are in
-    let has = both (is_id kind (id_of commit.tree)) (list_all (is_id kind) (map id_of commit.parents.items))
+    let has = and_from (is_id kind (id_of commit.tree)) (list_all (is_id kind) (map id_of commit.parents.items))
     (ap (is_id kind) tree_told ∙ digest_is_id kind (tree_text (root kind value.files))) (ap (list_all (is_id kind)) parents_told ∙ said.parents_have) in
     record { plain = plain has; tree = tree_told; parents = parents_told; author = author ∙ said.author_is; committer = committer ∙ said.committer_is; message = text ∙ said.message_is }
 

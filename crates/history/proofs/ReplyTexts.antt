@@ -4,14 +4,11 @@ use Rattle.std.proofs.lemmas.List.{append-nil, flat_map_more, map_more}
 use Rattle.std.proofs.lemmas.List.Concat.{flat_map-append}
 use Rattle.history_model.specs.Bytes.{Bytes}
 use Rattle.history_model.specs.Spelling.{Part, Line, part_text, parts_text}
+use Rattle.history_files.proofs.Lines.{map_twice}
 
 -- a line of the same words
 pub same_line : (words others : List Bytes) (old new : Bytes) → new ≡ old ++ part_text (Line words) → words ≡ others → new ≡ old ++ part_text (Line others)
 same_line words others old new is same = is ∙ ap (λ ws. old ++ part_text (Line ws)) same
-
-pub map-map : {A B C : Type 0} (g : B → C) (f : A → B) (xs : List A) → map g (map f xs) ≡ map (λ x. g (f x)) xs
-map-map g f [] = refl
-map-map g f (x ∷ xs) = ap (λ ys. g (f x) ∷ ys) (map-map g f xs)
 
 -- one part more, of one item more
 pub one_more : {X : Type 0} (f : X → Part) (xs : List X) (i : ℕ) (d : X) (old text new : Bytes) → i < length xs → text ≡ old ++ parts_text (map f (take i xs)) → new ≡ text ++ part_text (f (get_or xs i d)) → new ≡ old ++ parts_text (map f (take (i + 1) xs))

@@ -24,16 +24,10 @@ use Rattle.history.specs.declared.repository.Repository.{Repository as Store}
 use Rattle.gix_ref_file.specs.History.{HasRisen}
 use Rattle.history.specs.Acts.{CountsRise, HasFailedCall}
 use Rattle.history.specs.Runs.{EndsRun}
+use Rattle.std.proofs.lemmas.Bool.{or_parts, not-false}
+use Rattle.history.proofs.Counts.{risen_later, risen_before}
 
 -- ---- steps
-
-both_false : (a b : Bool) → (a || b) ≡ false → (a ≡ false) × (b ≡ false)
-both_false true b e = cc
-both_false false b e = (refl, e)
-
-pub not_false : (b : Bool) → not b ≡ false → b ≡ true
-not_false true e = refl
-not_false false e = cc
 
 pub steps_then : (old mid new : Repository) (commands more : List Command) (replies others : List Reply) → Steps old commands replies mid → some_failed commands replies ≡ false
     → Steps mid more others new → Steps old (commands ++ more) (replies ++ others) new
@@ -41,8 +35,8 @@ steps_then old mid new [] more [] others h f k = subst (λ r. Steps r more other
 steps_then old mid new [] more (reply ∷ replies) others h f k = absurd h
 steps_then old mid new (command ∷ commands) more [] others h f k = absurd h
 steps_then old mid new (command ∷ commands) more (reply ∷ replies) others h f k =
-    let unfailed = both_false (not (goes_on command reply)) (some_failed commands replies) f in
-    (h.0, h.1, inl (not_false (goes_on command reply) unfailed.0), steps_then h.0 mid new commands more replies others h.3 unfailed.1 k)
+    let unfailed = or_parts (not (goes_on command reply)) (some_failed commands replies) f in
+    (h.0, h.1, inl (not-false (goes_on command reply) unfailed.0), steps_then h.0 mid new commands more replies others h.3 unfailed.1 k)
 
 -- whether a command failed is told by the later ones, where none of the first did
 pub fails_then : (old mid : Repository) (commands more : List Command) (replies others : List Reply) → Steps old commands replies mid → some_failed commands replies ≡ false
@@ -51,7 +45,7 @@ fails_then old mid [] more [] others h f = refl
 fails_then old mid [] more (reply ∷ replies) others h f = absurd h
 fails_then old mid (command ∷ commands) more [] others h f = absurd h
 fails_then old mid (command ∷ commands) more (reply ∷ replies) others h f =
-    let unfailed = both_false (not (goes_on command reply)) (some_failed commands replies) f in
+    let unfailed = or_parts (not (goes_on command reply)) (some_failed commands replies) f in
     ap (λ b. b || some_failed (commands ++ more) (replies ++ others)) unfailed.0 ∙ fails_then h.0 mid commands more replies others h.3 unfailed.1
 
 -- ---- texts
@@ -162,12 +156,6 @@ counts_none failures old = record { objects = omega arith; names = omega arith }
 
 pub counts_then : {F : Type 0} (failures : F → ℕ) (old mid new : Store F) → CountsRise failures old mid → CountsRise failures mid new → CountsRise failures old new
 counts_then failures old mid new h k = record { objects = omega (arith, h.objects, k.objects); names = omega (arith, h.names, k.names) }
-
-risen_later : (a b c : ℕ) → HasRisen a b → b ≤ c → HasRisen a c
-risen_later a b c h k = omega (arith, h, k)
-
-risen_before : (a b c : ℕ) → a ≤ b → HasRisen b c → HasRisen a c
-risen_before a b c h k = omega (arith, h, k)
 
 -- a call that failed first has failed
 pub failed_first : {F : Type 0} (failures : F → ℕ) (MayFail : Type 0) (old mid new : Store F) → CountsRise failures mid new → HasFailedCall failures MayFail old mid → HasFailedCall failures MayFail old new

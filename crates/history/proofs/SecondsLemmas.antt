@@ -14,6 +14,7 @@ use Rattle.history_store.specs.declared.actor.Actor.{Actor}
 use Rattle.history.specs.CommitCauses.{IsTime, ReadsTime}
 use Rattle.history_model.specs.Forms.{is_seconds, is_offset, is_actor, is_actor_part, max_seconds}
 use Rattle.history_word.specs.LineTable.{number_of}
+use Rattle.std.proofs.lemmas.Bool.{and_parts}
 
 -- a word that spells a number has its form and its value
 told : (decimal : Bool) (value n : ℕ) → cond (decimal && nat_lt value (2 ^ 64)) (Some value) None ≡ Some n → (decimal ≡ true) × (value ≡ n)
@@ -96,10 +97,6 @@ time_read line seconds offset (Some time) same also told =
 
 -- ---- an actor is made of good parts
 
-and_right : (a b : Bool) → (a && b) ≡ true → b ≡ true
-and_right true b h = h
-and_right false b h = cc
-
 all_good : (empty name email seconds offset : Bool) → (empty || not name || not email) ≡ false → seconds ≡ true → offset ≡ true → (not empty && name && email && seconds && offset) ≡ true
 all_good true name email seconds offset bad s o = cc
 all_good false true true seconds offset bad s o = λ i. true && s i && o i
@@ -113,7 +110,7 @@ pub line_formed : (line : ActorLine) (name email : Bytes) (time : Time) → name
 line_formed line name email time names emails good h = record {
   plain_time = record { since = h.seconds ∙ ap (λ s. pos (unsigned_abs s)) (sym h.seconds); whole = h.whole };
   actor = ap is_actor (plain_is line name email time names emails h)
-      ∙ all_good (is_empty line.name) (is_actor_part line.name) (is_actor_part line.email) (nat_le (digits_value line.seconds) max_seconds) (is_offset line.offset) good (and_right (is_decimal line.seconds) _ h.good_seconds) h.good_offset;
+      ∙ all_good (is_empty line.name) (is_actor_part line.name) (is_actor_part line.email) (nat_le (digits_value line.seconds) max_seconds) (is_offset line.offset) good (and_parts (is_decimal line.seconds) _ h.good_seconds).1 h.good_offset;
 }
 
 -- so the actor is there, and it is the line's

@@ -6,7 +6,8 @@ use Rattle.std.specs.FinMap.{keys, contains_key, get, insert, retain_keys}
 use Rattle.history_model.specs.Bytes.{Bytes}
 use Rattle.history_model.specs.FileMap.{FileMap, Content, Edit, Put, Remove, RemoveFile, edited, is_below, has_below, is_refused, is_within, some_refused}
 use Rattle.history_steps.proofs.OfferedFiles.{all_keys, each_key}
-use Rattle.history_model.proofs.WholeStores.{get_inserted, get_retained}
+use Rattle.history_model.proofs.WholeStores.{get_retained}
+use Rattle.history_model.proofs.AfterFirstLemmas.{get-with}
 
 -- the edits are made at one path, and do the same there but for the bytes that are put
 abbrev pub IsAlike : Edit → Edit → Type 0
@@ -64,7 +65,7 @@ retained a b same test q = ap is_some (get_retained a test q) ∙ go (test q) �
     go false = refl
 
 inserted : (a b : FileMap) → SameKeys a b → (path : Bytes) (x y : Content) → SameKeys (insert a path x) (insert b path y)
-inserted a b same path x y q = ap is_some (get_inserted a path x q) ∙ go (bytes_eq q path) ∙ sym (ap is_some (get_inserted b path y q))
+inserted a b same path x y q = ap is_some (get-with a path x q) ∙ go (bytes_eq q path) ∙ sym (ap is_some (get-with b path y q))
   where
     go : (t : Bool) → is_some (cond t (Some x) (get a q)) ≡ is_some (cond t (Some y) (get b q))
     go true = refl

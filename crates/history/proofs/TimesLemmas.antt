@@ -14,7 +14,9 @@ use Rattle.history_word.specs.Commands.{IsEdit, AreEdits}
 use Rattle.history_word.specs.declared.command.Edit.{Edit}
 use Rattle.history.specs.CommitCauses.{first_among, form_causes, path_causes, IsTime, AreTimes}
 use Rattle.gix_object_lines.specs.declared.lines.time.Time.{Time}
-use Rattle.history.proofs.FirstCauses.{here, none_of, passed}
+use Rattle.history.proofs.FirstCauses.{here, passed}
+use Rattle.std.proofs.lemmas.Bool.{not-true}
+use Rattle.history_model.proofs.StepLemmas.{passed as none_of}
 
 or_true : (a : Bool) → (a || true) ≡ true
 or_true true = refl
@@ -95,10 +97,6 @@ pub neither_bad : (a b : Bool) → a ≡ false → b ≡ false → (a || (b || f
 neither_bad true b e f = cc
 neither_bad false true e f = cc
 neither_bad false false e f = refl
-
-pub good : (b : Bool) → not b ≡ true → b ≡ false
-good true e = cc
-good false e = refl
 
 pub time_good : (line : ActorLine) (time : Time) → IsTime line time → (not (is_seconds line.seconds) || not (is_offset line.offset)) ≡ false
 time_good line time h = ap (λ b. not b || not (is_offset line.offset)) h.good_seconds ∙ ap not h.good_offset

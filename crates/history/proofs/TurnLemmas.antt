@@ -27,19 +27,17 @@ use Rattle.history.specs.Acts.{IsAnswer}
 use Rattle.history.specs.Replies.{text_of}
 use Rattle.history.specs.Runs.{EndsRun, EndsHere, GoesOn, Turns}
 use Rattle.history.proofs.ActLemmas.{told_text}
-use Rattle.history.proofs.RunLemmas.{ends_then, not_false, ran_none, ran_one, ran_then}
+use Rattle.history.proofs.RunLemmas.{ends_then, ran_none, ran_one, ran_then}
+use Rattle.history_store.proofs.Beside.{from_and_2}
+use Rattle.std.proofs.lemmas.Bool.{not-false}
 
 -- ---- one turn
 
-and_second : (a b : Bool) → IsTrue (a && b) → IsTrue b
-and_second true b h = h
-and_second false b h = absurd cc
-
 pub known_offered : (order : Command) → IsTrue (is_command order) → IsTrue (is_spoken order)
-known_offered order h = and_second (has_spelling order) (is_spoken order) h
+known_offered order h = from_and_2 (has_spelling order) (is_spoken order) h
 
 goes : (failed : Bool) (on : Bool) → failed ≡ not on → failed ≡ false → IsTrue on
-goes failed on e f = not_false on (sym e ∙ f)
+goes failed on e f = not-false on (sym e ∙ f)
 
 same_byte : (b : ℕ) → (b == b) ≡ true
 same_byte b = grind (arith, nat_tests)

@@ -12,9 +12,9 @@ use Rattle.gix_hash_id.specs.declared.object_id.ObjectId.{ObjectId}
 use Rattle.history.specs.Serving.{Serves}
 use Rattle.history.specs.Face.{names_part}
 use Rattle.history.specs.declared.repository.Repository as own
-use Rattle.history.proofs.FieldLemmas.{both_true}
 use Rattle.history.proofs.NameReads.{held, branch_is_name}
 use Rattle.gix_hash_id.specs.Id.{Id, id_of}
+use Rattle.std.proofs.lemmas.Bool.{and_parts}
 
 -- what stands before and behind a word
 abbrev pub Ends : Type 0
@@ -118,7 +118,7 @@ module _ {F : Type 0} (IsHonest : F → Type 0) (history : F → History) (repos
   -- what the file of a candidate tells is what the candidate holds
   pub candidate_held : (place name : Bytes) → place ≡ name → may_mean name ≡ true → (found : Option ObjectId) → NameHolds repository.names.kind (history (names_part repository)).tree place found → id_at r name ≡ option_map id_of found
   candidate_held place name same e found holds =
-      sym (held IsHonest history repository r stand name (both_true (begins (codes "refs/") name) (not (is_private name)) e).0 found (subst (λ p. NameHolds r.kind (history (names_part repository)).tree p found) same (of_one_kind place found holds)))
+      sym (held IsHonest history repository r stand name (and_parts (begins (codes "refs/") name) (not (is_private name)) e).0 found (subst (λ p. NameHolds r.kind (history (names_part repository)).tree p found) same (of_one_kind place found holds)))
 
   -- HEAD reads as what its branch's file tells
   pub branch_reads : (word place : Bytes) → bytes_eq word head_word ≡ true → place ≡ repository.branch.items → (found : Option ObjectId) → NameHolds repository.names.kind (history (names_part repository)).tree place found

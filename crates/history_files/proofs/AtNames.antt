@@ -17,8 +17,8 @@ use Rattle.history_model.specs.FileMap.{FileMap, Content, IsFileMap, components,
 use Rattle.history_model.specs.Objects.{digest, TreeEntry, FileEntry, FolderEntry, tree_entries, mode_of, root_within, longest, folder_id, blob_id, entry_at}
 use Rattle.history_model.specs.declared.FileKind.{FileKind}
 use Rattle.history_model.specs.declared.FileKind.TheVariants.{File as PlainFile, Exec, Link}
-use Rattle.history_model.proofs.WholeLists.{In, in_map, of_map, none_or, clash, either, passes_one, one_passes, texts_differ, some_inside, none_is_some}
-use Rattle.history_model.proofs.WholePaths.{below_front, below_parts, has_parts, front_plain, is_beginning}
+use Rattle.history_model.proofs.WholeLists.{In, in_map, of_map, clash, either, passes_one, one_passes, texts_differ, none_is_some}
+use Rattle.history_model.proofs.WholePaths.{below_front, below_parts, has_parts, front_plain, is_beginning, below_below}
 use Rattle.history_model.proofs.WholeItems.{Entry, leaf_in}
 use Rattle.history_model.proofs.WholeRoots.{HasAll, inside_has, inside_inside, has_all}
 use Rattle.history_model.proofs.WholeStores.{get_in, in_get}
@@ -31,6 +31,8 @@ use Rattle.history_files.specs.declared.found.Found.TheVariants.{File, Folder}
 use Rattle.history_files.proofs.Components.{some_parts, one_part, parts_below}
 use Rattle.history_files.proofs.Items.{items, items_spelled, item_of, file_item, name_of, named_in, has_leaf, has_folder, folder_of}
 use Rattle.history_files.proofs.Unfolded.{inside_map, plain_map, get_inside, none_if}
+use Rattle.std.proofs.lemmas.Option.{same_Some}
+use Rattle.std.proofs.lemmas.Bool.{or_from}
 
 -- ---- files below a path
 
@@ -49,16 +51,12 @@ same_bool true b f g = sym (f refl)
 same_bool false true f g = g refl
 same_bool false false f g = refl
 
-deeper_path : (a b rest : Bytes) → (a ++ 47 ∷ b) ++ 47 ∷ rest ≡ a ++ 47 ∷ (b ++ 47 ∷ rest)
-deeper_path [] b rest = refl
-deeper_path (x ∷ a) b rest = ap (λ t. x ∷ t) (deeper_path a b rest)
-
 has_below_inside : (m : FileMap) (folder path : Bytes) → has_below (inside folder m) path ≡ has_below m (folder ++ 47 ∷ path)
 has_below_inside m folder path = same_bool (has_below (inside folder m) path) (has_below m (folder ++ 47 ∷ path))
     (λ h. let some = below_some (inside folder m) path h in
-    some_below m (folder ++ 47 ∷ path) some.0 some.1 (ap (get m) (deeper_path folder path some.0) ∙ sym (get_inside folder m (path ++ 47 ∷ some.0)) ∙ some.2))
+    some_below m (folder ++ 47 ∷ path) some.0 some.1 (ap (get m) (below_below folder path some.0) ∙ sym (get_inside folder m (path ++ 47 ∷ some.0)) ∙ some.2))
     (λ h. let some = below_some m (folder ++ 47 ∷ path) h in
-    some_below (inside folder m) path some.0 some.1 (get_inside folder m (path ++ 47 ∷ some.0) ∙ ap (get m) (sym (deeper_path folder path some.0)) ∙ some.2))
+    some_below (inside folder m) path some.0 some.1 (get_inside folder m (path ++ 47 ∷ some.0) ∙ ap (get m) (sym (below_below folder path some.0)) ∙ some.2))
 
 -- ---- at names
 
@@ -78,7 +76,7 @@ none_deeper kind m folder path h =
   where
     none_below : has_below m (folder ++ 47 ∷ path) ≡ false
     none_below = elim (either (has_below m (folder ++ 47 ∷ path))) [
-      | inl k ↦ let some = below_some m (folder ++ 47 ∷ path) k in clash (some_below m folder (path ++ 47 ∷ some.0) some.1 (ap (get m) (sym (deeper_path folder path some.0)) ∙ some.2)) h
+      | inl k ↦ let some = below_some m (folder ++ 47 ∷ path) k in clash (some_below m folder (path ++ 47 ∷ some.0) some.1 (ap (get m) (sym (below_below folder path some.0)) ∙ some.2)) h
       | inr k ↦ k
     ]
 
@@ -132,7 +130,7 @@ parts_plain (b ∷ path) name i = go (b == 47) refl (some_parts path) (λ n j. p
     go false e (c, cs, parts) rest j = onto (subst (λ ps. In name (onto_first b ps)) parts j)
       where
         onto : In name ((b ∷ c) ∷ cs) → has_byte 47 name ≡ false
-        onto (inl k) = ap (has_byte 47) k ∙ none_or (b == 47) (has_byte 47 c) e (rest c (subst (In c) (sym parts) (inl refl)))
+        onto (inl k) = ap (has_byte 47) k ∙ or_from (b == 47) (has_byte 47 c) e (rest c (subst (In c) (sym parts) (inl refl)))
         onto (inr l) = rest name (subst (In name) (sym parts) (inr l))
 
 -- ---- one name
@@ -192,10 +190,10 @@ no_leaf Exec e = texts_differ _ _ refl e
 no_leaf Link e = texts_differ _ _ refl e
 
 first_same : (a b : Bytes × Id) → Some a ≡ Some b → a.0 ≡ b.0
-first_same a b e = ap (λ (p : Bytes × Id). p.0) (some_inside a b e)
+first_same a b e = ap (λ (p : Bytes × Id). p.0) (same_Some a b e)
 
 second_same : (a b : Bytes × Id) → Some a ≡ Some b → a.1 ≡ b.1
-second_same a b e = ap (λ (p : Bytes × Id). p.1) (some_inside a b e)
+second_same a b e = ap (λ (p : Bytes × Id). p.1) (same_Some a b e)
 
 -- ---- from name to name
 

@@ -30,13 +30,14 @@ use Rattle.gix_traverse_tree.specs.declared.error.Error.TheVariants as walked
 use Rattle.gix_traverse_tree.specs.declared.recorder.Recorder.{Recorder}
 use Rattle.gix_object_find.specs.declared.find.existing_iter.Error.TheVariants as not_found
 use Rattle.gix_hash_id.specs.declared.object_id.ObjectId.{ObjectId}
-use Rattle.history_model.proofs.WholeLists.{none_is_some, some_inside}
+use Rattle.history_model.proofs.WholeLists.{none_is_some}
 use Rattle.history_files.specs.Edits.{as_edited, as_opened, as_unread, unless_memory}
 use Rattle.history_files.specs.Opening.{TellsBroken}
 use Rattle.history_files.specs.Reading.{HasNoGoodTree, RootFault, StopsBelow, TellsUnread, TreeFault, as_walked}
 use Rattle.history_files.specs.declared.edits.EditError.TheVariants as edits
 use Rattle.history_files.specs.declared.error.ReadError.{ReadError}
 use Rattle.history_files.specs.declared.error.ReadError.TheVariants as reading
+use Rattle.std.proofs.lemmas.Option.{same_Some}
 
 -- ---- trees that are read
 
@@ -53,7 +54,7 @@ root_broken honest may_fail table id (reading.Broken oid) h = λ answers items s
 root_broken honest may_fail table id reading.Memory h = tt
 
 one_content : (table : Table) (id : Id) (a b : List ℕ) → Stands table id objects.Tree a → Stands table id objects.Tree b → a ≡ b
-one_content table id a b h k = ap (λ (x : Object). x.content) (some_inside _ _ (sym h ∙ k))
+one_content table id a b h k = ap (λ (x : Object). x.content) (same_Some _ _ (sym h ∙ k))
 
 module _ (honest may_fail : Type 0) (table : Table) (id : Id) where
   -- what stands under the told id spells these entries
@@ -80,7 +81,7 @@ module _ (honest may_fail : Type 0) (table : Table) (id : Id) where
   unread_broken (not_given.NotFound oid) (told, none) = λ answers items at fine. let here = there oid told items at in none_is_some _ (sym (none answers) ∙ here.1)
   unread_broken (not_given.ObjectKind oid actual expected) (told, is, other, at) = λ answers items stands fine.
       let here = there oid told items stands in
-      other (sym (some_inside objects.Tree actual (sym (ap (option_map (λ (x : Object). x.kind)) here.1) ∙ at answers)))
+      other (sym (same_Some objects.Tree actual (sym (ap (option_map (λ (x : Object). x.kind)) here.1) ∙ at answers)))
 
   malformed_broken : (oid : ObjectId) → TreeIsMalformed honest table id (id_of oid) → TellsBroken honest table (edits.Broken oid)
   malformed_broken oid (told, (content, all, stands, spelled, not)) = λ answers items at fine.

@@ -4,11 +4,11 @@ use Rattle.std.specs.List.{onto_first}
 use Rattle.gix_object_editor.specs.Files.{Path, behind}
 use Rattle.history_model.specs.Bytes.{Bytes, has_byte}
 use Rattle.history_model.specs.FileMap.{components, is_below, is_within}
-use Rattle.history_model.proofs.WholeLists.{clash, either, same_text, text_itself, or_none}
-use Rattle.history_model.proofs.WholePaths.{below_parts, below_front}
-
-eq_same : (a b : ℕ) → nat_eq a b ≡ true → a ≡ b
-eq_same a b h = grind (arith, tests)
+use Rattle.history_model.proofs.WholeLists.{clash, either, same_text, text_itself}
+use Rattle.history_model.proofs.WholePaths.{below_parts, below_front, eq_same}
+use Rattle.gix_object_editor.proofs.Paths.{behind_is}
+use Rattle.gix_object_editor.proofs.Raised.{begins_behind}
+use Rattle.std.proofs.lemmas.Bool.{or_parts}
 
 same_eq : (a : ℕ) → nat_eq a a ≡ true
 same_eq a = grind (arith, tests)
@@ -28,7 +28,7 @@ some_parts (b ∷ path) = go (b == 47) (some_parts path)
 pub one_part : (path : Bytes) → has_byte 47 path ≡ false → components path ≡ path ∷ []
 one_part [] h = refl
 one_part (b ∷ path) h =
-    let parts = or_none (b == 47) (has_byte 47 path) h in
+    let parts = or_parts (b == 47) (has_byte 47 path) h in
     ap (λ t. cond t ([] ∷ components path) (onto_first b (components path))) parts.0 ∙ ap (onto_first b) (one_part path parts.1)
 
 -- the components of what stands below a folder
@@ -143,17 +143,3 @@ is_behind p q = ap is_some (behind_parts p q) ∙ go (bytes_eq p q) (below_rest 
     go true o = refl
     go false None = refl
     go false (Some r) = refl
-
--- what follows a path in another that it begins
-pub behind_all : (p q r : Path) → behind p q ≡ Some r → q ≡ p ++ r
-behind_all [] q r h = cc
-behind_all (n ∷ p) [] r h = cc
-behind_all (n ∷ p) (m ∷ q) r h = go (bytes_eq n m) refl h (behind_all p q r)
-  where
-    go : (t : Bool) → bytes_eq n m ≡ t → cond t (behind p q) None ≡ Some r → (behind p q ≡ Some r → q ≡ p ++ r) → m ∷ q ≡ n ∷ (p ++ r)
-    go true e k more = let rest = more k in λ i. sym (same_text n m e) i ∷ rest i
-    go false e k more = cc
-
-pub behind_front : (p r : Path) → behind p (p ++ r) ≡ Some r
-behind_front [] r = refl
-behind_front (n ∷ p) r = ap (λ t. cond t (behind p (p ++ r)) None) (text_itself n) ∙ behind_front p r

@@ -8,11 +8,14 @@ use Rattle.history_model.specs.Bytes.{Bytes}
 use Rattle.history_model.specs.FileMap.{FileMap, Content, components, is_below, is_within, has_below, removed, put_at}
 use Rattle.history_model.specs.Objects.{blob_id}
 use Rattle.history_model.proofs.WholeLists.{in_map, of_map, clash, same_text, text_itself, passes_one, one_passes}
-use Rattle.history_model.proofs.WholeStores.{get_in, in_get, get_inserted, get_retained}
+use Rattle.history_model.proofs.WholeStores.{get_in, in_get, get_retained}
 use Rattle.history_model.proofs.WholeItems.{Entry}
 use Rattle.history_files.specs.Unfolding.{file_leaf, IsUnfolded}
-use Rattle.history_files.proofs.Components.{some_parts, below_rest, rest_parts, below_by, behind_parts, is_behind, behind_all, behind_front, parts_below}
+use Rattle.history_files.proofs.Components.{some_parts, below_rest, rest_parts, below_by, behind_parts, is_behind, parts_below}
 use Rattle.history_files.proofs.Unfolded.{leaf_itself, leaf_below}
+use Rattle.gix_object_editor.proofs.Paths.{behind_is}
+use Rattle.gix_object_editor.proofs.Raised.{begins_behind}
+use Rattle.history_model.proofs.AfterFirstLemmas.{get-with}
 
 module _ (kind : Kind) (files : FileMap) (there : unfolded.FileMap) (is : IsUnfolded kind files there) (path : Bytes) where
   -- without what stands at or below a path
@@ -68,14 +71,14 @@ module _ (kind : Kind) (files : FileMap) (there : unfolded.FileMap) (is : IsUnfo
           ap (λ o. unfolded.put_at trees leaf o (cond (is_some (behind (components q) (components path))) None (there (components q)))) (behind_parts path q)
           ∙ at_case q (bytes_eq path q) refl (below_rest path q) refl
           ∙ ap (λ b. option_map (file_leaf kind) (cond (bytes_eq path q) (Some content) (cond (not ((bytes_eq path q || b) || is_within q path)) (get files q) None))) (below_by path q)
-          ∙ sym (ap (option_map (file_leaf kind)) (get_inserted (retain_keys files clear) path content q
+          ∙ sym (ap (option_map (file_leaf kind)) (get-with (retain_keys files clear) path content q
           ∙ (λ i. cond (turned q path i) (Some content) (get_retained files clear q i))));
       only = λ names other e. only names other (behind (components path) names) refl (is_some (behind names (components path))) e;
     }
       where
         only : (names : Path) (other : Leaf) (o : Option Path) → behind (components path) names ≡ o → (b : Bool)
             → unfolded.put_at trees leaf o (cond b None (there names)) ≡ Some other → (p : Bytes) × (components p ≡ names)
-        only names other (Some []) h b e = (path, sym (behind_all (components path) names [] h ∙ append_none (components path)))
+        only names other (Some []) h b e = (path, sym (behind_is (components path) names [] h ∙ append_none (components path)))
           where
             append_none : (ps : Path) → ps ++ [] ≡ ps
             append_none [] = refl
@@ -87,7 +90,7 @@ module _ (kind : Kind) (files : FileMap) (there : unfolded.FileMap) (is : IsUnfo
   -- ---- what stands below a path
 
   below_some : (q : Bytes) (names : Path) (name : Bytes) → components q ≡ components path ++ name ∷ names → is_below path q ≡ true
-  below_some q names name e = go (below_rest path q) refl (sym (behind_parts path q) ∙ ap (behind (components path)) e ∙ behind_front (components path) (name ∷ names))
+  below_some q names name e = go (below_rest path q) refl (sym (behind_parts path q) ∙ ap (behind (components path)) e ∙ begins_behind (components path) (name ∷ names))
     where
       go : (o : Option Bytes) → below_rest path q ≡ o → cond (bytes_eq path q) (Some []) (option_map components (below_rest path q)) ≡ Some (name ∷ names) → is_below path q ≡ true
       go (Some r) f k = sym (below_by path q) ∙ ap is_some f

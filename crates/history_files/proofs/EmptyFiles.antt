@@ -12,6 +12,7 @@ use Rattle.history_model.proofs.WholeLists.{in_all, none_is_some, of_map}
 use Rattle.history_files.specs.Entries.{own_folders}
 use Rattle.history_files.specs.Unfolding.{HasTrees, IsUnfolded, file_leaf}
 use Rattle.history_files.proofs.Inside.{file_inside, file_of_beginning}
+use Rattle.gix_object_editor.proofs.WrittenFiles.{no_files as no_entries}
 
 no_files : FileMap
 no_files = empty
@@ -40,7 +41,3 @@ empty_unfolds kind there none = record {
   at = λ path. none (components path) ∙ sym (ap (option_map (file_leaf kind)) (nothing path));
   only = λ names leaf e. none_is_some leaf (sym (none names) ∙ e);
 }
-
-pub no_entries : (trees : Trees) (q : Path) → files_of_tree trees [] q ≡ None
-no_entries trees [] = refl
-no_entries trees (name ∷ rest) = refl

@@ -31,7 +31,7 @@ use Rattle.history_model.specs.FileMap as model
 use Rattle.history_model.specs.FileMap.{FileMap, components, has_below, inside, is_path, some_refused}
 use Rattle.history_model.specs.Objects.{folder_id, root}
 use Rattle.history_model.proofs.IdLemmas.{id_itself}
-use Rattle.history_model.proofs.WholeLists.{In, clash, none_is_some, some_inside}
+use Rattle.history_model.proofs.WholeLists.{In, clash, none_is_some}
 use Rattle.history_model.proofs.WholeRoots.{all_values}
 use Rattle.history_files.specs.Unfolding.{IsInTable, file_leaf}
 use Rattle.history_files.specs.Edits.{as_edited, as_unread, unless_memory}
@@ -48,6 +48,7 @@ use Rattle.history_files.proofs.Named.{base_inner, items_have, own_deeper, part_
 use Rattle.history_files.proofs.OneList.{named_is}
 use Rattle.history_files.proofs.Parsed.{has_stored, trees_in}
 use Rattle.history_files.proofs.Unfolded.{plain_map, root_unfolds, tree_there}
+use Rattle.std.proofs.lemmas.Option.{same_Some}
 
 -- the table of trees without one
 abbrev without : Id → Trees → Trees
@@ -74,7 +75,7 @@ module _ (kind : Kind) (table : Table) (folders : List FileMap) (inner : (g : Fi
         go false n k = by_tree (tree_under (without gone (trees_in table)) leaf) k
           where
             by_tree : (o : Option (List Item)) → unless_tree o leaf ≡ Some end → Ends end
-            by_tree None h = let same = some_inside leaf end h in (subst (NamesOne kind folders) same (names_one kind folders name leaf has).1, ap (λ (l : Leaf). is_null l.id) (sym same) ∙ n)
+            by_tree None h = let same = same_Some leaf end h in (subst (NamesOne kind folders) same (names_one kind folders name leaf has).1, ap (λ (l : Leaf). is_null l.id) (sym same) ∙ n)
             by_tree (Some tree) h = cc
     entry_ends (next ∷ rest) name leaf end has e = go (is_null leaf.id) refl e (names_one kind folders name leaf has).1 (λ n l h k. entry_ends rest n l end h k)
       where
@@ -193,7 +194,7 @@ module _ (kind : Kind) (table : Table) (folders : List FileMap) (inner : (g : Fi
       })
 
   one_content : (id : Id) (a b : List ℕ) → Stands table id objects.Tree a → Stands table id objects.Tree b → a ≡ b
-  one_content id a b h k = ap (λ (x : Object). x.content) (some_inside _ _ (sym h ∙ k))
+  one_content id a b h k = ap (λ (x : Object). x.content) (same_Some _ _ (sym h ∙ k))
 
   module _ (honest may_fail : Type 0) (answers : honest) (files : FileMap) (made : List model.Edit) where
     -- a folder's tree is read
@@ -212,7 +213,7 @@ module _ (kind : Kind) (table : Table) (folders : List FileMap) (inner : (g : Fi
         by_source unread.Memory e = tt
     unread_fault id there (not_given.NotFound oid) (told, none) = none_is_some _ (sym (none answers) ∙ there.stands)
     unread_fault id there (not_given.ObjectKind oid actual expected) (told, is, other, at) =
-        absurd (other (sym (some_inside objects.Tree actual (sym (ap (option_map (λ (x : Object). x.kind)) there.stands) ∙ at answers)) ∙ sym_is))
+        absurd (other (sym (same_Some objects.Tree actual (sym (ap (option_map (λ (x : Object). x.kind)) there.stands) ∙ at answers)) ∙ sym_is))
       where
         sym_is : objects.Tree ≡ objects.Tree
         sym_is = refl

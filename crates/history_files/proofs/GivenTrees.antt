@@ -17,7 +17,7 @@ use Rattle.gix_object_editor.specs.Written.{EachBehind, HandedOut, IsHandedOut}
 use Rattle.gix_object_editor.proofs.Due.{due_files}
 use Rattle.history_model.specs.FileMap.{FileMap, IsFileMap, folders_of}
 use Rattle.history_model.specs.Objects.{digest, folder_id, tree_text}
-use Rattle.history_model.proofs.WholeLists.{In, either, in_all, in_either, in_left, none_is_some, none_or, of_map, some_inside, true_or}
+use Rattle.history_model.proofs.WholeLists.{In, either, in_all, in_either, in_left, none_is_some, of_map}
 use Rattle.history_model.proofs.WholeSteps.{in_contains}
 use Rattle.history_files.specs.Editing.{AreGiven, AreTreesOf, HasTreeOf}
 use Rattle.history_files.specs.Entries.{names_only, own_folders}
@@ -30,10 +30,14 @@ use Rattle.history_files.proofs.Handed.{IsInner, IsTreeKnown, file_of_items, fol
 use Rattle.history_files.proofs.Inside.{folder_among, folder_at}
 use Rattle.history_files.proofs.Items.{items, items_root}
 use Rattle.history_files.proofs.Parsed.{has_stored, trees_in}
+use Rattle.std.proofs.lemmas.List.{append-nil}
+use Rattle.std.proofs.lemmas.Option.{same_Some}
+use Rattle.history_model.proofs.NameLemmas.{some_or}
+use Rattle.std.proofs.lemmas.Bool.{or_from}
 
 -- ---- lists
 
-map_both : {X Y : Type 0} (f : X → Y) (xs ys : List X) → map f (xs ++ ys) ≡ map f xs ++ map f ys
+pub map_both : {X Y : Type 0} (f : X → Y) (xs ys : List X) → map f (xs ++ ys) ≡ map f xs ++ map f ys
 map_both f [] ys = refl
 map_both f (x ∷ xs) ys = ap (λ zs. f x ∷ zs) (map_both f xs ys)
 
@@ -56,16 +60,12 @@ cut_map f (x ∷ xs) (z ∷ first) y rest e =
     let more = cut_map f xs first y rest tails in
     record { before = x ∷ more.before; at = more.at; behind = more.behind; cut = ap (λ l. x ∷ l) more.cut; firsts = λ i. head i ∷ more.firsts i; is = more.is }
 
-append-none : {X : Type 0} (l : List X) → l ++ [] ≡ l
-append-none [] = refl
-append-none (a ∷ l) = ap (λ m. a ∷ m) (append-none l)
-
 each_at : {X : Type 0} (R : List X → X → Type 0) (before xs ys : List X) (x : X) (zs : List X) → EachBehind R before xs → xs ≡ ys ++ x ∷ zs → R (before ++ ys) x
 each_at R before [] [] x zs each e = cc
 each_at R before [] (y ∷ ys) x zs each e = cc
 each_at R before (w ∷ xs) [] x zs each e =
     let same : w ≡ x = cc in
-    subst (λ b. R b x) (sym (append-none before)) (subst (R before) same each.0)
+    subst (λ b. R b x) (sym (append-nil before)) (subst (R before) same each.0)
 each_at R before (w ∷ xs) (y ∷ ys) x zs each e =
     let tails : xs ≡ ys ++ x ∷ zs = cc in
     let head : w ≡ y = cc in
@@ -199,15 +199,15 @@ module _ (kind : Kind) (stands : List FileMap) (m : FileMap) where
 pub null_kept : (kind : Kind) (handed : List HandedOut) (kept : List EditedTree) → AreKept kind handed kept → (t : HandedOut) → In t handed → is_null t.id ≡ true → list_any (λ (k : EditedTree). is_null (id_of k.id)) kept ≡ true
 null_kept kind [] kept are t i null = absurd i
 null_kept kind (u ∷ handed) [] are t i null = absurd are
-null_kept kind (u ∷ handed) (k ∷ kept) are t (inl e) null = true_or (is_null (id_of k.id)) (list_any (λ (l : EditedTree). is_null (id_of l.id)) kept) (inl (ap is_null (are.0 ∙ ap (λ (x : HandedOut). x.id) (sym e)) ∙ null))
-null_kept kind (u ∷ handed) (k ∷ kept) are t (inr i) null = true_or (is_null (id_of k.id)) (list_any (λ (l : EditedTree). is_null (id_of l.id)) kept) (inr (null_kept kind handed kept are.2 t i null))
+null_kept kind (u ∷ handed) (k ∷ kept) are t (inl e) null = some_or (is_null (id_of k.id)) (list_any (λ (l : EditedTree). is_null (id_of l.id)) kept) (inl (ap is_null (are.0 ∙ ap (λ (x : HandedOut). x.id) (sym e)) ∙ null))
+null_kept kind (u ∷ handed) (k ∷ kept) are t (inr i) null = some_or (is_null (id_of k.id)) (list_any (λ (l : EditedTree). is_null (id_of l.id)) kept) (inr (null_kept kind handed kept are.2 t i null))
 
 -- and none of a folder's trees has it
 pub none_null : (kind : Kind) (folders : List FileMap) (kept : List EditedTree) → AreTreesOf kind folders kept → list_any (λ (k : EditedTree). is_null (id_of k.id)) kept ≡ false
 none_null kind [] [] are = refl
 none_null kind [] (k ∷ kept) are = absurd are
 none_null kind (f ∷ folders) [] are = absurd are
-none_null kind (f ∷ folders) (k ∷ kept) are = none_or (is_null (id_of k.id)) (list_any (λ (l : EditedTree). is_null (id_of l.id)) kept) are.0.isnt_null (none_null kind folders kept are.1)
+none_null kind (f ∷ folders) (k ∷ kept) are = or_from (is_null (id_of k.id)) (list_any (λ (l : EditedTree). is_null (id_of l.id)) kept) are.0.isnt_null (none_null kind folders kept are.1)
 
 -- one more is kept
 pub kept_more : (kind : Kind) (handed : List HandedOut) (kept : List EditedTree) (t : HandedOut) (k : EditedTree) → AreKept kind handed kept → id_of k.id ≡ t.id → IsTextOf kind t.items k → AreKept kind (handed ++ t ∷ []) (kept ++ k ∷ [])
@@ -224,7 +224,7 @@ due_each kind folders slots marks each i name s at = go (slots i name) refl at
   where
     go : (o : Option Slot) → slots i name ≡ o → through o (λ x. Some (slot_if (is_due marks 0) x)) ≡ Some s → names_only kind folders name (leaf_in s) ≡ true
     go None e k = none_is_some s k
-    go (Some x) e k = subst (λ y. names_only kind folders name (leaf_in y) ≡ true) (some_inside (slot_if (is_due marks 0) x) s k) (each i name x e)
+    go (Some x) e k = subst (λ y. names_only kind folders name (leaf_in y) ≡ true) (same_Some (slot_if (is_due marks 0) x) s k) (each i name x e)
 
 -- where an editor has files of a base whose trees stand, what is written of it is theirs, unless a tree has the null id
 pub written_trees : {S : Type 0} (kind : Kind) (table : Table) (base : FileMap) → ((g : FileMap) → In g (own_folders base) → IsInner kind table (own_folders base) g) → (editor : Editor S)

@@ -23,7 +23,7 @@ use Rattle.history_model.specs.Bytes.{Bytes, has_byte, is_empty}
 use Rattle.history_model.specs.FileMap.{FileMap, Content, IsFileMap, components, folders_of, inside}
 use Rattle.history_model.specs.Objects.{FileEntry, FolderEntry, TreeEntry, tree_entries, digest, folder_id, root, tree_text}
 use Rattle.history_model.proofs.IdLemmas.{one_id}
-use Rattle.history_model.proofs.WholeLists.{In, and_true, clash, in_left, in_map, in_right, of_map, none_is_some, not_true, one_passes, or_true, some_inside}
+use Rattle.history_model.proofs.WholeLists.{In, clash, in_left, in_map, in_right, of_map, none_is_some, one_passes}
 use Rattle.history_model.proofs.WholeItems.{Entry, leaf_in as entry_in}
 use Rattle.history_model.proofs.WholePaths.{below_front, front_plain, has_parts}
 use Rattle.history_model.proofs.WholeRoots.{HasAll, all_values, in_inside, inside_inside}
@@ -40,6 +40,8 @@ use Rattle.history_files.proofs.OneList.{named_is, one_list}
 use Rattle.history_files.proofs.OneRoot.{one_root}
 use Rattle.history_files.proofs.Unfolded.{plain_map, root_unfolds, tree_there}
 use Rattle.history_files.proofs.Walk.{tree_of}
+use Rattle.std.proofs.lemmas.Bool.{eqb-true, and_parts, not-true, or_cases}
+use Rattle.std.proofs.lemmas.Option.{same_Some}
 
 -- ---- entries of a file map's tree, by their names
 
@@ -78,7 +80,7 @@ module _ (kind : Kind) (m : FileMap) (fits : IsFileMap m) (name : Bytes) (plain 
       by_entry : (t : TreeEntry) → In t (tree_entries (entries m)) → name_of t ≡ name → Some (item_of kind (tree_of kind m) t) ≡ Some (file_item kind name content)
       by_entry (FileEntry path c) i same =
           let here : get m name ≡ Some c = ap (get m) (sym same) ∙ in_get m path c (entry_in (entries m) path c i) in
-          let one : c ≡ content = some_inside c content (sym here ∙ e) in
+          let one : c ≡ content = same_Some c content (sym here ∙ e) in
           λ k. Some (file_item kind (same k) (one k))
       by_entry (FolderEntry other below) i same =
           let folder = folder_of kind m other below i in
@@ -105,17 +107,14 @@ module _ (kind : Kind) (m : FileMap) (fits : IsFileMap m) (name : Bytes) (plain 
 
 -- ---- what entries name
 
-one_number : (a b : ℕ) → (a == b) ≡ true → a ≡ b
-one_number a b h = grind (arith, tests)
-
 pub file_no_tree : (mode : Mode) → is_file_mode mode ≡ true → is_tree_value mode.value ≡ false
-file_no_tree mode h = go (or_true (mode.value == 33188 || mode.value == 33261) (mode.value == 40960) (and_true (not mode.padded) (mode.value == 33188 || mode.value == 33261 || mode.value == 40960) h).1)
+file_no_tree mode h = go (or_cases (mode.value == 33188 || mode.value == 33261) (mode.value == 40960) (and_parts (not mode.padded) (mode.value == 33188 || mode.value == 33261 || mode.value == 40960) h).1)
   where
     by_number : (n : ℕ) → (mode.value == n) ≡ true → is_tree_value n ≡ false → is_tree_value mode.value ≡ false
-    by_number n e f = ap is_tree_value (one_number mode.value n e) ∙ f
+    by_number n e f = ap is_tree_value (eqb-true mode.value n e) ∙ f
 
     first : (mode.value == 33188 || mode.value == 33261) ≡ true → is_tree_value mode.value ≡ false
-    first k = elim (or_true (mode.value == 33188) (mode.value == 33261) k) [ inl e ↦ by_number 33188 e refl | inr e ↦ by_number 33261 e refl ]
+    first k = elim (or_cases (mode.value == 33188) (mode.value == 33261) k) [ inl e ↦ by_number 33188 e refl | inr e ↦ by_number 33261 e refl ]
 
     go : ((mode.value == 33188 || mode.value == 33261) ≡ true) ⊎ ((mode.value == 40960) ≡ true) → is_tree_value mode.value ≡ false
     go (inl k) = first k
@@ -128,16 +127,16 @@ module _ (kind : Kind) (folders : List FileMap) where
 
   pub names_one : (name : Bytes) (leaf : Leaf) → names_only kind folders name leaf ≡ true → (is_filename name ≡ true) × NamesOne leaf
   names_one name leaf h =
-      let parts = and_true (is_filename name) _ h in (
+      let parts = and_parts (is_filename name) _ h in (
         parts.0,
-        elim (or_true (is_file_mode leaf.mode) _ parts.1) [
+        elim (or_cases (is_file_mode leaf.mode) _ parts.1) [
           | inl file ↦ inl file
           | inr folder ↦
-              let both = and_true (is_folder_mode leaf.mode) (is_null leaf.id || list_any (λ f. id_eq leaf.id (folder_id kind f)) folders) folder in
-              let mode = and_true (not leaf.mode.padded) (leaf.mode.value == 16384) both.0 in
+              let both = and_parts (is_folder_mode leaf.mode) (is_null leaf.id || list_any (λ f. id_eq leaf.id (folder_id kind f)) folders) folder in
+              let mode = and_parts (not leaf.mode.padded) (leaf.mode.value == 16384) both.0 in
               inr (
-                same_mode (not_true leaf.mode.padded mode.0) (one_number leaf.mode.value 16384 mode.1),
-                elim (or_true (is_null leaf.id) (list_any (λ f. id_eq leaf.id (folder_id kind f)) folders) both.1) [
+                same_mode (not-true leaf.mode.padded mode.0) (eqb-true leaf.mode.value 16384 mode.1),
+                elim (or_cases (is_null leaf.id) (list_any (λ f. id_eq leaf.id (folder_id kind f)) folders) both.1) [
                   | inl null ↦ inl null
                   | inr among ↦ let one = one_passes (λ f. id_eq leaf.id (folder_id kind f)) folders among in inr (one.0, one.1, one_id leaf.id (folder_id kind one.0) one.2)
                 ],
@@ -153,12 +152,12 @@ module _ (kind : Kind) (folders : List FileMap) where
 
 pub is_filename_of : (name : Bytes) → is_filename name ≡ true → IsFilename name
 is_filename_of name h =
-    let outer = and_true (not (is_empty name) && not (has_byte 47 name)) (not (has_byte 0 name)) h in
-    let inner = and_true (not (is_empty name)) (not (has_byte 47 name)) outer.0 in
+    let outer = and_parts (not (is_empty name) && not (has_byte 47 name)) (not (has_byte 0 name)) h in
+    let inner = and_parts (not (is_empty name)) (not (has_byte 47 name)) outer.0 in
     record {
-      some = λ e. clash (ap is_empty e) (not_true (is_empty name) inner.0);
-      within_folder = not_true (has_byte 47 name) inner.1;
-      endless = not_true (has_byte 0 name) outer.1;
+      some = λ e. clash (ap is_empty e) (not-true (is_empty name) inner.0);
+      within_folder = not-true (has_byte 47 name) inner.1;
+      endless = not-true (has_byte 0 name) outer.1;
     }
 
 pub of_all : {X : Type 0} (P : X → Type 0) (xs : List X) → All P xs → (x : X) → In x xs → P x
@@ -282,7 +281,7 @@ module _ (kind : Kind) (table : Table) (trees : Trees) (stored : HasStored table
             by_content : (o : Option Content) → get (folder m t) item.name ≡ o → option_map (file_leaf kind) (get (folder m t) item.name) ≡ Some (leaf_of item) → IsFileItem kind (folder m t) item.name item
             by_content None e k = none_is_some (leaf_of item) (sym (ap (option_map (file_leaf kind)) e) ∙ k)
             by_content (Some content) e k =
-                let leaf : leaf_of item ≡ file_leaf kind content = sym (some_inside (file_leaf kind content) (leaf_of item) (sym (ap (option_map (file_leaf kind)) e) ∙ k)) in
+                let leaf : leaf_of item ≡ file_leaf kind content = sym (same_Some (file_leaf kind content) (leaf_of item) (sym (ap (option_map (file_leaf kind)) e) ∙ k)) in
                 record { content = content; at = e; is = λ i. record { mode = (leaf i).mode; name = item.name; id = (leaf i).id } }
 
         folder_case : has_byte 47 item.name ≡ false → item.mode ≡ folder_mode → (g : FileMap) → IsInner kind table stands g → item.id ≡ folder_id kind g

@@ -15,18 +15,18 @@ use Rattle.gix_object_entries.proofs.TreeLaws.{one_tree}
 use Rattle.history_model.specs.Bytes.{Bytes, by_bytes, has_byte}
 use Rattle.history_model.specs.FileMap.{FileMap, Content, IsFileMap, is_below}
 use Rattle.history_model.specs.Objects.{TreeEntry, FileEntry, FolderEntry, into_folder, tree_entries, root}
-use Rattle.history_model.proofs.WholeLists.{In, of_map, or_none, clash, and_true, same_text, texts_differ}
+use Rattle.history_model.proofs.WholeLists.{In, of_map, clash, same_text, texts_differ}
 use Rattle.history_model.proofs.WholePaths.{below_front, has_parts, front_plain}
 use Rattle.history_model.proofs.WholeItems.{Entry, leaf_in, folder_in, folder_fits, sorted_entries}
 use Rattle.history_model.proofs.WholeStores.{in_get}
-use Rattle.history_files.proofs.Items.{items, items_spelled, item_of, item_name, name_of, name_plain, no_zero, all_of, some_entry}
+use Rattle.history_files.proofs.Items.{items, items_spelled, item_of, item_name, name_of, name_plain, no_zero, all_of}
 use Rattle.history_files.proofs.Unfolded.{plain_map, leaf_no_tree}
 use Rattle.history_files.proofs.Walk.{tree_of, some_items, some_name}
+use Rattle.gix_object_entries.specs.SameItem.{one_number}
+use Rattle.std.proofs.lemmas.Bool.{or_parts, and_parts}
+use Rattle.history_model.proofs.WholeRoots.{some_entry}
 
 -- ---- byte strings
-
-same_number : (a b : ℕ) → nat_cmp a b ≡ Equal → a ≡ b
-same_number a b e = grind (arith, tests)
 
 equal_test : (a b : ℕ) → a ≡ b → (a == b) ≡ true
 equal_test a b e = grind (arith, tests)
@@ -39,9 +39,9 @@ file_before (a ∷ p) [] rest h e = go (nat_cmp a 47) refl e
   where
     go : (o : Ordering) → nat_cmp a 47 ≡ o → ordering_then o (by_bytes p rest) ≡ Less → ordering_then o (by_bytes p []) ≡ Less
     go Less f k = refl
-    go Equal f k = clash (equal_test a 47 (same_number a 47 f)) (or_none (a == 47) (has_byte 47 p) h).0
+    go Equal f k = clash (equal_test a 47 (one_number a 47 f)) (or_parts (a == 47) (has_byte 47 p) h).0
     go Greater f k = cc
-file_before (a ∷ p) (b ∷ n) rest h e = go (nat_cmp a b) e (file_before p n rest (or_none (a == 47) (has_byte 47 p) h).1)
+file_before (a ∷ p) (b ∷ n) rest h e = go (nat_cmp a b) e (file_before p n rest (or_parts (a == 47) (has_byte 47 p) h).1)
   where
     go : (o : Ordering) → ordering_then o (by_bytes p (n ++ 47 ∷ rest)) ≡ Less → (by_bytes p (n ++ 47 ∷ rest) ≡ Less → by_bytes p (n ++ 47 ∷ []) ≡ Less) → ordering_then o (by_bytes p (n ++ 47 ∷ [])) ≡ Less
     go Less k more = refl
@@ -68,21 +68,21 @@ folder_before [] (b ∷ k) rest hn hk apart e = go (nat_cmp 47 b) refl e
   where
     go : (o : Ordering) → nat_cmp 47 b ≡ o → ordering_then o (by_bytes [] (k ++ 47 ∷ rest)) ≡ Less → ordering_then o (by_bytes [] (k ++ 47 ∷ [])) ≡ Less
     go Less f j = refl
-    go Equal f j = clash (equal_test b 47 (sym (same_number 47 b f))) (or_none (b == 47) (has_byte 47 k) hk).0
+    go Equal f j = clash (equal_test b 47 (sym (one_number 47 b f))) (or_parts (b == 47) (has_byte 47 k) hk).0
     go Greater f j = cc
 folder_before (a ∷ n) [] rest hn hk apart e = go (nat_cmp a 47) refl e
   where
     go : (o : Ordering) → nat_cmp a 47 ≡ o → ordering_then o (by_bytes (n ++ 47 ∷ []) rest) ≡ Less → ordering_then o (by_bytes (n ++ 47 ∷ []) []) ≡ Less
     go Less f j = refl
-    go Equal f j = clash (equal_test a 47 (same_number a 47 f)) (or_none (a == 47) (has_byte 47 n) hn).0
+    go Equal f j = clash (equal_test a 47 (one_number a 47 f)) (or_parts (a == 47) (has_byte 47 n) hn).0
     go Greater f j = cc
 folder_before (a ∷ n) (b ∷ k) rest hn hk apart e =
-    go (nat_cmp a b) refl e (folder_before n k rest (or_none (a == 47) (has_byte 47 n) hn).1 (or_none (b == 47) (has_byte 47 k) hk).1)
+    go (nat_cmp a b) refl e (folder_before n k rest (or_parts (a == 47) (has_byte 47 n) hn).1 (or_parts (b == 47) (has_byte 47 k) hk).1)
   where
     go : (o : Ordering) → nat_cmp a b ≡ o → ordering_then o (by_bytes (n ++ 47 ∷ []) (k ++ 47 ∷ rest)) ≡ Less
         → ((n ≡ k → ⊥) → by_bytes (n ++ 47 ∷ []) (k ++ 47 ∷ rest) ≡ Less → by_bytes (n ++ 47 ∷ []) (k ++ 47 ∷ []) ≡ Less) → ordering_then o (by_bytes (n ++ 47 ∷ []) (k ++ 47 ∷ [])) ≡ Less
     go Less f j more = refl
-    go Equal f j more = more (λ same. apart (λ i. same_number a b f i ∷ same i)) j
+    go Equal f j more = more (λ same. apart (λ i. one_number a b f i ∷ same i)) j
     go Greater f j more = cc
 
 not_itself : (p : Bytes) → by_bytes p p ≡ Less → ⊥
@@ -119,8 +119,8 @@ less_first Greater h = cc
 
 all_less : (p : Bytes) (es : List Entry) → below_all by_bytes p es ≡ true → (e : Entry) → In e es → by_bytes p e.0 ≡ Less
 all_less p [] h e i = absurd i
-all_less p (f ∷ es) h e (inl same) = ap (λ (x : Entry). by_bytes p x.0) same ∙ less_first (by_bytes p f.0) (and_true (is_lt (by_bytes p f.0)) (below_all by_bytes p es) h).0
-all_less p (f ∷ es) h e (inr i) = all_less p es (and_true (is_lt (by_bytes p f.0)) (below_all by_bytes p es) h).1 e i
+all_less p (f ∷ es) h e (inl same) = ap (λ (x : Entry). by_bytes p x.0) same ∙ less_first (by_bytes p f.0) (and_parts (is_lt (by_bytes p f.0)) (below_all by_bytes p es) h).0
+all_less p (f ∷ es) h e (inr i) = all_less p es (and_parts (is_lt (by_bytes p f.0)) (below_all by_bytes p es) h).1 e i
 
 -- a path in the folder of an entry
 in_folder : (es : List Entry) → is_sorted by_bytes es ≡ true → (name : Bytes) (files : List Entry) → In (FolderEntry name files) (tree_entries es) → (e : Entry) × In (name ++ 47 ∷ e.0, e.1) es
@@ -162,7 +162,7 @@ with_into name rest content es plain less sorted (FolderEntry other files ∷ ts
 ordered : (es : List Entry) → is_sorted by_bytes es ≡ true → Ordered (tree_entries es)
 ordered [] sorted = tt
 ordered (e ∷ es) sorted =
-    let both = and_true (below_all by_bytes e.0 es) (is_sorted by_bytes es) sorted in
+    let both = and_parts (below_all by_bytes e.0 es) (is_sorted by_bytes es) sorted in
     go (has_byte 47 e.0) refl both.0 both.1 (ordered es both.1)
   where
     name : Bytes

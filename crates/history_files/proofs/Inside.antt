@@ -8,16 +8,18 @@ use Rattle.gix_object_editor.specs.Files.{Path, Leaf, SameFiles, behind}
 use Rattle.history_model.specs.Bytes.{Bytes, has_byte}
 use Rattle.history_model.specs.FileMap.{FileMap, Content, IsFileMap, beginnings, components, folders_of, inside}
 use Rattle.history_model.specs.Objects.{root}
-use Rattle.history_model.proofs.WholeLists.{In, in_flat, in_map, of_flat, of_map, none_is_some, some_inside}
+use Rattle.history_model.proofs.WholeLists.{In, in_flat, in_map, of_flat, of_map, none_is_some}
 use Rattle.history_model.proofs.WholePaths.{beginning_parts, is_beginning}
 use Rattle.history_model.proofs.WholeItems.{Entry}
 use Rattle.history_model.proofs.WholeRoots.{inside_inside}
 use Rattle.history_model.proofs.WholeStores.{get_in, in_get}
 use Rattle.history_files.specs.Unfolding.{file_leaf, IsUnfolded}
 use Rattle.history_files.specs.Entries.{own_folders}
-use Rattle.history_files.proofs.Components.{below_rest, some_parts, one_part, parts_below, behind_parts, behind_front}
+use Rattle.history_files.proofs.Components.{below_rest, some_parts, one_part, parts_below, behind_parts}
 use Rattle.history_files.proofs.OneRoot.{one_root}
 use Rattle.history_files.proofs.Unfolded.{get_inside, inside_map}
+use Rattle.std.proofs.lemmas.Option.{same_Some}
+use Rattle.gix_object_editor.proofs.Raised.{begins_behind}
 
 -- ---- what stands below some names
 
@@ -49,12 +51,12 @@ inside_unfolds kind m there folder is = record { at = at; only = only }
     only (name ∷ rest) leaf e =
         let found = is.only (components folder ++ name ∷ rest) leaf e in
         go (bytes_eq folder found.0) (below_rest folder found.0)
-        (sym (behind_parts folder found.0) ∙ ap (behind (components folder)) found.1 ∙ behind_front (components folder) (name ∷ rest))
+        (sym (behind_parts folder found.0) ∙ ap (behind (components folder)) found.1 ∙ begins_behind (components folder) (name ∷ rest))
       where
         go : (b : Bool) (o : Option Bytes) → cond b (Some []) (option_map components o) ≡ Some (name ∷ rest) → (path : Bytes) × (components path ≡ name ∷ rest)
-        go true o k = let bad = some_inside {X = Path} [] (name ∷ rest) k in cc
+        go true o k = let bad = same_Some {X = Path} [] (name ∷ rest) k in cc
         go false None k = cc
-        go false (Some r) k = (r, some_inside (components r) (name ∷ rest) k)
+        go false (Some r) k = (r, same_Some (components r) (name ∷ rest) k)
 
 -- ---- folders by their names
 

@@ -21,12 +21,13 @@ use Rattle.history_model.specs.Objects.{digest, TreeEntry, FileEntry, FolderEntr
 use Rattle.history_model.specs.declared.FileKind.{FileKind}
 use Rattle.history_model.specs.declared.FileKind.TheVariants.{File, Exec, Link}
 use Rattle.history_model.proofs.IdLemmas.{digest_is_id, has_kind, length-raw_bytes, digits_of-raw_bytes}
-use Rattle.history_model.proofs.WholeLists.{In, of_map, of_flat, or_none, none_or, clash, same_text, texts_differ}
+use Rattle.history_model.proofs.WholeLists.{In, of_map, of_flat, clash, same_text, texts_differ}
 use Rattle.history_model.proofs.WholePaths.{front_plain}
 use Rattle.history_model.proofs.PartLemmas.{one_is_in, split_at}
 use Rattle.history_model.proofs.WholeItems.{Entry, files_of, items_files, leaf_in, folder_in, folder_fits, sorted_entries, entries_inside}
-use Rattle.history_model.proofs.WholeRoots.{AreShorter, are_shorter, root_at, ArePlain}
+use Rattle.history_model.proofs.WholeRoots.{AreShorter, are_shorter, root_at, ArePlain, some_entry, no_zero_before}
 use Rattle.history_files.specs.Unfolding.{entry_kind, file_leaf}
+use Rattle.std.proofs.lemmas.Bool.{or_parts, or_from}
 
 -- ---- entries
 
@@ -132,10 +133,6 @@ has_folder es name rest content i plain =
         let same : name ≡ other = (split_at 47 name other rest (inner.0).0 plain (name_plain es (FolderEntry other files) j) (ap (λ (x : Entry). x.0) inner.2)).0 in
         (files, subst (λ n. In (FolderEntry n files) (tree_entries es)) (sym same) j)
 
-pub some_entry : (es : List Entry) → is_empty es ≡ false → (e : Entry) × In e es
-some_entry [] h = cc
-some_entry (e ∷ es) h = (e, inl refl)
-
 -- what a folder's entry is made of
 pub record IsFolderOf (kind : Kind) (files : FileMap) (name : Bytes) (below : List Entry) : Type 0 where
   pub entries_are : entries (inside name files) ≡ below
@@ -228,22 +225,18 @@ of_kind : (kind : Kind) (tree_of : List Entry → Bytes) (t : TreeEntry) → (it
 of_kind kind tree_of (FileEntry name content) = digest_kind kind _
 of_kind kind tree_of (FolderEntry name files) = digest_kind kind _
 
-zero_before : (name rest : Bytes) → has_byte 0 (name ++ rest) ≡ false → has_byte 0 name ≡ false
-zero_before [] rest h = refl
-zero_before (b ∷ name) rest h = let parts = or_none (b == 0) (has_byte 0 (name ++ rest)) h in none_or (b == 0) (has_byte 0 name) parts.0 (zero_before name rest parts.1)
-
 -- no zero byte stands in a name
 pub no_zero : (kind : Kind) (files : FileMap) → ArePlain (entries files) → (t : TreeEntry) → In t (tree_entries (entries files)) → has_byte 0 (name_of t) ≡ false
 no_zero kind files plain (FileEntry path content) i = plain (path, content) (leaf_in (entries files) path content i)
 no_zero kind files plain (FolderEntry name below) i =
     let folder = folder_of kind files name below i in
-    zero_before name (47 ∷ (folder.some.0).0) (plain (name ++ 47 ∷ (folder.some.0).0, (folder.some.0).1) folder.some.1)
+    no_zero_before name (47 ∷ (folder.some.0).0) (plain (name ++ 47 ∷ (folder.some.0).0, (folder.some.0).1) folder.some.1)
 
 none_zero : (kind : Kind) (tree_of : List Entry → Bytes) (ts : List TreeEntry) → ((t : TreeEntry) → In t ts → has_byte 0 (name_of t) ≡ false)
     → list_any has_zero (map (item_of kind tree_of) ts) ≡ false
 none_zero kind tree_of [] f = refl
 none_zero kind tree_of (t ∷ ts) f =
-    none_or (has_zero (item_of kind tree_of t)) (list_any has_zero (map (item_of kind tree_of) ts))
+    or_from (has_zero (item_of kind tree_of t)) (list_any has_zero (map (item_of kind tree_of) ts))
     (ap (has_byte 0) (item_name kind tree_of t) ∙ f t (inl refl)) (none_zero kind tree_of ts (λ u i. f u (inr i)))
 
 -- the root's text spells the entries

@@ -9,7 +9,6 @@ use Rattle.gix_object_find.specs.Table.{Table}
 use Rattle.history_model.specs.Bytes.{Bytes}
 use Rattle.history_model.specs.FileMap as model
 use Rattle.history_model.specs.FileMap.{FileMap, edit_path, edited, is_path, is_refused, some_refused}
-use Rattle.history_model.proofs.WholeLists.{and_true}
 use Rattle.history_files.specs.Edits.{AreEdits, IsChange, IsEdit}
 use Rattle.history_files.specs.Editing.{EditsFault, HavePaths}
 use Rattle.history_files.specs.Entries.{names_only, own_folders}
@@ -21,6 +20,7 @@ use Rattle.history_files.specs.declared.edits.Edit.{Edit}
 use Rattle.history_files.specs.declared.edits.EditError.{EditError}
 use Rattle.history_files.specs.declared.edits.EditError.TheVariants.{BadPath, IsFolder, NullId, Failed, Broken, Memory}
 use Rattle.history_files.proofs.StandInEdits.{emptied, emptied_refused}
+use Rattle.std.proofs.lemmas.Bool.{and_parts}
 
 -- what is left to do comes to the same
 pub record IsLeftOver {S : Type 0} (table : Table) (kind : Kind) (base files : FileMap) (made : List model.Edit) (edits : List Edit) (editor : Editor S) : Type 0 where
@@ -46,7 +46,7 @@ module _ {S : Type 0} (table : Table) (kind : Kind) (base files : FileMap) (made
       go : (more : List model.Edit) → AreEdits kind (edit ∷ edits) more → HavePaths more → some_refused files made ≡ some_refused left.now more → IsLeftOver table kind base files made edits new
       go [] are paths refused = absurd are
       go (one ∷ more) (first, others) paths refused =
-          let both = and_true (is_path (edit_path one)) (list_all (λ e. is_path (edit_path e)) more) paths in
+          let both = and_parts (is_path (edit_path one)) (list_all (λ e. is_path (edit_path e)) more) paths in
           let next = step left.now one left.can (ap is_path (sym (made_path kind edit.path.now edit.change one first)) ∙ both.0) first in
           record {
             now = edited left.now one;
@@ -77,7 +77,7 @@ module _ {S : Type 0} (table : Table) (kind : Kind) (base files : FileMap) (made
       go : (more : List model.Edit) → AreEdits kind (edit ∷ edits) more → HavePaths more → some_refused files made ≡ some_refused left.now more → MakingFault may_fail files made error
       go [] are paths refused = absurd are
       go (one ∷ more) (first, others) paths refused =
-          let both = and_true (is_path (edit_path one)) (list_all (λ e. is_path (edit_path e)) more) paths in
+          let both = and_parts (is_path (edit_path one)) (list_all (λ e. is_path (edit_path e)) more) paths in
           turn left.now one more refused error (fault left.now one left.can (ap is_path (sym (made_path kind edit.path.now edit.change one first)) ∙ both.0) first)
 
 -- ---- of whole lists

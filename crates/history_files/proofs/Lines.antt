@@ -32,7 +32,7 @@ use Rattle.history_model.specs.Objects.{TreeEntry, FileEntry, FolderEntry, tree_
 use Rattle.history_model.specs.Replies.{FileLine}
 use Rattle.history_model.specs.declared.FileKind.{FileKind}
 use Rattle.history_model.specs.declared.FileKind.TheVariants.{File as PlainFile, Exec, Link}
-use Rattle.history_model.proofs.WholeLists.{In, clash, some_inside}
+use Rattle.history_model.proofs.WholeLists.{In, clash}
 use Rattle.history_model.proofs.WholeItems.{Entry, files_of, items_files}
 use Rattle.history_model.proofs.WholeRoots.{has_all}
 use Rattle.history_model.proofs.WholeStores.{in_get}
@@ -40,6 +40,8 @@ use Rattle.history_files.specs.Unfolding.{IsInTable, entry_kind}
 use Rattle.history_files.specs.Reading.{IsRootOf, OwnFault, as_walked, line_named, line_recorded, file_line}
 use Rattle.history_files.proofs.Items.{items, item_of, folder_of}
 use Rattle.history_files.proofs.Walk.{tree_of, some_items, no_items, is_next, leaf_isnt_tree, IsThere, id_kind, stands_as, there_below, some_name, along, EndsWell}
+use Rattle.history_files.proofs.GivenTrees.{map_both}
+use Rattle.std.proofs.lemmas.Option.{same_Some}
 
 -- ---- paths
 
@@ -63,15 +65,11 @@ filter_both {B = B} f (x ∷ xs) ys = go (f x) (filter_both f xs ys)
     go None e = e
     go (Some y) e = ap (λ ys. y ∷ ys) e
 
-map_both : {A B : Type 0} (f : A → B) (xs ys : List A) → map f (xs ++ ys) ≡ map f xs ++ map f ys
-map_both f [] ys = refl
-map_both f (x ∷ xs) ys = ap (λ zs. f x ∷ zs) (map_both f xs ys)
-
 map_same : {A B : Type 0} (f g : A → B) (xs : List A) → ((x : A) → In x xs → f x ≡ g x) → map f xs ≡ map g xs
 map_same f g [] h = refl
 map_same f g (x ∷ xs) h = λ i. h x (inl refl) i ∷ map_same f g xs (λ y j. h y (inr j)) i
 
-map_twice : {A B C : Type 0} (f : B → C) (g : A → B) (xs : List A) → map f (map g xs) ≡ map (λ x. f (g x)) xs
+pub map_twice : {A B C : Type 0} (f : B → C) (g : A → B) (xs : List A) → map f (map g xs) ≡ map (λ x. f (g x)) xs
 map_twice f g [] = refl
 map_twice f g (x ∷ xs) = ap (λ zs. f (g x) ∷ zs) (map_twice f g xs)
 
@@ -151,7 +149,7 @@ module _ (table : Table) (kind : Kind) where
       let member = all next.entry (subst (In next.entry) (sym next.cut) (inl refl)) in
       let inner = inner_there m id there item next.entry member next.is tree in
       let known = stands_as table kind (inner_map m next.entry) item.id inner in
-      let text = ap (λ (x : Object). x.content) (some_inside _ _ (sym known.1 ∙ stands h)) in
+      let text = ap (λ (x : Object). x.content) (same_Some _ _ (sym known.1 ∙ stands h)) in
       let of_kind = id_kind table kind (inner_map m next.entry) item.id inner in
       let whole = subst (λ k. SpellsTree k below (items kind (inner_map m next.entry))) of_kind (subst (λ c. SpellsTree item.id.kind c (items kind (inner_map m next.entry))) text known.2.spelled) in
       let deeper = in_order h deep of_kind (inner_map m next.entry) item.id inner (tree_entries (entries (inner_map m next.entry))) (λ t i. i) whole in
@@ -174,7 +172,7 @@ module _ (table : Table) (kind : Kind) where
       let made = records_in_depth H M table id calls old new whole_walk walk_is.0 (ap (λ (r : Recording). r.queue) fresh, ap (λ (r : Recording). r.path) fresh) runs in
       let known = stands_as table kind files id there in
       let of_kind = id_kind table kind files id there in
-      let text = ap (λ (x : Object). x.content) (some_inside _ _ (sym known.1 ∙ made.2 h)) in
+      let text = ap (λ (x : Object). x.content) (same_Some _ _ (sym known.1 ∙ made.2 h)) in
       let whole_text = subst (λ k. SpellsTree k made.0 (items kind files)) of_kind (subst (λ c. SpellsTree id.kind c (items kind files)) text known.2.spelled) in
       let order = subst (λ l. InOrder H table l id.kind [] made.0 made.1) (ap (λ (r : Recording). r.location) fresh) made.3 in
       ap (filter_map line_recorded) (made.4 ∙ ap (λ es. es ++ made.1) (ap (λ (r : Recording). r.entries) fresh))

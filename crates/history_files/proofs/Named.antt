@@ -20,7 +20,7 @@ use Rattle.history_model.specs.Objects.{FileEntry, FolderEntry, TreeEntry, diges
 use Rattle.history_model.specs.declared.FileKind.{FileKind}
 use Rattle.history_model.specs.declared.FileKind.TheVariants.{File as PlainFile, Exec, Link}
 use Rattle.history_model.proofs.IdLemmas.{id_itself}
-use Rattle.history_model.proofs.WholeLists.{In, all_in, and_both, and_true, clash, false_not, in_all, none_or, none_passes, not_true, of_map, or_none, passes_one, some_inside, true_or}
+use Rattle.history_model.proofs.WholeLists.{In, all_in, clash, in_all, none_passes, of_map, passes_one}
 use Rattle.history_model.proofs.WholePaths.{is_beginning}
 use Rattle.history_model.proofs.WholeRoots.{all_values, has_all, in_inside, inside_has, inside_inside}
 use Rattle.history_model.proofs.WholeStores.{get_in, in_get}
@@ -37,18 +37,21 @@ use Rattle.history_files.proofs.Inside.{HasFile, among_deeper, among_inside, fil
 use Rattle.history_files.proofs.Items.{all_of, digest_kind, folder_of, item_name, item_of, items, items_spelled, name_of, name_plain, no_zero}
 use Rattle.history_files.proofs.Unfolded.{inside_map, plain_map}
 use Rattle.history_files.proofs.Walk.{some_name, tree_of}
+use Rattle.std.proofs.lemmas.Bool.{or_parts, and_from, and_parts, not-true, or_from, not_from_false}
+use Rattle.std.proofs.lemmas.Option.{same_Some}
+use Rattle.history_model.proofs.NameLemmas.{some_or}
 
 -- ---- names
 
 filename_by : (name : Bytes) → (name ≡ [] → ⊥) → has_byte 47 name ≡ false → has_byte 0 name ≡ false → is_filename name ≡ true
 filename_by [] some plain zero = absurd (some refl)
-filename_by (b ∷ name) some plain zero = and_both (not (has_byte 47 (b ∷ name))) (not (has_byte 0 (b ∷ name))) (false_not (has_byte 47 (b ∷ name)) plain) (false_not (has_byte 0 (b ∷ name)) zero)
+filename_by (b ∷ name) some plain zero = and_from (not (has_byte 47 (b ∷ name))) (not (has_byte 0 (b ∷ name))) (not_from_false (has_byte 47 (b ∷ name)) plain) (not_from_false (has_byte 0 (b ∷ name)) zero)
 
 parts_zero : (path name : Bytes) → has_byte 0 path ≡ false → In name (components path) → has_byte 0 name ≡ false
 parts_zero [] name none (inl e) = ap (has_byte 0) e
 parts_zero [] name none (inr i) = absurd i
 parts_zero (b ∷ path) name none i =
-    let parts = or_none (b == 0) (has_byte 0 path) none in
+    let parts = or_parts (b == 0) (has_byte 0 path) none in
     go (b == 47) (some_parts path) (λ n j. parts_zero path n parts.1 j) parts.0 i
   where
     go : (t : Bool) → ((c : Bytes) × (cs : List Bytes) × (components path ≡ c ∷ cs)) → ((n : Bytes) → In n (components path) → has_byte 0 n ≡ false) → (b == 0) ≡ false
@@ -58,14 +61,14 @@ parts_zero (b ∷ path) name none i =
     go false (c, cs, parts) rest first j = onto (subst (λ ps. In name (onto_first b ps)) parts j)
       where
         onto : In name ((b ∷ c) ∷ cs) → has_byte 0 name ≡ false
-        onto (inl k) = ap (has_byte 0) k ∙ none_or (b == 0) (has_byte 0 c) first (rest c (subst (In c) (sym parts) (inl refl)))
+        onto (inl k) = ap (has_byte 0) k ∙ or_from (b == 0) (has_byte 0 c) first (rest c (subst (In c) (sym parts) (inl refl)))
         onto (inr l) = rest name (subst (In name) (sym parts) (inr l))
 
 pub part_name : (path name : Bytes) → is_path path ≡ true → In name (components path) → is_filename name ≡ true
 part_name path name fine i =
-    let both = and_true (not (list_any is_empty (components path))) (not (has_byte 0 path)) fine in
-    let some = none_passes is_empty (components path) (not_true (list_any is_empty (components path)) both.0) name i in
-    filename_by name (λ e. clash (ap is_empty e) some) (parts_plain path name i) (parts_zero path name (not_true (has_byte 0 path) both.1) i)
+    let both = and_parts (not (list_any is_empty (components path))) (not (has_byte 0 path)) fine in
+    let some = none_passes is_empty (components path) (not-true (list_any is_empty (components path)) both.0) name i in
+    filename_by name (λ e. clash (ap is_empty e) some) (parts_plain path name i) (parts_zero path name (not-true (has_byte 0 path) both.1) i)
 
 -- ---- entries
 
@@ -78,21 +81,21 @@ module _ (kind : Kind) (folders : List FileMap) where
   -- what an entry has that names a file, or one of the folders, or nothing yet
   file_has : (name : Bytes) (leaf : Leaf) → is_filename name ≡ true → is_file_mode leaf.mode ≡ true → names_only kind folders name leaf ≡ true
   file_has name leaf fine file =
-      and_both (is_filename name) (is_file_mode leaf.mode || (is_folder_mode leaf.mode && (is_null leaf.id || list_any (λ f. id_eq leaf.id (folder_id kind f)) folders))) fine
-      (true_or (is_file_mode leaf.mode) (is_folder_mode leaf.mode && (is_null leaf.id || list_any (λ f. id_eq leaf.id (folder_id kind f)) folders)) (inl file))
+      and_from (is_filename name) (is_file_mode leaf.mode || (is_folder_mode leaf.mode && (is_null leaf.id || list_any (λ f. id_eq leaf.id (folder_id kind f)) folders))) fine
+      (some_or (is_file_mode leaf.mode) (is_folder_mode leaf.mode && (is_null leaf.id || list_any (λ f. id_eq leaf.id (folder_id kind f)) folders)) (inl file))
 
   folder_has : (name : Bytes) (leaf : Leaf) → is_filename name ≡ true → is_folder_mode leaf.mode ≡ true → (is_null leaf.id || list_any (λ f. id_eq leaf.id (folder_id kind f)) folders) ≡ true → names_only kind folders name leaf ≡ true
   folder_has name leaf fine folder id =
-      and_both (is_filename name) (is_file_mode leaf.mode || (is_folder_mode leaf.mode && (is_null leaf.id || list_any (λ f. id_eq leaf.id (folder_id kind f)) folders))) fine
-      (true_or (is_file_mode leaf.mode) (is_folder_mode leaf.mode && (is_null leaf.id || list_any (λ f. id_eq leaf.id (folder_id kind f)) folders))
-      (inr (and_both (is_folder_mode leaf.mode) (is_null leaf.id || list_any (λ f. id_eq leaf.id (folder_id kind f)) folders) folder id)))
+      and_from (is_filename name) (is_file_mode leaf.mode || (is_folder_mode leaf.mode && (is_null leaf.id || list_any (λ f. id_eq leaf.id (folder_id kind f)) folders))) fine
+      (some_or (is_file_mode leaf.mode) (is_folder_mode leaf.mode && (is_null leaf.id || list_any (λ f. id_eq leaf.id (folder_id kind f)) folders))
+      (inr (and_from (is_folder_mode leaf.mode) (is_null leaf.id || list_any (λ f. id_eq leaf.id (folder_id kind f)) folders) folder id)))
 
   file_leaf_has : (name : Bytes) (k : FileKind) (id : ObjectId) → is_filename name ≡ true → names_only kind folders name (leaf_of_kind (entry_kind k) id) ≡ true
   file_leaf_has name k id fine = file_has name (leaf_of_kind (entry_kind k) id) fine (file_mode k id)
 
   made_has : (name : Bytes) (k : Kind) → is_filename name ≡ true → names_only kind folders name (made_leaf k) ≡ true
   made_has name k fine = folder_has name (made_leaf k) fine refl
-      (true_or (is_null (null_id k)) (list_any (λ f. id_eq (null_id k) (folder_id kind f)) folders) (inl (id_itself (null_id k))))
+      (some_or (is_null (null_id k)) (list_any (λ f. id_eq (null_id k) (folder_id kind f)) folders) (inl (id_itself (null_id k))))
 
   pub may_put : (path : Bytes) (change : Change) → is_path path ≡ true → MayPut (names_only kind folders) path change
   may_put path (Put k id) fine = all_of (λ name. (names_only kind folders name (leaf_of_kind (entry_kind k) id) ≡ true) × (names_only kind folders name (made_leaf (id_of id).kind) ≡ true)) (components path)
@@ -109,7 +112,7 @@ module _ (kind : Kind) (folders : List FileMap) where
   may_be_made [] made named fine = tt
   may_be_made (edit ∷ edits) [] named fine = absurd named
   may_be_made (edit ∷ edits) (one ∷ more) named fine =
-      let both = and_true (is_path (edit_path one)) (list_all (λ e. is_path (edit_path e)) more) fine in
+      let both = and_parts (is_path (edit_path one)) (list_all (λ e. is_path (edit_path e)) more) fine in
       (may_put edit.path.now edit.change (ap is_path (sym (path_of edit.path.now edit.change one named.0)) ∙ both.0), may_be_made edits more named.1 both.1)
 
   item_has : (g : FileMap) → IsFileMap g → ((name : Bytes) → HasFile (inside name g) → In (inside name g) folders) → (t : TreeEntry) → In t (tree_entries (entries g))
@@ -140,7 +143,7 @@ module _ (kind : Kind) (folders : List FileMap) where
           let id : Id = digest kind (tree_text (tree_of kind g below)) in
           let same : id_eq id (folder_id kind (inside name g)) ≡ true = ap (λ x. id_eq x (folder_id kind (inside name g))) one.id ∙ id_itself (folder_id kind (inside name g)) in
           folder_has name (leaf_of (item_of kind (tree_of kind g) (FolderEntry name below))) named refl
-          (true_or (is_null id) (list_any (λ f. id_eq id (folder_id kind f)) folders) (inr (passes_one (λ f. id_eq id (folder_id kind f)) folders (inside name g) (inner name file) same)))
+          (some_or (is_null id) (list_any (λ f. id_eq id (folder_id kind f)) folders) (inr (passes_one (λ f. id_eq id (folder_id kind f)) folders (inside name g) (inner name file) same)))
 
   pub items_have : (g : FileMap) → IsFileMap g → ((name : Bytes) → HasFile (inside name g) → In (inside name g) folders) → ItemsHave (names_only kind folders) (items kind g)
   items_have g fits inner = all_of (λ (item : Item). names_only kind folders item.name (leaf_of item) ≡ true) (items kind g) (λ item i.
@@ -156,7 +159,7 @@ module _ (kind : Kind) (folders : List FileMap) where
       go (inr (mode, inl null)) = clash null isnt_null
       go (inr (mode, inr (g, i, id))) =
           let in_g = inner g i in
-          let text : content ≡ root kind g = ap (λ (x : Object). x.content) (some_inside _ _ (sym there ∙ ap table id ∙ in_g.has.itself.stands)) in
+          let text : content ≡ root kind g = ap (λ (x : Object). x.content) (same_Some _ _ (sym there ∙ ap table id ∙ in_g.has.itself.stands)) in
           let of_kind : leaf.id.kind ≡ kind = ap (λ (x : Id). x.kind) id ∙ digest_kind kind _ in
           let same : items kind g ≡ all = one_tree kind (root kind g) (items kind g) all (items_spelled kind g (plain_map g in_g.map)) (subst (λ t. SpellsTree kind t all) text (subst (λ k. SpellsTree k content all) of_kind spelled)) in
           subst (ItemsHave (names_only kind folders)) same (items_have g in_g.map (λ n file. deeper g i n file))

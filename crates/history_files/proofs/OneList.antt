@@ -8,7 +8,8 @@ use Rattle.gix_object_entries.specs.Order.{item_key}
 use Rattle.gix_object_editor.specs.Files.{named}
 use Rattle.gix_object_entries.specs.WellFormed.{ComesBefore, IsInOrder, HasNamesOnce}
 use Rattle.history_model.specs.Bytes.{Bytes}
-use Rattle.history_model.proofs.WholeLists.{In, same_text, text_itself, texts_differ, some_inside, none_is_some}
+use Rattle.history_model.proofs.WholeLists.{In, same_text, text_itself, texts_differ, none_is_some}
+use Rattle.std.proofs.lemmas.Option.{same_Some}
 
 pairs_head : {X : Type 0} (R : X → X → Type 0) (x : X) (xs : List X) → AllPairs R (x ∷ xs) → (y : X) → In y xs → R x y
 pairs_head {X = X} R x xs all y i = let at = index xs i in subst (R x) at.2 (all zero (suc at.0) x (omega arith) (omega (arith, at.1)))
@@ -28,7 +29,7 @@ named_is name (x ∷ items) item e = go (bytes_eq name x.name) refl e (named_is 
   where
     go : (b : Bool) → bytes_eq name x.name ≡ b → cond b (Some x) (named name items) ≡ Some item → (named name items ≡ Some item → (item.name ≡ name) × In item items)
         → (item.name ≡ name) × In item (x ∷ items)
-    go true t k later = let same = some_inside x item k in (ap (λ (y : Item). y.name) (sym same) ∙ sym (same_text name x.name t), inl (sym same))
+    go true t k later = let same = same_Some x item k in (ap (λ (y : Item). y.name) (sym same) ∙ sym (same_text name x.name t), inl (sym same))
     go false t k later = let rest = later k in (rest.0, inr rest.1)
 
 named_first : (item : Item) (items : List Item) → named item.name (item ∷ items) ≡ Some item

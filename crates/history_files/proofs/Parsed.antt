@@ -9,10 +9,11 @@ use Rattle.gix_hash_id.specs.declared.kind.Kind.{Kind}
 use Rattle.gix_object_entries.specs.Entry.{Item, SpellsEntry, SpellsTree}
 use Rattle.gix_object_entries.specs.ModeText.{Mode, text_before}
 use Rattle.gix_object_entries.proofs.Octals.{before_cut}
-use Rattle.gix_object_entries.proofs.Spelled.{lacks_space, one_kind}
+use Rattle.gix_object_entries.proofs.Spelled.{lacks_space}
 use Rattle.gix_object_find.specs.Table.{Object, Table}
 use Rattle.gix_object_editor.specs.Files.{HasStored, Trees}
 use Rattle.history_model.specs.Bytes.{is_empty}
+use Rattle.gix_hash_id.proofs.KindLemmas.{byte_len-injective}
 
 abbrev told_mode : List ℕ → Mode
 told_mode text = record { value = digits_value 8 text; padded = (slice_index text 0 == 48) && (digits_value 8 text == 16384) }
@@ -51,7 +52,7 @@ same_item ids input item rest is =
     let make : ℕ → Bool → Mode = λ value padded. record { value = value; padded = padded } in
     let mode : told_mode is.text ≡ item.mode =
     ap (λ n. make n ((slice_index is.text 0 == 48) && (n == 16384))) is.mode.value ∙ ap (make item.mode.value) (sym is.mode.padded) in
-    let kind : ids ≡ item.id.kind = sym (one_kind item.id.kind ids (sym is.id.whole ∙ is.whole)) in
+    let kind : ids ≡ item.id.kind = sym (byte_len-injective item.id.kind ids (sym is.id.whole ∙ is.whole)) in
     let front : take (byte_len ids) (is.bytes ++ rest) ≡ is.bytes = ap (λ n. take n (is.bytes ++ rest)) (sym is.whole) ∙ take-append_seam is.bytes rest in
     let digits : digits_of (take (byte_len ids) (is.bytes ++ rest)) ≡ item.id.digits = ap digits_of front ∙ is.id.digits in
     λ i. record { mode = mode i; name = item.name; id = record { kind = kind i; digits = digits i } }

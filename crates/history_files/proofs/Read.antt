@@ -7,14 +7,14 @@ use Rattle.gix_object_entries.proofs.TreeLaws.{one_tree}
 use Rattle.gix_object_tree.specs.Object.{Tree}
 use Rattle.gix_object_find.specs.Table.{Table, Object}
 use Rattle.gix_object_find.specs.Existing.{StandsAs}
-use Rattle.history_model.proofs.WholeLists.{some_inside}
 use Rattle.history_files.specs.Reading.{TreeFault, RootFault}
 use Rattle.history_files.specs.declared.error.ReadError.{ReadError}
 use Rattle.history_files.specs.declared.error.ReadError.TheVariants.{Failed, Broken, Memory}
+use Rattle.std.proofs.lemmas.Option.{same_Some}
 
 pub same_tree : (table : Table) (id : Id) (a b : List Item) → StandsAs table id objects.Tree (Tree a) → StandsAs table id objects.Tree (Tree b) → a ≡ b
 same_tree table id a b one other =
-    let content = ap (λ (x : Object). x.content) (some_inside _ _ (sym one.1 ∙ other.1)) in
+    let content = ap (λ (x : Object). x.content) (same_Some _ _ (sym one.1 ∙ other.1)) in
     one_tree id.kind other.0 a b (subst (λ c. SpellsTree id.kind c a) content one.2.spelled) other.2.spelled
 
 -- a tree that isn't read isn't opened

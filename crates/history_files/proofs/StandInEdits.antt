@@ -16,8 +16,8 @@ use Rattle.history_model.specs.FileMap.{FileMap, Content, edit_path, edited, edi
 use Rattle.history_model.specs.Meaning.{put_bytes}
 use Rattle.history_model.specs.Objects as objects
 use Rattle.history_model.specs.Objects.{StoredBytes, Value, blob_id, digest}
-use Rattle.history_model.proofs.WholeLists.{In, clash, in_right, or_none, or_true}
-use Rattle.history_model.proofs.WholeStores.{get_inserted, get_retained}
+use Rattle.history_model.proofs.WholeLists.{In, clash, in_right}
+use Rattle.history_model.proofs.WholeStores.{get_retained}
 use Rattle.history_files.specs.Edits.{AreEdits, IsChange}
 use Rattle.history_files.specs.Editing.{HaveIds, NameEdits, Names}
 use Rattle.history_files.specs.StandIns.{change_with, puts_null, stand_in}
@@ -25,6 +25,9 @@ use Rattle.history_files.specs.declared.edits.Change.{Change}
 use Rattle.history_files.specs.declared.edits.Change.TheVariants.{Put, Remove, RemoveFile}
 use Rattle.history_files.specs.declared.edits.Edit.{Edit}
 use Rattle.history_files.proofs.AtNames.{below_some, some_below}
+use Rattle.history_model.proofs.RecoveredLemmas.{some_is}
+use Rattle.std.proofs.lemmas.Bool.{or_parts, or_cases}
+use Rattle.history_model.proofs.AfterFirstLemmas.{get-with}
 
 -- the edit with no bytes to put
 abbrev pub emptied : model.Edit → model.Edit
@@ -37,14 +40,10 @@ emptied (model.RemoveFile path) = model.RemoveFile path
 abbrev SameKeys : FileMap → FileMap → Type 0
 SameKeys a b = (q : Bytes) → is_some (get a q) ≡ is_some (get b q)
 
-some_of : {X : Type 0} (o : Option X) → is_some o ≡ true → (x : X) × (o ≡ Some x)
-some_of None h = cc
-some_of (Some x) h = (x, refl)
-
 below_in : (a b : FileMap) (path : Bytes) → SameKeys a b → has_below a path ≡ true → has_below b path ≡ true
 below_in a b path same h =
     let one = below_some a path h in
-    let other = some_of (get b (path ++ 47 ∷ one.0)) (sym (same (path ++ 47 ∷ one.0)) ∙ ap is_some one.2) in
+    let other = some_is (get b (path ++ 47 ∷ one.0)) (sym (same (path ++ 47 ∷ one.0)) ∙ ap is_some one.2) in
     some_below b path one.0 other.0 other.1
 
 same_below : (a b : FileMap) (path : Bytes) → SameKeys a b → has_below a path ≡ has_below b path
@@ -65,7 +64,7 @@ kept_keys a b test same q = ap is_some (get_retained a test q) ∙ go (test q) �
 
 put_keys : (a b : FileMap) (path : Bytes) (c d : Content) → SameKeys a b → SameKeys (put_at path c a) (put_at path d b)
 put_keys a b path c d same q =
-    ap is_some (get_inserted (retain_keys a test) path c q) ∙ go (bytes_eq q path) ∙ sym (ap is_some (get_inserted (retain_keys b test) path d q))
+    ap is_some (get-with (retain_keys a test) path c q) ∙ go (bytes_eq q path) ∙ sym (ap is_some (get-with (retain_keys b test) path d q))
   where
     test : Bytes → Bool
     test x = not (is_within path x || is_within x path)
@@ -125,7 +124,7 @@ module _ (kind : Kind) where
   named_edits [] (one ∷ made) are none = absurd are
   named_edits (edit ∷ edits) [] are none = absurd are
   named_edits (edit ∷ edits) (one ∷ made) are none =
-      let both = or_none (puts_null edit.change) (list_any (λ (e : Edit). puts_null e.change) edits) none in
+      let both = or_parts (puts_null edit.change) (list_any (λ (e : Edit). puts_null e.change) edits) none in
       (by_change edit.change are.0 both.0, named_edits edits made are.1 both.1)
     where
       by_change : (change : Change) → Names kind edit.path.now change one → puts_null change ≡ false → IsChange kind edit.path.now change one
@@ -139,7 +138,7 @@ module _ (kind : Kind) where
   null_value [] [] are h = cc
   null_value [] (one ∷ made) are h = absurd are
   null_value (edit ∷ edits) [] are h = absurd are
-  null_value (edit ∷ edits) (one ∷ made) are h = elim (or_true (puts_null edit.change) (list_any (λ (e : Edit). puts_null e.change) edits) h) [
+  null_value (edit ∷ edits) (one ∷ made) are h = elim (or_cases (puts_null edit.change) (list_any (λ (e : Edit). puts_null e.change) edits) h) [
     | inl null ↦ here edit.change are.0 null
     | inr more ↦ let rest = null_value edits made are.1 more in (rest.0, in_right rest.0 (put_bytes one) (flat_map put_bytes made) rest.1, rest.2)
   ]
@@ -158,7 +157,7 @@ module _ (kind : Kind) where
   have_ids [] (one ∷ made) are none = absurd are
   have_ids (edit ∷ edits) [] are none = absurd are
   have_ids (edit ∷ edits) (one ∷ made) are none =
-      let both = or_none (puts_null edit.change) (list_any (λ (e : Edit). puts_null e.change) edits) none in
+      let both = or_parts (puts_null edit.change) (list_any (λ (e : Edit). puts_null e.change) edits) none in
       by_change edit.change are.0 both.0 (have_ids edits made are.1 both.1)
     where
       by_change : (change : Change) → Names kind edit.path.now change one → puts_null change ≡ false → HaveIds kind made → HaveIds kind (one ∷ made)

@@ -13,7 +13,7 @@ use Rattle.history_model.specs.FileMap.{FileMap, Content, IsFileMap, components,
 use Rattle.history_model.specs.Objects.{FileEntry, FolderEntry, TreeEntry, tree_entries, Value, StoredFolder, folder_id, blob_id, root_within, longest, digest, tree_text}
 use Rattle.history_model.specs.declared.FileKind.{FileKind}
 use Rattle.history_model.specs.declared.FileKind.TheVariants.{File, Exec, Link}
-use Rattle.history_model.proofs.WholeLists.{In, and_true, and_both, or_none, clash, not_true, false_not}
+use Rattle.history_model.proofs.WholeLists.{In, clash}
 use Rattle.history_model.proofs.WholePaths.{below_front, inner_below, has_parts, front_plain, is_beginning}
 use Rattle.history_model.proofs.WholeItems.{Entry, leaf_in}
 use Rattle.history_model.proofs.WholeRoots.{HasAll, has_all, inside_has, ArePlain, of_inside, in_inside}
@@ -21,33 +21,15 @@ use Rattle.history_model.proofs.WholeStores.{get_in, in_get}
 use Rattle.history_files.specs.Unfolding.{entry_kind, file_leaf, IsUnfolded, IsInTable, HasTrees}
 use Rattle.history_files.proofs.Components.{some_parts, one_part, parts_below}
 use Rattle.history_files.proofs.Items.{items, items_spelled, item_of, name_of, named_in, name_plain, has_leaf, has_folder, folder_of}
+use Rattle.history_model.proofs.RecoveredLemmas.{some_is}
+use Rattle.history_model.proofs.WholeForms.{zero_after, path_after, below_there}
+use Rattle.std.proofs.lemmas.Bool.{or_parts, and_from, and_parts, not-true, not_from_false}
 
 -- ---- file maps and their folders
 
 any_right : (xs ys : List Bytes) → list_any is_empty (xs ++ ys) ≡ false → list_any is_empty ys ≡ false
 any_right [] ys h = h
-any_right (x ∷ xs) ys h = any_right xs ys (or_none (is_empty x) (list_any is_empty (xs ++ ys)) h).1
-
-zero_after : (folder rest : Bytes) → has_byte 0 (folder ++ rest) ≡ false → has_byte 0 rest ≡ false
-zero_after [] rest h = h
-zero_after (b ∷ folder) rest h = zero_after folder rest (or_none (b == 0) (has_byte 0 (folder ++ rest)) h).1
-
-path_after : (folder rest : Bytes) → is_path (folder ++ 47 ∷ rest) ≡ true → is_path rest ≡ true
-path_after folder rest h =
-    let parts = and_true (not (list_any is_empty (components (folder ++ 47 ∷ rest)))) (not (has_byte 0 (folder ++ 47 ∷ rest))) h in
-    let pieces = any_right (components folder) (components rest) (ap (list_any is_empty) (sym (parts_below folder rest)) ∙ not_true (list_any is_empty (components (folder ++ 47 ∷ rest))) parts.0) in
-    let zeros = (or_none (47 == 0) (has_byte 0 rest) (zero_after folder (47 ∷ rest) (not_true (has_byte 0 (folder ++ 47 ∷ rest)) parts.1))).1 in
-    and_both (not (list_any is_empty (components rest))) (not (has_byte 0 rest)) (false_not (list_any is_empty (components rest)) pieces) (false_not (has_byte 0 rest) zeros)
-
-some_there : {X : Type 0} (o : Option X) → is_some o ≡ true → (x : X) × (o ≡ Some x)
-some_there None h = cc
-some_there (Some x) h = (x, refl)
-
--- a file inside a folder stands below it
-below_there : (folder : Bytes) (m : FileMap) (p : Bytes) → contains_key (inside folder m) p ≡ true → contains_key m (folder ++ 47 ∷ p) ≡ true
-below_there folder m p h =
-    let at = some_there (get (inside folder m) p) h in
-    ap is_some (in_get m (folder ++ 47 ∷ p) at.0 (of_inside folder m p at.0 (get_in (inside folder m) p at.0 at.1)))
+any_right (x ∷ xs) ys h = any_right xs ys (or_parts (is_empty x) (list_any is_empty (xs ++ ys)) h).1
 
 pub inside_map : (folder : Bytes) (m : FileMap) → IsFileMap m → IsFileMap (inside folder m)
 inside_map folder m map = record {
@@ -57,7 +39,7 @@ inside_map folder m map = record {
 
 pub plain_map : (m : FileMap) → IsFileMap m → ArePlain (entries m)
 plain_map m map e i =
-    not_true (has_byte 0 e.0) (and_true _ _ (map.paths e.0 (ap is_some (in_get m e.0 e.1 i)))).1
+    not-true (has_byte 0 e.0) (and_parts _ _ (map.paths e.0 (ap is_some (in_get m e.0 e.1 i)))).1
 
 same_option : {X : Type 0} (a b : Option X) → ((x : X) → a ≡ Some x → b ≡ Some x) → ((x : X) → b ≡ Some x → a ≡ Some x) → a ≡ b
 same_option None None f g = refl

@@ -9,17 +9,17 @@ use Rattle.gix_object_editor.specs.Files.{Path, Leaf, Trees, files_of_entry, fil
 use Rattle.gix_object_editor.specs.Nodes.{Slots, child_or, files_of_node, files_of_slot, leaf_in}
 use Rattle.gix_object_editor.specs.declared.tree.editor.node.NodeId.{NodeId}
 use Rattle.gix_object_editor.specs.declared.tree.editor.node.Slot.{Slot}
-use Rattle.history_model.proofs.WholeLists.{clash, none_is_some, some_inside}
+use Rattle.history_model.proofs.WholeLists.{clash, none_is_some}
 use Rattle.history_files.specs.Lookups.{items_into}
+use Rattle.gix_object_editor.proofs.Asking.{closed_slot}
+use Rattle.gix_object_editor.proofs.Leafs.{entry_is_file}
+use Rattle.std.proofs.lemmas.Option.{same_Some}
 
 -- ---- an entry alone
 
 alone : (leaf : Leaf) (b : Bool) → unless_tree (cond b (no_trees leaf.id) None) leaf ≡ Some leaf
 alone leaf true = refl
 alone leaf false = refl
-
-entry_file : (leaf : Leaf) → is_null leaf.id ≡ false → files_of_entry no_trees [] leaf ≡ Some leaf
-entry_file leaf e = ap (λ b. cond b None (unless_tree (tree_under no_trees leaf) leaf)) e ∙ alone leaf (is_tree_value leaf.mode.value)
 
 null_files : (leaf : Leaf) (rest : Path) → is_null leaf.id ≡ true → files_of_entry no_trees rest leaf ≡ None
 null_files leaf [] e = ap (λ b. cond b None (unless_tree (tree_under no_trees leaf) leaf)) e
@@ -31,7 +31,7 @@ is_gone leaf none = go (is_null leaf.id) refl
   where
     go : (b : Bool) → is_null leaf.id ≡ b → is_null leaf.id ≡ true
     go true e = e
-    go false e = none_is_some leaf (sym none ∙ entry_file leaf e)
+    go false e = none_is_some leaf (sym none ∙ entry_is_file leaf e)
 
 -- an entry with the null id leads into no tree
 null_into : (trees : Trees) (rest : Path) (leaf : Leaf) → is_null leaf.id ≡ true → trees_into trees rest leaf ≡ []
@@ -46,10 +46,6 @@ null_into trees rest leaf e = closed rest (ap (λ b. is_tree_value leaf.mode.val
     closed (name ∷ rest) e = ap (λ b. cond b (leaf.id ∷ ids_from (through (trees leaf.id) (named name)) (λ item. trees_into trees rest (leaf_of item))) []) e
 
 -- ---- a slot without files
-
-closed_slot : (trees : Trees) (slots : Slots) (rest : Path) (s : Slot) → s.child ≡ None → slot_into trees slots rest s ≡ trees_into trees rest (leaf_in s)
-closed_slot trees slots [] s e = ap (λ o. child_or o (λ c. []) (trees_into trees [] (leaf_in s))) e
-closed_slot trees slots (name ∷ rest) s e = ap (λ o. child_or o (λ c. ids_from (slots c name) (slot_into trees slots rest)) (trees_into trees (name ∷ rest) (leaf_in s))) e
 
 closed_files : (slots : Slots) (s : Slot) → s.child ≡ None → files_of_slot no_trees slots [] s ≡ files_of_entry no_trees [] (leaf_in s)
 closed_files slots s e = ap (λ o. child_or o (λ c. None) (files_of_entry no_trees [] (leaf_in s))) e
@@ -85,7 +81,7 @@ module _ (trees : Trees) (slots : Slots) (rest : Path) where
     where
       one_leaf : (b : Bool) → is_null (leaf_in s).id ≡ b → files_of_entry no_trees [] (leaf_in s) ≡ Some (leaf_of item) → leaf_in s ≡ leaf_of item
       one_leaf true e h = none_is_some (leaf_of item) (sym (null_files (leaf_in s) [] e) ∙ h)
-      one_leaf false e h = some_inside (leaf_in s) (leaf_of item) (sym (entry_file (leaf_in s) e) ∙ h)
+      one_leaf false e h = same_Some (leaf_in s) (leaf_of item) (sym (entry_is_file (leaf_in s) e) ∙ h)
 
       by_child : (child : Option NodeId) → s.child ≡ child → files_of_slot no_trees slots [] s ≡ Some (leaf_of item) → slot_into trees slots rest s ≡ trees_into trees rest (leaf_of item)
       by_child None e h =
@@ -95,7 +91,7 @@ module _ (trees : Trees) (slots : Slots) (rest : Path) where
 
       go : (b : Bool) → is_null item.id ≡ b → slot_into trees slots rest s ≡ trees_into trees rest (leaf_of item)
       go true e = slot_hollow trees slots rest s (λ r. same r ∙ null_files (leaf_of item) r e) ∙ sym (null_into trees rest (leaf_of item) e)
-      go false e = by_child s.child refl (same [] ∙ entry_file (leaf_of item) e)
+      go false e = by_child s.child refl (same [] ∙ entry_is_file (leaf_of item) e)
 
   by_both : (o : Option Slot) (p : Option Item) → ((r : Path) → through o (files_of_slot no_trees slots r) ≡ through p (λ item. files_of_entry no_trees r (leaf_of item)))
       → ids_from o (slot_into trees slots rest) ≡ ids_from p (λ item. trees_into trees rest (leaf_of item))

@@ -27,7 +27,7 @@ use Rattle.gix_traverse_tree.specs.declared.error.Error.TheVariants as walked
 use Rattle.history_model.specs.Bytes.{Bytes, has_byte}
 use Rattle.history_model.specs.FileMap.{FileMap, Content, IsFileMap, inside, is_path}
 use Rattle.history_model.specs.Objects.{digest, Value, TreeEntry, FileEntry, FolderEntry, tree_entries, root_within, longest, root, folder_id, tree_text}
-use Rattle.history_model.proofs.WholeLists.{In, in_map, of_map, clash, and_true, some_inside, none_is_some, one_passes}
+use Rattle.history_model.proofs.WholeLists.{In, in_map, of_map, clash, none_is_some, one_passes}
 use Rattle.history_model.proofs.WholePaths.{is_beginning}
 use Rattle.history_model.proofs.WholeItems.{Entry, leaf_in}
 use Rattle.history_model.proofs.WholeRoots.{HasAll, inside_has, of_inside, AreShorter, are_shorter}
@@ -38,6 +38,8 @@ use Rattle.history_files.proofs.Items.{items, item_of, item_name, name_of, name_
 use Rattle.history_files.proofs.Unfolded.{inside_map, leaf_no_tree}
 use Rattle.history_files.proofs.AtNames.{tree_of_map}
 use Rattle.history_files.proofs.Read.{same_tree}
+use Rattle.std.proofs.lemmas.Bool.{and_parts}
+use Rattle.std.proofs.lemmas.Option.{same_Some}
 
 -- what a folder's trees hang on
 abbrev pub tree_of : Kind → FileMap → List Entry → Bytes
@@ -190,7 +192,7 @@ module _ (table : Table) (kind : Kind) where
   entered : (m : FileMap) (id : Id) → IsThere m id → (above : List Id) → LiesUnder id above → (content : Bytes) → Stands table id objects.Tree content → IsAt above (within id content)
   entered m id there above under content stands =
       let known = stands_as m id there in
-      let same : known.0 ≡ content = ap (λ (x : Object). x.content) (some_inside _ _ (sym known.1 ∙ stands)) in
+      let same : known.0 ≡ content = ap (λ (x : Object). x.content) (same_Some _ _ (sym known.1 ∙ stands)) in
       (m, there, under, (tree_entries (entries m), λ t i. i, subst (λ k. SpellsTree k content (items kind m)) (id_kind m id there) (subst (λ c. SpellsTree id.kind c (items kind m)) same known.2.spelled)))
 
   unfound : {H : Type 0} → H → (M : Type 0) (m : FileMap) (id : Id) → IsThere m id → (above : List Id) → LiesUnder id above → (error : Error) → WalkFault H M table above id error → EndsWell M (failed error)
@@ -198,7 +200,7 @@ module _ (table : Table) (kind : Kind) where
   unfound h M m id there above under (walked.Find (not_given.Find looked_up.Memory)) fault = tt
   unfound h M m id there above under (walked.Find (not_given.NotFound oid)) fault = none_is_some _ (sym ((fault.1).1 h) ∙ (stands_as m id there).1)
   unfound h M m id there above under (walked.Find (not_given.ObjectKind oid actual expected)) fault =
-      (fault.1).2 (some_inside _ _ (sym ((fault.1).3 h) ∙ ap (λ (o : Option Object). option_map (λ (x : Object). x.kind) o) (stands_as m id there).1))
+      (fault.1).2 (same_Some _ _ (sym ((fault.1).3 h) ∙ ap (λ (o : Option Object). option_map (λ (x : Object). x.kind) o) (stands_as m id there).1))
   unfound h M m id there above under walked.Cancelled fault = fault
   unfound h M m id there above under (walked.ObjectDecode error) fault = fault
   unfound h M m id there above under walked.Cycle fault = no_cycle m id there above under fault
@@ -263,13 +265,13 @@ module _ (table : Table) (kind : Kind) where
         let next = is_next kind m item content rest ts (subst (λ k. SpellsEntry k content item rest) (id_kind m id there) entry) spelled in
         let member = all next.entry (subst (In next.entry) (sym next.cut) (inl refl)) in
         let split = all_split GoesOn calls (pop_back ∷ more) goes.1.1.1.1.1 in
-        let below = along inner split.0 (at_folder m id there above under next.entry member item next.is (and_true (is_tree item) answer deep).0) in
+        let below = along inner split.0 (at_folder m id there above under next.entry member item next.is (and_parts (is_tree item) answer deep).0) in
         let others = along later split.1.1 (m, there, under, (next.more, λ t i. all t (subst (In t) (sym next.cut) (inr i)), next.spelled)) in
         (tells item (Continue answer) (depth.entering item ++ (calls ++ (pop_back ∷ more))) (is_name m there.fits next.entry member item next.is) (tt, (tt, all_join TellsName calls (pop_back ∷ more) below.0 (tt, others.0))), others.1)
     along {above} (depth.ended_below {id = id} {content = content} {rest = rest} {item = item} answer {calls = calls} entry deep inner not_whole) goes (m, there, under, (ts, all, spelled)) =
         let next = is_next kind m item content rest ts (subst (λ k. SpellsEntry k content item rest) (id_kind m id there) entry) spelled in
         let member = all next.entry (subst (In next.entry) (sym next.cut) (inl refl)) in
-        let below = along inner goes.1.1.1.1.1 (at_folder m id there above under next.entry member item next.is (and_true (is_tree item) answer deep).0) in
+        let below = along inner goes.1.1.1.1.1 (at_folder m id there above under next.entry member item next.is (and_parts (is_tree item) answer deep).0) in
         (tells item (Continue answer) (depth.entering item ++ calls) (is_name m there.fits next.entry member item next.is) (tt, (tt, below.0)), below.1)
     along (depth.ended {item = item} entry) goes at = never_broken item goes.1.0
     along (depth.unread {id = id} {content = content} some none fault) goes (m, there, under, (ts, all, spelled)) = absurd (unread_not ts spelled)

@@ -19,6 +19,7 @@ use Rattle.history_model.specs.Steps.{Step}
 use Rattle.history_model.specs.Rows.{first_command, first_commit, sample_actor}
 use Rattle.history_model.specs.declared.Cause.{Cause}
 use Rattle.gix_hash_id.specs.declared.kind.Kind.TheVariants.{Sha1}
+use Rattle.std.proofs.lemmas.Bool.{or_from}
 
 abbrev pub command_with : List EditLine → CommitCommand
 command_with edits = record first_command { edits = edits }
@@ -46,10 +47,6 @@ or3 true b c e f g = cc
 or3 false true c e f g = cc
 or3 false false c e f g = g
 
-or2 : (a b : Bool) → a ≡ false → b ≡ false → (a || b) ≡ false
-or2 true b e f = cc
-or2 false b e f = f
-
 value_free : (objects : FinMap by_id Value) (id : Id) (value : Value) → id_of Sha1 value ≡ id → id_eq id (null_id Sha1) ≡ false
     → (id_eq id (empty_tree_id Sha1) && is_other Sha1 (value_text Sha1 (StoredFolder empty)) value) ≡ false → get objects id ≡ None → is_taken Sha1 objects value ≡ false
 value_free objects id value is null tree none = or3 _ _ _
@@ -66,7 +63,7 @@ values_of es = map (λ e. e.1) es
 
 none_taken : (objects : FinMap by_id Value) (es : List (Id × Value)) → AllFree objects es → some_taken Sha1 objects (values_of es) ≡ false
 none_taken objects [] h = refl
-none_taken objects (e ∷ es) (is, null, tree, none, rest) = or2 _ _ (value_free objects e.0 e.1 is null tree none)
+none_taken objects (e ∷ es) (is, null, tree, none, rest) = or_from _ _ (value_free objects e.0 e.1 is null tree none)
     (ap (λ o. some_taken Sha1 o (values_of es)) (value_stored objects e.0 e.1 is none) ∙ none_taken (insert objects e.0 e.1) es rest)
 
 all_stored : (objects : FinMap by_id Value) (es : List (Id × Value)) → AllFree objects es → store_all Sha1 objects (values_of es) ≡ with_all objects es

@@ -22,10 +22,10 @@ use Rattle.history_model.specs.Causes.{first_cause}
 use Rattle.history_model.specs.Forms.{title}
 use Rattle.history_model.proofs.LogLemmas.{some_order}
 use Rattle.history_model.proofs.WholeLists.{in_right, text_itself}
-use Rattle.history_model.proofs.WholeStores.{get_inserted}
 use Rattle.history_model.proofs.WholeStored.{stored_there}
 use Rattle.history_model.proofs.WholeSteps.{steps_keep_sound}
 use Rattle.history_model.specs.Alike.{base_files, files_of_name, Commits, EditsCutAnyWay, IsPlainLog, OrdersPrintOneSet}
+use Rattle.history_model.proofs.AfterFirstLemmas.{get-with}
 
 -- ---- orders
 
@@ -88,7 +88,7 @@ record Advances (mid : Repository) (name : Bytes) (files : FileMap) : Type 0 whe
 module _ (r : Repository) (sound : IsSound r) (c : CommitCommand) (none : first_cause r (Commit c) ≡ None) (free : takes_id r (Commit c) ≡ false) where
   at_name : id_at (after r (Commit c)) (branch_or_name r c.name) ≡ Some (id_of r.kind (StoredCommit (new_commit r c)))
   at_name = ap (option_map (λ (ref : Reference). ref.id))
-      (get_inserted r.names (branch_or_name r c.name) ref (branch_or_name r c.name) ∙ ap (λ b. cond b (Some ref) (get r.names (branch_or_name r c.name))) (text_itself (branch_or_name r c.name)))
+      (get-with r.names (branch_or_name r c.name) ref (branch_or_name r c.name) ∙ ap (λ b. cond b (Some ref) (get r.names (branch_or_name r c.name))) (text_itself (branch_or_name r c.name)))
     where
       ref : Reference
       ref = moved_reference r (branch_or_name r c.name) (id_of r.kind (StoredCommit (new_commit r c))) (read_actor c.committer) (title c.message)

@@ -10,6 +10,8 @@ use Rattle.std.proofs.lemmas.Map.Text.{is_eq-slice_cmp}
 use Rattle.std.proofs.lemmas.Slice.Eq.{bytes_eq-Decides}
 use Rattle.history_model.specs.Bytes.{Bytes, by_bytes}
 use Rattle.history_model.specs.FileMap.{FileMap, Content, Edit, Put, Remove, RemoveFile, IsFileMap, edited, edited_by, edit_path, is_path, is_below, is_within, put_at}
+use Rattle.std.proofs.lemmas.Bool.{and_parts, not-true}
+use Rattle.history_model.proofs.WholeStores.{same_tie}
 
 -- a choice that is there, where the other one is none
 kept_passes : {X : Type 0} (b : Bool) (o : Option X) → is_some (cond b o None) ≡ true → (b ≡ true) × (is_some o ≡ true)
@@ -21,21 +23,10 @@ neither true b h = cc
 neither false true h = cc
 neither false false h = (refl, refl)
 
-both_true : (a b : Bool) → (a && b) ≡ true → (a ≡ true) × (b ≡ true)
-both_true true b h = (refl, h)
-both_true false b h = cc
-
-turned : (b : Bool) → not b ≡ true → b ≡ false
-turned true h = cc
-turned false h = refl
-
-same_bytes : (p q : Bytes) → by_bytes p q ≡ Equal → p ≡ q
-same_bytes p q e = slice_cmp-IsAntisymmetric nat_cmp-IsAntisymmetric p q e
-
 -- what a filtered map has
 retained : {X : Type 0} (files : FinMap by_bytes X) (test : Bytes → Bool) (q : Bytes) → contains_key (retain_keys files test) q ≡ true → (test q ≡ true) × (contains_key files q ≡ true)
 retained files test q h =
-    kept_passes (test q) (get files q) (ap is_some (sym (get-retain_keys files test q (λ x e. ap test (sym (same_bytes q x e))))) ∙ h)
+    kept_passes (test q) (get files q) (ap is_some (sym (get-retain_keys files test q (λ x e. ap test (sym (same_tie q x e))))) ∙ h)
 
 eq_cases : (b : Bool) {X : Type 0} (v : X) (o : Option X) → is_some (cond b (Some v) o) ≡ true → (b ≡ true) ⊎ (is_some o ≡ true)
 eq_cases true v o h = inl refl
@@ -102,5 +93,5 @@ edit_keeps files (RemoveFile path) map fits = removed_keeps files _ map
 pub edits_keep : (files : FileMap) (edits : List Edit) → IsFileMap files → list_all (λ edit. is_path (edit_path edit)) edits ≡ true → IsFileMap (edited_by files edits)
 edits_keep files [] map fits = map
 edits_keep files (edit ∷ edits) map fits =
-    let both = both_true (is_path (edit_path edit)) (list_all (λ e. is_path (edit_path e)) edits) fits in
+    let both = and_parts (is_path (edit_path edit)) (list_all (λ e. is_path (edit_path e)) edits) fits in
     edits_keep (edited files edit) edits (edit_keeps files edit map both.0) both.1

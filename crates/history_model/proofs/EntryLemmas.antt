@@ -16,11 +16,13 @@ use Rattle.history_model.specs.Laws.{EntriesTellFiles, IsTreeIn}
 use Rattle.history_model.specs.declared.FileKind.{FileKind}
 use Rattle.history_model.specs.declared.FileKind.TheVariants.{File, Exec, Link}
 use Rattle.history_model.specs.FileMap.{FileMap, Content, IsFileMap, is_below, is_within, has_below, cut_to, inside, beginnings, beginnings_from, folders_of}
+use Rattle.std.proofs.lemmas.Option.{same_Some}
+use Rattle.std.proofs.lemmas.Bool.{false_from_ne_true}
 
-same_key : (p q : Bytes) → eq_by_cmp by_bytes p q ≡ true → p ≡ q
+pub same_key : (p q : Bytes) → eq_by_cmp by_bytes p q ≡ true → p ≡ q
 same_key p q e = (bytes_eq-Decides p q).0 (sym (is_eq-slice_cmp p q) ∙ e)
 
-key_same : (p : Bytes) → eq_by_cmp by_bytes p p ≡ true
+pub key_same : (p : Bytes) → eq_by_cmp by_bytes p p ≡ true
 key_same p = is_eq-slice_cmp p p ∙ (bytes_eq-Decides p p).1 refl
 
 same_files : (a b : FileMap) → ((q : Bytes) → get a q ≡ get b q) → a ≡ b
@@ -28,7 +30,7 @@ same_files a b h = same_map nat_list_cmp_total (slice_cmp-IsAntisymmetric nat_cm
 
 -- ---- paths below a path
 
-parts : (n : ℕ) (text : Bytes) → take n text ++ drop n text ≡ text
+pub parts : (n : ℕ) (text : Bytes) → take n text ++ drop n text ≡ text
 parts zero text = refl
 parts (suc n) [] = refl
 parts (suc n) (b ∷ text) = ap (λ t. b ∷ t) (parts n text)
@@ -37,11 +39,11 @@ joined : (front rest : Bytes) → (front ++ 47 ∷ []) ++ rest ≡ front ++ 47 �
 joined [] rest = refl
 joined (b ∷ front) rest = ap (λ t. b ∷ t) (joined front rest)
 
-taken : (front rest : Bytes) → take (length front) (front ++ rest) ≡ front
+pub taken : (front rest : Bytes) → take (length front) (front ++ rest) ≡ front
 taken [] rest = refl
 taken (b ∷ front) rest = ap (λ t. b ∷ t) (taken front rest)
 
-dropped : (front rest : Bytes) → drop (length front) (front ++ rest) ≡ rest
+pub dropped : (front rest : Bytes) → drop (length front) (front ++ rest) ≡ rest
 dropped [] rest = refl
 dropped (b ∷ front) rest = dropped front rest
 
@@ -127,7 +129,7 @@ some_key test (k ∷ ks) e = go (some_key test ks) (test k) refl e
     go more true f e = (k, f, ap (λ b. b || list_any (eq_by_cmp by_bytes k) ks) (key_same k))
     go more false f e = let found = more e in (found.0, found.1, or_true (eq_by_cmp by_bytes found.0 k) _ found.2)
 
-key_passes : (test : Bytes → Bool) (p : Bytes) → test p ≡ true → (ks : List Bytes) → list_any (eq_by_cmp by_bytes p) ks ≡ true → list_any test ks ≡ true
+pub key_passes : (test : Bytes → Bool) (p : Bytes) → test p ≡ true → (ks : List Bytes) → list_any (eq_by_cmp by_bytes p) ks ≡ true → list_any test ks ≡ true
 key_passes test p h [] e = cc
 key_passes test p h (k ∷ ks) e = go (key_passes test p h ks) (eq_by_cmp by_bytes p k) refl e
   where
@@ -156,7 +158,7 @@ all_mapped P f [] h = tt
 all_mapped P f (x ∷ xs) h = (h.0, all_mapped P f xs h.1)
 
 -- a path before a slash is one of the beginnings
-regroup : (front : Bytes) (b : ℕ) (s : Bytes) → (front ++ b ∷ []) ++ s ≡ front ++ b ∷ s
+pub regroup : (front : Bytes) (b : ℕ) (s : Bytes) → (front ++ b ∷ []) ++ s ≡ front ++ b ∷ s
 regroup [] b s = refl
 regroup (a ∷ front) b s = ap (λ t. a ∷ t) (regroup front b s)
 
@@ -225,9 +227,6 @@ module _ (r : Repository) (whole : IsWhole r) (files : FileMap) where
 
 -- ---- ids and modes tell what they are of
 
-some_same : {X : Type 0} (x y : X) → Some x ≡ Some y → x ≡ y
-some_same x y e = ap (λ o. unwrap_or o x) e
-
 bytes_in : Bytes → Value → Bytes
 bytes_in none (StoredBytes bytes) = bytes
 bytes_in none _ = none
@@ -238,13 +237,13 @@ files_in none _ = none
 
 same_blob : (r : Repository) (a b : Bytes) → IsStored r (StoredBytes a) → IsStored r (StoredBytes b) → blob_id r.kind a ≡ blob_id r.kind b → a ≡ b
 unfolding bytes_in
-same_blob r a b h k e = ap (bytes_in a) (some_same (StoredBytes a) (StoredBytes b) (sym h ∙ ap (get r.objects) e ∙ k))
+same_blob r a b h k e = ap (bytes_in a) (same_Some (StoredBytes a) (StoredBytes b) (sym h ∙ ap (get r.objects) e ∙ k))
 
 same_folder : (r : Repository) (a b : FileMap) → IsStored r (StoredFolder a) → IsStored r (StoredFolder b) → folder_id r.kind a ≡ folder_id r.kind b → a ≡ b
 unfolding files_in
-same_folder r a b h k e = ap (files_in a) (some_same (StoredFolder a) (StoredFolder b) (sym h ∙ ap (get r.objects) e ∙ k))
+same_folder r a b h k e = ap (files_in a) (same_Some (StoredFolder a) (StoredFolder b) (sym h ∙ ap (get r.objects) e ∙ k))
 
-same_mode : (j k : FileKind) → mode_of j ≡ mode_of k → j ≡ k
+pub same_mode : (j k : FileKind) → mode_of j ≡ mode_of k → j ≡ k
 same_mode File File e = refl
 same_mode Exec Exec e = refl
 same_mode Link Link e = refl
@@ -262,13 +261,9 @@ no_folder_mode Link e = words_differ _ _ refl e
 
 -- ---- cuts
 
-none_there : {X : Type 0} (o : Option X) → is_some o ≡ false → o ≡ None
+pub none_there : {X : Type 0} (o : Option X) → is_some o ≡ false → o ≡ None
 none_there None e = refl
 none_there (Some x) e = cc
-
-not_true : (b : Bool) → (b ≡ true → ⊥) → b ≡ false
-not_true true h = absurd (h refl)
-not_true false h = refl
 
 true_false : {A : Type 0} {b : Bool} → b ≡ true → b ≡ false → A
 true_false e f = cc
@@ -277,11 +272,11 @@ true_false e f = cc
 no_file_here : (files : FileMap) (path : Bytes) → IsFileMap files → has_below files path ≡ true → get files path ≡ None
 no_file_here files path map h =
     let found = below_stands files path h in
-    none_there (get files path) (not_true (is_some (get files path)) (λ e. true_false found.1 (map.apart path found.0 e found.2)))
+    none_there (get files path) (false_from_ne_true (is_some (get files path)) (λ e. true_false found.1 (map.apart path found.0 e found.2)))
 
 none_below : (files : FileMap) (path rest : Bytes) → has_below files path ≡ false → get files (path ++ 47 ∷ rest) ≡ None
 none_below files path rest h =
-    none_there (get files (path ++ 47 ∷ rest)) (not_true (is_some (get files (path ++ 47 ∷ rest))) (λ e. true_false (has_one files path (path ++ 47 ∷ rest) (below_made path rest) e) h))
+    none_there (get files (path ++ 47 ∷ rest)) (false_from_ne_true (is_some (get files (path ++ 47 ∷ rest))) (λ e. true_false (has_one files path (path ++ 47 ∷ rest) (below_made path rest) e) h))
 
 cut_same : (path : Bytes) (m n : FileMap) → get m path ≡ get n path → ((rest : Bytes) → get m (path ++ 47 ∷ rest) ≡ get n (path ++ 47 ∷ rest)) → cut_to (path ∷ []) m ≡ cut_to (path ∷ []) n
 cut_same path m n here below = same_files (cut_to (path ∷ []) m) (cut_to (path ∷ []) n) (λ q. get_cut path m q ∙ at q (bytes_eq path q) refl (is_below path q) refl ∙ sym (get_cut path n q))
@@ -355,19 +350,19 @@ module _ (r : Repository) (whole : IsWhole r) (path : Bytes) where
     same_file None None f g e = refl
     same_file None (Some d) f g e = cc
     same_file (Some c) None f g e = cc
-    same_file (Some c) (Some d) f g e = ap Some (same_content c d (bytes_there r whole m m_in path c f) (bytes_there r whole n n_in path d g) (some_same (file_entry c) (file_entry d) e))
+    same_file (Some c) (Some d) f g e = ap Some (same_content c d (bytes_there r whole m m_in path c f) (bytes_there r whole n n_in path d g) (same_Some (file_entry c) (file_entry d) e))
 
     not_file : {A : Type 0} (id : Id) (o : Option Content) → Some (codes "40000", id) ≡ option_map file_entry o → A
     unfolding file_entry
     not_file id None e = cc
-    not_file id (Some c) e = no_folder_mode c.kind (ap (λ (p : Bytes × Id). p.0) (some_same (codes "40000", id) (mode_of c.kind, blob_id r.kind c.bytes) e))
+    not_file id (Some c) e = no_folder_mode c.kind (ap (λ (p : Bytes × Id). p.0) (same_Some (codes "40000", id) (mode_of c.kind, blob_id r.kind c.bytes) e))
 
     cuts_same : (s t : Bool) → has_below m path ≡ s → has_below n path ≡ t → entry_from s (inside path m) (get m path) ≡ entry_from t (inside path n) (get n path)
         → cut_to (path ∷ []) m ≡ cut_to (path ∷ []) n
     unfolding entry_from
     cuts_same true true f g e =
         let folder : inside path m ≡ inside path n = same_folder r (inside path m) (inside path n) (folder_there r whole m m_in path f) (folder_there r whole n n_in path g)
-        (ap (λ (p : Bytes × Id). p.1) (some_same (codes "40000", folder_id r.kind (inside path m)) (codes "40000", folder_id r.kind (inside path n)) e)) in
+        (ap (λ (p : Bytes × Id). p.1) (same_Some (codes "40000", folder_id r.kind (inside path m)) (codes "40000", folder_id r.kind (inside path n)) e)) in
         cut_same path m n (no_file_here m path m_map f ∙ sym (no_file_here n path n_map g))
         (λ rest. sym (get_inside path m rest) ∙ ap (λ files. get files rest) folder ∙ get_inside path n rest)
     cuts_same true false f g e = not_file (folder_id r.kind (inside path m)) (get n path) e

@@ -9,12 +9,8 @@ use Rattle.history_model.specs.Steps.{goes_on, some_failed}
 use Rattle.history_model.specs.Moments.{Moment, ActedOn, ActsOn, HasFailedCall, HasCountedFailure, CountsStay, last_moment}
 use Rattle.history_model.specs.Laws.{TracesWeaken}
 use Rattle.history_model.specs.Failures.{IsUncounted, FaultsAreCounted, EndsByFailedCall, FaultsComeLast, UnfailedCountNone}
-use Rattle.history_model.proofs.PartLemmas.{either_false}
 use Rattle.history_model.specs.declared.Fault.TheVariants.{File}
-
-pub not_false : (b : Bool) → not b ≡ false → b ≡ true
-not_false true e = refl
-not_false false e = cc
+use Rattle.std.proofs.lemmas.Bool.{not-false, or_parts}
 
 -- ---- readings that may fail
 
@@ -196,8 +192,8 @@ counts_none : (objects names : History) (old : Repository) (begin : Moment) (com
     → ActsOn objects names (Unit {0}) old begin commands replies moments new → some_failed commands replies ≡ false → CountsStay begin (last_moment begin moments)
 counts_none objects names old begin [] [] [] new h unfailed = (refl, refl)
 counts_none objects names old begin (command ∷ commands) (reply ∷ replies) (next ∷ moments) new h unfailed =
-    let fails = either_false (not (goes_on command reply)) (some_failed commands replies) unfailed in
-    stay_then begin next (last_moment next moments) ((h.1).uncounted (not_false (goes_on command reply) fails.0))
+    let fails = or_parts (not (goes_on command reply)) (some_failed commands replies) unfailed in
+    stay_then begin next (last_moment next moments) ((h.1).uncounted (not-false (goes_on command reply) fails.0))
     (counts_none objects names h.0 next commands replies moments new h.3 fails.1)
 counts_none objects names old begin [] [] (next ∷ moments) new h unfailed = absurd h
 counts_none objects names old begin [] (reply ∷ replies) moments new h unfailed = absurd h

@@ -5,7 +5,7 @@ use Rattle.history_model.specs.Bytes.{Bytes}
 use Rattle.history_model.specs.Commands.{Command, Commit, Tag, Move, Rename, Delete, Switch, Pack, Index, Names, Files, Past, Log, Show}
 use Rattle.history_model.specs.Spelling.{Part, Line, Field, parts_of, is_part, has_enough, are_items, path_words, option_list, order_words, parents_word, item_word}
 use Rattle.history_model.specs.Lines.{words_of, size_words, first_length, first_line, FirstLinesBegin}
-use Rattle.history_model.proofs.PartLemmas.{both_true}
+use Rattle.std.proofs.lemmas.Bool.{and_parts}
 
 too_many : (n : ℕ) → nat_le (suc (suc n)) 1 ≡ true → ⊥
 too_many n h = grind (arith, tests)
@@ -28,10 +28,10 @@ begins (Names folder) h = (_, refl)
 begins (Files word) h = (_, refl)
 begins (Past name) h = (_, refl)
 begins (Log c) h =
-    let paths = path_words_are c.paths (both_true (are_items c.items) (nat_le (length c.paths) 1) h).1 in
+    let paths = path_words_are c.paths (and_parts (are_items c.items) (nat_le (length c.paths) 1) h).1 in
     (map Field c.paths, λ i. Line (codes "log" ∷ (order_words c.order ++ (parents_word c.first_parents ∷ (map item_word c.items ++ paths i)))) ∷ map Field c.paths)
 begins (Show word None) h = (_, refl)
 begins (Show word (Some path)) h = (_, refl)
 
 pub first_lines_begin : FirstLinesBegin
-first_lines_begin command h = begins command (both_true (list_all is_part (parts_of command)) (has_enough command) h).1
+first_lines_begin command h = begins command (and_parts (list_all is_part (parts_of command)) (has_enough command) h).1

@@ -18,13 +18,10 @@ use Rattle.history_model.specs.declared.Cause.TheVariants.{Taken, Collides, Hold
 use Rattle.gix_hash_id.specs.Order.{id_eq}
 use Rattle.gix_hash_id.specs.declared.kind.Kind.TheVariants.{Sha1}
 use Rattle.history_model.proofs.RowLemmas.{entries-empty, root-empty, first_length, first_new_commit}
+use Rattle.history_model.proofs.AfterFirstLemmas.{skip}
 
 abbrev main : Bytes
 main = codes "refs/heads/main"
-
-skip : (b : Bool) (x : Cause) (rest : Option Cause) → b ≡ false → rest ≡ None → cond b (Some x) rest ≡ None
-skip true x rest e f = cc
-skip false x rest e f = f
 
 no_name : get (empty {X = Reference} {R = by_bytes}) main ≡ None
 no_name = get-empty by_bytes main

@@ -20,9 +20,11 @@ use Rattle.history_model.specs.Objects.{hex, actor_text}
 use Rattle.history_model.specs.PackedNames.{id_from_hex}
 use Rattle.history_model.specs.Readings.{Reading, Holds, Symbolic, Faulty, loose_line}
 use Rattle.history_model.proofs.IdLemmas.{id_from_hex-tells}
-use Rattle.history_model.proofs.WholeLists.{and_true, and_both, true_or, same_text}
+use Rattle.history_model.proofs.WholeLists.{same_text}
 use Rattle.history_model.proofs.WholePaths.{begins_parts}
 use Rattle.std.proofs.Common.{inl}
+use Rattle.std.proofs.lemmas.Bool.{and_from, and_parts}
+use Rattle.history_model.proofs.NameLemmas.{some_or}
 
 -- ---- logs
 
@@ -41,9 +43,9 @@ record NameParts (name : Bytes) : Type 0 where
 
 name_parts : (name : Bytes) → is_name name ≡ true → NameParts name
 name_parts name h =
-    let a = and_true (is_partial_name name && begins (codes "refs/") name && is_utf8 name) (nat_le (length name) max_name) h in
-    let b = and_true (is_partial_name name && begins (codes "refs/") name) (is_utf8 name) a.0 in
-    let c = and_true (is_partial_name name) (begins (codes "refs/") name) b.0 in
+    let a = and_parts (is_partial_name name && begins (codes "refs/") name && is_utf8 name) (nat_le (length name) max_name) h in
+    let b = and_parts (is_partial_name name && begins (codes "refs/") name) (is_utf8 name) a.0 in
+    let c = and_parts (is_partial_name name) (begins (codes "refs/") name) b.0 in
     record { partial = c.0; below = begins_parts (codes "refs/") name c.1 }
 
 slash_below : (rest : Bytes) → has_slash (codes "refs/" ++ rest) ≡ true
@@ -52,8 +54,8 @@ slash_below rest = refl
 full_of : (name : Bytes) → is_name name ≡ true → is_full_name name ≡ true
 full_of name h =
     let parts = name_parts name h in
-    and_both (is_partial_name name) (has_slash name || is_capitals name) parts.partial
-    (true_or (has_slash name) (is_capitals name) (inl (subst (λ n. has_slash n ≡ true) (sym parts.below) (slash_below (drop 5 name)))))
+    and_from (is_partial_name name) (has_slash name || is_capitals name) parts.partial
+    (some_or (has_slash name) (is_capitals name) (inl (subst (λ n. has_slash n ≡ true) (sym parts.below) (slash_below (drop 5 name)))))
 
 regrouped : (a b c : Bool) → (((false || a) || b) || c) ≡ ((a || c) || b)
 regrouped true b c = refl
@@ -86,12 +88,12 @@ candidates_alike word = λ i. filter (λ name. begins (codes "refs/") name && no
 
 -- ---- loose files
 
-ends_so : (text : Bytes) → ends (10 ∷ []) text ≡ true → text ≡ line (take (length text - 1) text)
+pub ends_so : (text : Bytes) → ends (10 ∷ []) text ≡ true → text ≡ line (take (length text - 1) text)
 ends_so text e =
     sym (take-append-drop (length text - 1) text)
     ∙ ap (λ back. take (length text - 1) text ++ back) (sym (same_text (10 ∷ []) (drop (length text - 1) text) e))
 
-holds_same : {a b : Id} → Holds a ≡ Holds b → a ≡ b
+pub holds_same : {a b : Id} → Holds a ≡ Holds b → a ≡ b
 holds_same e = cc
 
 symbolic_same : {a b : Bytes} → Symbolic a ≡ Symbolic b → a ≡ b
@@ -147,7 +149,7 @@ module _ (kind : Kind) (text : Bytes) where
     where
       go : (symbol : Bool) (found : Option Id) → is_symbol ≡ symbol → read_as symbol found ≡ Symbolic name → loose_target kind (line text) ≡ Some (ToName name)
       go true found e h =
-          let parts = and_true (begins (codes "ref: ") text) (is_name (drop 5 text)) e in
+          let parts = and_parts (begins (codes "ref: ") text) (is_name (drop 5 text)) e in
           let same : drop 5 text ≡ name = symbolic_same h in
           let whole : line text ≡ loose_text (ToName name) = ap line (begins_parts (codes "ref: ") text parts.0 ∙ ap (λ n. codes "ref: " ++ n) same) in
           subst (λ t. loose_target kind t ≡ Some (ToName name)) (sym whole) (name_reads kind name (full_of name (subst (λ n. is_name n ≡ true) same parts.1)))

@@ -9,7 +9,8 @@ use Rattle.history_model.specs.Grammar.{is_command, IsPrefixFree}
 use Rattle.history_model.specs.Stage.{is_spoken}
 use Rattle.history_model.specs.declared.FileKind.{FileKind}
 use Rattle.history_model.specs.declared.FileKind.TheVariants.{File, Exec, Link}
-use Rattle.history_model.proofs.PartLemmas.{Agree, agree_reads, both_true, head_same, tail_same}
+use Rattle.history_model.proofs.PartLemmas.{Agree, agree_reads, head_same, tail_same}
+use Rattle.std.proofs.lemmas.Bool.{and_parts}
 
 pub words_differ : {A : Type 0} (u v : Bytes) → bytes_eq u v ≡ false → u ≡ v → A
 words_differ u v h e = let k = (bytes_eq-Decides u v).1 e in cc
@@ -238,10 +239,10 @@ agree a b = λ e. heads_differ _ _ _ _ refl e
 
 -- a command's parts have a spelling
 pub spelled_parts : (command : Command) → has_spelling command ≡ true → list_all is_part (parts_of command) ≡ true
-spelled_parts command h = (both_true (list_all is_part (parts_of command)) (has_enough command) h).0
+spelled_parts command h = (and_parts (list_all is_part (parts_of command)) (has_enough command) h).0
 
 pub is_spelled : (command : Command) → is_command command ≡ true → has_spelling command ≡ true
-is_spelled command h = (both_true (has_spelling command) (is_spoken command) h).0
+is_spelled command h = (and_parts (has_spelling command) (is_spoken command) h).0
 
 pub command_parts : (command : Command) → is_command command ≡ true → list_all is_part (parts_of command) ≡ true
 command_parts command h = spelled_parts command (is_spelled command h)

@@ -26,7 +26,9 @@ use Rattle.history_model.specs.Bytes.{Bytes}
 use Rattle.history_model.specs.Objects.{by_id, digest, hex}
 use Rattle.history_model.specs.Forms.{is_id}
 use Rattle.history_model.specs.PackedNames.{id_from_hex}
-use Rattle.history_model.proofs.WholeLists.{and_true, and_both, clash}
+use Rattle.history_model.proofs.WholeLists.{clash}
+use Rattle.std.proofs.lemmas.Bool.{eqb-true, and_from, and_parts}
+use Rattle.gix_ref_format.proofs.IdLemmas.{same_number}
 
 -- ---- equality
 
@@ -75,34 +77,28 @@ low_digit d h = grind (arith, tests)
 digit_low : (d : ℕ) → d < 16 → nat_lt d 16 ≡ true
 digit_low d h = grind (arith, tests)
 
-one_number : (a b : ℕ) → (a == b) ≡ true → a ≡ b
-one_number a b h = grind (arith, tests)
-
-same_number : (a b : ℕ) → a ≡ b → (a == b) ≡ true
-same_number a b h = grind (arith, tests)
-
 pub are_digits : (ds : List ℕ) → list_all (λ d. nat_lt d 16) ds ≡ true → AreDigits ds
 are_digits [] h = none
 are_digits (d ∷ ds) h =
-    let parts = and_true (nat_lt d 16) (list_all (λ d. nat_lt d 16) ds) h in
+    let parts = and_parts (nat_lt d 16) (list_all (λ d. nat_lt d 16) ds) h in
     more (low_digit d parts.0) (are_digits ds parts.1)
 
 pub all_digits : (ds : List ℕ) → AreDigits ds → list_all (λ d. nat_lt d 16) ds ≡ true
 all_digits [] none = refl
-all_digits (d ∷ ds) (more low h) = and_both (nat_lt d 16) (list_all (λ d. nat_lt d 16) ds) (digit_low d low) (all_digits ds h)
+all_digits (d ∷ ds) (more low h) = and_from (nat_lt d 16) (list_all (λ d. nat_lt d 16) ds) (digit_low d low) (all_digits ds h)
 
 pub id_digits : (kind : Kind) (id : Id) → is_id kind id ≡ true → list_all (λ d. nat_lt d 16) id.digits ≡ true
-id_digits kind id h = (and_true (kind_number id.kind == kind_number kind && length id.digits == hex_len kind) (list_all (λ d. nat_lt d 16) id.digits) h).1
+id_digits kind id h = (and_parts (kind_number id.kind == kind_number kind && length id.digits == hex_len kind) (list_all (λ d. nat_lt d 16) id.digits) h).1
 
 pub has_kind : (kind : Kind) (id : Id) → is_id kind id ≡ true → HasKind kind id
 has_kind kind id h =
     let number = kind_number id.kind == kind_number kind in
     let whole = length id.digits == hex_len kind in
-    let outer = and_true (number && whole) (list_all (λ d. nat_lt d 16) id.digits) h in
-    let inner = and_true number whole outer.0 in
+    let outer = and_parts (number && whole) (list_all (λ d. nat_lt d 16) id.digits) h in
+    let inner = and_parts number whole outer.0 in
     record {
-      of_kind = kind_number-injective id.kind kind (one_number (kind_number id.kind) (kind_number kind) inner.0);
-      whole = one_number (length id.digits) (hex_len kind) inner.1;
+      of_kind = kind_number-injective id.kind kind (eqb-true (kind_number id.kind) (kind_number kind) inner.0);
+      whole = eqb-true (length id.digits) (hex_len kind) inner.1;
       digits = are_digits id.digits outer.1;
     }
 
@@ -110,8 +106,8 @@ pub kind_has : (kind : Kind) (id : Id) → HasKind kind id → is_id kind id ≡
 kind_has kind id h =
     let number = kind_number id.kind == kind_number kind in
     let whole = length id.digits == hex_len kind in
-    and_both (number && whole) (list_all (λ d. nat_lt d 16) id.digits)
-    (and_both number whole (same_number (kind_number id.kind) (kind_number kind) (ap kind_number h.of_kind)) (same_number (length id.digits) (hex_len kind) h.whole))
+    and_from (number && whole) (list_all (λ d. nat_lt d 16) id.digits)
+    (and_from number whole (same_number (kind_number id.kind) (kind_number kind) (ap kind_number h.of_kind)) (same_number (length id.digits) (hex_len kind) h.whole))
     (all_digits id.digits h.digits)
 
 -- ids of one kind with the same digits
@@ -132,8 +128,8 @@ below_256 b h = grind (arith, tests)
 
 bytes_below : (xs : List ℕ) → list_all (λ b. nat_lt b 256) xs ≡ true → (i : ℕ) → get_or xs i 0 < 256
 bytes_below [] h i = omega arith
-bytes_below (x ∷ xs) h zero = below_256 x (and_true (nat_lt x 256) (list_all (λ b. nat_lt b 256) xs) h).0
-bytes_below (x ∷ xs) h (suc i) = bytes_below xs (and_true (nat_lt x 256) (list_all (λ b. nat_lt b 256) xs) h).1 i
+bytes_below (x ∷ xs) h zero = below_256 x (and_parts (nat_lt x 256) (list_all (λ b. nat_lt b 256) xs) h).0
+bytes_below (x ∷ xs) h (suc i) = bytes_below xs (and_parts (nat_lt x 256) (list_all (λ b. nat_lt b 256) xs) h).1 i
 
 sha1_whole : (h : List ℕ) → (length (sha1_bytes h 5) == 20 && list_all (λ b. nat_lt b 256) (sha1_bytes h 5)) ≡ true
 unfolding sha1_bytes
@@ -151,13 +147,13 @@ digest_whole Sha256 text = sha256_whole (sha256_hash initial_hash_256 text)
 -- a digest has its kind's length
 pub length-digest_of : (kind : Kind) (text : Bytes) → length (digest_of kind text) ≡ byte_len kind
 length-digest_of kind text =
-    one_number (length (digest_of kind text)) (byte_len kind)
-    (and_true (length (digest_of kind text) == byte_len kind) (list_all (λ b. nat_lt b 256) (digest_of kind text)) (digest_whole kind text)).0
+    eqb-true (length (digest_of kind text)) (byte_len kind)
+    (and_parts (length (digest_of kind text) == byte_len kind) (list_all (λ b. nat_lt b 256) (digest_of kind text)) (digest_whole kind text)).0
 
 -- and its bytes are below 256
 pub digest_of-bytes : (kind : Kind) (text : Bytes) (i : ℕ) → get_or (digest_of kind text) i 0 < 256
 digest_of-bytes kind text =
-    bytes_below (digest_of kind text) (and_true (length (digest_of kind text) == byte_len kind) (list_all (λ b. nat_lt b 256) (digest_of kind text)) (digest_whole kind text)).1
+    bytes_below (digest_of kind text) (and_parts (length (digest_of kind text) == byte_len kind) (list_all (λ b. nat_lt b 256) (digest_of kind text)) (digest_whole kind text)).1
 
 digest_has : (kind : Kind) (text : Bytes) → HasKind kind (digest kind text)
 unfolding digest

@@ -8,7 +8,7 @@ use Rattle.history_model.specs.Forms.{is_name}
 use Rattle.gix_object_lines.specs.NameTest.{is_partial_name}
 use Rattle.history_model.proofs.NameTests.{is_name_component, components_of}
 use Rattle.history_model.specs.Places.{is_log_place, log_place}
-use Rattle.history_model.proofs.PartLemmas.{both_true, either_false}
+use Rattle.std.proofs.lemmas.Bool.{and_parts, or_cases, or_parts}
 
 false_true : {A : Type 0} {b : Bool} → b ≡ false → b ≡ true → A
 false_true e f = cc
@@ -41,10 +41,6 @@ some_or true b h = refl
 some_or false b (inl e) = cc
 some_or false b (inr e) = e
 
-pub or_some : (a b : Bool) → (a || b) ≡ true → (a ≡ true) ⊎ (b ≡ true)
-or_some true b h = inl refl
-or_some false b h = inr h
-
 -- some part ends so
 some_part : Bytes → List Bytes → Bool
 some_part back parts = list_any (ends back) parts
@@ -55,7 +51,7 @@ ends_cons b back text h = rw (ends_parts back text h) (ends_after (b ∷ take (l
 with_byte : (b : ℕ) (back : Bytes) (parts : List Bytes) → some_part back parts ≡ true → some_part back (onto_first b parts) ≡ true
 unfolding some_part
 with_byte b back [] h = cc
-with_byte b back (part ∷ parts) h = go (or_some (ends back part) (list_any (ends back) parts) h)
+with_byte b back (part ∷ parts) h = go (or_cases (ends back part) (list_any (ends back) parts) h)
   where
     go : (ends back part ≡ true) ⊎ (list_any (ends back) parts ≡ true) → (ends back (b ∷ part) || list_any (ends back) parts) ≡ true
     go (inl e) = some_or _ _ (inl (ends_cons b back part e))
@@ -65,7 +61,7 @@ alone : (back : Bytes) → has_byte 47 back ≡ false → split_slash back ≡ b
 unfolding split_slash
 alone [] h = refl
 alone (b ∷ back) h =
-    let parts = either_false (b == 47) (has_byte 47 back) h in
+    let parts = or_parts (b == 47) (has_byte 47 back) h in
     ap (λ c. cond c ([] ∷ slice_split (λ b. b == 47) back) (onto_first b (slice_split (λ b. b == 47) back))) parts.0
     ∙ ap (onto_first b) (alone back parts.1)
 
@@ -83,8 +79,8 @@ last_part back h (b ∷ front) = go (last_part back h front) (b == 47)
 pub no_lock : (parts : List Bytes) → list_all is_name_component parts ≡ true → list_any (ends (codes ".lock")) parts ≡ false
 no_lock [] h = refl
 no_lock (part ∷ parts) h =
-    let here = both_true (is_name_component part) (list_all is_name_component parts) h in
-    or_false (ends (codes ".lock") part) (list_any (ends (codes ".lock")) parts) (turned (ends (codes ".lock") part) (both_true _ (not (ends (codes ".lock") part)) here.0).1) (no_lock parts here.1)
+    let here = and_parts (is_name_component part) (list_all is_name_component parts) h in
+    or_false (ends (codes ".lock") part) (list_any (ends (codes ".lock")) parts) (turned (ends (codes ".lock") part) (and_parts _ (not (ends (codes ".lock") part)) here.0).1) (no_lock parts here.1)
   where
     or_false : (a b : Bool) → a ≡ false → b ≡ false → (a || b) ≡ false
     or_false true b e f = cc
@@ -94,12 +90,9 @@ no_lock (part ∷ parts) h =
     turned true h = cc
     turned false h = refl
 
-pub and_first : (a b : Bool) → (a && b) ≡ true → a ≡ true
-and_first a b h = (both_true a b h).0
-
 -- the first of the tests that make a name
-partial_of : (name : Bytes) → is_name name ≡ true → is_partial_name name ≡ true
-partial_of name h = and_first _ _ (and_first _ _ (and_first _ _ h))
+pub partial_of : (name : Bytes) → is_name name ≡ true → is_partial_name name ≡ true
+partial_of name h = (and_parts _ _ (and_parts _ _ (and_parts _ _ h).0).0).0
 
 pub name-lock : (name : Bytes) → is_name name ≡ true → ends (codes ".lock") name ≡ false
 unfolding some_part split_slash
@@ -125,11 +118,11 @@ log-lock name h = go (ends (codes ".lock") (log_place name)) refl
         (subst (λ t. list_any (ends (codes ".lock")) (slice_split (λ b. b == 47) t) ≡ true) (sym (ends_parts (codes ".lock") (log_place name) e)) some)
 
 pub name-log : (name : Bytes) → is_name name ≡ true → is_log_place name ≡ false
-name-log name h = refs_first name (both_true (is_partial_name name) (begins (codes "refs/") name) (and_first _ _ (and_first _ _ h))).1
+name-log name h = refs_first name (and_parts (is_partial_name name) (begins (codes "refs/") name) (and_parts _ _ (and_parts _ _ h).0).0).1
   where
     refs_first : (text : Bytes) → begins (codes "refs/") text ≡ true → begins (codes "logs/") text ≡ false
     refs_first [] e = refl
     refs_first (b ∷ text) e =
-        let first : (nat_eq 114 b) ≡ true = (both_true (nat_eq 114 b) _ e).0 in
+        let first : (nat_eq 114 b) ≡ true = (and_parts (nat_eq 114 b) _ e).0 in
         let byte : 114 ≡ b = grind (arith, tests) in
         subst (λ c. begins (codes "logs/") (c ∷ text) ≡ false) byte refl

@@ -6,48 +6,26 @@ use Rattle.std.proofs.lemmas.Slice.Eq.{bytes_eq-Decides}
 use Rattle.gix_object_lines.specs.NameTest as rules
 use Rattle.history_model.specs.Bytes.{Bytes, begins, ends, is_empty}
 use Rattle.history_model.specs.FileMap.{components}
-use Rattle.history_model.proofs.PartLemmas.{both_true}
+use Rattle.std.proofs.lemmas.Bool.{not-true, or_right, false_from_ne_true, or_left, and_parts}
+use Rattle.history_model.proofs.EntryLemmas.{parts, taken}
 
 -- a component: not empty, no dot first, no `.lock` last
 abbrev pub is_name_component : Bytes → Bool
 is_name_component part = not (is_empty part) && not (begins (codes ".") part) && not (ends (codes ".lock") part)
 
-turned : (b : Bool) → not b ≡ true → b ≡ false
-turned true h = cc
-turned false h = refl
-
-not_true : (b : Bool) → (b ≡ true → ⊥) → b ≡ false
-not_true true h = absurd (h refl)
-not_true false h = refl
-
-or_later : (a b : Bool) → b ≡ true → (a || b) ≡ true
-or_later true b h = refl
-or_later false b h = h
-
-or_here : (a b : Bool) → a ≡ true → (a || b) ≡ true
-or_here true b h = refl
-or_here false b h = cc
-
 -- ---- what stands inside a text
 
-front_of : (part rest : Bytes) → take (length part) (part ++ rest) ≡ part
-front_of [] rest = none rest
-  where
-    none : (t : Bytes) → take 0 t ≡ []
-    none t = refl
-front_of (b ∷ part) rest = ap (λ t. b ∷ t) (front_of part rest)
-
 begins_so : (part rest : Bytes) → rules.begins part (part ++ rest) ≡ true
-begins_so part rest = (bytes_eq-Decides part (take (length part) (part ++ rest))).1 (sym (front_of part rest))
+begins_so part rest = (bytes_eq-Decides part (take (length part) (part ++ rest))).1 (sym (taken part rest))
 
 holds_so : (part rest : Bytes) → rules.holds part (part ++ rest) ≡ true
 holds_so [] [] = refl
-holds_so [] (b ∷ rest) = or_here (rules.begins [] (b ∷ rest)) (rules.holds [] rest) (begins_so [] (b ∷ rest))
-holds_so (b ∷ part) rest = or_here (rules.begins (b ∷ part) (b ∷ part ++ rest)) (rules.holds (b ∷ part) (part ++ rest)) (begins_so (b ∷ part) rest)
+holds_so [] (b ∷ rest) = or_left (rules.begins [] (b ∷ rest)) (rules.holds [] rest) (begins_so [] (b ∷ rest))
+holds_so (b ∷ part) rest = or_left (rules.begins (b ∷ part) (b ∷ part ++ rest)) (rules.holds (b ∷ part) (part ++ rest)) (begins_so (b ∷ part) rest)
 
 holds_later : (part front rest : Bytes) → rules.holds part rest ≡ true → rules.holds part (front ++ rest) ≡ true
 holds_later part [] rest h = h
-holds_later part (b ∷ front) rest h = or_later (rules.begins part (b ∷ front ++ rest)) (rules.holds part (front ++ rest)) (holds_later part front rest h)
+holds_later part (b ∷ front) rest h = or_right (rules.begins part (b ∷ front ++ rest)) (rules.holds part (front ++ rest)) (holds_later part front rest h)
 
 back_of : (front back : Bytes) → drop (length (front ++ back) - length back) (front ++ back) ≡ back
 back_of front back = ap (λ n. drop n (front ++ back)) (let sum = Rattle.std.proofs.Common.length-append front back in omega arith) ∙ gone front
@@ -59,18 +37,13 @@ back_of front back = ap (λ n. drop n (front ++ back)) (let sum = Rattle.std.pro
 ends_so : (front back : Bytes) → rules.ends back (front ++ back) ≡ true
 ends_so front back = (bytes_eq-Decides back (drop (length (front ++ back) - length back) (front ++ back))).1 (sym (back_of front back))
 
-parts_of : (n : ℕ) (t : Bytes) → take n t ++ drop n t ≡ t
-parts_of zero t = refl
-parts_of (suc n) [] = refl
-parts_of (suc n) (b ∷ t) = ap (λ bs. b ∷ bs) (parts_of n t)
-
 ends_parts : (back text : Bytes) → rules.ends back text ≡ true → text ≡ take (length text - length back) text ++ back
 ends_parts back text h =
-    sym (parts_of (length text - length back) text)
+    sym (parts (length text - length back) text)
     ∙ ap (λ t. take (length text - length back) text ++ t) (sym ((bytes_eq-Decides back (drop (length text - length back) text)).0 h))
 
 one_byte : (a b : ℕ) → (nat_eq a b && true) ≡ true → a ≡ b
-one_byte a b h = grind (arith, tests, (both_true (nat_eq a b) true h).0)
+one_byte a b h = grind (arith, tests, (and_parts (nat_eq a b) true h).0)
 
 -- ---- a text at the beginning of a component
 
@@ -95,7 +68,7 @@ module _ (part tail : Bytes) (good : Good (part ++ 47 ∷ tail)) where
   clash false h k = absurd cc
 
   lock_free : ends (codes ".lock") part ≡ false
-  lock_free = not_true (ends (codes ".lock") part) (λ h.
+  lock_free = false_from_ne_true (ends (codes ".lock") part) (λ h.
       let front = take (length part - 5) part in
       let is : part ++ 47 ∷ tail ≡ front ++ (codes ".lock/" ++ tail) = ap (λ p. p ++ 47 ∷ tail) (ends_parts (codes ".lock") part h) ∙ append_assoc front (codes ".lock") (47 ∷ tail) in
       clash (rules.holds (codes ".lock/") (part ++ 47 ∷ tail)) (ap (rules.holds (codes ".lock/")) is ∙ holds_later (codes ".lock/") front _ (holds_so (codes ".lock/") tail)) good.no_lock_before)
@@ -127,18 +100,18 @@ module _ (part tail : Bytes) (good : Good (part ++ 47 ∷ tail)) where
         where
           by_byte : (t : Bytes) → tail ≡ t → rules.begins (b ∷ []) t ≡ false
           by_byte [] e = refl
-          by_byte (c ∷ t) e = not_true (nat_eq b c && true) (λ h.
+          by_byte (c ∷ t) e = false_from_ne_true (nat_eq b c && true) (λ h.
               clash (rules.holds (47 ∷ b ∷ []) (part ++ 47 ∷ tail))
               (ap (λ u. rules.holds (47 ∷ b ∷ []) (part ++ 47 ∷ u)) (e ∙ ap (λ x. x ∷ t) (sym (one_byte b c h))) ∙ holds_later (47 ∷ b ∷ []) part (47 ∷ b ∷ t) (here t)) none)
 
       no_last : (back : Bytes) → rules.ends back (part ++ 47 ∷ tail) ≡ false → rules.ends back tail ≡ false
-      no_last back none = not_true (rules.ends back tail) (λ h.
+      no_last back none = false_from_ne_true (rules.ends back tail) (λ h.
           let front = take (length tail - length back) tail in
           let is : part ++ 47 ∷ tail ≡ (part ++ 47 ∷ front) ++ back = ap (λ t. part ++ 47 ∷ t) (ends_parts back tail h) ∙ sym (append_assoc part (47 ∷ front) back) in
           clash (rules.ends back (part ++ 47 ∷ tail)) (ap (rules.ends back) is ∙ ends_so (part ++ 47 ∷ front) back) none)
 
       none_later : (inner : Bytes) → rules.holds inner (part ++ 47 ∷ tail) ≡ false → rules.holds inner tail ≡ false
-      none_later inner none = not_true (rules.holds inner tail) (λ h.
+      none_later inner none = false_from_ne_true (rules.holds inner tail) (λ h.
           clash (rules.holds inner (part ++ 47 ∷ tail))
           (ap (rules.holds inner) (sym (append_assoc part (47 ∷ []) tail)) ∙ holds_later inner (part ++ 47 ∷ []) tail h) none)
 
@@ -161,28 +134,28 @@ record Tested (name : Bytes) : Type 0 where
 
 tested : (name : Bytes) → rules.is_partial_name name ≡ true → Tested name
 tested name h =
-    let a = both_true _ _ h in
-    let b = both_true _ _ a.1 in
-    let c = both_true _ _ b.1 in
-    let d = both_true _ _ c.1 in
-    let e = both_true _ _ d.1 in
-    let f = both_true _ _ e.1 in
-    let g = both_true _ _ f.1 in
-    let k = both_true _ _ g.1 in
-    let l = both_true _ _ k.1 in
-    let m = both_true _ _ l.1 in
+    let a = and_parts _ _ h in
+    let b = and_parts _ _ a.1 in
+    let c = and_parts _ _ b.1 in
+    let d = and_parts _ _ c.1 in
+    let e = and_parts _ _ d.1 in
+    let f = and_parts _ _ e.1 in
+    let g = and_parts _ _ f.1 in
+    let k = and_parts _ _ g.1 in
+    let l = and_parts _ _ k.1 in
+    let m = and_parts _ _ l.1 in
     record {
       good = record {
         some = λ none. differs (bytes_eq name []) a.0 ((bytes_eq-Decides name []).1 none);
-        no_slash_first = turned _ k.0;
-        no_dot_first = turned _ b.0;
-        no_slash_last = turned _ l.0;
-        no_lock_last = turned _ d.0;
-        no_two_slashes = turned _ m.0;
-        no_dot_behind = turned _ c.0;
-        no_lock_before = turned _ e.0;
+        no_slash_first = not-true _ k.0;
+        no_dot_first = not-true _ b.0;
+        no_slash_last = not-true _ l.0;
+        no_lock_last = not-true _ d.0;
+        no_two_slashes = not-true _ m.0;
+        no_dot_behind = not-true _ c.0;
+        no_lock_before = not-true _ e.0;
       };
-      unbarred = turned _ g.0;
+      unbarred = not-true _ g.0;
     }
 
 pub components_of : (name : Bytes) → rules.is_partial_name name ≡ true → list_all is_name_component (components name) ≡ true

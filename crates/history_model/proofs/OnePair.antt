@@ -10,10 +10,10 @@ use Rattle.history_model.specs.Forms.{is_id}
 use Rattle.history_model.specs.Places.{Pair, object_place}
 use Rattle.history_model.specs.StandsFor.{StandsWhole, object_files, head_text}
 use Rattle.gix_hash_id.specs.declared.kind.Kind.{Kind}
-use Rattle.history_model.proofs.IdLemmas.{one_by_ids}
+use Rattle.history_model.proofs.IdLemmas.{one_by_ids, digest_is_id}
 use Rattle.history_model.proofs.PlaceLemmas.{file_at_id}
-use Rattle.history_model.proofs.WholeLists.{texts_differ, some_inside, none_is_some}
-use Rattle.history_model.proofs.WholeTexts.{text_same, cut_same, is_id-digest}
+use Rattle.history_model.proofs.WholeLists.{texts_differ, none_is_some}
+use Rattle.history_model.proofs.WholeTexts.{text_same, cut_same}
 use Rattle.history_model.proofs.WholeRoots.{HasAll, one_map}
 use Rattle.history_model.proofs.WholeStores.{one_by_keys}
 use Rattle.history_model.proofs.WholeGrowth.{has_stored}
@@ -21,11 +21,12 @@ use Rattle.history_model.proofs.WholeReads.{plain_written}
 use Rattle.history_model.proofs.WholeForms.{moves_formed}
 use Rattle.history_model.proofs.OnePairTexts.{last_same}
 use Rattle.history_model.proofs.OnePairLines.{moves_same, commit_same, tag_same}
+use Rattle.std.proofs.lemmas.Option.{same_Some}
 
 -- ---- objects at their places
 
 stored_id : (r : Repository) → IsWholeStore r → (q : Id) (v : Value) → get r.objects q ≡ Some v → is_id r.kind q ≡ true
-stored_id r whole q v at = ap (is_id r.kind) (whole.own_ids q v at) ∙ is_id-digest r.kind (value_text r.kind v)
+stored_id r whole q v at = ap (is_id r.kind) (whole.own_ids q v at) ∙ digest_is_id r.kind (value_text r.kind v)
 
 -- at an id's place stands its value's text
 at_place : (r : Repository) → IsWholeStore r → (q : Id) → is_id r.kind q ≡ true → get (object_files r) (object_place q) ≡ option_map (value_text r.kind) (get r.objects q)
@@ -46,7 +47,7 @@ module _ (kind : Kind) (pair : Pair) (r : Repository) (other_names : FinMap by_b
 
     texts : (q : Id) (v w : Value) → get r.objects q ≡ Some v → get s.objects q ≡ Some w → value_text r.kind v ≡ value_text r.kind w
     texts q v w at_r at_s =
-        some_inside (value_text r.kind v) (value_text r.kind w)
+        same_Some (value_text r.kind v) (value_text r.kind w)
         (ap (option_map (value_text r.kind)) (sym at_r) ∙ one_text q (stored_id r (left.whole).store q v at_r) ∙ ap (option_map (value_text r.kind)) at_s)
 
     -- what is stored in one of the two
@@ -54,10 +55,10 @@ module _ (kind : Kind) (pair : Pair) (r : Repository) (other_names : FinMap by_b
     InEither v = IsStored r v ⊎ IsStored s v
 
     either_same : (v w : Value) → InEither v → InEither w → id_of r.kind v ≡ id_of r.kind w → value_text r.kind v ≡ value_text r.kind w
-    either_same v w (inl h) (inl k) e = ap (value_text r.kind) (some_inside v w (sym h ∙ ap (get r.objects) e ∙ k))
+    either_same v w (inl h) (inl k) e = ap (value_text r.kind) (same_Some v w (sym h ∙ ap (get r.objects) e ∙ k))
     either_same v w (inl h) (inr k) e = texts (id_of r.kind w) v w (ap (get r.objects) (sym e) ∙ h) k
     either_same v w (inr h) (inl k) e = sym (texts (id_of r.kind w) w v k (ap (get s.objects) (sym e) ∙ h))
-    either_same v w (inr h) (inr k) e = ap (value_text r.kind) (some_inside v w (sym h ∙ ap (get s.objects) e ∙ k))
+    either_same v w (inr h) (inr k) e = ap (value_text r.kind) (same_Some v w (sym h ∙ ap (get s.objects) e ∙ k))
 
     in_r : (m : FileMap) → HasAll (IsStored r) m → HasAll InEither m
     in_r m h = record { itself = inl h.itself; folders = λ path content folder i j. inl (h.folders path content folder i j); bytes = λ path content i. inl (h.bytes path content i) }
@@ -118,13 +119,13 @@ module _ (kind : Kind) (pair : Pair) (r : Repository) (other_names : FinMap by_b
         go None None e f = refl
         go None (Some b) e f = none_is_some b.id e
         go (Some a) None e f = none_is_some a.id (sym e)
-        go (Some a) (Some b) e f = λ i. Some (record { id = some_inside a.id b.id e i; moves = f i })
+        go (Some a) (Some b) e f = λ i. Some (record { id = same_Some a.id b.id e i; moves = f i })
 
     -- HEAD
 
     branches : r.branch ≡ s.branch
     branches = (cut_same (codes "ref: ") (codes "ref: ") r.branch s.branch refl (last_same (codes "ref: " ++ r.branch) (codes "ref: " ++ s.branch) 10
-        (some_inside (head_text r.branch) (head_text s.branch) (sym (left.stands).head ∙ (right.stands).head)))).1
+        (same_Some (head_text r.branch) (head_text s.branch) (sym (left.stands).head ∙ (right.stands).head)))).1
 
     of_one_kind : r ≡ s
     of_one_kind = λ i. record { kind = r.kind; names = one_by_keys r.names s.names names_at i; branch = branches i; objects = one_by_ids r.objects s.objects objects_at i }

@@ -12,23 +12,20 @@ use Rattle.history_model.specs.Forms.{is_id, is_actor, is_actor_part, is_offset,
 use Rattle.gix_hash_id.specs.declared.kind.Kind.{Kind}
 use Rattle.history_model.proofs.IdLemmas.{low_digit, id_digits, hex_tells}
 use Rattle.history_model.proofs.PartLemmas.{split_at, tail_same}
-use Rattle.history_model.proofs.WholeLists.{none_or, or_none, or_true, clash, and_true, not_true}
+use Rattle.history_model.proofs.WholeLists.{clash}
 use Rattle.history_model.proofs.WholeTexts.{cut_same, decimal_high}
+use Rattle.std.proofs.lemmas.Bool.{or_parts, and_parts, not-true, or_cases, or_from}
 
 -- ---- hex
-
--- hex digits tell the id
-pub hex_same : (kind : Kind) (a b : Id) → is_id kind a ≡ true → is_id kind b ≡ true → hex a ≡ hex b → a ≡ b
-hex_same kind a b ha hb e = hex_tells kind a b ha hb e
 
 -- a table of digits has only bytes that are at least `0`
 table_high : (d : ℕ) → d < 48 → (table : Bytes) → list_all (λ c. nat_le 48 c) table ≡ true → (i : ℕ) → i < length table → (slice_index table i == d) ≡ false
 table_high d low [] h i less = absurd (omega arith)
-table_high d low (c ∷ table) h zero less = apart c (and_true (nat_le 48 c) (list_all (λ c. nat_le 48 c) table) h).0
+table_high d low (c ∷ table) h zero less = apart c (and_parts (nat_le 48 c) (list_all (λ c. nat_le 48 c) table) h).0
   where
     apart : (c : ℕ) → nat_le 48 c ≡ true → (c == d) ≡ false
     apart c k = grind (arith, tests)
-table_high d low (c ∷ table) h (suc i) less = table_high d low table (and_true (nat_le 48 c) (list_all (λ c. nat_le 48 c) table) h).1 i (omega arith)
+table_high d low (c ∷ table) h (suc i) less = table_high d low table (and_parts (nat_le 48 c) (list_all (λ c. nat_le 48 c) table) h).1 i (omega arith)
 
 digit_high : (d : ℕ) → d < 48 → (i : ℕ) → i < 16 → (slice_index lower_digits i == d) ≡ false
 digit_high d low i less = table_high d low lower_digits refl i less
@@ -37,8 +34,8 @@ digit_high d low i less = table_high d low lower_digits refl i less
 hex_plain : (d : ℕ) → d < 48 → (digits : Bytes) → list_all (λ d. nat_lt d 16) digits ≡ true → has_byte d (hex_text digits) ≡ false
 hex_plain d low [] h = refl
 hex_plain d low (i ∷ digits) h =
-    let parts = and_true (nat_lt i 16) (list_all (λ d. nat_lt d 16) digits) h in
-    none_or (slice_index lower_digits i == d) (has_byte d (hex_text digits)) (digit_high d low i (low_digit i parts.0)) (hex_plain d low digits parts.1)
+    let parts = and_parts (nat_lt i 16) (list_all (λ d. nat_lt d 16) digits) h in
+    or_from (slice_index lower_digits i == d) (has_byte d (hex_text digits)) (digit_high d low i (low_digit i parts.0)) (hex_plain d low digits parts.1)
 
 pub hex_high : (d : ℕ) → d < 48 → (kind : Kind) (id : Id) → is_id kind id ≡ true → has_byte d (hex id) ≡ false
 hex_high d low kind id h = hex_plain d low id.digits (id_digits kind id h)
@@ -47,7 +44,7 @@ hex_high d low kind id h = hex_plain d low id.digits (id_digits kind id h)
 
 pub none_in : (d : ℕ) (s t : Bytes) → has_byte d s ≡ false → has_byte d t ≡ false → has_byte d (s ++ t) ≡ false
 none_in d [] t hs ht = ht
-none_in d (b ∷ s) t hs ht = none_or (b == d) (has_byte d (s ++ t)) (or_none (b == d) (has_byte d s) hs).0 (none_in d s t (or_none (b == d) (has_byte d s) hs).1 ht)
+none_in d (b ∷ s) t hs ht = or_from (b == d) (has_byte d (s ++ t)) (or_parts (b == d) (has_byte d s) hs).0 (none_in d s t (or_parts (b == d) (has_byte d s) hs).1 ht)
 
 abbrev pub part_bytes : Bytes
 part_bytes = 60 ∷ 62 ∷ 0 ∷ 9 ∷ 13 ∷ 10 ∷ []
@@ -56,22 +53,22 @@ part_bytes = 60 ∷ 62 ∷ 0 ∷ 9 ∷ 13 ∷ 10 ∷ []
 without : (d : ℕ) → has_byte d part_bytes ≡ true → (part : Bytes) → list_any (λ b. has_byte b part_bytes) part ≡ false → has_byte d part ≡ false
 without d is [] h = refl
 without d is (b ∷ part) h =
-    let parts = or_none (has_byte b part_bytes) (list_any (λ b. has_byte b part_bytes) part) h in
-    none_or (b == d) (has_byte d part) (go (b == d) refl) (without d is part parts.1)
+    let parts = or_parts (has_byte b part_bytes) (list_any (λ b. has_byte b part_bytes) part) h in
+    or_from (b == d) (has_byte d part) (go (b == d) refl) (without d is part parts.1)
   where
     same : (b d : ℕ) → (b == d) ≡ true → b ≡ d
     same b d e = grind (arith, tests)
 
     go : (t : Bool) → (b == d) ≡ t → t ≡ false
     go false e = refl
-    go true e = clash (ap (λ n. has_byte n part_bytes) (same b d e) ∙ is) (or_none (has_byte b part_bytes) (list_any (λ b. has_byte b part_bytes) part) h).0
+    go true e = clash (ap (λ n. has_byte n part_bytes) (same b d e) ∙ is) (or_parts (has_byte b part_bytes) (list_any (λ b. has_byte b part_bytes) part) h).0
 
 pub part_plain : (d : ℕ) → has_byte d part_bytes ≡ true → (part : Bytes) → is_actor_part part ≡ true → has_byte d part ≡ false
 part_plain d is part h =
-    let outer = and_true (not (list_any (λ b. has_byte b part_bytes) part) && not (begins (32 ∷ []) part) && not (ends (32 ∷ []) part)) (nat_le (length part) max_actor_part) h in
-    let mid = and_true (not (list_any (λ b. has_byte b part_bytes) part) && not (begins (32 ∷ []) part)) (not (ends (32 ∷ []) part)) outer.0 in
-    let inner = and_true (not (list_any (λ b. has_byte b part_bytes) part)) (not (begins (32 ∷ []) part)) mid.0 in
-    without d is part (not_true (list_any (λ b. has_byte b part_bytes) part) inner.0)
+    let outer = and_parts (not (list_any (λ b. has_byte b part_bytes) part) && not (begins (32 ∷ []) part) && not (ends (32 ∷ []) part)) (nat_le (length part) max_actor_part) h in
+    let mid = and_parts (not (list_any (λ b. has_byte b part_bytes) part) && not (begins (32 ∷ []) part)) (not (ends (32 ∷ []) part)) outer.0 in
+    let inner = and_parts (not (list_any (λ b. has_byte b part_bytes) part)) (not (begins (32 ∷ []) part)) mid.0 in
+    without d is part (not-true (list_any (λ b. has_byte b part_bytes) part) inner.0)
 
 digit_apart : (d c : ℕ) → d < 43 → is_ascii_digit c ≡ true → (c == d) ≡ false
 digit_apart d c low h = grind (arith, tests)
@@ -83,13 +80,13 @@ offset_plain d low (s ∷ a ∷ []) h = cc
 offset_plain d low (s ∷ a ∷ b ∷ []) h = cc
 offset_plain d low (s ∷ a ∷ b ∷ c ∷ []) h = cc
 offset_plain d low (s ∷ a ∷ b ∷ c ∷ e ∷ []) h =
-    let outer = and_true ((s == 43 || s == 45) && list_all is_ascii_digit (a ∷ b ∷ c ∷ e ∷ []) && nat_lt c 54) (not (bytes_eq (s ∷ a ∷ b ∷ c ∷ e ∷ []) (codes "-0000"))) h in
-    let mid = and_true ((s == 43 || s == 45) && list_all is_ascii_digit (a ∷ b ∷ c ∷ e ∷ [])) (nat_lt c 54) outer.0 in
-    let inner = and_true (s == 43 || s == 45) (list_all is_ascii_digit (a ∷ b ∷ c ∷ e ∷ [])) mid.0 in
-    none_or (s == d) (has_byte d (a ∷ b ∷ c ∷ e ∷ [])) (sign inner.0) (digits (a ∷ b ∷ c ∷ e ∷ []) inner.1)
+    let outer = and_parts ((s == 43 || s == 45) && list_all is_ascii_digit (a ∷ b ∷ c ∷ e ∷ []) && nat_lt c 54) (not (bytes_eq (s ∷ a ∷ b ∷ c ∷ e ∷ []) (codes "-0000"))) h in
+    let mid = and_parts ((s == 43 || s == 45) && list_all is_ascii_digit (a ∷ b ∷ c ∷ e ∷ [])) (nat_lt c 54) outer.0 in
+    let inner = and_parts (s == 43 || s == 45) (list_all is_ascii_digit (a ∷ b ∷ c ∷ e ∷ [])) mid.0 in
+    or_from (s == d) (has_byte d (a ∷ b ∷ c ∷ e ∷ [])) (sign inner.0) (digits (a ∷ b ∷ c ∷ e ∷ []) inner.1)
   where
     sign : (s == 43 || s == 45) ≡ true → (s == d) ≡ false
-    sign k = elim (or_true (s == 43) (s == 45) k) [ inl x ↦ one 43 x (omega arith) | inr x ↦ one 45 x (omega arith) ]
+    sign k = elim (or_cases (s == 43) (s == 45) k) [ inl x ↦ one 43 x (omega arith) | inr x ↦ one 45 x (omega arith) ]
       where
         one : (n : ℕ) → (s == n) ≡ true → d < n → (s == d) ≡ false
         one n x less = grind (arith, tests)
@@ -97,8 +94,8 @@ offset_plain d low (s ∷ a ∷ b ∷ c ∷ e ∷ []) h =
     digits : (ds : Bytes) → list_all is_ascii_digit ds ≡ true → has_byte d ds ≡ false
     digits [] k = refl
     digits (x ∷ ds) k =
-        let parts = and_true (is_ascii_digit x) (list_all is_ascii_digit ds) k in
-        none_or (x == d) (has_byte d ds) (digit_apart d x low parts.0) (digits ds parts.1)
+        let parts = and_parts (is_ascii_digit x) (list_all is_ascii_digit ds) k in
+        or_from (x == d) (has_byte d ds) (digit_apart d x low parts.0) (digits ds parts.1)
 offset_plain d low (s ∷ a ∷ b ∷ c ∷ e ∷ f ∷ more) h = cc
 
 record ActorParts (actor : Actor) : Type 0 where
@@ -109,10 +106,10 @@ record ActorParts (actor : Actor) : Type 0 where
 
 actor_parts : (actor : Actor) → is_actor actor ≡ true → ActorParts actor
 actor_parts actor h =
-    let a = and_true (not (is_empty actor.name) && is_actor_part actor.name && is_actor_part actor.email && nat_le actor.seconds max_seconds) (is_offset actor.offset) h in
-    let b = and_true (not (is_empty actor.name) && is_actor_part actor.name && is_actor_part actor.email) (nat_le actor.seconds max_seconds) a.0 in
-    let c = and_true (not (is_empty actor.name) && is_actor_part actor.name) (is_actor_part actor.email) b.0 in
-    let d = and_true (not (is_empty actor.name)) (is_actor_part actor.name) c.0 in
+    let a = and_parts (not (is_empty actor.name) && is_actor_part actor.name && is_actor_part actor.email && nat_le actor.seconds max_seconds) (is_offset actor.offset) h in
+    let b = and_parts (not (is_empty actor.name) && is_actor_part actor.name && is_actor_part actor.email) (nat_le actor.seconds max_seconds) a.0 in
+    let c = and_parts (not (is_empty actor.name) && is_actor_part actor.name) (is_actor_part actor.email) b.0 in
+    let d = and_parts (not (is_empty actor.name)) (is_actor_part actor.name) c.0 in
     record { name = d.1; email = c.1; seconds = small actor.seconds b.1; offset = a.1 }
   where
     small : (n : ℕ) → nat_le n max_seconds ≡ true → n < 2 ^ 64
@@ -127,7 +124,7 @@ actor_plain d low is opens close space actor h =
     (none_in d (actor.name ++ codes " <" ++ actor.email) (codes "> ")
     (none_in d (actor.name ++ codes " <") actor.email (none_in d actor.name (codes " <") (part_plain d is actor.name parts.name) opens) (part_plain d is actor.email parts.email)) close)
     (decimal_high d (omega arith) actor.seconds))
-    (none_or (32 == d) (has_byte d actor.offset) space (offset_plain d low actor.offset parts.offset))
+    (or_from (32 == d) (has_byte d actor.offset) space (offset_plain d low actor.offset parts.offset))
   where
     parts : ActorParts actor
     parts = actor_parts actor h

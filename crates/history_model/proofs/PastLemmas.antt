@@ -15,8 +15,10 @@ use Rattle.history_model.specs.Steps.{Step, Steps, goes_on, some_failed, next}
 use Rattle.history_model.specs.Stops.{LeftByStop, is_changing}
 use Rattle.history_model.specs.Pasts.{mover, move_message, step_moves, stands_through, moves_made, PastsTellMoves}
 use Rattle.history_model.proofs.IdLemmas.{id_itself}
-use Rattle.history_model.proofs.WholeLists.{and_true, or_none, not_false, clash, same_text}
-use Rattle.history_model.proofs.WholeStores.{get_inserted, get_removed}
+use Rattle.history_model.proofs.WholeLists.{clash, same_text}
+use Rattle.history_model.proofs.WholeStores.{get_removed}
+use Rattle.std.proofs.lemmas.Bool.{or_parts, and_parts, not-false}
+use Rattle.history_model.proofs.AfterFirstLemmas.{get-with}
 
 -- ---- one step
 
@@ -28,7 +30,7 @@ abbrev IsMoved : Repository → Actor → Bytes → References → Type 0
 IsMoved r actor message names = (name : Bytes) → IsOneOf r actor message name (get names name)
 
 with_moved : (r : Repository) (actor : Actor) (message name : Bytes) (id : Id) (names : References) → IsMoved r actor message names → IsMoved r actor message (with_name r name id actor message names)
-with_moved r actor message name id names all other = subst (IsOneOf r actor message other) (sym (get_inserted names name (moved_reference r name id actor message) other)) (go (bytes_eq other name) refl)
+with_moved r actor message name id names all other = subst (IsOneOf r actor message other) (sym (get-with names name (moved_reference r name id actor message) other)) (go (bytes_eq other name) refl)
   where
     go : (b : Bool) → bytes_eq other name ≡ b → IsOneOf r actor message other (cond b (Some (moved_reference r name id actor message)) (get names other))
     go true e = inr (inl (id, ap (λ n. Some (moved_reference r n id actor message)) (sym (same_text other name e))))
@@ -129,7 +131,7 @@ gone r name false e = at (get r.names name) e
 through_now : (r : Repository) (commands : List Command) (replies : List Reply) (name : Bytes) → stands_through r commands replies name ≡ true → stands r name ≡ true
 through_now r [] replies name h = h
 through_now r (command ∷ commands) [] name h = h
-through_now r (command ∷ commands) (reply ∷ replies) name h = (and_true (stands r name) (stands_through (next r command reply) commands replies name) h).0
+through_now r (command ∷ commands) (reply ∷ replies) name h = (and_parts (stands r name) (stands_through (next r command reply) commands replies name) h).0
 
 and_off : (b : Bool) → (b && false) ≡ false
 and_off true = refl
@@ -144,8 +146,8 @@ pasts_tell_moves old new [] [] name steps h = ap (λ r. moves_at r name) steps �
 pasts_tell_moves old new [] (reply ∷ replies) name steps h = absurd steps
 pasts_tell_moves old new (command ∷ commands) [] name steps h = absurd steps
 pasts_tell_moves old new (command ∷ commands) (reply ∷ replies) name (mid, step, on, more) h =
-    let parts = or_none (not (goes_on command reply)) (some_failed commands replies) h in
-    let here = next_is old mid command reply name step (not_false (goes_on command reply) parts.0) in
+    let parts = or_parts (not (goes_on command reply)) (some_failed commands replies) h in
+    let here = next_is old mid command reply name step (not-false (goes_on command reply) parts.0) in
     join here.1 (stands_through (next old command reply) commands replies name) refl
     (pasts_tell_moves (next old command reply) new commands replies name (subst (λ x. Steps x commands replies new) here.0 more) parts.1)
   where

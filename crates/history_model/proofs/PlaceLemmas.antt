@@ -16,9 +16,9 @@ use Rattle.history_model.specs.Places.{object_place}
 use Rattle.history_model.specs.Repository.{Values, HaveOwnIds}
 use Rattle.history_model.specs.StandsFor.{value_files}
 use Rattle.gix_hash_id.specs.declared.kind.Kind.{Kind}
-use Rattle.history_model.proofs.WholeTexts.{is_id-digest}
-use Rattle.history_model.proofs.IdLemmas.{has_kind, hex_tells, length-hex, one_id, id_itself, apart_ids, same_id_key}
+use Rattle.history_model.proofs.IdLemmas.{has_kind, hex_tells, length-hex, one_id, id_itself, apart_ids, same_id_key, digest_is_id}
 use Rattle.history_model.proofs.PartLemmas.{head_same, tail_same}
+use Rattle.history_model.proofs.AfterFirstLemmas.{get-with}
 
 -- ---- texts
 
@@ -41,9 +41,6 @@ apart_texts a b e same = absurd (cc (sym e ∙ (bytes_eq-Decides a b).1 same))
 pub same_key : (a b : Bytes) → eq_by_cmp by_bytes a b ≡ bytes_eq a b
 same_key a b = is_eq-slice_cmp a b
 
-pub get_with : {X : Type 0} (m : FinMap by_bytes X) (key : Bytes) (x : X) (q : Bytes) → get (insert m key x) q ≡ cond (bytes_eq q key) (Some x) (get m q)
-get_with m key x q = get-insert nat_list_cmp_total m key x q ∙ ap (λ b. cond b (Some x) (get m q)) (same_key q key)
-
 -- ---- ids
 
 -- the digits behind `objects/`, whatever their number
@@ -56,21 +53,15 @@ digits_told (a ∷ []) (b ∷ d ∷ t) e n = absurd (omega arith)
 digits_told (a ∷ c ∷ s) (b ∷ []) e n = absurd (omega arith)
 digits_told (a ∷ c ∷ s) (b ∷ d ∷ t) e n = λ i. head_same e i ∷ head_same (tail_same e) i ∷ tail_same (tail_same (tail_same e)) i
 
-pub length_hex : (id : Id) → length (hex id) ≡ length id.digits
-length_hex id = length-hex id
-
 pub id_length : (kind : Kind) (id : Id) → is_id kind id ≡ true → length id.digits ≡ hex_len kind
 id_length kind id h = (has_kind kind id h).whole
 
 pub places_tell_ids : (kind : Kind) (a b : Id) → is_id kind a ≡ true → is_id kind b ≡ true → object_place a ≡ object_place b → a ≡ b
 places_tell_ids kind a b ha hb e =
-    hex_tells kind a b ha hb (digits_told (hex a) (hex b) (behind e) (length_hex a ∙ id_length kind a ha ∙ sym (length_hex b ∙ id_length kind b hb)))
+    hex_tells kind a b ha hb (digits_told (hex a) (hex b) (behind e) (length-hex a ∙ id_length kind a ha ∙ sym (length-hex b ∙ id_length kind b hb)))
   where
     behind : object_place a ≡ object_place b → take 2 (hex a) ++ 47 ∷ drop 2 (hex a) ≡ take 2 (hex b) ++ 47 ∷ drop 2 (hex b)
     behind same = ap (λ (text : Bytes). drop 8 text) same
-
-pub digest_is_id : (kind : Kind) (text : Bytes) → is_id kind (digest kind text) ≡ true
-digest_is_id kind text = is_id-digest kind text
 
 pub values_have_ids : (kind : Kind) (values : Values) → HaveOwnIds kind values → (id : Id) (value : Value) → get values id ≡ Some value → is_id kind id ≡ true
 values_have_ids kind values own id value at = ap (is_id kind) (own id value at) ∙ digest_is_id kind (value_text kind value)

@@ -16,13 +16,9 @@ use Rattle.history_model.specs.Replies.{Reply, FileLine, FilesAre}
 use Rattle.history_model.specs.Answers.{file_line, files_shown}
 use Rattle.history_model.specs.Stops.{Between}
 use Rattle.history_model.specs.Laws.{FilesAscend, PacksChangeNothing, HoldsTheSame}
+use Rattle.gix_ref_file.proofs.Entries.{from_lt}
 
 -- ---- `files`
-
-less : (o : Ordering) → T (is_lt o) → o ≡ Less
-less Less h = refl
-less Equal h = absurd h
-less Greater h = absurd h
 
 and_left : (a b : Bool) → T (a && b) → T a
 and_left true b h = tt
@@ -39,7 +35,7 @@ module _ (r : Repository) where
   below : (path : Bytes) (es : List (Bytes × Content)) → T (below_all by_bytes path es) → AllByRecursion (λ other. by_bytes path other ≡ Less) (paths es)
   unfolding paths
   below path [] h = tt
-  below path (e ∷ es) h = (less (by_bytes path e.0) (and_left (is_lt (by_bytes path e.0)) (below_all by_bytes path es) h), below path es (and_right (is_lt (by_bytes path e.0)) (below_all by_bytes path es) h))
+  below path (e ∷ es) h = (from_lt (by_bytes path e.0) (and_left (is_lt (by_bytes path e.0)) (below_all by_bytes path es) h), below path es (and_right (is_lt (by_bytes path e.0)) (below_all by_bytes path es) h))
 
   ascend : (es : List (Bytes × Content)) → T (is_sorted by_bytes es) → IsStrictlySortedBy by_bytes (paths es)
   unfolding paths IsStrictlySortedBy

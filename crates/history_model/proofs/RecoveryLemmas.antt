@@ -19,12 +19,9 @@ use Rattle.history_model.specs.Recovery.{is_leftover, is_deserted, recovered_fil
 use Rattle.history_model.specs.Laws.{RecoveryKeeps, RecoveryReads, RecoveryEnds}
 use Rattle.gix_hash_id.specs.declared.kind.Kind.{Kind}
 use Rattle.history_model.proofs.NameLemmas.{name-lock, name-log}
-
-same_key : (p q : Bytes) → eq_by_cmp by_bytes p q ≡ true → p ≡ q
-same_key p q e = (bytes_eq-Decides p q).0 (sym (is_eq-slice_cmp p q) ∙ e)
-
-same_tie : (p q : Bytes) → by_bytes p q ≡ Equal → p ≡ q
-same_tie p q e = slice_cmp-IsAntisymmetric nat_cmp-IsAntisymmetric p q e
+use Rattle.std.proofs.lemmas.Bool.{and_parts, and_right}
+use Rattle.history_model.proofs.WholeStores.{same_tie}
+use Rattle.history_model.proofs.EntryLemmas.{same_key, key_passes}
 
 pub same_tree : (a b : Tree) → ((q : Bytes) → get a q ≡ get b q) → a ≡ b
 same_tree a b h = same_map nat_list_cmp_total (slice_cmp-IsAntisymmetric nat_cmp-IsAntisymmetric) a b h
@@ -94,10 +91,6 @@ plain_file log leftover o e f = rw (e, f) (same o)
     same : (o : Option Bytes) → option_map (λ (text : Bytes). text) o ≡ o
     same None = refl
     same (Some text) = refl
-
-and_right : (a b : Bool) → b ≡ false → (a && b) ≡ false
-and_right true b e = e
-and_right false b e = refl
 
 -- a file that is no lock file and no log stays
 pub file_kept : (kind : Kind) (tree : Tree) (path : Bytes) → is_lock_file path ≡ false → is_log_place path ≡ false → file_at (recovered_names kind tree) path ≡ file_at tree path
@@ -214,18 +207,6 @@ some_key test (k ∷ ks) e = go (some_key test ks) (test k) refl e
     go more true f e = (k, f)
     go more false f e = more e
 
-key_passes : (test : Bytes → Bool) (p : Bytes) → test p ≡ true → (ks : List Bytes) → list_any (eq_by_cmp by_bytes p) ks ≡ true → list_any test ks ≡ true
-key_passes test p h [] e = cc
-key_passes test p h (k ∷ ks) e = go (key_passes test p h ks) (eq_by_cmp by_bytes p k) refl e
-  where
-    or_true : (a b : Bool) → b ≡ true → (a || b) ≡ true
-    or_true true b e = refl
-    or_true false b e = e
-
-    go : (list_any (eq_by_cmp by_bytes p) ks ≡ true → list_any test ks ≡ true) → (b : Bool) → eq_by_cmp by_bytes p k ≡ b → (b || list_any (eq_by_cmp by_bytes p) ks) ≡ true → (test k || list_any test ks) ≡ true
-    go more true f e = ap (λ b. b || list_any test ks) (ap test (sym (same_key p k f)) ∙ h)
-    go more false f e = or_true (test k) (list_any test ks) (more e)
-
 file_is_key : (tree : Tree) (path : Bytes) → is_some (file_at tree path) ≡ true → contains_key tree path ≡ true
 file_is_key tree [] e = cc
 file_is_key tree (b ∷ path) e = go (get tree (b ∷ path)) e
@@ -233,10 +214,6 @@ file_is_key tree (b ∷ path) e = go (get tree (b ∷ path)) e
     go : (o : Option Node) → is_some (bytes_of o) ≡ true → is_some o ≡ true
     go None e = cc
     go (Some node) e = refl
-
-and_parts : (a b : Bool) → (a && b) ≡ true → (a ≡ true) × (b ≡ true)
-and_parts true b e = (refl, e)
-and_parts false b e = cc
 
 -- a file below the path stands
 has_file_below : Tree → Bytes → Bool

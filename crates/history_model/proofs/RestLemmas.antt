@@ -8,8 +8,9 @@ use Rattle.history_model.specs.Spelling.{Part, Line, Field, parts_text, parts_of
 use Rattle.history_model.specs.Grammar.{GoesOnOf, StopsByOf, HasOneRestCause, RestBeginsWithNone}
 use Rattle.history_model.specs.declared.Cause.{Cause}
 use Rattle.history_model.specs.declared.Cause.TheVariants.{Syntax, Truncated, LineTooLong}
-use Rattle.history_model.proofs.PartLemmas.{Agree, both_true, split_at, one_is_in, one_line, regrouped, words_same, same_length, below, head_same, tail_same}
+use Rattle.history_model.proofs.PartLemmas.{Agree, split_at, one_is_in, one_line, regrouped, words_same, same_length, below, head_same, tail_same}
 use Rattle.history_model.proofs.GrammarLemmas.{agree, spelled_parts}
+use Rattle.std.proofs.lemmas.Bool.{and_parts}
 
 -- two fronts of parts that agree, in one text: they are one, or one goes on where the other stops
 pub data Compared (C : Type 0) (ps qs : List Part) (m n : List Part) (x y : Bytes) : Type 0 where
@@ -30,17 +31,17 @@ compared C (p ∷ ps) [] m n x y h k g e = right_stops p ps refl (sym e) g
 compared C (Line us ∷ ps) (Field b ∷ qs) m n x y h k g e = absurd g
 compared C (Field a ∷ ps) (Line vs ∷ qs) m n x y h k g e = absurd g
 compared C (Line us ∷ ps) (Line vs ∷ qs) m n x y h k g e =
-    let hs = both_true (is_part (Line us)) (list_all is_part ps) h in
-    let ks = both_true (is_part (Line vs)) (list_all is_part qs) k in
-    let us_words = (both_true (list_all is_word us) _ hs.0).0 in
-    let vs_words = (both_true (list_all is_word vs) _ ks.0).0 in
+    let hs = and_parts (is_part (Line us)) (list_all is_part ps) h in
+    let ks = and_parts (is_part (Line vs)) (list_all is_part qs) k in
+    let us_words = (and_parts (list_all is_word us) _ hs.0).0 in
+    let vs_words = (and_parts (list_all is_word vs) _ ks.0).0 in
     let cut = split_at 10 (join_with_byte 32 us) (join_with_byte 32 vs) (parts_text ps ++ x) (parts_text qs ++ y) (one_line us us_words) (one_line vs vs_words)
     (sym (regrouped (join_with_byte 32 us) (parts_text ps) x) ∙ e ∙ regrouped (join_with_byte 32 vs) (parts_text qs) y) in
     let words : us ≡ vs = words_same us vs us_words vs_words cut.0 in
     longer C (Line us) ps qs m n x y (Line vs) (ap Line words) (compared C ps qs m n x y hs.1 ks.1 (g words) cut.1)
 compared C (Field a ∷ ps) (Field b ∷ qs) m n x y h k g e =
-    let hs = both_true (is_part (Field a)) (list_all is_part ps) h in
-    let ks = both_true (is_part (Field b)) (list_all is_part qs) k in
+    let hs = and_parts (is_part (Field a)) (list_all is_part ps) h in
+    let ks = and_parts (is_part (Field b)) (list_all is_part qs) k in
     let lens = decimal_injective (length a) (length b) (below (length a) hs.0) (below (length b) ks.0) g.0 in
     let cut = same_length a b (parts_text ps ++ x) (parts_text qs ++ y) lens (sym (regrouped a (parts_text ps) x) ∙ e ∙ regrouped b (parts_text qs) y) in
     longer C (Field a) ps qs m n x y (Field b) (ap Field cut.0) (compared C ps qs m n x y hs.1 ks.1 (g.1 cut.0) cut.1)
@@ -48,7 +49,7 @@ compared C (Field a ∷ ps) (Field b ∷ qs) m n x y h k g e =
 all_front : (xs ys : List Part) → list_all is_part (xs ++ ys) ≡ true → (list_all is_part xs ≡ true) × (list_all is_part ys ≡ true)
 all_front [] ys h = (refl, h)
 all_front (x ∷ xs) ys h =
-    let parts = both_true (is_part x) (list_all is_part (xs ++ ys)) h in
+    let parts = and_parts (is_part x) (list_all is_part (xs ++ ys)) h in
     let rest = all_front xs ys parts.1 in
     (and_true (is_part x) (list_all is_part xs) parts.0 rest.0, rest.1)
   where
@@ -96,16 +97,16 @@ module _ (is_known : Command → Bool) (spelled : (c : Command) → is_known c �
   line_or_field g k = absurd (both_go_on g k)
 
   field_part : {ps : List Part} {a : Bytes} (g : GoesOnOf is_known ps (Field a)) → is_part (Field a) ≡ true
-  field_part {ps = ps} {a = a} g = (both_true (is_part (Field a)) (list_all is_part g.more) (all_front ps (Field a ∷ g.more) (known_parts g)).1).0
+  field_part {ps = ps} {a = a} g = (and_parts (is_part (Field a)) (list_all is_part g.more) (all_front ps (Field a ∷ g.more) (known_parts g)).1).0
 
   pub line_part : {ps : List Part} {us : List Bytes} (g : GoesOnOf is_known ps (Line us)) → is_part (Line us) ≡ true
-  line_part {ps = ps} {us = us} g = (both_true (is_part (Line us)) (list_all is_part g.more) (all_front ps (Line us ∷ g.more) (known_parts g)).1).0
+  line_part {ps = ps} {us = us} g = (and_parts (is_part (Line us)) (list_all is_part g.more) (all_front ps (Line us ∷ g.more) (known_parts g)).1).0
 
   fields_long : {ps : List Part} {a b : Bytes} → GoesOnOf is_known ps (Field a) → GoesOnOf is_known ps (Field b) → length a ≡ length b
   fields_long {a = a} {b = b} g k = decimal_injective (length a) (length b) (below (length a) (field_part g)) (below (length b) (field_part k)) (both_go_on g k).0
 
   within_line : (us : List Bytes) → is_part (Line us) ≡ true → length (join_with_byte 32 us) ≤ max_line
-  within_line us h = let fits = (both_true (list_all is_word us) _ h).1 in grind (arith, tests)
+  within_line us h = let fits = (and_parts (list_all is_word us) _ h).1 in grind (arith, tests)
 
   line_then : (t x : Bytes) → line t ++ x ≡ t ++ 10 ∷ x
   line_then [] x = refl
@@ -129,7 +130,7 @@ module _ (is_known : Command → Bool) (spelled : (c : Command) → is_known c �
       (subst (λ s. has_byte 10 (take (max_line + 1) s) ≡ false) (e ∙ regrouped (join_with_byte 32 vs) (parts_text rs) y) none)
   stops_before ps rs (Field f) t y LineTooLong (here, more, none) g e = line_or_field (here.1) g
   stops_before ps rs (Line vs) t y Syntax (inl (text, more, here, is, none, le, unfit)) g e =
-      let vs_words = (both_true (list_all is_word vs) _ (line_part g)).0 in
+      let vs_words = (and_parts (list_all is_word vs) _ (line_part g)).0 in
       let cut = split_at 10 text (join_with_byte 32 vs) more (parts_text rs ++ y) none (one_line vs vs_words)
       (sym (line_then text more) ∙ sym is ∙ e ∙ regrouped (join_with_byte 32 vs) (parts_text rs) y) in
       unfit (vs, ap line cut.0, g)

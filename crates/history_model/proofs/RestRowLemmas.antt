@@ -12,11 +12,12 @@ use Rattle.history_model.specs.Replies.{reply_text, RefusedFor}
 use Rattle.history_model.specs.declared.Cause.{Cause}
 use Rattle.gix_hash_id.specs.declared.kind.Kind.TheVariants.{Sha1}
 use Rattle.history_model.specs.declared.Cause.TheVariants.{Syntax, Truncated, LineTooLong}
-use Rattle.history_model.proofs.PartLemmas.{both_true, words_same, split_at, one_line}
+use Rattle.history_model.proofs.PartLemmas.{words_same, split_at, one_line}
 use Rattle.history_model.proofs.GrammarLemmas.{words_differ}
 use Rattle.history_model.proofs.RestLemmas.{line_part}
 use Rattle.history_model.proofs.GrammarLemmas.{is_spelled}
 use Rattle.history_model.specs.Grammar.{is_command}
+use Rattle.std.proofs.lemmas.Bool.{and_parts}
 
 abbrev word_of : Part → Bytes
 word_of (Line []) = []
@@ -33,7 +34,7 @@ not_hello c e = words_differ _ _ refl e
 
 hello_unfit : LineFits [] (codes "hello") → ⊥
 hello_unfit (words, e, g) =
-    let words_ok = (both_true (list_all is_word words) _ (line_part is_command is_spelled g)).0 in
+    let words_ok = (and_parts (list_all is_word words) _ (line_part is_command is_spelled g)).0 in
     let cut = split_at 10 (codes "hello") (join_with_byte 32 words) [] [] refl (one_line words words_ok) e in
     let same : codes "hello" ∷ [] ≡ words = words_same (codes "hello" ∷ []) words refl words_ok cut.0 in
     not_hello g.command (ap first_word (g.is ∙ ap (λ ws. Line ws ∷ g.more) (sym same)))
@@ -92,7 +93,7 @@ x_word n = ap (λ b. not b && not (has_byte 10 (xs (suc n)))) (no_byte 32 (suc n
 x_unfit : (n : ℕ) → LineFits [] (xs (suc n)) → ⊥
 unfolding first_byte
 x_unfit n (words, e, g) =
-    let words_ok = (both_true (list_all is_word words) _ (line_part is_command is_spelled g)).0 in
+    let words_ok = (and_parts (list_all is_word words) _ (line_part is_command is_spelled g)).0 in
     let cut = split_at 10 (xs (suc n)) (join_with_byte 32 words) [] [] (no_byte 10 (suc n) refl) (one_line words words_ok) e in
     let same : xs (suc n) ∷ [] ≡ words = words_same (xs (suc n) ∷ []) words (ap (λ b. b && true) (x_word n)) words_ok cut.0 in
     not_x g.command (ap (λ ps. first_byte (first_word ps) == 120) (g.is ∙ ap (λ ws. Line ws ∷ g.more) (sym same)))

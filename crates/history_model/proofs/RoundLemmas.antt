@@ -23,6 +23,8 @@ use Rattle.history_model.specs.declared.End.{End}
 use Rattle.history_model.specs.declared.End.TheVariants.{Input, Refused as ByRefusal, Fault as ByFault}
 use Rattle.gix_hash_id.specs.declared.kind.Kind.{Kind}
 use Rattle.history_model.proofs.RecoveredLemmas.{recovered_stands}
+use Rattle.std.proofs.lemmas.Bool.{or_parts, not-false, or_right, or_left}
+use Rattle.std.proofs.lemmas.Option.{same_Some}
 
 -- ---- the kind stays
 
@@ -40,14 +42,6 @@ step_kind old command (Faulted fault) new h = fault_kind old command new (is_cha
 step_kind old command reply new h = ap (λ (r : Repository). r.kind) h.result
 
 -- ---- steps, and the input that they are of
-
-or_none : (a b : Bool) → (a || b) ≡ false → (a ≡ false) × (b ≡ false)
-or_none true b e = cc
-or_none false b e = (refl, e)
-
-turned : (b : Bool) → not b ≡ false → b ≡ true
-turned true e = refl
-turned false e = cc
 
 regroup : {X : Type 0} (xs ys zs : List X) → (xs ++ ys) ++ zs ≡ xs ++ (ys ++ zs)
 regroup [] ys zs = refl
@@ -119,13 +113,10 @@ module _ (objects names : History) where
 
 -- ---- a round
 
-some_same : {X : Type 0} (x y : X) → Some x ≡ Some y → x ≡ y
-some_same x y e = ap (λ o. unwrap_or o x) e
-
 same_pair : (objects names : History) (moment : Moment) (a b : Pair) → IsPairAt objects names moment a → IsPairAt objects names moment b → a ≡ b
 same_pair objects names moment a b h k = λ i. record {
-  objects = some_same a.objects b.objects (sym h.0 ∙ k.0) i;
-  names = some_same a.names b.names (sym h.1 ∙ k.1) i;
+  objects = same_Some a.objects b.objects (sym h.0 ∙ k.0) i;
+  names = same_Some a.names b.names (sym h.1 ∙ k.1) i;
 }
 
 recovered_whole : (kind : Kind) (pair : Pair) (r : Repository) → StandsWhole kind pair r → StandsWhole kind (recovered kind pair) r
@@ -343,18 +334,11 @@ begins_itself : (text : Bytes) → begins text text ≡ true
 begins_itself [] = refl
 begins_itself (b ∷ text) = ap (λ t. t && begins text text) (same_byte b) ∙ begins_itself text
 
-or_first : (a b : Bool) → a ≡ true → (a || b) ≡ true
-or_first a b e = ap (λ t. t || b) e
-
-or_second : (a b : Bool) → b ≡ true → (a || b) ≡ true
-or_second true b e = refl
-or_second false b e = e
-
 of_end : (rest last : Bytes) (end : End) (failed : Bool) → Ends (Unit {0}) rest last end failed → IsCutOff [] rest last
 of_end rest last Input failed h = inl h.2
-of_end rest last ByRefusal failed (cause, none, is, unfailed) = inr (cause, none.because, or_first _ _ (subst (λ t. begins last t ≡ true) is (begins_itself last)))
+of_end rest last ByRefusal failed (cause, none, is, unfailed) = inr (cause, none.because, or_left _ _ (subst (λ t. begins last t ≡ true) is (begins_itself last)))
 of_end rest last ByFault true h = inl h
-of_end rest last ByFault false (cause, none, is) = inr (cause, none.because, or_second _ _ (subst (λ t. begins last t ≡ true) is (begins_itself last)))
+of_end rest last ByFault false (cause, none, is) = inr (cause, none.because, or_right _ _ (subst (λ t. begins last t ≡ true) is (begins_itself last)))
 
 runs_written : (old new : Repository) (commands : List Command) (replies : List Reply) (input output : Bytes) (end : End) (failed : Bool)
     → Runs (Unit {0}) (Unit {0}) old commands replies input output end failed new → WritesReplies input commands replies output

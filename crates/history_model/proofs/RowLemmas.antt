@@ -16,6 +16,7 @@ use Rattle.history_model.specs.Rows.{first_command, first_commit, three_files, c
 use Rattle.gix_hash_id.specs.declared.kind.Kind.{Kind}
 use Rattle.gix_hash_id.specs.declared.kind.Kind.TheVariants.{Sha1, Sha256}
 use Rattle.history_model.specs.declared.FileKind.TheVariants.{Exec}
+use Rattle.gix_traverse_commit.proofs.KnownLemmas.{none_from_length}
 
 pub blob_text_hello : blob_text (codes "hello") ≡ codes "blob 5" ++ 0 ∷ codes "hello"
 unfolding digits
@@ -44,12 +45,8 @@ empty_tree_sha256 = refl
 
 -- ---- the first commit
 
-no_entries : {X : Type 0} (files : List X) → length files ≡ 0 → files ≡ []
-no_entries [] e = refl
-no_entries (x ∷ xs) e = absurd (omega arith)
-
 pub no_entries_by : {K X : Type 0} (order : K → K → Ordering) → entries (empty {X = X} {R = order}) ≡ []
-no_entries_by {X = X} order = no_entries _ (sym (len-entries (empty {X = X} {R = order})) ∙ len-empty order X)
+no_entries_by {X = X} order = none_from_length _ (sym (len-entries (empty {X = X} {R = order})) ∙ len-empty order X)
 
 pub entries-empty : {X : Type 0} → entries (empty {X = X} {R = by_bytes}) ≡ []
 entries-empty {X} = no_entries_by {X = X} by_bytes

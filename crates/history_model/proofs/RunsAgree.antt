@@ -16,10 +16,10 @@ use Rattle.history_model.specs.declared.Cause.{Cause}
 use Rattle.history_model.specs.declared.Cause.TheVariants.{Syntax, Truncated, LineTooLong}
 use Rattle.history_model.specs.declared.Fault.TheVariants.{Memory}
 use Rattle.history_model.specs.declared.End.TheVariants.{Input, Refused as ByRefusal, Fault as ByFault}
-use Rattle.history_model.proofs.PartLemmas.{both_true}
 use Rattle.history_model.proofs.GrammarLemmas.{is_spelled, offered_prefix_free}
 use Rattle.history_model.proofs.RestLemmas.{rest_begins_with_none}
 use Rattle.history_model.proofs.StepLemmas.{steps_are_determined, replies_tell_the_state}
+use Rattle.std.proofs.lemmas.Bool.{not-true, and_parts}
 
 -- ---- the commands
 
@@ -54,18 +54,14 @@ split_once [] [] h k e = refl
 split_once [] (other ∷ others) h k e = some_text other (flat_map spelling others ++ []) (e ∙ append_assoc (spelling other) (flat_map spelling others) [])
 split_once (command ∷ commands) [] h k e = some_text command (flat_map spelling commands ++ []) (sym e ∙ append_assoc (spelling command) (flat_map spelling commands) [])
 split_once (command ∷ commands) (other ∷ others) h k e =
-    let mine = both_true (is_command command) (list_all is_command commands) h in
-    let yours = both_true (is_command other) (list_all is_command others) k in
+    let mine = and_parts (is_command command) (list_all is_command commands) h in
+    let yours = and_parts (is_command other) (list_all is_command others) k in
     let same = offered_prefix_free command other (flat_map spelling commands ++ []) (flat_map spelling others ++ []) mine.0 yours.0
     (sym (append_assoc (spelling command) (flat_map spelling commands) []) ∙ e ∙ append_assoc (spelling other) (flat_map spelling others) []) in
     let rest = split_once commands others mine.1 yours.1 same.1 in
     λ i. sym same.0 i ∷ rest i
 
 -- ---- the replies
-
-unfaulted : (b : Bool) → not b ≡ true → b ≡ false
-unfaulted true h = cc
-unfaulted false h = refl
 
 runs_on : (changing faulted : Bool) → faulted ≡ false → not (changing && faulted) ≡ true
 runs_on true true e = cc
@@ -80,10 +76,10 @@ steps_alike old new end [] (x ∷ xs) ys f g h k = absurd h
 steps_alike old new end (command ∷ commands) [] ys f g h k = absurd h
 steps_alike old new end (command ∷ commands) (x ∷ xs) [] f g h k = absurd k
 steps_alike old new end (command ∷ commands) (x ∷ xs) (y ∷ ys) f g (mid, first, _, rest) (other, second, _, more) =
-    let mine = both_true (not (is_faulted x)) (have_no_fault xs) f in
-    let yours = both_true (not (is_faulted y)) (have_no_fault ys) g in
-    let whole = unfaulted (is_faulted x) mine.0 in
-    let one = steps_are_determined old mid other command x y whole (unfaulted (is_faulted y) yours.0) first second in
+    let mine = and_parts (not (is_faulted x)) (have_no_fault xs) f in
+    let yours = and_parts (not (is_faulted y)) (have_no_fault ys) g in
+    let whole = not-true (is_faulted x) mine.0 in
+    let one = steps_are_determined old mid other command x y whole (not-true (is_faulted y) yours.0) first second in
     let then = steps_alike mid new end commands xs ys mine.1 yours.1 rest (subst (λ (r : Repository). Steps r commands ys end) (sym one.1) more) in
     let told = replies_tell_the_state old mid command x first (runs_on (is_changing command) (is_faulted x) whole) in
     ((one.0, subst (λ (r : Repository). AreAllAlike r commands xs ys) told then.0), then.1)
@@ -106,7 +102,7 @@ alike_sure r (Names folder) x y h s = sym h
 alike_sure r (Files word) x y h s = sym h
 alike_sure r (Past name) x y h s = sym h
 alike_sure r (Log c) x y (inl same) s = sym same
-alike_sure r (Log c) x y (inr h) s = log_once r c x y h (unfaulted (leaves_choice c.order) s)
+alike_sure r (Log c) x y (inr h) s = log_once r c x y h (not-true (leaves_choice c.order) s)
 alike_sure r (Show word path) x y h s = sym h
 
 all_sure : (r : Repository) (commands : List Command) (xs ys : List Reply) → AreAllAlike r commands xs ys → list_all is_sure commands ≡ true → ys ≡ xs
@@ -116,7 +112,7 @@ all_sure r [] (x ∷ xs) ys h s = absurd h
 all_sure r (command ∷ commands) [] ys h s = absurd h
 all_sure r (command ∷ commands) (x ∷ xs) [] h s = absurd h
 all_sure r (command ∷ commands) (x ∷ xs) (y ∷ ys) h s =
-    let sure = both_true (is_sure command) (list_all is_sure commands) s in
+    let sure = and_parts (is_sure command) (list_all is_sure commands) s in
     λ i. alike_sure r command x y h.0 sure.0 i ∷ all_sure (next r command x) commands xs ys h.1 sure.1 i
 
 pub runs_agree : RunsAgree
@@ -142,8 +138,8 @@ split_front : (others commands : List Command) (tail : Bytes) → list_all is_co
 split_front [] commands tail h k e = (commands, k, e)
 split_front (other ∷ others) [] tail h k e = some_text other (flat_map spelling others ++ tail) (sym e ∙ append_assoc (spelling other) (flat_map spelling others) tail)
 split_front (other ∷ others) (command ∷ commands) tail h k e =
-    let mine = both_true (is_command other) (list_all is_command others) h in
-    let yours = both_true (is_command command) (list_all is_command commands) k in
+    let mine = and_parts (is_command other) (list_all is_command others) h in
+    let yours = and_parts (is_command command) (list_all is_command commands) k in
     let same = offered_prefix_free other command (flat_map spelling others ++ tail) (flat_map spelling commands ++ []) mine.0 yours.0
     (sym (append_assoc (spelling other) (flat_map spelling others) tail) ∙ e ∙ append_assoc (spelling command) (flat_map spelling commands) []) in
     split_front others commands tail mine.1 yours.1 same.1
@@ -201,7 +197,7 @@ never_refused others commands tail rest input read cause h k is whole all becaus
     none [] known e stays = absurd (stays.some e)
     none (command ∷ coming) known e stays =
         absurd (rest_begins_with_none is_command is_spelled (tail ++ rest) (flat_map spelling coming ++ []) cause command stays
-        (both_true (is_command command) (list_all is_command coming) known).0 (e ∙ append_assoc (spelling command) (flat_map spelling coming) []))
+        (and_parts (is_command command) (list_all is_command coming) known).0 (e ∙ append_assoc (spelling command) (flat_map spelling coming) []))
 
 pub runs_give : RunsGive
 runs_give old new end commands others replies answers input output read rest written Input failed run f sure whole other =

@@ -25,9 +25,10 @@ use Rattle.history_model.proofs.LogLemmas.{some_order, walks_alike}
 use Rattle.history_model.proofs.WholeLists.{In}
 use Rattle.history_model.proofs.WholeSteps.{contains_in, in_contains}
 use Rattle.history_model.specs.declared.Cause.TheVariants.{NameTwice, NoSuchName, Taken}
-
-some_same : {X : Type 0} (x y : X) → Some x ≡ Some y → x ≡ y
-some_same x y e = ap (λ o. unwrap_or o x) e
+use Rattle.std.proofs.lemmas.Option.{same_Some}
+use Rattle.history_model.proofs.EntryLemmas.{key_same, none_there}
+use Rattle.history_model.proofs.PlaceLemmas.{same_key}
+use Rattle.std.proofs.lemmas.Bool.{or_parts}
 
 -- ---- trees
 
@@ -37,7 +38,7 @@ files_in d _ = d
 
 pub trees_are_canonical : TreesAreCanonical
 trees_are_canonical r a b m n whole at_a at_b = (
-  λ e. ap (files_in m) (some_same (StoredFolder m) (StoredFolder n) (sym at_a ∙ ap (get r.objects) e ∙ at_b)),
+  λ e. ap (files_in m) (same_Some (StoredFolder m) (StoredFolder n) (sym at_a ∙ ap (get r.objects) e ∙ at_b)),
   λ e. (whole.store).own_ids a (StoredFolder m) at_a ∙ ap (λ files. id_of r.kind (StoredFolder files)) e ∙ sym ((whole.store).own_ids b (StoredFolder n) at_b),
 )
 
@@ -52,8 +53,8 @@ outcome old new command reply f h = inr h
 
 same_commit : (r : Repository) (word : Bytes) (i j : Id) (a b : CommitValue) → StandsForCommit r word i a → StandsForCommit r word j b → (i ≡ j) × (a ≡ b)
 same_commit r word i j a b h k =
-    let ids : i ≡ j = some_same i j (sym h.read ∙ k.read) in
-    (ids, some_same a b (sym h.holds ∙ ap (commit_at r) ids ∙ k.holds))
+    let ids : i ≡ j = same_Some i j (sym h.read ∙ k.read) in
+    (ids, same_Some a b (sym h.holds ∙ ap (commit_at r) ids ∙ k.holds))
 
 -- ---- logs
 
@@ -138,7 +139,7 @@ answers_same r (Show word None) x y (i, m, h, e) (j, n, k, g) =
     e ∙ ap (λ id. ShowsCommit (commit_shown r id m)) same.0 ∙ ap (λ commit. ShowsCommit (commit_shown r j commit)) same.1 ∙ sym g
 answers_same r (Show word (Some path)) x y (i, m, u, h, p, e) (j, n, v, k, q, g) =
     let same = same_commit r word i j m n h k in
-    let contents : u ≡ v = some_same u v (sym p ∙ ap (λ commit. get commit.files path) same.1 ∙ q) in
+    let contents : u ≡ v = same_Some u v (sym p ∙ ap (λ commit. get commit.files path) same.1 ∙ q) in
     e ∙ ap (λ content. ShowsContent (content_shown r content)) contents ∙ sym g
 
 none_some : {A X : Type 0} (x : X) → Some x ≡ None → A
@@ -149,7 +150,7 @@ steps_are_determined old a b command x y fx fy h k = go (outcome old a command x
   where
     go : ((cause : Cause) × (x ≡ RefusedFor cause) × (first_cause old command ≡ Some cause) × (a ≡ old)) ⊎ Accepts old command x a
         → ((cause : Cause) × (y ≡ RefusedFor cause) × (first_cause old command ≡ Some cause) × (b ≡ old)) ⊎ Accepts old command y b → AreAlike old command x y × (a ≡ b)
-    go (inl (c, e, first, s)) (inl (d, g, second, t)) = (same_alike old command x y (e ∙ ap RefusedFor (some_same c d (sym first ∙ second)) ∙ sym g), s ∙ sym t)
+    go (inl (c, e, first, s)) (inl (d, g, second, t)) = (same_alike old command x y (e ∙ ap RefusedFor (same_Some c d (sym first ∙ second)) ∙ sym g), s ∙ sym t)
     go (inl (c, e, first, s)) (inr v) = none_some c (sym first ∙ v.no_cause)
     go (inr u) (inl (d, g, second, t)) = none_some d (sym second ∙ u.no_cause)
     go (inr u) (inr v) = (answers_same old command x y u.answer v.answer, u.result ∙ sym v.result)
@@ -177,40 +178,26 @@ replies_tell_the_state old new command reply h g = h.result
 -- ---- renames
 
 -- the test fails, and so do the later ones
-passed : {X : Type 0} (b : Bool) (x : X) (rest : Option X) → cond b (Some x) rest ≡ None → (b ≡ false) × (rest ≡ None)
+pub passed : {X : Type 0} (b : Bool) (x : X) (rest : Option X) → cond b (Some x) rest ≡ None → (b ≡ false) × (rest ≡ None)
 passed true x rest e = cc
 passed false x rest e = (refl, e)
 
 -- where nothing is found, the test fails at each place
 none_at : {X : Type 0} (test : X → Bool) (xs : List X) → find test xs ≡ None → (i : ℕ) (x : X) → slice_get xs i ≡ Some x → test x ≡ false
 none_at test [] e i x h = none_some x (sym h)
-none_at test (y ∷ ys) e zero x h = subst (λ z. test z ≡ false) (some_same y x h) (passed (test y) y (find test ys) e).0
+none_at test (y ∷ ys) e zero x h = subst (λ z. test z ≡ false) (same_Some y x h) (passed (test y) y (find test ys) e).0
 none_at test (y ∷ ys) e (suc i) x h = none_at test ys (passed (test y) y (find test ys) e).1 i x h
 
 no_cause : (r : Repository) (c : Command) → first_cause r c ≡ None → (i : ℕ) (cause : Cause) → slice_get in_order i ≡ Some cause → holds cause r c ≡ false
 no_cause r c e i cause h = none_at (λ cause. holds cause r c) in_order e i cause h
 
-or_left : (a b : Bool) → (a || b) ≡ false → a ≡ false
-or_left true b e = cc
-or_left false b e = refl
-
 stands_so : (b : Bool) → (not b || false) ≡ false → b ≡ true
 stands_so true e = refl
 stands_so false e = cc
 
-is_none_so : {X : Type 0} (o : Option X) → is_some o ≡ false → o ≡ None
-is_none_so None e = refl
-is_none_so (Some x) e = cc
-
 held : (none : Id) (o : Option Reference) → is_some o ≡ true → Some (unwrap_or (option_map (λ ref. ref.id) o) none) ≡ option_map (λ ref. ref.id) o
 held none None e = cc
 held none (Some ref) e = refl
-
-same_key : (p q : Bytes) → eq_by_cmp by_bytes p q ≡ bytes_eq p q
-same_key p q = is_eq-slice_cmp p q
-
-itself : (p : Bytes) → eq_by_cmp by_bytes p p ≡ true
-itself p = same_key p p ∙ (bytes_eq-Decides p p).1 refl
 
 pub renames_lose_nothing : RenamesLoseNothing
 renames_lose_nothing old x from to none left = record {
@@ -232,22 +219,22 @@ renames_lose_nothing old x from to none left = record {
     stood = stands_so _ (no_cause old (Rename from to) none 7 NoSuchName refl)
 
     free : stands old to ≡ false
-    free = or_left _ _ (no_cause old (Rename from to) none 8 Taken refl)
+    free = (or_parts _ _ (no_cause old (Rename from to) none 8 Taken refl)).0
 
     from_gone : id_at (after old (Rename from to)) from ≡ None
     from_gone = ap (option_map (λ ref. ref.id))
         (get-insert nat_list_cmp_total (remove old.names from) to made from
         ∙ ap (λ b. cond b (Some made) (get (remove old.names from) from)) (same_key from to ∙ differ)
         ∙ get-remove nat_list_cmp_total old.names from from
-        ∙ ap (λ b. cond b None (get old.names from)) (itself from))
+        ∙ ap (λ b. cond b None (get old.names from)) (key_same from))
 
     to_free : id_at old to ≡ None
-    to_free = ap (option_map (λ ref. ref.id)) (is_none_so (get old.names to) free)
+    to_free = ap (option_map (λ ref. ref.id)) (none_there (get old.names to) free)
 
     to_made : id_at (after old (Rename from to)) to ≡ id_at old from
     to_made = ap (option_map (λ ref. ref.id))
         (get-insert nat_list_cmp_total (remove old.names from) to made to
-        ∙ ap (λ b. cond b (Some made) (get (remove old.names from) to)) (itself to))
+        ∙ ap (λ b. cond b (Some made) (get (remove old.names from) to)) (key_same to))
         ∙ held (null_id old.kind) (get old.names from) stood
 
 -- ---- a stop that leaves all as it was

@@ -22,16 +22,16 @@ use Rattle.history_model.specs.declared.Fault.TheVariants.{File as ByFile}
 use Rattle.history_model.specs.declared.FileKind.TheVariants.{File}
 use Rattle.history_model.proofs.IdLemmas.{get_with_id}
 use Rattle.history_model.proofs.RowLemmas.{entries-empty, root-empty, text_with, first_content, first_new_commit}
-use Rattle.history_model.proofs.PartLemmas.{either_false}
 use Rattle.history_model.proofs.FirstRowLemmas.{first_is_accepted, first_stored}
 use Rattle.history_model.proofs.AfterFirstLemmas.{command_with, commit_with, state, IsFirst, AllFree, commit_step, files_step, show_step, path_step}
 use Rattle.history_model.proofs.OneFileLemmas.{put_edits, one_file, objects, AreIds, is_first, entry_is, at_a, none_below, found_there}
+use Rattle.std.proofs.lemmas.Bool.{and_right, or_parts}
 
 -- no reply is a fault
 none_faulted : (replies : List Reply) → list_any is_faulted replies ≡ false → AllByRecursion (λ reply. reply ≡ Faulted ByFile → ⊥) replies
 none_faulted [] e = tt
 none_faulted (reply ∷ replies) e =
-    let none = either_false (is_faulted reply) (list_any is_faulted replies) e in
+    let none = or_parts (is_faulted reply) (list_any is_faulted replies) e in
     (λ same. cc (ap is_faulted same, none.0), none_faulted replies none.1)
 
 -- ---- without files
@@ -58,10 +58,6 @@ none_objects = (none_tree, StoredFolder empty) ∷ (none_commit, StoredCommit (c
 
 not_other : (text : Bytes) → not (bytes_eq text text) ≡ false
 not_other text = ap not ((bytes_eq-Decides text text).1 refl)
-
-and_right : (a b : Bool) → b ≡ false → (a && b) ≡ false
-and_right true b e = e
-and_right false b e = refl
 
 no_empty_tree : (id : Id) (b : Bool) → id_eq id none_tree ≡ false → (id_eq id (empty_tree_id Sha1) && b) ≡ false
 no_empty_tree id b e = ap (λ t. id_eq id t && b) none_tree_is ∙ ap (λ c. c && b) e

@@ -16,16 +16,19 @@ use Rattle.history_model.specs.CommandParts.{words_in, at_word, targets, names_i
 use Rattle.history_model.specs.Causes.{first_cause, is_bad_actor, is_bad_title, is_bad_place, holds}
 use Rattle.gix_hash_id.specs.declared.kind.Kind.{Kind}
 use Rattle.history_model.specs.declared.Cause.TheVariants.{BadName, PrivateName, NoSuchName, TooManyParents, DuplicateParent, BadActor, BadTime, BadMessage, TooLarge}
-use Rattle.history_model.proofs.WholeLists.{In, in_right, in_either, in_map, in_flat, of_flat, or_none, none_or, and_true, and_both, some_inside, none_is_some, none_passes, not_false, not_true, false_not, pass_all}
+use Rattle.history_model.proofs.WholeLists.{In, in_right, in_either, in_map, in_flat, of_flat, none_is_some, none_passes, pass_all}
 use Rattle.history_model.proofs.WholePaths.{inner_below, begins_parts}
-use Rattle.history_model.proofs.IdLemmas.{null_is_id}
-use Rattle.history_model.proofs.WholeTexts.{is_id-digest}
+use Rattle.history_model.proofs.IdLemmas.{null_is_id, digest_is_id}
 use Rattle.history_model.proofs.WholeRoots.{HasAll, of_folders, of_inside}
-use Rattle.history_model.proofs.WholeStores.{get_in, in_get, get_inserted, get_removed, all_from}
+use Rattle.history_model.proofs.WholeStores.{get_in, in_get, get_removed, all_from}
 use Rattle.history_model.proofs.WholeGrowth.{holds_value}
 use Rattle.history_model.proofs.WholeReads.{no_cause, tests_private_name, tests_no_such_name, tests_bad_actor, tests_bad_message, tests_bad_name, tests_bad_time, tests_duplicate_parent, tests_too_large, tests_too_many_parents, read_holds, parents_hold}
 use Rattle.history_model.proofs.WholeCommands.{word_commit, files_written}
 use Rattle.history_model.proofs.WholeNames.{names_from}
+use Rattle.std.proofs.lemmas.Bool.{and_from, or_parts, and_parts, not-true, not-false, or_from, not_from_false}
+use Rattle.history_model.proofs.RecoveredLemmas.{some_is}
+use Rattle.std.proofs.lemmas.Option.{same_Some}
+use Rattle.history_model.proofs.AfterFirstLemmas.{get-with}
 
 -- ---- numbers and lists
 
@@ -34,9 +37,6 @@ at_most m n h = grind (arith, tests)
 
 fits_test : (m n : ℕ) → nat_lt m n ≡ false → nat_le n m ≡ true
 fits_test m n h = grind (arith, tests)
-
-both : (a b : Bool) → a ≡ true → b ≡ true → (a && b) ≡ true
-both a b h k = and_both a b h k
 
 -- ---- folders of a file map
 
@@ -47,7 +47,7 @@ tail_any (p ∷ ps) = list_any is_empty ps
 any_tail : (ps : List Bytes) → list_any is_empty ps ≡ false → tail_any ps ≡ false
 unfolding tail_any
 any_tail [] h = refl
-any_tail (p ∷ ps) h = (or_none (is_empty p) (list_any is_empty ps) h).1
+any_tail (p ∷ ps) h = (or_parts (is_empty p) (list_any is_empty ps) h).1
 
 tail_onto : (b : ℕ) (ps : List Bytes) → tail_any (onto_first b ps) ≡ tail_any ps
 unfolding tail_any
@@ -64,25 +64,21 @@ inner_parts (b ∷ folder) rest h = go (b == 47) h (inner_parts folder rest)
     go true k more = more (any_tail (slice_split (λ b. b == 47) (folder ++ 47 ∷ rest)) k)
     go false k more = more (sym (tail_onto b (slice_split (λ b. b == 47) (folder ++ 47 ∷ rest))) ∙ k)
 
-zero_after : (folder rest : Bytes) → has_byte 0 (folder ++ rest) ≡ false → has_byte 0 rest ≡ false
+pub zero_after : (folder rest : Bytes) → has_byte 0 (folder ++ rest) ≡ false → has_byte 0 rest ≡ false
 zero_after [] rest h = h
-zero_after (b ∷ folder) rest h = zero_after folder rest (or_none (b == 0) (has_byte 0 (folder ++ rest)) h).1
+zero_after (b ∷ folder) rest h = zero_after folder rest (or_parts (b == 0) (has_byte 0 (folder ++ rest)) h).1
 
-path_after : (folder rest : Bytes) → is_path (folder ++ 47 ∷ rest) ≡ true → is_path rest ≡ true
+pub path_after : (folder rest : Bytes) → is_path (folder ++ 47 ∷ rest) ≡ true → is_path rest ≡ true
 path_after folder rest h =
-    let parts = and_true (not (list_any is_empty (components (folder ++ 47 ∷ rest)))) (not (has_byte 0 (folder ++ 47 ∷ rest))) h in
-    let pieces = inner_parts folder rest (any_tail (components (folder ++ 47 ∷ rest)) (not_true (list_any is_empty (components (folder ++ 47 ∷ rest))) parts.0)) in
-    let zeros = (or_none (47 == 0) (has_byte 0 rest) (zero_after folder (47 ∷ rest) (not_true (has_byte 0 (folder ++ 47 ∷ rest)) parts.1))).1 in
-    both (not (list_any is_empty (components rest))) (not (has_byte 0 rest)) (false_not (list_any is_empty (components rest)) pieces) (false_not (has_byte 0 rest) zeros)
-
-some_there : {X : Type 0} (o : Option X) → is_some o ≡ true → (x : X) × (o ≡ Some x)
-some_there None h = cc
-some_there (Some x) h = (x, refl)
+    let parts = and_parts (not (list_any is_empty (components (folder ++ 47 ∷ rest)))) (not (has_byte 0 (folder ++ 47 ∷ rest))) h in
+    let pieces = inner_parts folder rest (any_tail (components (folder ++ 47 ∷ rest)) (not-true (list_any is_empty (components (folder ++ 47 ∷ rest))) parts.0)) in
+    let zeros = (or_parts (47 == 0) (has_byte 0 rest) (zero_after folder (47 ∷ rest) (not-true (has_byte 0 (folder ++ 47 ∷ rest)) parts.1))).1 in
+    and_from (not (list_any is_empty (components rest))) (not (has_byte 0 rest)) (not_from_false (list_any is_empty (components rest)) pieces) (not_from_false (has_byte 0 rest) zeros)
 
 -- a file inside a folder stands below it
-below_there : (folder : Bytes) (m : FileMap) (p : Bytes) → contains_key (inside folder m) p ≡ true → contains_key m (folder ++ 47 ∷ p) ≡ true
+pub below_there : (folder : Bytes) (m : FileMap) (p : Bytes) → contains_key (inside folder m) p ≡ true → contains_key m (folder ++ 47 ∷ p) ≡ true
 below_there folder m p h =
-    let at = some_there (get (inside folder m) p) h in
+    let at = some_is (get (inside folder m) p) h in
     ap is_some (in_get m (folder ++ 47 ∷ p) at.0 (of_inside folder m p at.0 (get_in (inside folder m) p at.0 at.1)))
 
 -- the files inside a folder keep their form
@@ -101,29 +97,26 @@ inside_written folder m written = record {
 id_held : (r : Repository) → IsWholeStore r → (id : Id) → HoldsCommit r id → is_id r.kind id ≡ true
 id_held r whole id h =
     let held = holds_value r id h in
-    ap (is_id r.kind) (whole.own_ids id (StoredCommit held.0) held.1) ∙ is_id-digest r.kind (value_text r.kind (StoredCommit held.0))
-
-null_formed : (kind : Kind) → is_id kind (null_id kind) ≡ true
-null_formed kind = null_is_id kind
+    ap (is_id r.kind) (whole.own_ids id (StoredCommit held.0) held.1) ∙ digest_is_id r.kind (value_text r.kind (StoredCommit held.0))
 
 module _ (r : Repository) (command : Command) (none : first_cause r command ≡ None) where
   actor_parts : (a : ActorLine) → In a (actors_in command) → (is_empty a.name ≡ false) × (is_actor_part a.name ≡ true) × (is_actor_part a.email ≡ true)
   actor_parts a i =
       let good = none_passes is_bad_actor (actors_in command) (no_cause r command none BadActor tests_bad_actor) a i in
-      let outer = or_none (is_empty a.name || not (is_actor_part a.name)) (not (is_actor_part a.email)) good in
-      let inner = or_none (is_empty a.name) (not (is_actor_part a.name)) outer.0 in
-      (inner.0, not_false (is_actor_part a.name) inner.1, not_false (is_actor_part a.email) outer.1)
+      let outer = or_parts (is_empty a.name || not (is_actor_part a.name)) (not (is_actor_part a.email)) good in
+      let inner = or_parts (is_empty a.name) (not (is_actor_part a.name)) outer.0 in
+      (inner.0, not-false (is_actor_part a.name) inner.1, not-false (is_actor_part a.email) outer.1)
 
   actor_formed : (a : ActorLine) → In a (actors_in command) → list_any (λ (actor : ActorLine). not (is_seconds actor.seconds) || not (is_offset actor.offset)) (actors_in command) ≡ false → is_actor (read_actor a) ≡ true
   actor_formed a i times =
       let parts = actor_parts a i in
-      let time = or_none (not (is_seconds a.seconds)) (not (is_offset a.offset)) (none_passes (λ (actor : ActorLine). not (is_seconds actor.seconds) || not (is_offset actor.offset)) (actors_in command) times a i) in
-      let seconds = and_true (is_decimal a.seconds) (nat_le (digits_value a.seconds) max_seconds) (not_false (is_seconds a.seconds) time.0) in
-      both (not (is_empty a.name) && is_actor_part a.name && is_actor_part a.email && nat_le (digits_value a.seconds) max_seconds) (is_offset a.offset)
-      (both (not (is_empty a.name) && is_actor_part a.name && is_actor_part a.email) (nat_le (digits_value a.seconds) max_seconds)
-      (both (not (is_empty a.name) && is_actor_part a.name) (is_actor_part a.email)
-      (both (not (is_empty a.name)) (is_actor_part a.name) (false_not (is_empty a.name) parts.0) parts.1) parts.2) seconds.1)
-      (not_false (is_offset a.offset) time.1)
+      let time = or_parts (not (is_seconds a.seconds)) (not (is_offset a.offset)) (none_passes (λ (actor : ActorLine). not (is_seconds actor.seconds) || not (is_offset actor.offset)) (actors_in command) times a i) in
+      let seconds = and_parts (is_decimal a.seconds) (nat_le (digits_value a.seconds) max_seconds) (not-false (is_seconds a.seconds) time.0) in
+      and_from (not (is_empty a.name) && is_actor_part a.name && is_actor_part a.email && nat_le (digits_value a.seconds) max_seconds) (is_offset a.offset)
+      (and_from (not (is_empty a.name) && is_actor_part a.name && is_actor_part a.email) (nat_le (digits_value a.seconds) max_seconds)
+      (and_from (not (is_empty a.name) && is_actor_part a.name) (is_actor_part a.email)
+      (and_from (not (is_empty a.name)) (is_actor_part a.name) (not_from_false (is_empty a.name) parts.0) parts.1) parts.2) seconds.1)
+      (not-false (is_offset a.offset) time.1)
 
 -- a good title has no line feed, and is no longer than it may be
 title_line : (message : Bytes) → has_byte 10 (title message) ≡ false
@@ -135,7 +128,7 @@ title_line (b ∷ message) = go (b == 10) refl (title_line message)
 
     go : (t : Bool) → (b == 10) ≡ t → has_byte 10 (take m message) ≡ false → has_byte 10 (take (cond (not t) (1 + m) 0) (b ∷ message)) ≡ false
     go true e rest = refl
-    go false e rest = ap (λ n. has_byte 10 (take n (b ∷ message))) (one m) ∙ none_or (b == 10) (has_byte 10 (take m message)) e rest
+    go false e rest = ap (λ n. has_byte 10 (take n (b ∷ message))) (one m) ∙ or_from (b == 10) (has_byte 10 (take m message)) e rest
       where
         one : (n : ℕ) → 1 + n ≡ suc n
         one n = omega arith
@@ -143,7 +136,7 @@ title_line (b ∷ message) = go (b == 10) refl (title_line message)
 title_whole : (message : Bytes) → has_byte 10 message ≡ false → title message ≡ message
 title_whole [] h = refl
 title_whole (b ∷ message) h =
-    let parts = or_none (b == 10) (has_byte 10 message) h in
+    let parts = or_parts (b == 10) (has_byte 10 message) h in
     ap (λ t. take (cond (not t) (1 + prefix_len (λ x. not (x == 10)) message) 0) (b ∷ message)) parts.0
     ∙ ap (λ n. take n (b ∷ message)) (one (prefix_len (λ x. not (x == 10)) message))
     ∙ ap (λ bs. b ∷ bs) (title_whole message parts.1)
@@ -153,10 +146,10 @@ title_whole (b ∷ message) h =
 
 title_parts : (text : Bytes) → is_bad_title text ≡ false → (is_empty text ≡ false) × (nat_lt max_title (length text) ≡ false)
 title_parts text h =
-    let a = or_none (is_empty text || nat_lt max_title (length text) || has_byte 9 text || has_byte 13 text) (has_byte 0 text) h in
-    let b = or_none (is_empty text || nat_lt max_title (length text) || has_byte 9 text) (has_byte 13 text) a.0 in
-    let c = or_none (is_empty text || nat_lt max_title (length text)) (has_byte 9 text) b.0 in
-    or_none (is_empty text) (nat_lt max_title (length text)) c.0
+    let a = or_parts (is_empty text || nat_lt max_title (length text) || has_byte 9 text || has_byte 13 text) (has_byte 0 text) h in
+    let b = or_parts (is_empty text || nat_lt max_title (length text) || has_byte 9 text) (has_byte 13 text) a.0 in
+    let c = or_parts (is_empty text || nat_lt max_title (length text)) (has_byte 9 text) b.0 in
+    or_parts (is_empty text) (nat_lt max_title (length text)) c.0
 
 -- ---- values
 
@@ -169,14 +162,14 @@ module _ (r : Repository) (whole : IsWhole r) (written : IsWritten r) where
 
   pub commit_formed : (c : CommitCommand) → first_cause r (Commit c) ≡ None → is_commit_form r.kind (new_commit r c) ≡ true
   commit_formed c none =
-      both (list_all (is_id r.kind) ps && nat_le (length ps) max_parents && not (has_twice id_eq ps) && is_actor author && is_actor committer) (nat_le (length (title c.message)) max_title)
-      (both (list_all (is_id r.kind) ps && nat_le (length ps) max_parents && not (has_twice id_eq ps) && is_actor author) (is_actor committer)
-      (both (list_all (is_id r.kind) ps && nat_le (length ps) max_parents && not (has_twice id_eq ps)) (is_actor author)
-      (both (list_all (is_id r.kind) ps && nat_le (length ps) max_parents) (not (has_twice id_eq ps))
-      (both (list_all (is_id r.kind) ps) (nat_le (length ps) max_parents)
+      and_from (list_all (is_id r.kind) ps && nat_le (length ps) max_parents && not (has_twice id_eq ps) && is_actor author && is_actor committer) (nat_le (length (title c.message)) max_title)
+      (and_from (list_all (is_id r.kind) ps && nat_le (length ps) max_parents && not (has_twice id_eq ps) && is_actor author) (is_actor committer)
+      (and_from (list_all (is_id r.kind) ps && nat_le (length ps) max_parents && not (has_twice id_eq ps)) (is_actor author)
+      (and_from (list_all (is_id r.kind) ps && nat_le (length ps) max_parents) (not (has_twice id_eq ps))
+      (and_from (list_all (is_id r.kind) ps) (nat_le (length ps) max_parents)
       (pass_all (is_id r.kind) ps (λ id i. id_held r whole.store id (parents_hold r whole.store c id i)))
       (fits_test max_parents (length ps) (no_cause r (Commit c) none TooManyParents tests_too_many_parents)))
-      (false_not (has_twice id_eq ps) (no_cause r (Commit c) none DuplicateParent tests_duplicate_parent)))
+      (not_from_false (has_twice id_eq ps) (no_cause r (Commit c) none DuplicateParent tests_duplicate_parent)))
       (actor_formed r (Commit c) none c.author (inl refl) times))
       (actor_formed r (Commit c) none c.committer (inr (inl refl)) times))
       (fits_test max_title (length (title c.message)) (title_parts (title c.message) bad_message).1)
@@ -202,14 +195,14 @@ module _ (r : Repository) (whole : IsWhole r) (written : IsWritten r) where
 
   tag_formed : (c : TagCommand) → first_cause r (Tag c) ≡ None → is_tag_form r.kind (new_tag r c) ≡ true
   tag_formed c none =
-      both (is_id r.kind target && is_tag_name (tag_rest c.name) && is_actor tagger && not (is_empty c.message)) (nat_le (length (title c.message)) max_title)
-      (both (is_id r.kind target && is_tag_name (tag_rest c.name) && is_actor tagger) (not (is_empty c.message))
-      (both (is_id r.kind target && is_tag_name (tag_rest c.name)) (is_actor tagger)
-      (both (is_id r.kind target) (is_tag_name (tag_rest c.name))
+      and_from (is_id r.kind target && is_tag_name (tag_rest c.name) && is_actor tagger && not (is_empty c.message)) (nat_le (length (title c.message)) max_title)
+      (and_from (is_id r.kind target && is_tag_name (tag_rest c.name) && is_actor tagger) (not (is_empty c.message))
+      (and_from (is_id r.kind target && is_tag_name (tag_rest c.name)) (is_actor tagger)
+      (and_from (is_id r.kind target) (is_tag_name (tag_rest c.name))
       (subst (λ o. is_id r.kind (unwrap_or o (null_id r.kind)) ≡ true) (sym word.1) (id_held r whole.store word.0 (read_holds r whole.store (word_reading r c.word) word.0 word.1)))
-      (and_true (begins (codes "refs/tags/") c.name) (is_tag_name (tag_rest c.name)) (not_false (begins (codes "refs/tags/") c.name && is_tag_name (tag_rest c.name)) place)).1)
+      (and_parts (begins (codes "refs/tags/") c.name) (is_tag_name (tag_rest c.name)) (not-false (begins (codes "refs/tags/") c.name && is_tag_name (tag_rest c.name)) place)).1)
       (actor_formed r (Tag c) none c.tagger (inl refl) times))
-      (false_not (is_empty c.message) (message_there c.message (title_parts (title c.message) bad_message).0)))
+      (not_from_false (is_empty c.message) (message_there c.message (title_parts (title c.message) bad_message).0)))
       (fits_test max_title (length (title c.message)) (title_parts (title c.message) bad_message).1)
     where
       target : Id
@@ -222,7 +215,7 @@ module _ (r : Repository) (whole : IsWhole r) (written : IsWritten r) where
       word = word_commit r (Tag c) none c.word (in_right c.word (at_word c.expect) (c.word ∷ []) (inl refl))
 
       place : is_bad_place (Tag c) ≡ false
-      place = (or_none (list_any (λ name. not (is_name name)) (names_in r (Tag c))) (is_bad_place (Tag c)) (no_cause r (Tag c) none BadName tests_bad_name)).1
+      place = (or_parts (list_any (λ name. not (is_name name)) (names_in r (Tag c))) (is_bad_place (Tag c)) (no_cause r (Tag c) none BadName tests_bad_name)).1
 
       times : holds BadTime r (Tag c) ≡ false
       times = no_cause r (Tag c) none BadTime tests_bad_time
@@ -283,16 +276,16 @@ branch_shared name h = ap is_private (begins_parts (codes "refs/heads/") name h)
 
 branch_name : (name : Bytes) → is_branch name ≡ true → (is_name name && not (is_private name)) ≡ true
 branch_name name h =
-    let parts = and_true (is_name name) (begins (codes "refs/heads/") name) h in
-    both (is_name name) (not (is_private name)) parts.0 (false_not (is_private name) (branch_shared name parts.1))
+    let parts = and_parts (is_name name) (begins (codes "refs/heads/") name) h in
+    and_from (is_name name) (not (is_private name)) parts.0 (not_from_false (is_private name) (branch_shared name parts.1))
 
 module _ (r : Repository) (command : Command) (none : first_cause r command ≡ None) where
   -- a name that the command holds
   pub given_name : (name : Bytes) → In name (names_in r command) → (is_name name && not (is_private name)) ≡ true
   given_name name i =
-      let bad = (or_none (list_any (λ name. not (is_name name)) (names_in r command)) (is_bad_place command) (no_cause r command none BadName tests_bad_name)).0 in
-      both (is_name name) (not (is_private name)) (not_false (is_name name) (none_passes (λ name. not (is_name name)) (names_in r command) bad name i))
-      (false_not (is_private name) (none_passes is_private (names_in r command) (no_cause r command none PrivateName tests_private_name) name i))
+      let bad = (or_parts (list_any (λ name. not (is_name name)) (names_in r command)) (is_bad_place command) (no_cause r command none BadName tests_bad_name)).0 in
+      and_from (is_name name) (not (is_private name)) (not-false (is_name name) (none_passes (λ name. not (is_name name)) (names_in r command) bad name i))
+      (not_from_false (is_private name) (none_passes is_private (names_in r command) (no_cause r command none PrivateName tests_private_name) name i))
 
 target_name : (r : Repository) → IsWritten r → (command : Command) → first_cause r command ≡ None → (name : Bytes) → In name (targets r command) → (is_name name && not (is_private name)) ≡ true
 target_name r written (Commit c) none name (inl e) = subst (λ n. (is_name n && not (is_private n)) ≡ true) (sym e) (go (bytes_eq c.name head_word) refl)
@@ -321,21 +314,21 @@ AllFormed kind names = (name : Bytes) (ref : Reference) → get names name ≡ S
 
 module _ (r : Repository) (written : IsWritten r) where
   pub name_parts : (name : Bytes) (ref : Reference) → get r.names name ≡ Some ref → ((is_name name && not (is_private name)) ≡ true) × (is_reference r.kind ref ≡ true)
-  name_parts name ref at = and_true (is_name name && not (is_private name)) (is_reference r.kind ref) (written.names name ref at)
+  name_parts name ref at = and_parts (is_name name && not (is_private name)) (is_reference r.kind ref) (written.names name ref at)
 
   pub moves_formed : (name : Bytes) → list_all (is_log_entry r.kind) (moves_at r name) ≡ true
   moves_formed name = go (get r.names name) refl
     where
       go : (o : Option Reference) → get r.names name ≡ o → list_all (is_log_entry r.kind) (unwrap_or (option_map (λ (ref : Reference). ref.moves) o) []) ≡ true
       go None e = refl
-      go (Some ref) e = (and_true (is_id r.kind ref.id) (list_all (is_log_entry r.kind) ref.moves) (name_parts name ref e).1).1
+      go (Some ref) e = (and_parts (is_id r.kind ref.id) (list_all (is_log_entry r.kind) ref.moves) (name_parts name ref e).1).1
 
   before_formed : (name : Bytes) → is_id r.kind (unwrap_or (id_at r name) (null_id r.kind)) ≡ true
   before_formed name = go (get r.names name) refl
     where
       go : (o : Option Reference) → get r.names name ≡ o → is_id r.kind (unwrap_or (option_map (λ (ref : Reference). ref.id) o) (null_id r.kind)) ≡ true
-      go None e = null_formed r.kind
-      go (Some ref) e = (and_true (is_id r.kind ref.id) (list_all (is_log_entry r.kind) ref.moves) (name_parts name ref e).1).0
+      go None e = null_is_id r.kind
+      go (Some ref) e = (and_parts (is_id r.kind ref.id) (list_all (is_log_entry r.kind) ref.moves) (name_parts name ref e).1).0
 
   -- a log's message
   abbrev IsLogMessage : Bytes → Type 0
@@ -344,13 +337,13 @@ module _ (r : Repository) (written : IsWritten r) where
   entry_formed : (before later : Id) (actor : Actor) (message : Bytes) → is_id r.kind before ≡ true → is_id r.kind later ≡ true → is_actor actor ≡ true → IsLogMessage message
       → is_log_entry r.kind (record { before = before; after = later; actor = actor; message = message }) ≡ true
   entry_formed before later actor message b a act m =
-      both (is_id r.kind before && is_id r.kind later && is_actor actor && not (has_byte 10 message)) (nat_le (length message) max_title)
-      (both (is_id r.kind before && is_id r.kind later && is_actor actor) (not (has_byte 10 message))
-      (both (is_id r.kind before && is_id r.kind later) (is_actor actor) (both (is_id r.kind before) (is_id r.kind later) b a) act) (false_not (has_byte 10 message) m.0)) m.1
+      and_from (is_id r.kind before && is_id r.kind later && is_actor actor && not (has_byte 10 message)) (nat_le (length message) max_title)
+      (and_from (is_id r.kind before && is_id r.kind later && is_actor actor) (not (has_byte 10 message))
+      (and_from (is_id r.kind before && is_id r.kind later) (is_actor actor) (and_from (is_id r.kind before) (is_id r.kind later) b a) act) (not_from_false (has_byte 10 message) m.0)) m.1
 
   moved_formed : (name : Bytes) (id : Id) (actor : Actor) (message : Bytes) → is_id r.kind id ≡ true → is_actor actor ≡ true → IsLogMessage message → is_reference r.kind (moved_reference r name id actor message) ≡ true
   moved_formed name id actor message fits act m =
-      both (is_id r.kind id) (list_all (is_log_entry r.kind) (cond same (moves_at r name) (entry ∷ moves_at r name))) fits (go same)
+      and_from (is_id r.kind id) (list_all (is_log_entry r.kind) (cond same (moves_at r name) (entry ∷ moves_at r name))) fits (go same)
     where
       before : Id
       before = unwrap_or (id_at r name) (null_id r.kind)
@@ -363,14 +356,14 @@ module _ (r : Repository) (written : IsWritten r) where
 
       go : (b : Bool) → list_all (is_log_entry r.kind) (cond b (moves_at r name) (entry ∷ moves_at r name)) ≡ true
       go true = moves_formed name
-      go false = both (is_log_entry r.kind entry) (list_all (is_log_entry r.kind) (moves_at r name)) (entry_formed before id actor message (before_formed name) fits act m) (moves_formed name)
+      go false = and_from (is_log_entry r.kind entry) (list_all (is_log_entry r.kind) (moves_at r name)) (entry_formed before id actor message (before_formed name) fits act m) (moves_formed name)
 
   with_formed : (name : Bytes) (id : Id) (actor : Actor) (message : Bytes) (names : References) → AllFormed r.kind names → is_id r.kind id ≡ true → is_actor actor ≡ true → IsLogMessage message
       → AllFormed r.kind (with_name r name id actor message names)
-  with_formed name id actor message names all h act m other ref at = go (bytes_eq other name) (sym (get_inserted names name (moved_reference r name id actor message) other) ∙ at)
+  with_formed name id actor message names all h act m other ref at = go (bytes_eq other name) (sym (get-with names name (moved_reference r name id actor message) other) ∙ at)
     where
       go : (b : Bool) → cond b (Some (moved_reference r name id actor message)) (get names other) ≡ Some ref → is_reference r.kind ref ≡ true
-      go true k = subst (λ x. is_reference r.kind x ≡ true) (some_inside (moved_reference r name id actor message) ref k) (moved_formed name id actor message h act m)
+      go true k = subst (λ x. is_reference r.kind x ≡ true) (same_Some (moved_reference r name id actor message) ref k) (moved_formed name id actor message h act m)
       go false k = all other ref k
 
   removed_formed : (names : References) (name : Bytes) → AllFormed r.kind names → AllFormed r.kind (remove names name)
@@ -404,18 +397,18 @@ history_actor_formed = refl
 names_formed : (r : Repository) → IsWhole r → IsWritten r → (command : Command) → first_cause r command ≡ None → AllFormed r.kind (names_after r command)
 names_formed r whole written (Commit c) none =
     with_formed r written (branch_or_name r c.name) (id_of r.kind (StoredCommit (new_commit r c))) (read_actor c.committer) (title c.message) r.names (old_formed r written)
-    (is_id-digest r.kind (value_text r.kind (StoredCommit (new_commit r c)))) (actor_formed r (Commit c) none c.committer (inr (inl refl)) (no_cause r (Commit c) none BadTime tests_bad_time))
+    (digest_is_id r.kind (value_text r.kind (StoredCommit (new_commit r c)))) (actor_formed r (Commit c) none c.committer (inr (inl refl)) (no_cause r (Commit c) none BadTime tests_bad_time))
     (title_message c.message (no_cause r (Commit c) none BadMessage tests_bad_message))
 names_formed r whole written (Tag c) none =
     with_formed r written c.name (id_of r.kind (StoredTag (new_tag r c))) (read_actor c.tagger) (title c.message) r.names (old_formed r written)
-    (is_id-digest r.kind (value_text r.kind (StoredTag (new_tag r c)))) (actor_formed r (Tag c) none c.tagger (inl refl) (no_cause r (Tag c) none BadTime tests_bad_time))
+    (digest_is_id r.kind (value_text r.kind (StoredTag (new_tag r c)))) (actor_formed r (Tag c) none c.tagger (inl refl) (no_cause r (Tag c) none BadTime tests_bad_time))
     (title_message c.message (no_cause r (Tag c) none BadMessage tests_bad_message))
 names_formed r whole written (Move c) none =
     lines_formed r written (read_actor c.actor) c.message c.to r.names (old_formed r written) (actor_formed r (Move c) none c.actor (inl refl) (no_cause r (Move c) none BadTime tests_bad_time)) message
     (λ to i. word_id r whole (Move c) none to.word (in_flat (λ (to : To). at_word to.expect ++ to.word ∷ []) to.word to c.to i (in_right to.word (at_word to.expect) (to.word ∷ []) (inl refl))))
   where
     bad : (is_bad_title (title c.message) ≡ false) × (has_byte 10 c.message ≡ false)
-    bad = or_none (is_bad_title (title c.message)) (has_byte 10 c.message) (no_cause r (Move c) none BadMessage tests_bad_message)
+    bad = or_parts (is_bad_title (title c.message)) (has_byte 10 c.message) (no_cause r (Move c) none BadMessage tests_bad_message)
 
     message : (has_byte 10 c.message ≡ false) × (nat_le (length c.message) max_title ≡ true)
     message = (bad.1, subst (λ t. nat_le (length t) max_title ≡ true) (title_whole c.message bad.1) (title_message c.message bad.0).1)
@@ -423,13 +416,13 @@ names_formed r whole written (Rename from to) none =
     with_formed r written to (unwrap_or (id_at r from) (null_id r.kind)) history_actor (codes "rename") (remove r.names from) (removed_formed r written r.names from (old_formed r written)) held history_actor_formed (refl, refl)
   where
     stood : stands r from ≡ true
-    stood = not_false (stands r from) (none_passes (λ name. not (stands r name)) (from ∷ []) (no_cause r (Rename from to) none NoSuchName tests_no_such_name) from (inl refl))
+    stood = not-false (stands r from) (none_passes (λ name. not (stands r name)) (from ∷ []) (no_cause r (Rename from to) none NoSuchName tests_no_such_name) from (inl refl))
 
     held : is_id r.kind (unwrap_or (id_at r from) (null_id r.kind)) ≡ true
     held =
-        let ref = some_there (get r.names from) stood in
+        let ref = some_is (get r.names from) stood in
         subst (λ o. is_id r.kind (unwrap_or (option_map (λ (x : Reference). x.id) o) (null_id r.kind)) ≡ true) (sym ref.1)
-        (and_true (is_id r.kind (ref.0).id) (list_all (is_log_entry r.kind) (ref.0).moves) (old_formed r written from ref.0 ref.1)).0
+        (and_parts (is_id r.kind (ref.0).id) (list_all (is_log_entry r.kind) (ref.0).moves) (old_formed r written from ref.0 ref.1)).0
 names_formed r whole written (Delete name at) none = removed_formed r written r.names name (old_formed r written)
 names_formed r whole written (Switch name) none = old_formed r written
 names_formed r whole written Pack none = old_formed r written
@@ -444,9 +437,9 @@ names_formed r whole written (Show word path) none = old_formed r written
 
 branch_formed : (r : Repository) → IsWritten r → (command : Command) → first_cause r command ≡ None → is_branch (branch_after r command) ≡ true
 branch_formed r written (Switch name) none =
-    let bad = or_none (list_any (λ name. not (is_name name)) (name ∷ [])) (is_bad_place (Switch name)) (no_cause r (Switch name) none BadName tests_bad_name) in
-    both (is_name name) (begins (codes "refs/heads/") name) (not_false (is_name name) (none_passes (λ name. not (is_name name)) (name ∷ []) bad.0 name (inl refl)))
-    (not_false (begins (codes "refs/heads/") name) bad.1)
+    let bad = or_parts (list_any (λ name. not (is_name name)) (name ∷ [])) (is_bad_place (Switch name)) (no_cause r (Switch name) none BadName tests_bad_name) in
+    and_from (is_name name) (begins (codes "refs/heads/") name) (not-false (is_name name) (none_passes (λ name. not (is_name name)) (name ∷ []) bad.0 name (inl refl)))
+    (not-false (begins (codes "refs/heads/") name) bad.1)
 branch_formed r written (Commit c) none = written.branch
 branch_formed r written (Tag c) none = written.branch
 branch_formed r written (Move c) none = written.branch
@@ -463,14 +456,14 @@ branch_formed r written (Show word path) none = written.branch
 -- ---- all
 
 name_formed : (r : Repository) → IsWritten r → (command : Command) → first_cause r command ≡ None → (name : Bytes) → (stands r name ≡ true) ⊎ In name (targets r command) → (is_name name && not (is_private name)) ≡ true
-name_formed r written command none name (inl h) = let ref = some_there (get r.names name) h in (name_parts r written name ref.0 ref.1).0
+name_formed r written command none name (inl h) = let ref = some_is (get r.names name) h in (name_parts r written name ref.0 ref.1).0
 name_formed r written command none name (inr i) = target_name r written command none name i
 
 -- after a command of which no cause holds all has its written form, taken ids or not
 pub after_written : (r : Repository) → IsWhole r → IsWritten r → (command : Command) → first_cause r command ≡ None → IsWritten (after r command)
 after_written r whole written command none = record {
   branch = branch_formed r written command none;
-  names = λ name ref at. both (is_name name && not (is_private name)) (is_reference r.kind ref) (name_formed r written command none name (names_from r command name ref at)) (names_formed r whole written command none name ref at);
+  names = λ name ref at. and_from (is_name name && not (is_private name)) (is_reference r.kind ref) (name_formed r written command none name (names_from r command name ref at)) (names_formed r whole written command none name ref at);
   values = λ id value at. elim (all_from r.kind r.objects (stored_by r command) id value at) [
     | inl old ↦ written.values id value old
     | inr made ↦ stored_formed r whole written command none value made.0

@@ -11,13 +11,15 @@ use Rattle.history_model.specs.Repository.{Repository, Reference, IsStored, Hold
 use Rattle.history_model.specs.Meaning.{store_all, some_taken, is_other}
 use Rattle.gix_hash_id.specs.declared.kind.Kind.{Kind}
 use Rattle.history_model.proofs.RowLemmas.{entries-empty, root-empty}
-use Rattle.history_model.proofs.WholeLists.{In, all_in, in_all, in_either, of_map, of_flat, same_text, texts_differ, some_inside, none_is_some, not_false, one_passes}
+use Rattle.history_model.proofs.WholeLists.{In, all_in, in_all, in_either, of_map, of_flat, same_text, texts_differ, none_is_some, one_passes}
 use Rattle.history_model.proofs.WholePaths.{beginning_parts}
 use Rattle.history_model.proofs.IdLemmas.{one_id, id_itself, apart_ids}
 use Rattle.history_model.proofs.WholeTexts.{text_same}
 use Rattle.history_model.proofs.WholeItems.{Entry}
 use Rattle.history_model.proofs.WholeRoots.{HasAll, ArePlain, one_map, has_all, all_values, of_inside, are_shorter}
 use Rattle.history_model.proofs.WholeStores.{Near, near_same, near_stored, FoldersNear, files_stored, all_keep, all_near, all_from, none_reserved}
+use Rattle.std.proofs.lemmas.Bool.{not-false}
+use Rattle.std.proofs.lemmas.Option.{same_Some}
 
 -- ---- commits that are held
 
@@ -180,7 +182,7 @@ module _ (r : Repository) (whole : IsWholeStore r) (plain : (q : Id) (m : FileMa
 
   reaches_old : {a b : Id} → Reaches new a b → There a → Reaches r a b × There b
   reaches_old {a} {b} (named value at h) there =
-      let same : there.0 ≡ value = some_inside there.0 value (sym (keeps a there.0 there.1) ∙ at) in
+      let same : there.0 ≡ value = same_Some there.0 value (sym (keeps a there.0 there.1) ∙ at) in
       let old : get r.objects a ≡ Some value = there.1 ∙ ap Some same in
       (named value old h, named_there r value (whole.closed a value old) b (named_in r.kind value b h))
   reaches_old (by_way_of mid first second) there =
@@ -233,7 +235,7 @@ module _ (r : Repository) (whole : IsWholeStore r) (plain : (q : Id) (m : FileMa
           join : ((v w : Value) × (get new.objects a ≡ Some v) × (get new.objects mid ≡ Some w) × (rank w < rank v)) → Sinks mid b → Sinks a b
           join one (inl there) = inl there
           join (v, w, at_a, at_mid, less) (inr (x, y, at, at_b, lower)) =
-              let same = ap rank (some_inside w x (sym at_mid ∙ at)) in
+              let same = ap rank (same_Some w x (sym at_mid ∙ at)) in
               inr (v, y, at_a, at_b, omega arith)
 
   acyclic : (q : Id) → Reaches new q q → ⊥
@@ -245,7 +247,7 @@ module _ (r : Repository) (whole : IsWholeStore r) (plain : (q : Id) (m : FileMa
         where
           down : Sinks q q → ⊥
           down (inl there) = none_is_some there.0 (sym absent ∙ there.1)
-          down (inr (v, w, at_v, at_w, less)) = let same = ap rank (some_inside v w (sym at_v ∙ at_w)) in absurd (omega arith)
+          down (inr (v, w, at_v, at_w, less)) = let same = ap rank (same_Some v w (sym at_v ∙ at_w)) in absurd (omega arith)
 
   -- ---- the null id and the empty tree's
 
@@ -279,7 +281,7 @@ module _ (r : Repository) (whole : IsWholeStore r) (plain : (q : Id) (m : FileMa
       ap StoredFolder (one_map r.kind (Near r.kind new.objects) (near_same r.kind new.objects) m empty of_m.1 (λ e i. no_entry e i) of_m.0 of_empty (sym (text_same r.kind (StoredFolder empty) (StoredFolder m) same).1))
 
   reserved : (v : Value) → In v vs → empty_tree_id r.kind ≡ id_of r.kind v → value_text r.kind (StoredFolder empty) ≡ value_text r.kind v
-  reserved v i e = same_text (value_text r.kind (StoredFolder empty)) (value_text r.kind v) (not_false (bytes_eq (value_text r.kind (StoredFolder empty)) (value_text r.kind v))
+  reserved v i e = same_text (value_text r.kind (StoredFolder empty)) (value_text r.kind v) (not-false (bytes_eq (value_text r.kind (StoredFolder empty)) (value_text r.kind v))
       (go (id_eq (id_of r.kind v) (empty_tree_id r.kind)) (ap (λ q. id_eq q (empty_tree_id r.kind)) (sym e) ∙ id_itself (empty_tree_id r.kind)) (none_reserved r.kind r.objects vs free v i).1))
     where
       go : (b : Bool) → b ≡ true → (b && is_other r.kind (value_text r.kind (StoredFolder empty)) v) ≡ false → is_other r.kind (value_text r.kind (StoredFolder empty)) v ≡ false

@@ -12,8 +12,10 @@ use Rattle.history_model.specs.FileMap.{FileMap, Content, is_below, inside}
 use Rattle.history_model.specs.Objects.{TreeEntry, FileEntry, FolderEntry, into_folder, tree_entries}
 use Rattle.history_model.proofs.RowLemmas.{entries-empty}
 use Rattle.history_model.proofs.PartLemmas.{split_at, one_is_in}
-use Rattle.history_model.proofs.WholeLists.{In, in_flat, in_map, and_true, and_both, clash, either, same_text, text_itself, texts_differ}
+use Rattle.history_model.proofs.WholeLists.{In, in_flat, in_map, clash, either, same_text, text_itself, texts_differ}
 use Rattle.history_model.proofs.WholePaths.{below_parts, below_front, drop_below, not_below, below_one, has_parts, front_plain, same_front, together}
+use Rattle.gix_ref_file.proofs.Below.{when_lt}
+use Rattle.std.proofs.lemmas.Bool.{and_from, and_parts}
 
 abbrev pub Entry : Type 0
 Entry = Bytes × Content
@@ -69,20 +71,15 @@ t_true false h = absurd h
 pub sorted_entries : {X : Type 0} (m : FinMap by_bytes X) → is_sorted by_bytes (entries m) ≡ true
 sorted_entries m = t_true (is_sorted by_bytes (entries m)) (entries_sorted m)
 
-less_first : (o : Ordering) → is_lt o ≡ true → o ≡ Less
-less_first Less h = refl
-less_first Equal h = cc
-less_first Greater h = cc
-
 put_first : {X : Type 0} (k : Bytes) (v : X) (es : List (Bytes × X)) → below_all by_bytes k es ≡ true → put by_bytes k v es ≡ (k, v) ∷ es
 put_first k v [] h = refl
-put_first k v (e ∷ es) h = rw (less_first (by_bytes k e.0) (and_true (is_lt (by_bytes k e.0)) (below_all by_bytes k es) h).0) refl
+put_first k v (e ∷ es) h = rw (when_lt (by_bytes k e.0) (and_parts (is_lt (by_bytes k e.0)) (below_all by_bytes k es) h).0) refl
 
 -- a sorted list is that of the map made of it
 pub entries_from : {X : Type 0} (es : List (Bytes × X)) → is_sorted by_bytes es ≡ true → entries (from_entries {R = by_bytes} es) ≡ es
 entries_from [] h = entries-empty
 entries_from (e ∷ es) h =
-    let both = and_true (below_all by_bytes e.0 es) (is_sorted by_bytes es) h in
+    let both = and_parts (below_all by_bytes e.0 es) (is_sorted by_bytes es) h in
     entries-insert nat_list_cmp_total (from_entries es) e.0 e.1
     ∙ ap (put by_bytes e.0 e.1) (entries_from es both.1)
     ∙ put_first e.0 e.1 es both.0
@@ -121,13 +118,13 @@ in_below folder (f ∷ es) rest content (inr i) = go (is_below folder f.0) (in_b
 below_first : (folder : Bytes) (p : Bytes) (es : List Entry) → is_below folder p ≡ true → below_all by_bytes p es ≡ true → below_all by_bytes (drop (length folder + 1) p) (below folder es) ≡ true
 below_first folder p [] h k = refl
 below_first folder p (f ∷ es) h k =
-    let both = and_true (is_lt (by_bytes p f.0)) (below_all by_bytes p es) k in
+    let both = and_parts (is_lt (by_bytes p f.0)) (below_all by_bytes p es) k in
     go (is_below folder f.0) refl both.0 (below_first folder p es h both.1)
   where
     go : (b : Bool) → is_below folder f.0 ≡ b → is_lt (by_bytes p f.0) ≡ true → below_all by_bytes (drop (length folder + 1) p) (below folder es) ≡ true
         → below_all by_bytes (drop (length folder + 1) p) (cons_option (cond b (Some (drop (length folder + 1) f.0, f.1)) None) (below folder es)) ≡ true
     go false e l rest = rest
-    go true e l rest = and_both _ (below_all by_bytes (drop (length folder + 1) p) (below folder es)) shorter rest
+    go true e l rest = and_from _ (below_all by_bytes (drop (length folder + 1) p) (below folder es)) shorter rest
       where
         whole : (q : Bytes) → is_below folder q ≡ true → (folder ++ 47 ∷ []) ++ drop (length folder + 1) q ≡ q
         whole q m = append_assoc folder (47 ∷ []) (drop (length folder + 1) q) ∙ sym (below_parts folder q m)
@@ -138,13 +135,13 @@ below_first folder p (f ∷ es) h k =
 pub sorted_below : (folder : Bytes) (es : List Entry) → is_sorted by_bytes es ≡ true → is_sorted by_bytes (below folder es) ≡ true
 sorted_below folder [] h = refl
 sorted_below folder (e ∷ es) h =
-    let both = and_true (below_all by_bytes e.0 es) (is_sorted by_bytes es) h in
+    let both = and_parts (below_all by_bytes e.0 es) (is_sorted by_bytes es) h in
     go (is_below folder e.0) refl both.0 (sorted_below folder es both.1)
   where
     go : (b : Bool) → is_below folder e.0 ≡ b → below_all by_bytes e.0 es ≡ true → is_sorted by_bytes (below folder es) ≡ true
         → is_sorted by_bytes (cons_option (cond b (Some (drop (length folder + 1) e.0, e.1)) None) (below folder es)) ≡ true
     go false k l rest = rest
-    go true k l rest = and_both (below_all by_bytes (drop (length folder + 1) e.0) (below folder es)) (is_sorted by_bytes (below folder es)) (below_first folder e.0 es k l) rest
+    go true k l rest = and_from (below_all by_bytes (drop (length folder + 1) e.0) (below folder es)) (is_sorted by_bytes (below folder es)) (below_first folder e.0 es k l) rest
 
 -- the files inside a folder
 pub entries_inside : (folder : Bytes) (files : FileMap) → entries (inside folder files) ≡ below folder (entries files)
@@ -241,8 +238,8 @@ begins_below name e es plain h = go (has_byte 47 e.0) refl
 none_later : (folder : Bytes) (p : Bytes) (e : Entry) (es : List Entry) → is_below folder p ≡ true → is_lt (by_bytes p e.0) ≡ true → is_below folder e.0 ≡ false → below_all by_bytes e.0 es ≡ true → below folder es ≡ []
 none_later folder p e [] h l k b = refl
 none_later folder p e (f ∷ es) h l k b =
-    let both = and_true (is_lt (by_bytes e.0 f.0)) (below_all by_bytes e.0 es) b in
-    below_other folder f es (together (folder ++ 47 ∷ []) p e.0 f.0 h k (less_first (by_bytes p e.0) l) (less_first (by_bytes e.0 f.0) both.0))
+    let both = and_parts (is_lt (by_bytes e.0 f.0)) (below_all by_bytes e.0 es) b in
+    below_other folder f es (together (folder ++ 47 ∷ []) p e.0 f.0 h k (when_lt (by_bytes p e.0) l) (when_lt (by_bytes e.0 f.0) both.0))
     ∙ none_later folder p e es h l k both.1
 
 folder_step : (name rest : Bytes) (content : Content) (es : List Entry) (items : List TreeEntry) → has_byte 47 name ≡ false → AllFit es items → AreApart items
@@ -291,9 +288,9 @@ head_or_none : (name : Bytes) (e : Entry) (es : List Entry) → has_byte 47 name
     → BeginsFolder name (tree_entries es) ⊎ (below name es ≡ [])
 head_or_none name e [] plain h sorted = inr refl
 head_or_none name e (f ∷ es) plain h sorted =
-    let outer = and_true (below_all by_bytes e.0 (f ∷ es)) (is_sorted by_bytes (f ∷ es)) sorted in
-    let less = (and_true (is_lt (by_bytes e.0 f.0)) (below_all by_bytes e.0 es) outer.0).0 in
-    let later = (and_true (below_all by_bytes f.0 es) (is_sorted by_bytes es) outer.1).0 in
+    let outer = and_parts (below_all by_bytes e.0 (f ∷ es)) (is_sorted by_bytes (f ∷ es)) sorted in
+    let less = (and_parts (is_lt (by_bytes e.0 f.0)) (below_all by_bytes e.0 es) outer.0).0 in
+    let later = (and_parts (below_all by_bytes f.0 es) (is_sorted by_bytes es) outer.1).0 in
     elim (either (is_below name f.0)) [
       | inl k ↦ inl (begins_below name f es plain k)
       | inr k ↦ inr (below_other name f es k ∙ none_later name e.0 f es h less k later)
@@ -302,7 +299,7 @@ head_or_none name e (f ∷ es) plain h sorted =
 all_fit : (es : List Entry) → is_sorted by_bytes es ≡ true → AllFit es (tree_entries es) × AreApart (tree_entries es)
 all_fit [] sorted = (tt, tt)
 all_fit (e ∷ es) sorted =
-    let rest = all_fit es (and_true (below_all by_bytes e.0 es) (is_sorted by_bytes es) sorted).1 in
+    let rest = all_fit es (and_parts (below_all by_bytes e.0 es) (is_sorted by_bytes es) sorted).1 in
     go (has_byte 47 e.0) refl rest.0 rest.1
   where
     name : Bytes

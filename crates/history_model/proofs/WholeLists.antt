@@ -3,6 +3,9 @@ use Rattle.std.proofs.Common.{◌≡◌, ◌⊎◌, Bool, true, false, not, ◌&
 use Rattle.std.specs.List.{list_any, list_all, flat_map, AllByRecursion}
 use Rattle.std.proofs.lemmas.Slice.Eq.{bytes_eq-Decides}
 use Rattle.history_model.specs.Bytes.{Bytes}
+use Rattle.std.proofs.lemmas.Bool.{or_parts, and_from, and_parts, not-true, not-false, or_cases, or_from, not_from_false}
+use Rattle.std.proofs.lemmas.Option.{same_Some}
+use Rattle.history_model.proofs.NameLemmas.{some_or}
 
 -- x is a member of the list
 abbrev pub In : {X : Type 0} → X → List X → Type 0
@@ -56,43 +59,6 @@ of_flat f y (x ∷ xs) i = elim (in_either y (f x) (flat_map f xs) i) [
 
 -- ---- tests
 
-pub and_true : (a b : Bool) → (a && b) ≡ true → (a ≡ true) × (b ≡ true)
-and_true true b h = (refl, h)
-and_true false b h = cc
-
-pub and_both : (a b : Bool) → a ≡ true → b ≡ true → (a && b) ≡ true
-and_both true b h k = k
-and_both false b h k = cc
-
-pub or_none : (a b : Bool) → (a || b) ≡ false → (a ≡ false) × (b ≡ false)
-or_none true b h = cc
-or_none false b h = (refl, h)
-
-pub none_or : (a b : Bool) → a ≡ false → b ≡ false → (a || b) ≡ false
-none_or true b h k = cc
-none_or false b h k = k
-
-pub or_true : (a b : Bool) → (a || b) ≡ true → (a ≡ true) ⊎ (b ≡ true)
-or_true true b h = inl refl
-or_true false b h = inr h
-
-pub true_or : (a b : Bool) → (a ≡ true) ⊎ (b ≡ true) → (a || b) ≡ true
-true_or true b h = refl
-true_or false b (inl h) = cc
-true_or false b (inr h) = h
-
-pub not_true : (b : Bool) → not b ≡ true → b ≡ false
-not_true true h = cc
-not_true false h = refl
-
-pub not_false : (b : Bool) → not b ≡ false → b ≡ true
-not_false true h = refl
-not_false false h = cc
-
-pub false_not : (b : Bool) → b ≡ false → not b ≡ true
-false_not true h = cc
-false_not false h = refl
-
 pub either : (b : Bool) → (b ≡ true) ⊎ (b ≡ false)
 either true = inl refl
 either false = inr refl
@@ -109,34 +75,31 @@ text_itself p = (bytes_eq-Decides p p).1 refl
 pub texts_differ : {A : Type 0} (p q : Bytes) → bytes_eq p q ≡ false → p ≡ q → A
 texts_differ p q h e = clash ((bytes_eq-Decides p q).1 e) h
 
-pub some_inside : {X : Type 0} (x y : X) → Some x ≡ Some y → x ≡ y
-some_inside x y e = cc
-
 pub none_is_some : {A X : Type 0} (x : X) → None ≡ Some x → A
 none_is_some x e = cc
 
 pub all_pass : {X : Type 0} (test : X → Bool) (xs : List X) → list_all test xs ≡ true → (x : X) → In x xs → test x ≡ true
 all_pass test [] h x i = absurd i
-all_pass test (y ∷ ys) h x (inl e) = ap test e ∙ (and_true (test y) (list_all test ys) h).0
-all_pass test (y ∷ ys) h x (inr i) = all_pass test ys (and_true (test y) (list_all test ys) h).1 x i
+all_pass test (y ∷ ys) h x (inl e) = ap test e ∙ (and_parts (test y) (list_all test ys) h).0
+all_pass test (y ∷ ys) h x (inr i) = all_pass test ys (and_parts (test y) (list_all test ys) h).1 x i
 
 pub pass_all : {X : Type 0} (test : X → Bool) (xs : List X) → ((x : X) → In x xs → test x ≡ true) → list_all test xs ≡ true
 pass_all test [] f = refl
-pass_all test (x ∷ xs) f = and_both (test x) (list_all test xs) (f x (inl refl)) (pass_all test xs (λ y i. f y (inr i)))
+pass_all test (x ∷ xs) f = and_from (test x) (list_all test xs) (f x (inl refl)) (pass_all test xs (λ y i. f y (inr i)))
 
 pub none_passes : {X : Type 0} (test : X → Bool) (xs : List X) → list_any test xs ≡ false → (x : X) → In x xs → test x ≡ false
 none_passes test [] h x i = absurd i
-none_passes test (y ∷ ys) h x (inl e) = ap test e ∙ (or_none (test y) (list_any test ys) h).0
-none_passes test (y ∷ ys) h x (inr i) = none_passes test ys (or_none (test y) (list_any test ys) h).1 x i
+none_passes test (y ∷ ys) h x (inl e) = ap test e ∙ (or_parts (test y) (list_any test ys) h).0
+none_passes test (y ∷ ys) h x (inr i) = none_passes test ys (or_parts (test y) (list_any test ys) h).1 x i
 
 pub one_passes : {X : Type 0} (test : X → Bool) (xs : List X) → list_any test xs ≡ true → (x : X) × In x xs × (test x ≡ true)
 one_passes test [] h = cc
-one_passes test (y ∷ ys) h = elim (or_true (test y) (list_any test ys) h) [
+one_passes test (y ∷ ys) h = elim (or_cases (test y) (list_any test ys) h) [
   | inl a ↦ (y, inl refl, a)
   | inr b ↦ let rest = one_passes test ys b in (rest.0, inr rest.1, rest.2)
 ]
 
 pub passes_one : {X : Type 0} (test : X → Bool) (xs : List X) (x : X) → In x xs → test x ≡ true → list_any test xs ≡ true
 passes_one test [] x i h = absurd i
-passes_one test (y ∷ ys) x (inl e) h = true_or (test y) (list_any test ys) (inl (ap test (sym e) ∙ h))
-passes_one test (y ∷ ys) x (inr i) h = true_or (test y) (list_any test ys) (inr (passes_one test ys x i h))
+passes_one test (y ∷ ys) x (inl e) h = some_or (test y) (list_any test ys) (inl (ap test (sym e) ∙ h))
+passes_one test (y ∷ ys) x (inr i) h = some_or (test y) (list_any test ys) (inr (passes_one test ys x i h))

@@ -14,12 +14,16 @@ use Rattle.history_model.specs.Meaning.{References, branch_or_name, read_actor, 
 use Rattle.history_model.specs.CommandParts.{words_in, at_word, targets}
 use Rattle.history_model.specs.Causes.{first_cause, do_collide}
 use Rattle.history_model.specs.declared.Cause.TheVariants.{NoSuchName, Collides}
-use Rattle.history_model.proofs.WholeLists.{In, in_left, in_right, in_map, in_flat, or_none, either, clash, same_text, some_inside, none_is_some, none_passes, not_false, texts_differ}
+use Rattle.history_model.proofs.WholeLists.{In, in_left, in_right, in_map, in_flat, either, clash, same_text, none_is_some, none_passes, texts_differ}
 use Rattle.history_model.proofs.WholeTexts.{text_same, type_word}
-use Rattle.history_model.proofs.WholeStores.{Near, get_in, get_inserted, get_removed, all_keep, all_near}
+use Rattle.history_model.proofs.WholeStores.{Near, get_in, get_removed, all_keep, all_near}
 use Rattle.history_model.proofs.WholeGrowth.{holds_value}
 use Rattle.history_model.proofs.WholeReads.{no_cause, tests_collides, tests_no_such_name, read_holds}
 use Rattle.history_model.proofs.WholeCommands.{word_commit, after_store}
+use Rattle.history_model.proofs.RecoveredLemmas.{some_is}
+use Rattle.std.proofs.lemmas.Bool.{or_parts, not-false}
+use Rattle.std.proofs.lemmas.Option.{same_Some}
+use Rattle.history_model.proofs.AfterFirstLemmas.{get-with}
 
 -- ---- what a name stands for
 
@@ -42,10 +46,10 @@ held_commit r id h = let held = holds_value r id h in ap (λ o. is_some (option_
 
 with_held : (objects : FinMap by_id Value) (r : Repository) (name : Bytes) (id : Id) (actor : Actor) (message : Bytes) (names : References) → AllHeld objects names → IsHeld objects id
     → AllHeld objects (with_name r name id actor message names)
-with_held objects r name id actor message names all h other ref at = go (bytes_eq other name) (sym (get_inserted names name (moved_reference r name id actor message) other) ∙ at)
+with_held objects r name id actor message names all h other ref at = go (bytes_eq other name) (sym (get-with names name (moved_reference r name id actor message) other) ∙ at)
   where
     go : (b : Bool) → cond b (Some (moved_reference r name id actor message)) (get names other) ≡ Some ref → IsHeld objects ref.id
-    go true k = subst (λ (x : Reference). IsHeld objects x.id) (some_inside (moved_reference r name id actor message) ref k) h
+    go true k = subst (λ (x : Reference). IsHeld objects x.id) (same_Some (moved_reference r name id actor message) ref k) h
     go false k = all other ref k
 
 removed_held : (objects : FinMap by_id Value) (names : References) (name : Bytes) → AllHeld objects names → AllHeld objects (remove names name)
@@ -93,16 +97,12 @@ module _ (r : Repository) (whole : IsWhole r) (written : IsWritten r) (command :
       go (StoredFolder b, at, same) (StoredBytes c) e k = cc
       go (StoredFolder b, at, same) (StoredFolder m) e k = cc
 
-some_there : {X : Type 0} (o : Option X) → is_some o ≡ true → (x : X) × (o ≡ Some x)
-some_there None h = cc
-some_there (Some x) h = (x, refl)
-
 -- the name that a rename takes away holds an id
 from_held : (r : Repository) (whole : IsWhole r) (written : IsWritten r) (from to : Bytes) (none : first_cause r (Rename from to) ≡ None) (free : takes_id r (Rename from to) ≡ false)
     → IsHeld (after r (Rename from to)).objects (unwrap_or (id_at r from) (null_id r.kind))
 from_held r whole written from to none free =
-    let stood = not_false (stands r from) (none_passes (λ name. not (stands r name)) (from ∷ []) (no_cause r (Rename from to) none NoSuchName tests_no_such_name) from (inl refl)) in
-    let ref = some_there (get r.names from) stood in
+    let stood = not-false (stands r from) (none_passes (λ name. not (stands r name)) (from ∷ []) (no_cause r (Rename from to) none NoSuchName tests_no_such_name) from (inl refl)) in
+    let ref = some_is (get r.names from) stood in
     subst (IsHeld (after r (Rename from to)).objects) (sym (ap (λ o. unwrap_or (option_map (λ (x : Reference). x.id) o) (null_id r.kind)) ref.1)) (old_held r whole written (Rename from to) none free from ref.0 ref.1)
 
 names_held : (r : Repository) → IsWhole r → IsWritten r → (command : Command) → first_cause r command ≡ None → takes_id r command ≡ false → AllHeld (after r command).objects (names_after r command)
@@ -136,7 +136,7 @@ abbrev pub StoodOr : References → List Bytes → References → Type 0
 StoodOr old made names = (name : Bytes) (ref : Reference) → get names name ≡ Some ref → (is_some (get old name) ≡ true) ⊎ In name made
 
 with_stood : (old : References) (made : List Bytes) (r : Repository) (name : Bytes) (id : Id) (actor : Actor) (message : Bytes) (names : References) → StoodOr old made names → In name made → StoodOr old made (with_name r name id actor message names)
-with_stood old made r name id actor message names all i other ref at = go (bytes_eq other name) refl (sym (get_inserted names name (moved_reference r name id actor message) other) ∙ at)
+with_stood old made r name id actor message names all i other ref at = go (bytes_eq other name) refl (sym (get-with names name (moved_reference r name id actor message) other) ∙ at)
   where
     go : (b : Bool) → bytes_eq other name ≡ b → cond b (Some (moved_reference r name id actor message)) (get names other) ≡ Some ref → (is_some (get old other) ≡ true) ⊎ In other made
     go true e k = inr (subst (λ n. In n made) (sym (same_text other name e)) i)
@@ -198,7 +198,7 @@ module _ (r : Repository) (whole : IsWhole r) (command : Command) (none : first_
     where
       member : (stands r b ≡ true) ⊎ In b (targets r command) → In b (keys r.names ++ targets r command)
       member (inl h) =
-          let ref = some_there (get r.names b) h in
+          let ref = some_is (get r.names b) h in
           in_left b (keys r.names) (targets r command) (in_map (λ (e : Bytes × Reference). e.0) (b, ref.0) (entries r.names) (get_in r.names b ref.0 ref.1))
       member (inr j) = in_right b (keys r.names) (targets r command) j
 
@@ -208,9 +208,9 @@ module _ (r : Repository) (whole : IsWhole r) (command : Command) (none : first_
       go : (stands r a ≡ true) ⊎ (stands r a ≡ false) → (stands r b ≡ true) ⊎ (stands r b ≡ false) → (stands r a ≡ true) ⊎ In a (targets r command) → (stands r b ≡ true) ⊎ In b (targets r command) → is_below a b ≡ false
       go (inl s) (inl t) x y = (whole.names).apart a b s t
       go (inr s) t (inl x) y = clash x s
-      go (inr s) t (inr x) y = (or_none (is_below a b) (is_below b a) (free_of a b s x y)).0
+      go (inr s) t (inr x) y = (or_parts (is_below a b) (is_below b a) (free_of a b s x y)).0
       go (inl s) (inr t) x (inl y) = clash y t
-      go (inl s) (inr t) x (inr y) = (or_none (is_below b a) (is_below a b) (free_of b a t y (inl s))).1
+      go (inl s) (inr t) x (inr y) = (or_parts (is_below b a) (is_below a b) (free_of b a t y (inl s))).1
 
 pub after_names : (r : Repository) → IsWhole r → IsWritten r → (command : Command) → first_cause r command ≡ None → takes_id r command ≡ false → HasWholeNames (after r command)
 after_names r whole written command none free = record {
@@ -220,10 +220,10 @@ after_names r whole written command none free = record {
   where
     held : (name : Bytes) (id : Id) (o : Option Reference) → get (names_after r command) name ≡ o → option_map (λ (x : Reference). x.id) o ≡ Some id → IsHeld (after r command).objects id
     held name id None e k = none_is_some id k
-    held name id (Some ref) e k = subst (IsHeld (after r command).objects) (some_inside ref.id id k) (names_held r whole written command none free name ref e)
+    held name id (Some ref) e k = subst (IsHeld (after r command).objects) (same_Some ref.id id k) (names_held r whole written command none free name ref e)
 
     there : (a : Bytes) → is_some (get (names_after r command) a) ≡ true → (stands r a ≡ true) ⊎ In a (targets r command)
-    there a h = let ref = some_there (get (names_after r command) a) h in names_from r command a ref.0 ref.1
+    there a h = let ref = some_is (get (names_after r command) a) h in names_from r command a ref.0 ref.1
 
 -- after a command of which no cause holds, and which takes no id, a whole repository is whole
 pub after_whole : (r : Repository) → IsWhole r → IsWritten r → (command : Command) → first_cause r command ≡ None → takes_id r command ≡ false → IsWhole (after r command)

@@ -5,9 +5,11 @@ use Rattle.std.specs.Ordering.{ordering_then}
 use Rattle.history_model.specs.Bytes.{Bytes, by_bytes, has_byte, begins}
 use Rattle.history_model.specs.FileMap.{is_below, beginnings, beginnings_from}
 use Rattle.history_model.proofs.PartLemmas.{split_at, one_is_in}
-use Rattle.history_model.proofs.WholeLists.{In, none_or, clash, and_true, and_both, either}
+use Rattle.history_model.proofs.WholeLists.{In, clash, either}
+use Rattle.history_model.proofs.EntryLemmas.{dropped, regroup}
+use Rattle.std.proofs.lemmas.Bool.{and_left, and_from, and_parts, or_from}
 
-eq_same : (a b : ℕ) → nat_eq a b ≡ true → a ≡ b
+pub eq_same : (a b : ℕ) → nat_eq a b ≡ true → a ≡ b
 eq_same a b h = grind (arith, tests)
 
 same_eq : (a : ℕ) → nat_eq a a ≡ true
@@ -20,16 +22,12 @@ pub begins_parts : (front text : Bytes) → begins front text ≡ true → text 
 begins_parts [] text h = refl
 begins_parts (b ∷ front) [] h = cc
 begins_parts (b ∷ front) (c ∷ text) h =
-    let both = and_true (nat_eq b c) (begins front text) h in
+    let both = and_parts (nat_eq b c) (begins front text) h in
     λ i. sym (eq_same b c both.0) i ∷ begins_parts front text both.1 i
 
-begins_front : (front rest : Bytes) → begins front (front ++ rest) ≡ true
+pub begins_front : (front rest : Bytes) → begins front (front ++ rest) ≡ true
 begins_front [] rest = refl
-begins_front (b ∷ front) rest = and_both (nat_eq b b) (begins front (front ++ rest)) (same_eq b) (begins_front front rest)
-
-drop_front : (front rest : Bytes) → drop (length front) (front ++ rest) ≡ rest
-drop_front [] rest = refl
-drop_front (b ∷ front) rest = drop_front front rest
+begins_front (b ∷ front) rest = and_from (nat_eq b b) (begins front (front ++ rest)) (same_eq b) (begins_front front rest)
 
 -- what is below a folder is the folder, a slash and the rest
 pub below_parts : (folder path : Bytes) → is_below folder path ≡ true → path ≡ folder ++ 47 ∷ drop (length folder + 1) path
@@ -45,7 +43,7 @@ pub drop_below : (folder rest : Bytes) → drop (length folder + 1) (folder ++ 4
 drop_below folder rest =
     ap (λ n. drop n (folder ++ 47 ∷ rest)) (sym (length-append folder (47 ∷ [])))
     ∙ ap (drop (length (folder ++ 47 ∷ []))) (sym (append_assoc folder (47 ∷ []) rest))
-    ∙ drop_front (folder ++ 47 ∷ []) rest
+    ∙ dropped (folder ++ 47 ∷ []) rest
 
 pub not_below : (folder path : Bytes) → has_byte 47 path ≡ false → is_below folder path ≡ false
 not_below folder path h = elim (either (is_below folder path)) [
@@ -97,22 +95,19 @@ front_plain (b ∷ path) = go (b == 47) refl (front_plain path)
 
     go : (t : Bool) → (b == 47) ≡ t → has_byte 47 (take m path) ≡ false → has_byte 47 (take (cond (not t) (1 + m) 0) (b ∷ path)) ≡ false
     go true e rest = refl
-    go false e rest = ap (λ n. has_byte 47 (take n (b ∷ path))) (one m) ∙ none_or (b == 47) (has_byte 47 (take m path)) e rest
+    go false e rest = ap (λ n. has_byte 47 (take n (b ∷ path))) (one m) ∙ or_from (b == 47) (has_byte 47 (take m path)) e rest
       where
         one : (n : ℕ) → 1 + n ≡ suc n
         one n = omega arith
 
 -- ---- beginnings
 
-add_last : (front : Bytes) (b : ℕ) (rest : Bytes) → (front ++ b ∷ []) ++ rest ≡ front ++ b ∷ rest
-add_last front b rest = append_assoc front (b ∷ []) rest
-
 from_parts : (path front folder : Bytes) → In folder (beginnings_from front path) → (some rest : Bytes) × (folder ≡ front ++ some) × (path ≡ some ++ 47 ∷ rest)
 from_parts [] front folder i = absurd i
 from_parts (b ∷ path) front folder i = go (b == 47) refl i (from_parts path (front ++ b ∷ []) folder)
   where
     later : ((some rest : Bytes) × (folder ≡ (front ++ b ∷ []) ++ some) × (path ≡ some ++ 47 ∷ rest)) → (some rest : Bytes) × (folder ≡ front ++ some) × (b ∷ path ≡ some ++ 47 ∷ rest)
-    later (some, rest, e, f) = (b ∷ some, rest, e ∙ add_last front b some, ap (λ bs. b ∷ bs) f)
+    later (some, rest, e, f) = (b ∷ some, rest, e ∙ regroup front b some, ap (λ bs. b ∷ bs) f)
 
     go : (t : Bool) → (b == 47) ≡ t → In folder (cond t (front ∷ beginnings_from (front ++ b ∷ []) path) (beginnings_from (front ++ b ∷ []) path))
         → (In folder (beginnings_from (front ++ b ∷ []) path) → (some rest : Bytes) × (folder ≡ (front ++ b ∷ []) ++ some) × (path ≡ some ++ 47 ∷ rest))
@@ -129,7 +124,7 @@ beginning_parts path folder i =
 
 is_from : (folder front rest : Bytes) → In (front ++ folder) (beginnings_from front (folder ++ 47 ∷ rest))
 is_from [] front rest = inl (append-nil front)
-is_from (b ∷ folder) front rest = go (b == 47) (subst (λ f. In f (beginnings_from (front ++ b ∷ []) (folder ++ 47 ∷ rest))) (add_last front b folder) (is_from folder (front ++ b ∷ []) rest))
+is_from (b ∷ folder) front rest = go (b == 47) (subst (λ f. In f (beginnings_from (front ++ b ∷ []) (folder ++ 47 ∷ rest))) (regroup front b folder) (is_from folder (front ++ b ∷ []) rest))
   where
     go : (t : Bool) → In (front ++ b ∷ folder) (beginnings_from (front ++ b ∷ []) (folder ++ 47 ∷ rest))
         → In (front ++ b ∷ folder) (cond t (front ∷ beginnings_from (front ++ b ∷ []) (folder ++ 47 ∷ rest)) (beginnings_from (front ++ b ∷ []) (folder ++ 47 ∷ rest)))
@@ -161,10 +156,6 @@ first_less a b x y h = go (nat_lt a b) refl (a == b) refl h
 differs : (b c : ℕ) → b < c → nat_eq b c ≡ false
 differs b c h = grind (arith, tests)
 
-not_both : (a b : Bool) → a ≡ false → (a && b) ≡ false
-not_both true b h = cc
-not_both false b h = refl
-
 -- what begins so stands together
 pub together : (front x y z : Bytes) → begins front x ≡ true → begins front y ≡ false → by_bytes x y ≡ Less → by_bytes y z ≡ Less → begins front z ≡ false
 together [] x y z hx hy xy yz = cc
@@ -172,16 +163,16 @@ together (b ∷ front) [] y z hx hy xy yz = cc
 together (b ∷ front) (c ∷ x) [] z hx hy xy yz = cc
 together (b ∷ front) (c ∷ x) (d ∷ y) [] hx hy xy yz = refl
 together (b ∷ front) (c ∷ x) (d ∷ y) (f ∷ z) hx hy xy yz =
-    let both = and_true (nat_eq b c) (begins front x) hx in
+    let both = and_parts (nat_eq b c) (begins front x) hx in
     let bc : b ≡ c = eq_same b c both.0 in
     go bc both.1 (first_less c d x y xy) (first_less d f y z yz) (together front x y z both.1)
   where
     go : b ≡ c → begins front x ≡ true → (c < d) ⊎ ((c ≡ d) × (by_bytes x y ≡ Less)) → (d < f) ⊎ ((d ≡ f) × (by_bytes y z ≡ Less))
         → (begins front y ≡ false → by_bytes x y ≡ Less → by_bytes y z ≡ Less → begins front z ≡ false)
         → (nat_eq b f && begins front z) ≡ false
-    go bc h (inl l) (inl m) rest = not_both (nat_eq b f) (begins front z) (differs b f (omega arith))
-    go bc h (inl l) (inr (m, n)) rest = not_both (nat_eq b f) (begins front z) (differs b f (omega arith))
-    go bc h (inr (l, k)) (inl m) rest = not_both (nat_eq b f) (begins front z) (differs b f (omega arith))
+    go bc h (inl l) (inl m) rest = and_left (nat_eq b f) (begins front z) (differs b f (omega arith))
+    go bc h (inl l) (inr (m, n)) rest = and_left (nat_eq b f) (begins front z) (differs b f (omega arith))
+    go bc h (inr (l, k)) (inl m) rest = and_left (nat_eq b f) (begins front z) (differs b f (omega arith))
     go bc h (inr (l, k)) (inr (m, n)) rest =
         let bd : b ≡ d = bc ∙ l in
         let y_not : begins front y ≡ false = ap (λ t. t && begins front y) (sym (ap (nat_eq b) (sym bd) ∙ same_eq b)) ∙ hy in

@@ -16,10 +16,13 @@ use Rattle.history_model.specs.Causes.{first_cause, holds, in_order, is_bad_path
 use Rattle.history_model.specs.declared.Cause.{Cause}
 use Rattle.history_model.specs.declared.Cause.TheVariants.{BadName, PrivateName, UnknownWord, AmbiguousWord, UnbornHead, NotACommit, NoSuchName, Collides, TooManyParents, DuplicateParent, BadPath, BadActor, BadTime, BadMessage, TooLarge}
 use Rattle.history_model.proofs.EditLemmas.{edits_keep}
-use Rattle.history_model.proofs.WholeLists.{In, in_either, of_map, in_flat, or_none, same_text, some_inside, none_is_some, not_false, not_true, and_true, none_passes, pass_all}
+use Rattle.history_model.proofs.WholeLists.{In, in_either, of_map, in_flat, same_text, none_is_some, none_passes, pass_all}
 use Rattle.history_model.proofs.WholeRoots.{ArePlain}
-use Rattle.history_model.proofs.WholeStores.{get_in, in_get, get_inserted, get_retained}
+use Rattle.history_model.proofs.WholeStores.{get_in, in_get, get_retained}
 use Rattle.history_model.proofs.WholeGrowth.{holds_value, has_stored}
+use Rattle.std.proofs.lemmas.Bool.{or_parts, and_parts, not-true, not-false}
+use Rattle.std.proofs.lemmas.Option.{same_Some}
+use Rattle.history_model.proofs.AfterFirstLemmas.{get-with}
 
 -- ---- causes
 
@@ -90,8 +93,8 @@ module _ (r : Repository) (whole : IsWholeStore r) where
     where
       go : (o : Option Value) → get r.objects id ≡ o → option_and_then (peeled_value id) o ≡ Some t → HoldsCommit r t
       go None f k = none_is_some t k
-      go (Some (StoredCommit c)) f k = subst (HoldsCommit r) (some_inside id t k) (ap (λ o. is_some (option_and_then as_commit o)) f)
-      go (Some (StoredTag tag)) f k = subst (HoldsCommit r) (some_inside tag.target t k) (whole.closed id (StoredTag tag) f)
+      go (Some (StoredCommit c)) f k = subst (HoldsCommit r) (same_Some id t k) (ap (λ o. is_some (option_and_then as_commit o)) f)
+      go (Some (StoredTag tag)) f k = subst (HoldsCommit r) (same_Some tag.target t k) (whole.closed id (StoredTag tag) f)
       go (Some (StoredBytes b)) f k = none_is_some t k
       go (Some (StoredFolder m)) f k = none_is_some t k
 
@@ -132,7 +135,7 @@ module _ (r : Repository) (whole : IsWholeStore r) where
 
 pub plain_written : (m : FileMap) → IsWrittenFiles m → ArePlain (entries m)
 plain_written m written e i =
-    not_true (has_byte 0 e.0) (and_true (not (list_any Rattle.history_model.specs.Bytes.is_empty (components e.0))) (not (has_byte 0 e.0))
+    not-true (has_byte 0 e.0) (and_parts (not (list_any Rattle.history_model.specs.Bytes.is_empty (components e.0))) (not (has_byte 0 e.0))
     ((written.map).paths e.0 (ap is_some (in_get m e.0 e.1 i)))).1
 
 -- a file map whose bytes are stored, in its written form
@@ -174,14 +177,14 @@ kept_there m test path content h = go (test path) (sym (get_retained m test path
     go false k = none_is_some content k
 
 edit_from : (m : FileMap) (e : Edit) (path : Bytes) (content : Content) → get (edited m e) path ≡ Some content → (get m path ≡ Some content) ⊎ ((path ≡ edit_path e) × In (StoredBytes content.bytes) (put_bytes e))
-edit_from m (Put kind p bytes) path content h = go (bytes_eq path p) refl (sym (get_inserted (retain_keys m test) p (record { kind = kind; bytes = bytes }) path) ∙ h)
+edit_from m (Put kind p bytes) path content h = go (bytes_eq path p) refl (sym (get-with (retain_keys m test) p (record { kind = kind; bytes = bytes }) path) ∙ h)
   where
     test : Bytes → Bool
     test q = not (is_within p q || is_within q p)
 
     go : (b : Bool) → bytes_eq path p ≡ b → cond b (Some (record { kind = kind; bytes = bytes })) (get (retain_keys m test) path) ≡ Some content
         → (get m path ≡ Some content) ⊎ ((path ≡ p) × ((StoredBytes content.bytes ≡ StoredBytes bytes) ⊎ ⊥))
-    go true e k = inr (same_text path p e, inl (ap (λ (c : Content). StoredBytes c.bytes) (sym (some_inside (record { kind = kind; bytes = bytes }) content k))))
+    go true e k = inr (same_text path p e, inl (ap (λ (c : Content). StoredBytes c.bytes) (sym (same_Some (record { kind = kind; bytes = bytes }) content k))))
     go false e k = inl (kept_there m test path content k)
 edit_from m (Remove p) path content h = inl (kept_there m (λ q. not (is_within p q)) path content h)
 edit_from m (RemoveFile p) path content h = inl (kept_there m (λ q. not (is_within p q)) path content h)
@@ -200,8 +203,8 @@ module _ (r : Repository) (c : CommitCommand) (none : first_cause r (Commit c) �
   good_path : (path : Bytes) → In path (paths_in (Commit c)) → (is_path path ≡ true) × (nat_lt max_path (length path) ≡ false)
   good_path path i =
       let good = none_passes is_bad_path (paths_in (Commit c)) (no_cause r (Commit c) none BadPath tests_bad_path) path i in
-      let parts = or_none (not (is_path path)) (nat_lt max_path (length path)) good in
-      (not_false (is_path path) parts.0, parts.1)
+      let parts = or_parts (not (is_path path)) (nat_lt max_path (length path)) good in
+      (not-false (is_path path) parts.0, parts.1)
 
   edit_in : (e : Edit) → In e (edits_of r c) → In (edit_path e) (paths_in (Commit c))
   edit_in e i =

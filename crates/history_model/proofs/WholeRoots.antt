@@ -12,11 +12,13 @@ use Rattle.gix_hash_id.specs.declared.kind.Kind.{Kind}
 use Rattle.history_model.specs.declared.FileKind.{FileKind}
 use Rattle.history_model.specs.declared.FileKind.TheVariants.{File, Exec, Link}
 use Rattle.history_model.proofs.PartLemmas.{split_at}
-use Rattle.history_model.proofs.WholeLists.{In, all_in, in_all, in_left, in_right, in_either, in_flat, of_flat, in_map, of_map, or_none, none_or, clash, either, texts_differ}
+use Rattle.history_model.proofs.WholeLists.{In, all_in, in_all, in_left, in_right, in_either, in_flat, of_flat, in_map, of_map, clash, either, texts_differ}
 use Rattle.history_model.proofs.WholePaths.{below_below, beginning_parts, is_beginning, below_front, below_parts, inner_below}
 use Rattle.history_model.proofs.WholeTexts.{text_same, cut_same}
 use Rattle.history_model.proofs.IdLemmas.{digest_is_id, length-raw_bytes, raw_bytes_tell}
 use Rattle.history_model.proofs.WholeItems.{Entry, below, below_entry, files_of, items_files, leaf_in, folder_in, folder_fits, sorted_entries, entries_inside, of_below, in_below}
+use Rattle.history_model.proofs.EntryLemmas.{same_mode}
+use Rattle.std.proofs.lemmas.Bool.{or_parts, or_from}
 
 -- ---- how deep folders nest
 
@@ -181,17 +183,6 @@ inside_has P files h path content folder i j = record {
 abbrev pub ArePlain : List Entry → Type 0
 ArePlain es = (e : Entry) → In e es → has_byte 0 e.0 ≡ false
 
-leaf_same : (x y : FileKind) → mode_of x ≡ mode_of y → x ≡ y
-leaf_same File File e = refl
-leaf_same Exec Exec e = refl
-leaf_same Link Link e = refl
-leaf_same File Exec e = texts_differ _ _ refl e
-leaf_same File Link e = texts_differ _ _ refl e
-leaf_same Exec File e = texts_differ _ _ refl e
-leaf_same Exec Link e = texts_differ _ _ refl e
-leaf_same Link File e = texts_differ _ _ refl e
-leaf_same Link Exec e = texts_differ _ _ refl e
-
 no_leaf : {A : Type 0} (x : FileKind) → mode_of x ≡ codes "40000" → A
 no_leaf File e = texts_differ _ _ refl e
 no_leaf Exec e = texts_differ _ _ refl e
@@ -220,20 +211,20 @@ no_entry mode name id x e = go mode (e ∙ regrouped mode name id x)
     go [] h = cc
     go (b ∷ m) h = cc
 
-some_entry : (es : List Entry) → is_empty es ≡ false → (e : Entry) × In e es
+pub some_entry : (es : List Entry) → is_empty es ≡ false → (e : Entry) × In e es
 some_entry [] h = cc
 some_entry (e ∷ es) h = (e, inl refl)
 
-no_zero_before : (name rest : Bytes) → has_byte 0 (name ++ rest) ≡ false → has_byte 0 name ≡ false
+pub no_zero_before : (name rest : Bytes) → has_byte 0 (name ++ rest) ≡ false → has_byte 0 name ≡ false
 no_zero_before [] rest h = refl
-no_zero_before (b ∷ name) rest h = let parts = or_none (b == 0) (has_byte 0 (name ++ rest)) h in none_or (b == 0) (has_byte 0 name) parts.0 (no_zero_before name rest parts.1)
+no_zero_before (b ∷ name) rest h = let parts = or_parts (b == 0) (has_byte 0 (name ++ rest)) h in or_from (b == 0) (has_byte 0 name) parts.0 (no_zero_before name rest parts.1)
 
 no_zero_after : (name rest : Bytes) → has_byte 0 (name ++ rest) ≡ false → has_byte 0 rest ≡ false
 no_zero_after [] rest h = h
-no_zero_after (b ∷ name) rest h = no_zero_after name rest (or_none (b == 0) (has_byte 0 (name ++ rest)) h).1
+no_zero_after (b ∷ name) rest h = no_zero_after name rest (or_parts (b == 0) (has_byte 0 (name ++ rest)) h).1
 
 pub plain_inside : (folder : Bytes) (m : FileMap) → ArePlain (entries m) → ArePlain (entries (inside folder m))
-plain_inside folder m plain e i = (or_none (47 == 0) (has_byte 0 e.0) (no_zero_after folder (47 ∷ e.0) (plain (folder ++ 47 ∷ e.0, e.1) (of_inside folder m e.0 e.1 i)))).1
+plain_inside folder m plain e i = (or_parts (47 == 0) (has_byte 0 e.0) (no_zero_after folder (47 ∷ e.0) (plain (folder ++ 47 ∷ e.0, e.1) (of_inside folder m e.0 e.1 i)))).1
 
 module _ (kind : Kind) (P : Value → Type 0) (same : (v w : Value) → P v → P w → id_of kind v ≡ id_of kind w → value_text kind v ≡ value_text kind w) where
   -- P holds of what the items stand for, folders nested at most so deep
@@ -254,7 +245,7 @@ module _ (kind : Kind) (P : Value → Type 0) (same : (v w : Value) → P v → 
       let parts = entry_same kind (mode_of c.kind) p (digest kind (blob_text c.bytes)) (mode_of d.kind) q (digest kind (blob_text d.bytes)) x y (mode_plain c.kind) (mode_plain d.kind) g.0 h.0
       (digest_is_id kind (blob_text c.bytes)) (digest_is_id kind (blob_text d.bytes)) e in
       let texts = (text_same kind (StoredBytes c.bytes) (StoredBytes d.bytes) (same (StoredBytes c.bytes) (StoredBytes d.bytes) g.1 h.1 parts.2)).1 in
-      (λ i. FileEntry (parts.1 i) (record { kind = leaf_same c.kind d.kind parts.0 i; bytes = texts i }), parts.3)
+      (λ i. FileEntry (parts.1 i) (record { kind = same_mode c.kind d.kind parts.0 i; bytes = texts i }), parts.3)
   item_same n rest (FileEntry p c) (FolderEntry q gs) x y g h e =
       no_leaf c.kind (entry_same kind (mode_of c.kind) p (digest kind (blob_text c.bytes)) (codes "40000") q (digest kind (tree_text (root_within n kind gs))) x y (mode_plain c.kind) refl g.0 h.0
       (digest_is_id kind (blob_text c.bytes)) (digest_is_id kind (tree_text (root_within n kind gs))) e).0

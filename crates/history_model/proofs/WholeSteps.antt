@@ -14,9 +14,11 @@ use Rattle.history_model.specs.Stops.{LeftByStop, Between, made, is_changing}
 use Rattle.history_model.specs.Steps.{Accepts}
 use Rattle.history_model.specs.Wholeness.{IsSound, StepsKeepSound, SequencesKeepSound, StopsKeepSound}
 use Rattle.history_model.specs.declared.Cause.{Cause}
-use Rattle.history_model.proofs.WholeLists.{In, and_true, and_both, none_is_some, some_inside}
+use Rattle.history_model.proofs.WholeLists.{In, none_is_some}
 use Rattle.history_model.proofs.WholeNames.{after_whole}
 use Rattle.history_model.proofs.WholeForms.{after_written, stored_formed, moves_formed, name_parts}
+use Rattle.std.proofs.lemmas.Bool.{and_from, and_parts}
+use Rattle.std.proofs.lemmas.Option.{same_Some}
 
 pub contains_in : {X : Type 0} (xs : List X) (x : X) → Contains xs x → In x xs
 contains_in [] x (k, less, at) = absurd (omega arith)
@@ -51,7 +53,7 @@ holds_formed r written name id at = go (get r.names name) refl at
     go None e k = none_is_some id k
     go (Some ref) e k =
         let parts = name_parts r written name ref e in
-        (parts.0, subst (λ q. is_id r.kind q ≡ true) (some_inside ref.id id k) (and_true (is_id r.kind ref.id) (list_all (is_log_entry r.kind) ref.moves) parts.1).0)
+        (parts.0, subst (λ q. is_id r.kind q ≡ true) (same_Some ref.id id k) (and_parts (is_id r.kind ref.id) (list_all (is_log_entry r.kind) ref.moves) parts.1).0)
 
 between_written : (old : Repository) (command : Command) (x : Repository) → IsWhole old → IsWritten old → first_cause old command ≡ None → Between old command x → IsWritten x
 between_written old command x whole written none between = record {
@@ -60,8 +62,8 @@ between_written old command x whole written none between = record {
     | inr e ↦ subst (λ b. is_branch b ≡ true) (sym e) new_written.branch
   ];
   names = λ name ref at.
-      and_both (is_name name && not (is_private name)) (is_reference x.kind ref) (held name ref at).0
-      (and_both (is_id x.kind ref.id) (list_all (is_log_entry x.kind) ref.moves) (subst (λ k. is_id k ref.id ≡ true) (sym between.kind) (held name ref at).1) (subst (λ k. list_all (is_log_entry k) ref.moves ≡ true) (sym between.kind) (moved name ref at)));
+      and_from (is_name name && not (is_private name)) (is_reference x.kind ref) (held name ref at).0
+      (and_from (is_id x.kind ref.id) (list_all (is_log_entry x.kind) ref.moves) (subst (λ k. is_id k ref.id ≡ true) (sym between.kind) (held name ref at).1) (subst (λ k. list_all (is_log_entry k) ref.moves ≡ true) (sym between.kind) (moved name ref at)));
   values = λ id value at. subst (λ k. IsWrittenValue k value) (sym between.kind) (elim ((between.stored).no_more id value at) [
     | inl e ↦ written.values id value e
     | inr c ↦ stored_formed old whole written command none value (contains_in (stored_by old command) value c)

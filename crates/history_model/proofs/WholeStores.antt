@@ -12,25 +12,23 @@ use Rattle.gix_hash_id.specs.Id.{Id, null_id}
 use Rattle.gix_hash_id.specs.Order.{id_eq}
 use Rattle.history_model.specs.Meaning.{store_one, store_all, is_other, is_taken, some_taken}
 use Rattle.gix_hash_id.specs.declared.kind.Kind.{Kind}
-use Rattle.history_model.proofs.WholeLists.{In, or_none, clash, same_text, text_itself, texts_differ, some_inside, none_is_some, not_false, and_true}
+use Rattle.history_model.proofs.WholeLists.{In, clash, same_text, text_itself, texts_differ, none_is_some}
 use Rattle.history_model.proofs.IdLemmas.{one_id, id_itself, get_with_id}
 use Rattle.history_model.proofs.WholeTexts.{text_same}
 use Rattle.history_model.proofs.WholeItems.{sorted_entries}
 use Rattle.history_model.proofs.WholeRoots.{HasAll, ArePlain, one_map, inside_has, plain_inside}
+use Rattle.history_model.proofs.AfterFirstLemmas.{get-with}
+use Rattle.history_model.proofs.PlaceLemmas.{same_key}
+use Rattle.std.proofs.lemmas.Bool.{or_parts, and_parts, not-false}
+use Rattle.std.proofs.lemmas.Option.{same_Some}
 
 -- ---- finite maps from byte strings
-
-pub same_key : (p q : Bytes) → eq_by_cmp by_bytes p q ≡ bytes_eq p q
-same_key p q = is_eq-slice_cmp p q
 
 pub same_tie : (p q : Bytes) → by_bytes p q ≡ Equal → p ≡ q
 same_tie p q e = slice_cmp-IsAntisymmetric nat_cmp-IsAntisymmetric p q e
 
 pub one_by_keys : {X : Type 0} (m n : FinMap by_bytes X) → ((q : Bytes) → get m q ≡ get n q) → m ≡ n
 one_by_keys m n h = same_map nat_list_cmp_total (slice_cmp-IsAntisymmetric nat_cmp-IsAntisymmetric) m n h
-
-pub get_inserted : {X : Type 0} (m : FinMap by_bytes X) (k : Bytes) (v : X) (q : Bytes) → get (insert m k v) q ≡ cond (bytes_eq q k) (Some v) (get m q)
-get_inserted m k v q = get-insert nat_list_cmp_total m k v q ∙ ap (λ b. cond b (Some v) (get m q)) (same_key q k)
 
 pub get_removed : {X : Type 0} (m : FinMap by_bytes X) (k q : Bytes) → get (remove m k) q ≡ cond (bytes_eq q k) None (get m q)
 get_removed m k q = get-remove nat_list_cmp_total m k q ∙ ap (λ b. cond b None (get m q)) (same_key q k)
@@ -46,7 +44,7 @@ found_in [] q x h = none_is_some x h
 found_in {X = X} (e ∷ es) q x h = go (eq_by_cmp by_bytes q e.0) refl h (found_in es q x)
   where
     go : (b : Bool) → eq_by_cmp by_bytes q e.0 ≡ b → cond b (Some e.1) (find by_bytes q es) ≡ Some x → (find by_bytes q es ≡ Some x → In (q, x) es) → In (q, x) (e ∷ es)
-    go true k l rest = inl (pairs_same q e.0 x e.1 (same_text q e.0 (sym (same_key q e.0) ∙ k)) (sym (some_inside e.1 x l)))
+    go true k l rest = inl (pairs_same q e.0 x e.1 (same_text q e.0 (sym (same_key q e.0) ∙ k)) (sym (same_Some e.1 x l)))
     go false k l rest = inr (rest l)
 
 pub get_in : {X : Type 0} (m : FinMap by_bytes X) (q : Bytes) (x : X) → get m q ≡ Some x → In (q, x) (entries m)
@@ -54,8 +52,8 @@ get_in m q x h = found_in (entries m) q x (sym (get-entries m q) ∙ h)
 
 above : {X : Type 0} (p : Bytes) (es : List (Bytes × X)) → below_all by_bytes p es ≡ true → (q : Bytes) (x : X) → In (q, x) es → is_lt (by_bytes p q) ≡ true
 above p [] h q x i = absurd i
-above {X = X} p (e ∷ es) h q x (inl k) = ap (λ (f : Bytes × X). is_lt (by_bytes p f.0)) k ∙ (and_true (is_lt (by_bytes p e.0)) (below_all by_bytes p es) h).0
-above p (e ∷ es) h q x (inr i) = above p es (and_true (is_lt (by_bytes p e.0)) (below_all by_bytes p es) h).1 q x i
+above {X = X} p (e ∷ es) h q x (inl k) = ap (λ (f : Bytes × X). is_lt (by_bytes p f.0)) k ∙ (and_parts (is_lt (by_bytes p e.0)) (below_all by_bytes p es) h).0
+above p (e ∷ es) h q x (inr i) = above p es (and_parts (is_lt (by_bytes p e.0)) (below_all by_bytes p es) h).1 q x i
 
 less_not_equal : {A : Type 0} (o : Ordering) → is_lt o ≡ true → is_eq o ≡ true → A
 less_not_equal Less h k = cc
@@ -70,7 +68,7 @@ found_there {X = X} (e ∷ es) h q x (inl k) =
 found_there {X = X} (e ∷ es) h q x (inr i) = go (eq_by_cmp by_bytes q e.0) refl (found_there es parts.1 q x i)
   where
     parts : (below_all by_bytes e.0 es ≡ true) × (is_sorted by_bytes es ≡ true)
-    parts = and_true (below_all by_bytes e.0 es) (is_sorted by_bytes es) h
+    parts = and_parts (below_all by_bytes e.0 es) (is_sorted by_bytes es) h
 
     go : (b : Bool) → eq_by_cmp by_bytes q e.0 ≡ b → find by_bytes q es ≡ Some x → cond b (Some e.1) (find by_bytes q es) ≡ Some x
     go true k rest =
@@ -88,7 +86,7 @@ abbrev pub Near : Kind → FinMap by_id Value → Value → Type 0
 Near kind objects v = (w : Value) × (get objects (id_of kind v) ≡ Some w) × (value_text kind w ≡ value_text kind v)
 
 pub near_same : (kind : Kind) (objects : FinMap by_id Value) (v w : Value) → Near kind objects v → Near kind objects w → id_of kind v ≡ id_of kind w → value_text kind v ≡ value_text kind w
-near_same kind objects v w (x, gx, tx) (y, gy, ty) e = sym tx ∙ ap (value_text kind) (some_inside x y (sym gx ∙ ap (get objects) e ∙ gy)) ∙ ty
+near_same kind objects v w (x, gx, tx) (y, gy, ty) e = sym tx ∙ ap (value_text kind) (same_Some x y (sym gx ∙ ap (get objects) e ∙ gy)) ∙ ty
 
 module _ (kind : Kind) where
   one_keeps : (objects : FinMap by_id Value) (v : Value) (q : Id) (x : Value) → get objects q ≡ Some x → get (store_one kind objects v) q ≡ Some x
@@ -110,11 +108,11 @@ module _ (kind : Kind) where
   one_near objects v free = go (contains_key objects (id_of kind v)) refl
     where
       is_free : unwrap_or (option_map (is_other kind (value_text kind v)) (get objects (id_of kind v))) false ≡ false
-      is_free = (or_none _ (unwrap_or (option_map (is_other kind (value_text kind v)) (get objects (id_of kind v))) false) free).1
+      is_free = (or_parts _ (unwrap_or (option_map (is_other kind (value_text kind v)) (get objects (id_of kind v))) false) free).1
 
       at : (o : Option Value) → is_some o ≡ true → unwrap_or (option_map (is_other kind (value_text kind v)) o) false ≡ false → (w : Value) × (o ≡ Some w) × (value_text kind w ≡ value_text kind v)
       at None h k = cc
-      at (Some w) h k = (w, refl, sym (same_text (value_text kind v) (value_text kind w) (not_false (bytes_eq (value_text kind v) (value_text kind w)) k)))
+      at (Some w) h k = (w, refl, sym (same_text (value_text kind v) (value_text kind w) (not-false (bytes_eq (value_text kind v) (value_text kind w)) k)))
 
       go : (b : Bool) → contains_key objects (id_of kind v) ≡ b → Near kind (cond b objects (insert objects (id_of kind v) v)) v
       go true e = at (get objects (id_of kind v)) e is_free
@@ -124,19 +122,19 @@ module _ (kind : Kind) where
   pub all_near : (objects : FinMap by_id Value) (vs : List Value) → some_taken kind objects vs ≡ false → (v : Value) → In v vs → Near kind (store_all kind objects vs) v
   all_near objects [] free v i = absurd i
   all_near objects (u ∷ vs) free v (inl e) =
-      let near = one_near objects u (or_none (is_taken kind objects u) (some_taken kind (store_one kind objects u) vs) free).0 in
+      let near = one_near objects u (or_parts (is_taken kind objects u) (some_taken kind (store_one kind objects u) vs) free).0 in
       subst (Near kind (store_all kind (store_one kind objects u) vs)) (sym e) (near.0, all_keep (store_one kind objects u) vs (id_of kind u) near.0 near.1, near.2)
-  all_near objects (u ∷ vs) free v (inr i) = all_near (store_one kind objects u) vs (or_none (is_taken kind objects u) (some_taken kind (store_one kind objects u) vs) free).1 v i
+  all_near objects (u ∷ vs) free v (inr i) = all_near (store_one kind objects u) vs (or_parts (is_taken kind objects u) (some_taken kind (store_one kind objects u) vs) free).1 v i
 
   -- an id is neither null nor, but for its value, the empty tree's
   pub none_reserved : (objects : FinMap by_id Value) (vs : List Value) → some_taken kind objects vs ≡ false → (v : Value) → In v vs
       → (id_eq (id_of kind v) (null_id kind) ≡ false) × ((id_eq (id_of kind v) (empty_tree_id kind) && is_other kind (value_text kind (StoredFolder empty)) v) ≡ false)
   none_reserved objects [] free v i = absurd i
-  none_reserved objects (u ∷ vs) free v (inr i) = none_reserved (store_one kind objects u) vs (or_none (is_taken kind objects u) (some_taken kind (store_one kind objects u) vs) free).1 v i
+  none_reserved objects (u ∷ vs) free v (inr i) = none_reserved (store_one kind objects u) vs (or_parts (is_taken kind objects u) (some_taken kind (store_one kind objects u) vs) free).1 v i
   none_reserved objects (u ∷ vs) free v (inl e) =
-      let taken = (or_none (is_taken kind objects u) (some_taken kind (store_one kind objects u) vs) free).0 in
-      let outer = or_none (id_eq (id_of kind u) (null_id kind) || (id_eq (id_of kind u) (empty_tree_id kind) && is_other kind (value_text kind (StoredFolder empty)) u)) _ taken in
-      let inner = or_none (id_eq (id_of kind u) (null_id kind)) (id_eq (id_of kind u) (empty_tree_id kind) && is_other kind (value_text kind (StoredFolder empty)) u) outer.0 in
+      let taken = (or_parts (is_taken kind objects u) (some_taken kind (store_one kind objects u) vs) free).0 in
+      let outer = or_parts (id_eq (id_of kind u) (null_id kind) || (id_eq (id_of kind u) (empty_tree_id kind) && is_other kind (value_text kind (StoredFolder empty)) u)) _ taken in
+      let inner = or_parts (id_eq (id_of kind u) (null_id kind)) (id_eq (id_of kind u) (empty_tree_id kind) && is_other kind (value_text kind (StoredFolder empty)) u) outer.0 in
       subst (λ w. (id_eq (id_of kind w) (null_id kind) ≡ false) × ((id_eq (id_of kind w) (empty_tree_id kind) && is_other kind (value_text kind (StoredFolder empty)) w) ≡ false)) (sym e) inner
 
   one_from : (objects : FinMap by_id Value) (v : Value) (q : Id) (x : Value) → get (store_one kind objects v) q ≡ Some x → (get objects q ≡ Some x) ⊎ ((x ≡ v) × (q ≡ id_of kind x) × (get objects q ≡ None))
@@ -150,7 +148,7 @@ module _ (kind : Kind) where
           → (get objects q ≡ Some x) ⊎ ((x ≡ v) × (q ≡ id_of kind x) × (get objects q ≡ None))
       new false f e k = inl k
       new true f e k =
-          let same : x ≡ v = sym (some_inside v x k) in
+          let same : x ≡ v = sym (same_Some v x k) in
           let at : q ≡ id_of kind v = one_id q (id_of kind v) f in
           inr (same, at ∙ ap (id_of kind) (sym same), is_none_so (get objects q) (ap (contains_key objects) at ∙ e))
 

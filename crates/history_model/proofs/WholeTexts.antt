@@ -12,7 +12,8 @@ use Rattle.history_model.specs.Forms.{is_id}
 use Rattle.gix_hash_id.specs.declared.kind.Kind.{Kind}
 use Rattle.history_model.proofs.IdLemmas.{has_kind, digest_is_id}
 use Rattle.history_model.proofs.PartLemmas.{split_at, head_same, tail_same}
-use Rattle.history_model.proofs.WholeLists.{none_or}
+use Rattle.std.proofs.lemmas.Bool.{or_from}
+use Rattle.history_model.proofs.PlaceLemmas.{id_length}
 
 unequal_numbers : (a d : ℕ) → d < a → (a == d) ≡ false
 unequal_numbers a d h = grind (arith, tests)
@@ -31,7 +32,7 @@ either_high d false xs ys h k = k
 digits_high : (d : ℕ) → d < 48 → (k base n : ℕ) (acc : Bytes) → has_byte d acc ≡ false → has_byte d (digits_onto k base false n acc) ≡ false
 digits_high d h zero base n acc none = none
 digits_high d h (suc k) base n acc none =
-    let more : has_byte d (digit_glyph false (n % base) ∷ acc) ≡ false = none_or (digit_glyph false (n % base) == d) (has_byte d acc) (glyph_high d (n % base) h) none in
+    let more : has_byte d (digit_glyph false (n % base) ∷ acc) ≡ false = or_from (digit_glyph false (n % base) == d) (has_byte d acc) (glyph_high d (n % base) h) none in
     either_high d (n / base == 0) (digit_glyph false (n % base) ∷ acc) (digits_onto k base false (n / base) (digit_glyph false (n % base) ∷ acc)) more
     (digits_high d h k base (n / base) (digit_glyph false (n % base) ∷ acc) more)
 
@@ -65,13 +66,6 @@ pub text_same : (kind : Kind) (v w : Value) → value_text kind v ≡ value_text
 text_same kind v w e = let same = object_same (object_kind v) (object_kind w) (content_of kind v) (content_of kind w) e in (ap kind_word same.0, same.1)
 
 -- ---- ids
-
--- a digest has its kind's form
-pub is_id-digest : (kind : Kind) (text : Bytes) → is_id kind (digest kind text) ≡ true
-is_id-digest kind text = digest_is_id kind text
-
-pub is_id-length : (kind : Kind) (id : Id) → is_id kind id ≡ true → length id.digits ≡ hex_len kind
-is_id-length kind id h = (has_kind kind id h).whole
 
 -- texts of one length, each with more behind it
 pub cut_same : (a b x y : Bytes) → length a ≡ length b → a ++ x ≡ b ++ y → (a ≡ b) × (x ≡ y)

@@ -9,19 +9,11 @@ use Rattle.history_model.specs.Meaning.{store_one, store_all, is_other, is_taken
 use Rattle.history_model.specs.Repository.{Repository, IsWholeStore, Values, HaveOwnIds}
 use Rattle.history_steps.specs.TreeSteps.{HasText, StoresInAnyOrder}
 use Rattle.history_model.proofs.IdLemmas.{one_id, get_with_id}
-use Rattle.history_model.proofs.PartLemmas.{either_false}
 use Rattle.history_model.proofs.PlaceLemmas.{text_itself, one_text, alike_file}
 use Rattle.history_steps.proofs.TreePuts.{own_ids_stay}
 use Rattle.history_model.proofs.WholeLists.{In}
 use Rattle.history_model.proofs.WholeSteps.{contains_in, in_contains}
-
-or_none : (a b : Bool) → a ≡ false → b ≡ false → (a || b) ≡ false
-or_none true b h k = cc
-or_none false b h k = k
-
-turned : (b : Bool) → not b ≡ false → b ≡ true
-turned true h = refl
-turned false h = cc
+use Rattle.std.proofs.lemmas.Bool.{not-false, or_from, or_parts}
 
 module _ (kind : Kind) where
   -- an id that no value may have, or the empty tree's alone
@@ -73,7 +65,7 @@ module _ (kind : Kind) where
   stands_then base value free = by_found (get base (id_of kind value)) refl free
     where
       by_found : (o : Option Value) → get base (id_of kind value) ≡ o → is_unlike value o ≡ false → (found : Value) × (get (store_one kind base value) (id_of kind value) ≡ Some found) × (value_text kind value ≡ value_text kind found)
-      by_found (Some found) at alike = (found, stays_one base value (id_of kind value) found at, one_text (value_text kind value) (value_text kind found) (turned _ alike))
+      by_found (Some found) at alike = (found, stays_one base value (id_of kind value) found at, one_text (value_text kind value) (value_text kind found) (not-false _ alike))
       by_found None at alike = (
         value,
         get_one base value (id_of kind value) ∙ (λ i. cond (is_some (at i)) (get base (id_of kind value)) (cond (id_eq (id_of kind value) (id_of kind value)) (Some value) (get base (id_of kind value))))
@@ -90,7 +82,7 @@ module _ (kind : Kind) where
 
   alike_found : (value : Value) (o : Option Value) → is_unlike value o ≡ false → (found : Value) → o ≡ Some found → value_text kind value ≡ value_text kind found
   alike_found value None free found e = absurd cc
-  alike_found value (Some known) free found e = one_text (value_text kind value) (value_text kind known) (turned _ free) ∙ ap (value_text kind) (same e)
+  alike_found value (Some known) free found e = one_text (value_text kind value) (value_text kind known) (not-false _ free) ∙ ap (value_text kind) (same e)
     where
       same : {X : Type 0} {x y : X} → Some x ≡ Some y → x ≡ y
       same e = cc
@@ -122,8 +114,8 @@ module _ (kind : Kind) where
   fits_from : (more : List Value) (base : Values) → some_taken kind base more ≡ false → Fits base more
   fits_from [] base free = record { unkept = λ value i. absurd i; base_agrees = λ value found i at. absurd i; agree = λ value other i j e. absurd i }
   fits_from (first ∷ more) base free =
-      let halves = either_false (is_taken kind base first) (some_taken kind (store_one kind base first) more) free in
-      fits_both base first more (either_false (is_kept first) (is_unlike first (get base (id_of kind first))) halves.0) (fits_from more (store_one kind base first) halves.1)
+      let halves = or_parts (is_taken kind base first) (some_taken kind (store_one kind base first) more) free in
+      fits_both base first more (or_parts (is_kept first) (is_unlike first (get base (id_of kind first))) halves.0) (fits_from more (store_one kind base first) halves.1)
 
   not_unlike : (value : Value) (o : Option Value) → ((found : Value) → o ≡ Some found → value_text kind value ≡ value_text kind found) → is_unlike value o ≡ false
   not_unlike value None same = refl
@@ -142,8 +134,8 @@ module _ (kind : Kind) where
   fits_to : (more : List Value) (base : Values) → Fits base more → some_taken kind base more ≡ false
   fits_to [] base h = refl
   fits_to (first ∷ more) base h =
-      or_none (is_taken kind base first) (some_taken kind (store_one kind base first) more)
-      (or_none (is_kept first) (is_unlike first (get base (id_of kind first))) (h.unkept first (inl refl))
+      or_from (is_taken kind base first) (some_taken kind (store_one kind base first) more)
+      (or_from (is_kept first) (is_unlike first (get base (id_of kind first))) (h.unkept first (inl refl))
       (not_unlike first (get base (id_of kind first)) (λ found at. h.base_agrees first found (inl refl) at)))
       (fits_to more (store_one kind base first) (fits_rest first more base h))
 
@@ -247,7 +239,7 @@ is_some_text kind (Some value) = refl
 -- What stands in a whole store has neither the null id nor, but for the empty tree, the empty tree's.
 module _ (r : Repository) (whole : IsWholeStore r) where
   stood_free : (value : Value) → HasText r.kind r.objects value → is_kept r.kind value ≡ false
-  stood_free value has = or_none (id_eq (id_of r.kind value) (null_id r.kind)) (id_eq (id_of r.kind value) (empty_tree_id r.kind) && is_other r.kind (value_text r.kind (StoredFolder empty)) value)
+  stood_free value has = or_from (id_eq (id_of r.kind value) (null_id r.kind)) (id_eq (id_of r.kind value) (empty_tree_id r.kind) && is_other r.kind (value_text r.kind (StoredFolder empty)) value)
       (not_null (id_eq (id_of r.kind value) (null_id r.kind)) refl)
       (not_empty (id_eq (id_of r.kind value) (empty_tree_id r.kind)) refl)
     where

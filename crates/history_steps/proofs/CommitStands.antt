@@ -11,9 +11,9 @@ use Rattle.history_model.specs.Repository.{Values, HaveOwnIds}
 use Rattle.history_steps.specs.TreeSteps.{PutsValue}
 use Rattle.history_steps.specs.CommitSteps.{CommitsStand}
 use Rattle.gix_hash_id.specs.declared.kind.Kind.{Kind}
-use Rattle.history_model.proofs.PlaceLemmas.{digest_is_id}
 use Rattle.history_steps.proofs.TreePuts.{halves_stand, names_speak_of_no_values, puts_store, standing_is_stored}
 use Rattle.history_steps.proofs.TreeMoves.{moves_move, packed_apart, packed_no_log}
+use Rattle.history_model.proofs.IdLemmas.{digest_is_id}
 
 -- a value is put, or its text stands already and nothing changes
 pub one_held : (kind : Kind) (old mid : Tree) (values : Values) (value : Value) → HaveOwnIds kind values → is_taken kind values value ≡ false → HoldsValues kind old values

@@ -14,8 +14,8 @@ use Rattle.history_model.specs.Causes.{holds, in_order, is_ambiguous, is_no_comm
 use Rattle.history_steps.specs.Offered.{IsOffered, offered_causes, FirstOfferedCause}
 use Rattle.history_model.specs.declared.Cause.{Cause}
 use Rattle.history_model.specs.declared.Cause.TheVariants.{BadName, PrivateName, NameTwice, UnknownWord, AmbiguousWord, UnbornHead, NotACommit, NoSuchName, Taken, NotExpected, Collides, HoldsTag, TooManyParents, DuplicateParent, BadPath, IsFolder, NoSuchPath, BadActor, BadTime, BadMessage, TooLarge, NothingMoves, OrderWithParents}
-use Rattle.history_steps.proofs.OfferedFiles.{neither}
 use Rattle.history_steps.proofs.OfferedReads.{words_read_names, none_is_ambiguous}
+use Rattle.std.proofs.lemmas.Bool.{or_from}
 
 -- ---- the first of few
 
@@ -49,7 +49,7 @@ first_of_few p out =
 
 none_passes : {X : Type 0} (p : X → Bool) (xs : List X) → ((x : X) → p x ≡ false) → list_any p xs ≡ false
 none_passes p [] h = refl
-none_passes p (x ∷ xs) h = neither (p x) (list_any p xs) (h x) (none_passes p xs h)
+none_passes p (x ∷ xs) h = or_from (p x) (list_any p xs) (h x) (none_passes p xs h)
 
 module _ (r : Repository) (o : IsOffered r) (w : HasWholeNames r) where
   -- ---- words
@@ -105,8 +105,8 @@ module _ (r : Repository) (o : IsOffered r) (w : HasWholeNames r) where
   files_out : (word : Bytes) → RuledOut (λ cause. holds cause r (Files word))
   files_out word = record {
     name_twice = refl;
-    ambiguous = neither _ false (not_ambiguous word) refl;
-    no_commit = neither _ false (is_commit word) refl;
+    ambiguous = or_from _ false (not_ambiguous word) refl;
+    no_commit = or_from _ false (is_commit word) refl;
     holds_tag = refl;
     moves_nothing = refl;
     wrong_order = refl;
@@ -115,8 +115,8 @@ module _ (r : Repository) (o : IsOffered r) (w : HasWholeNames r) where
   show_out : (word : Bytes) (path : Option Bytes) → RuledOut (λ cause. holds cause r (Show word path))
   show_out word path = record {
     name_twice = refl;
-    ambiguous = neither _ false (not_ambiguous word) refl;
-    no_commit = neither _ false (is_commit word) refl;
+    ambiguous = or_from _ false (not_ambiguous word) refl;
+    no_commit = or_from _ false (is_commit word) refl;
     holds_tag = refl;
     moves_nothing = refl;
     wrong_order = refl;

@@ -9,27 +9,15 @@ use Rattle.history_model.specs.FileMap.{Content, folders_of}
 use Rattle.history_model.specs.Objects.{Value, StoredBytes, StoredFolder}
 use Rattle.history_model.specs.Repository.{IsStored}
 use Rattle.history_steps.specs.Offered.{FilesAreStored}
-use Rattle.history_model.proofs.PartLemmas.{both_true}
 use Rattle.history_model.proofs.PlaceLemmas.{one_text, text_itself, same_key}
-
-pub turned : (b : Bool) → not b ≡ true → b ≡ false
-turned true h = cc
-turned false h = refl
-
-pub both : (a b : Bool) → a ≡ true → b ≡ true → (a && b) ≡ true
-both true b e f = f
-both false b e f = cc
-
-pub neither : (a b : Bool) → a ≡ false → b ≡ false → (a || b) ≡ false
-neither true b e f = cc
-neither false b e f = f
+use Rattle.std.proofs.lemmas.Bool.{and_from, not-true, or_from, and_parts}
 
 -- ---- keys
 
 module _ (p : Bytes → Bool) where
   keys_pass : (ks : List Bytes) → ((q : Bytes) → list_any (eq_by_cmp by_bytes q) ks ≡ true → p q ≡ true) → list_all p ks ≡ true
   keys_pass [] h = refl
-  keys_pass (k ∷ ks) h = both (p k) (list_all p ks) (h k (ap (λ b. b || list_any (eq_by_cmp by_bytes k) ks) (same_key k k ∙ text_itself k)))
+  keys_pass (k ∷ ks) h = and_from (p k) (list_all p ks) (h k (ap (λ b. b || list_any (eq_by_cmp by_bytes k) ks) (same_key k k ∙ text_itself k)))
       (keys_pass ks (λ q e. h q (later (eq_by_cmp by_bytes q k) (list_any (eq_by_cmp by_bytes q) ks) e)))
     where
       later : (a b : Bool) → b ≡ true → (a || b) ≡ true
@@ -38,10 +26,10 @@ module _ (p : Bytes → Bool) where
 
   key_passes : (ks : List Bytes) → list_all p ks ≡ true → (q : Bytes) → list_any (eq_by_cmp by_bytes q) ks ≡ true → p q ≡ true
   key_passes [] h q e = cc
-  key_passes (k ∷ ks) h q e = go (key_passes ks (both_true (p k) (list_all p ks) h).1 q) (bytes_eq q k) refl (subst (λ b. (b || list_any (eq_by_cmp by_bytes q) ks) ≡ true) (same_key q k) e)
+  key_passes (k ∷ ks) h q e = go (key_passes ks (and_parts (p k) (list_all p ks) h).1 q) (bytes_eq q k) refl (subst (λ b. (b || list_any (eq_by_cmp by_bytes q) ks) ≡ true) (same_key q k) e)
     where
       go : (list_any (eq_by_cmp by_bytes q) ks ≡ true → p q ≡ true) → (b : Bool) → bytes_eq q k ≡ b → (b || list_any (eq_by_cmp by_bytes q) ks) ≡ true → p q ≡ true
-      go rest true f g = ap p (one_text q k f) ∙ (both_true (p k) (list_all p ks) h).0
+      go rest true f g = ap p (one_text q k f) ∙ (and_parts (p k) (list_all p ks) h).0
       go rest false f g = rest g
 
   -- all keys of a map pass exactly where each key that it has does

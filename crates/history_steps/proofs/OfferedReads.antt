@@ -10,7 +10,7 @@ use Rattle.history_model.specs.Words.{WordReading, ReadsAs, Unborn, Unknown, Amb
 use Rattle.history_model.specs.Meaning.{parents_of}
 use Rattle.history_steps.specs.Offered.{IsOffered}
 use Rattle.history_steps.specs.OfferedWords.{read_id, WordsReadNames, NoneIsAmbiguous, NamesHoldCommits, NamesStandForTheirs, WordsStandForTheirs, ParentsAreCommits}
-use Rattle.history_model.proofs.WholeLists.{In}
+use Rattle.history_model.proofs.WholeLists.{In, in_all}
 use Rattle.history_model.proofs.WholeReads.{parents_hold}
 
 -- ---- words
@@ -90,9 +90,5 @@ words_stand_for_theirs r word o w = word_stands r o w word
 
 -- ---- parents
 
-each_in : {X : Type 0} (P : X → Type 0) (xs : List X) → ((x : X) → In x xs → P x) → AllByRecursion P xs
-each_in P [] h = tt
-each_in P (x ∷ xs) h = (h x (inl refl), each_in P xs (λ y i. h y (inr i)))
-
 pub parents_are_commits : ParentsAreCommits
-parents_are_commits r c store = each_in (HoldsCommit r) (parents_of r c) (λ id i. parents_hold r store c id i)
+parents_are_commits r c store = in_all (HoldsCommit r) (parents_of r c) (λ id i. parents_hold r store c id i)

@@ -10,8 +10,7 @@ use Rattle.history_model.specs.Places.{Pair}
 use Rattle.history_model.specs.Steps.{goes_on, some_failed}
 use Rattle.history_model.specs.Moments.{Moment, IsStepPair, ActedOn, ActsOn, last_moment}
 use Rattle.history_steps.specs.Passing.{GoesOnFrom, IsWithin, ActsLater, ActsThen}
-use Rattle.history_model.proofs.PartLemmas.{either_false}
-use Rattle.history_model.proofs.FailureLemmas.{not_false}
+use Rattle.std.proofs.lemmas.Bool.{or_parts, not-false}
 
 got_before : (xs ys : List Tree) (m : ℕ) → m < length xs → slice_get (xs ++ ys) m ≡ slice_get xs m
 got_before [] ys m less = absurd (omega arith)
@@ -79,8 +78,8 @@ acts_later MayFail objects names later_objects later_names old begin commands re
 pub acts_then : (MayFail : Type 0) → ActsThen MayFail
 acts_then MayFail objects names old begin [] [] [] mid more others behind new unfailed h k = subst (λ r. ActsOn objects names MayFail r begin more others behind new) h k
 acts_then MayFail objects names old begin (command ∷ commands) (reply ∷ replies) (next ∷ moments) mid more others behind new unfailed h k =
-    let fails = either_false (not (goes_on command reply)) (some_failed commands replies) unfailed in
-    (h.0, h.1, inl (not_false (goes_on command reply) fails.0), acts_then MayFail objects names h.0 next commands replies moments mid more others behind new fails.1 h.3 k)
+    let fails = or_parts (not (goes_on command reply)) (some_failed commands replies) unfailed in
+    (h.0, h.1, inl (not-false (goes_on command reply) fails.0), acts_then MayFail objects names h.0 next commands replies moments mid more others behind new fails.1 h.3 k)
 acts_then MayFail objects names old begin [] [] (next ∷ moments) mid more others behind new unfailed h k = absurd h
 acts_then MayFail objects names old begin [] (reply ∷ replies) moments mid more others behind new unfailed h k = absurd h
 acts_then MayFail objects names old begin (command ∷ commands) [] moments mid more others behind new unfailed h k = absurd h

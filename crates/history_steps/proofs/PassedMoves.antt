@@ -24,24 +24,18 @@ use Rattle.history_model.proofs.IdLemmas.{ids_apart}
 use Rattle.history_model.proofs.NameLemmas.{name-lock, name-log, log-lock}
 use Rattle.history_model.proofs.OnePairLines.{entry_parts}
 use Rattle.history_model.proofs.OnePairTexts.{hex_high, none_in, actor_one_line}
-use Rattle.history_model.proofs.PartLemmas.{both_true}
 use Rattle.history_model.proofs.RecoveryLemmas.{recovery_keeps, recovery_reads, file_kept, get-recovered_files, get-recovered_names}
 use Rattle.history_model.proofs.RecoveredLemmas.{recovered_stands, after_line, all_whole, holds, log_of, log_stays_there}
-use Rattle.history_model.proofs.PlaceLemmas.{one_text, text_itself, texts_apart, get_with}
+use Rattle.history_model.proofs.PlaceLemmas.{one_text, text_itself, texts_apart}
 use Rattle.history_steps.proofs.TreePuts.{halves_stand, no_text}
 use Rattle.history_steps.proofs.TreeMoves.{id_reads, packed_apart, packed_no_log, head_apart, head_no_log, logs_apart, log_no_name, more_texts, moves_moved, moves_move}
-use Rattle.history_model.proofs.WholeLists.{either, or_none, none_or}
+use Rattle.history_model.proofs.WholeLists.{either}
+use Rattle.history_model.proofs.EntryLemmas.{none_there}
+use Rattle.history_model.proofs.WholePaths.{begins_parts}
+use Rattle.std.proofs.lemmas.Bool.{and_parts, or_parts, or_from}
+use Rattle.history_model.proofs.AfterFirstLemmas.{get-with}
 
 -- ---- texts
-
--- the text is its front and the rest
-begins_parts : (front text : Bytes) → begins front text ≡ true → text ≡ front ++ drop (length front) text
-begins_parts [] text e = refl
-begins_parts (a ∷ front) [] e = cc
-begins_parts (a ∷ front) (b ∷ text) e =
-    let parts = both_true (nat_eq a b) (begins front text) e in
-    let byte : a ≡ b = grind (arith, tests) in
-    λ i. sym byte i ∷ begins_parts front text parts.1 i
 
 log_parts : (path : Bytes) → is_log_place path ≡ true → path ≡ log_place (log_name path)
 log_parts path e = begins_parts (codes "logs/") path e
@@ -55,9 +49,9 @@ cut_or_all : (body : Bytes) → has_byte 10 body ≡ false → (n : ℕ) → (ha
 cut_or_all body h zero = inl refl
 cut_or_all [] h (suc n) = inr (ap (λ t. 10 ∷ t) (take_none n))
 cut_or_all (b ∷ body) h (suc n) =
-    let parts = or_none (b == 10) (has_byte 10 body) h in
+    let parts = or_parts (b == 10) (has_byte 10 body) h in
     elim (cut_or_all body parts.1 n) [
-      | inl e ↦ inl (none_or (b == 10) (has_byte 10 (take n (line body))) parts.0 e)
+      | inl e ↦ inl (or_from (b == 10) (has_byte 10 (take n (line body))) parts.0 e)
       | inr e ↦ inr (ap (λ t. b ∷ t) e)
     ]
 
@@ -98,21 +92,17 @@ gone f None true c e = refl
 gone f (Some x) true c e = refl
 gone f o false c e = cc
 
-gone_too : (f : Bytes → Bytes) (o : Option Bytes) (b c : Bool) → c ≡ true → cond (is_some o && (b || c)) None (option_map f o) ≡ None
+pub gone_too : (f : Bytes → Bytes) (o : Option Bytes) (b c : Bool) → c ≡ true → cond (is_some o && (b || c)) None (option_map f o) ≡ None
 gone_too f None b c e = refl
 gone_too f (Some x) true c e = refl
 gone_too f (Some x) false true e = refl
 gone_too f (Some x) false false e = cc
 
-stays : (f : Bytes → Bytes) (o : Option Bytes) (b c : Bool) → b ≡ false → c ≡ false → cond (is_some o && (b || c)) None (option_map f o) ≡ option_map f o
+pub stays : (f : Bytes → Bytes) (o : Option Bytes) (b c : Bool) → b ≡ false → c ≡ false → cond (is_some o && (b || c)) None (option_map f o) ≡ option_map f o
 stays f None b c e g = refl
 stays f (Some x) true c e g = cc
 stays f (Some x) false true e g = cc
 stays f (Some x) false false e g = refl
-
-is_none_so : {X : Type 0} (o : Option X) → is_some o ≡ false → o ≡ None
-is_none_so None e = refl
-is_none_so (Some x) e = cc
 
 -- what the files say of a name
 abbrev read_so : Kind → Bytes → Bool → Option Bytes → Option Bytes → Reading
@@ -349,7 +339,7 @@ module _ (r : Repository) (name : Bytes) (id : Id) (actor : Actor) (message : By
       y = record r { names = logged }
 
       got : (q : Bytes) → get logged q ≡ cond (bytes_eq q name) (Some ref) (get r.names q)
-      got q = get_with r.names name ref q
+      got q = get-with r.names name ref q
 
       ids_same : (q : Bytes) → id_at y q ≡ id_at r q
       ids_same q = ap (option_map (λ (f : Reference). f.id)) (got q) ∙ go (bytes_eq q name) refl
@@ -413,7 +403,7 @@ module _ (r : Repository) (name : Bytes) (id : Id) (actor : Actor) (message : By
           ∙ (λ i. read_so r.kind name true (no_file (file_at old name) refl i) (none i))
 
       no_moves : moves_at r name ≡ []
-      no_moves = ap (λ o. unwrap_or (option_map (λ (f : Reference). f.moves) o) []) (is_none_so (get r.names name) absent)
+      no_moves = ap (λ o. unwrap_or (option_map (λ (f : Reference). f.moves) o) []) (none_there (get r.names name) absent)
 
       pub passed_absent : Passed r name id actor message tree
       passed_absent =

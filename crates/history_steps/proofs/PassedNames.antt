@@ -26,10 +26,9 @@ use Rattle.gix_hash_id.specs.declared.kind.Kind.{Kind}
 use Rattle.history_model.proofs.StepLemmas.{stops_may_leave_all}
 use Rattle.history_model.proofs.RecoveredLemmas.{recovered_stands}
 use Rattle.history_steps.proofs.PassedObjects.{still_holds}
-use Rattle.history_model.proofs.IdLemmas.{ids_apart}
-use Rattle.history_model.proofs.PartLemmas.{both_true}
+use Rattle.history_model.proofs.IdLemmas.{ids_apart, digest_is_id}
 use Rattle.history_steps.proofs.TreeMoves.{moves_moved, stands_moved}
-use Rattle.history_model.proofs.PlaceLemmas.{digest_is_id, text_itself}
+use Rattle.history_model.proofs.PlaceLemmas.{text_itself}
 use Rattle.history_steps.proofs.TreePuts.{halves_stand}
 use Rattle.history_model.proofs.WholeCommands.{all_fits}
 use Rattle.history_model.proofs.WholeForms.{after_written, moves_formed}
@@ -41,14 +40,11 @@ use Rattle.history_model.proofs.WholeStored.{accepted_store_exactly}
 use Rattle.history_model.proofs.WholeStores.{all_keep}
 use Rattle.history_steps.proofs.PassedStops.{held_more, packed_more}
 use Rattle.history_steps.proofs.PassedMoves.{Passed, passed}
+use Rattle.std.proofs.lemmas.Bool.{or_right, and_parts}
 
-some_id : (o : Option Reference) → is_some (option_map (λ (ref : Reference). ref.id) o) ≡ is_some o
+pub some_id : (o : Option Reference) → is_some (option_map (λ (ref : Reference). ref.id) o) ≡ is_some o
 some_id None = refl
 some_id (Some ref) = refl
-
-or_true : (a b : Bool) → b ≡ true → (a || b) ≡ true
-or_true true b e = refl
-or_true false b e = e
 
 -- ---- a commit's name
 
@@ -71,7 +67,7 @@ module _ (pair : Pair) (tree : Tree) (r : Repository) (c : CommitCommand) (sound
   entry_formed differ =
       let moves : moves_at new name ≡ entry ∷ moves_at r name =
       moves_moved r name id (read_actor c.committer) (title c.message) name ∙ (λ j. cond (text_itself name j) (cond (ids_apart entry.before id differ j) (moves_at r name) (entry ∷ moves_at r name)) (moves_at r name)) in
-      (both_true (is_log_entry r.kind entry) (list_all (is_log_entry r.kind) (moves_at r name))
+      (and_parts (is_log_entry r.kind entry) (list_all (is_log_entry r.kind) (moves_at r name))
       (subst (λ ms. list_all (is_log_entry r.kind) ms ≡ true) moves (moves_formed new (after_written r sound.whole sound.written (Commit c) none) name))).0
 
   went : Passed r name id (read_actor c.committer) (title c.message) tree
@@ -84,7 +80,7 @@ module _ (pair : Pair) (tree : Tree) (r : Repository) (c : CommitCommand) (sound
   stood_then a at = elim ((went.each a).id) [
     | inl e ↦
         let stood : stands r a ≡ true = sym (some_id (get r.names a)) ∙ ap is_some (sym e) ∙ some_id (get went.names a) ∙ at in
-        stands_moved r name id (read_actor c.committer) (title c.message) a ∙ or_true (bytes_eq a name) (stands r a) stood
+        stands_moved r name id (read_actor c.committer) (title c.message) a ∙ or_right (bytes_eq a name) (stands r a) stood
     | inr e ↦ sym (some_id (get new.names a)) ∙ ap is_some (sym e) ∙ some_id (get went.names a) ∙ at
   ]
 

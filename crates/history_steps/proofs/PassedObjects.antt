@@ -14,7 +14,9 @@ use Rattle.gix_hash_id.specs.declared.kind.Kind.{Kind}
 use Rattle.history_model.proofs.ClosedLemmas.{unfinished_gone, object_kept, object_folder_stood}
 use Rattle.history_model.proofs.PlaceLemmas.{one_text, text_itself}
 use Rattle.history_steps.proofs.TreePuts.{halves_stand, none_unfinished, puts_store, renames_put}
-use Rattle.history_model.proofs.WholeLists.{In, either, in_left, in_right, of_flat, some_inside, none_is_some, or_none}
+use Rattle.history_model.proofs.WholeLists.{In, either, in_left, in_right, of_flat, none_is_some}
+use Rattle.std.proofs.lemmas.Bool.{or_parts}
+use Rattle.std.proofs.lemmas.Option.{same_Some}
 
 module _ (tree : Tree) where
   -- where each file but the unfinished one is as before, the same values are held

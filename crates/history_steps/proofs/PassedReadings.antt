@@ -27,11 +27,15 @@ use Rattle.history_model.specs.Wholeness.{IsSound}
 use Rattle.history_model.proofs.NameLemmas.{log-lock, name-log}
 use Rattle.history_model.proofs.RecoveryLemmas.{recovery_keeps, recovery_reads, file_kept, get-recovered_files, get-recovered_names}
 use Rattle.history_steps.proofs.PassedStops.{packed_more}
-use Rattle.history_model.proofs.RecoveredLemmas.{all_whole}
+use Rattle.history_model.proofs.RecoveredLemmas.{all_whole, some_is}
 use Rattle.history_steps.proofs.TreeMoves.{head_apart, packed_apart}
-use Rattle.history_model.proofs.WholeLists.{In, in_left, in_right, in_map, either, same_text, text_itself, texts_differ, some_inside, passes_one}
+use Rattle.history_model.proofs.WholeLists.{In, in_left, in_right, in_map, either, same_text, text_itself, texts_differ, passes_one}
 use Rattle.history_model.proofs.WholeNames.{names_from, apart_after}
-use Rattle.history_model.proofs.WholeStores.{all_keep, get_in, get_inserted}
+use Rattle.history_model.proofs.WholeStores.{all_keep, get_in}
+use Rattle.history_steps.proofs.PassedMoves.{gone_too, stays}
+use Rattle.history_steps.proofs.PassedNames.{some_id}
+use Rattle.std.proofs.lemmas.Option.{same_Some}
+use Rattle.history_model.proofs.AfterFirstLemmas.{get-with}
 
 -- ---- names from a choice for each
 
@@ -55,8 +59,8 @@ get_built choose (k ∷ ks) q = go (choose k) refl (bytes_eq q k) refl (get_buil
         → get (with_one k o (built choose ks)) q ≡ cond (b || list_any (bytes_eq q) ks) (choose q) None
     go None e true f rest = rest ∙ none_both (list_any (bytes_eq q) ks) (choose q) (ap choose (same_text q k f) ∙ e)
     go None e false f rest = rest
-    go (Some ref) e true f rest = get_inserted (built choose ks) k ref q ∙ ap (λ b. cond b (Some ref) (get (built choose ks) q)) f ∙ sym (ap choose (same_text q k f) ∙ e)
-    go (Some ref) e false f rest = get_inserted (built choose ks) k ref q ∙ ap (λ b. cond b (Some ref) (get (built choose ks) q)) f ∙ rest
+    go (Some ref) e true f rest = get-with (built choose ks) k ref q ∙ ap (λ b. cond b (Some ref) (get (built choose ks) q)) f ∙ sym (ap choose (same_text q k f) ∙ e)
+    go (Some ref) e false f rest = get-with (built choose ks) k ref q ∙ ap (λ b. cond b (Some ref) (get (built choose ks) q)) f ∙ rest
 
 -- ---- readings
 
@@ -72,7 +76,7 @@ id_read_as None = refl
 id_read_as (Some id) = refl
 
 id_in_holds : (r : Reading) (id : Id) → id_in r ≡ Some id → r ≡ Holds id
-id_in_holds (Holds i) id e = ap Holds (some_inside i id e)
+id_in_holds (Holds i) id e = ap Holds (same_Some i id e)
 id_in_holds (Symbolic name) id e = cc
 id_in_holds Absent id e = cc
 id_in_holds Faulty id e = cc
@@ -125,18 +129,6 @@ no_moves r name e = go (get r.names name) e
 
 -- ---- what is left of a file
 
-gone : (f : Bytes → Bytes) (o : Option Bytes) (b c : Bool) → c ≡ true → cond (is_some o && (b || c)) None (option_map f o) ≡ None
-gone f None b c e = refl
-gone f (Some x) true c e = refl
-gone f (Some x) false true e = refl
-gone f (Some x) false false e = cc
-
-stays : (f : Bytes → Bytes) (o : Option Bytes) (b c : Bool) → b ≡ false → c ≡ false → cond (is_some o && (b || c)) None (option_map f o) ≡ option_map f o
-stays f None b c e g = refl
-stays f (Some x) true c e g = cc
-stays f (Some x) false true e g = cc
-stays f (Some x) false false e g = refl
-
 stood_so : (f : Bytes → Bytes) (o : Option Bytes) (b : Bool) (text : Bytes) → cond (is_some o && b) None (option_map f o) ≡ Some text → (b ≡ false) × ((t : Bytes) × (o ≡ Some t))
 stood_so f None b text e = cc
 stood_so f (Some t) true text e = cc
@@ -152,16 +144,8 @@ place_so false false false true false false h k = refl
 place_so false false false false true there h k = cc
 place_so false false false false false there h k = refl
 
-some_id : (o : Option Reference) → is_some (option_map (λ (ref : Reference). ref.id) o) ≡ is_some o
-some_id None = refl
-some_id (Some ref) = refl
-
-some_there : {X : Type 0} (o : Option X) → is_some o ≡ true → (x : X) × (o ≡ Some x)
-some_there None h = cc
-some_there (Some x) h = (x, refl)
-
 in_keys : (m : References) (q : Bytes) → is_some (get m q) ≡ true → In q (keys m)
-in_keys m q h = let ref = some_there (get m q) h in in_map (λ (e : Bytes × Reference). e.0) (q, ref.0) (entries m) (get_in m q ref.0 ref.1)
+in_keys m q h = let ref = some_is (get m q) h in in_map (λ (e : Bytes × Reference). e.0) (q, ref.0) (entries m) (get_in m q ref.0 ref.1)
 
 kept : (old : Repository) (command : Command) (tree : Tree) (x : Repository) → ((name : Bytes) → (o : Option Id) → reading old.kind tree name ≡ reads_as o → id_at x name ≡ o) → ReadsKept old command tree → IsNotLost old command x
 kept old (Rename from to) tree x told h = elim h [
@@ -270,7 +254,7 @@ module _ (old : Repository) (command : Command) (tree : Tree) (sound : IsSound o
         ∙ ap log_text (sym (moves_held name id e))
     | inr e ↦
         ap (λ o. unwrap_or o []) (recovery_keeps old.kind tree (log_place name)
-        ∙ gone whole_lines (file_at tree (log_place name)) (is_lock_file (log_place name)) (is_absent (reading old.kind tree name)) (ap is_absent e))
+        ∙ gone_too whole_lines (file_at tree (log_place name)) (is_lock_file (log_place name)) (is_absent (reading old.kind tree name)) (ap is_absent e))
         ∙ ap log_text (sym (moves_gone name e))
   ]
 
@@ -346,7 +330,7 @@ module _ (old : Repository) (command : Command) (tree : Tree) (sound : IsSound o
   stood_or_made : (a : Bytes) → stands x a ≡ true → (stands old a ≡ true) ⊎ In a (targets old command)
   stood_or_made a at = elim (way.reads a) [
     | inl e ↦ inl (there old (id_told a (id_at old a) e))
-    | inr e ↦ let ref = some_there (get new.names a) (there new (id_told a (id_at new a) e)) in names_from old command a ref.0 ref.1
+    | inr e ↦ let ref = some_is (get new.names a) (there new (id_told a (id_at new a) e)) in names_from old command a ref.0 ref.1
   ]
     where
       there : (r : Repository) → id_at x a ≡ id_at r a → stands r a ≡ true
@@ -405,7 +389,7 @@ module _ (old : Repository) (command : Command) (pair : Pair) (s : StandsFor old
   tree = pair.names
 
   held : (name : Bytes) → stands old name ≡ true → (id : Id) × (reading old.kind tree name ≡ Holds id)
-  held name e = let found = some_there (get old.names name) e in (found.0.id, (s.names name found.0.id).1 (ap (option_map (λ (ref : Reference). ref.id)) found.1))
+  held name e = let found = some_is (get old.names name) e in (found.0.id, (s.names name found.0.id).1 (ap (option_map (λ (ref : Reference). ref.id)) found.1))
 
   plain_packed : (name : Bytes) (o : Option Bytes) → file_at tree packed_place ≡ o → IsPlain (unwrap_or (option_map (packed_text_reading old.kind name) o) Absent)
   plain_packed name None e = inr refl

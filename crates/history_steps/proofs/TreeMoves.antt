@@ -23,35 +23,33 @@ use Rattle.history_steps.specs.TreeHalves.{HoldsNames}
 use Rattle.history_steps.specs.TreeSteps.{MovesName, MovesMove, move_entry}
 use Rattle.gix_hash_id.specs.declared.kind.Kind.{Kind}
 use Rattle.history_model.proofs.IdLemmas.{low_digit, id_digits, id_from_hex-hex, one_id, apart_ids}
-use Rattle.history_model.proofs.PartLemmas.{both_true}
 use Rattle.history_model.proofs.NameLemmas.{name-log}
-use Rattle.history_model.proofs.PlaceLemmas.{one_text, text_itself, get_with}
+use Rattle.history_model.proofs.PlaceLemmas.{one_text, text_itself}
 use Rattle.history_steps.proofs.TreePuts.{no_text}
+use Rattle.std.proofs.lemmas.Bool.{and_parts}
+use Rattle.history_model.proofs.AfterFirstLemmas.{get-with}
 
 -- ---- the id that a name's file holds
 
 -- no digit is the `r` of `ref: `
 no_r : (table : Bytes) → list_all (λ c. not (nat_eq 114 c)) table ≡ true → (i : ℕ) → i < length table → nat_eq 114 (slice_index table i) ≡ false
 no_r [] h i less = absurd (omega arith)
-no_r (c ∷ table) h zero less = turned (nat_eq 114 c) (both_true (not (nat_eq 114 c)) (list_all (λ c. not (nat_eq 114 c)) table) h).0
+no_r (c ∷ table) h zero less = turned (nat_eq 114 c) (and_parts (not (nat_eq 114 c)) (list_all (λ c. not (nat_eq 114 c)) table) h).0
   where
     turned : (b : Bool) → not b ≡ true → b ≡ false
     turned true e = cc
     turned false e = refl
-no_r (c ∷ table) h (suc i) less = no_r table (both_true (not (nat_eq 114 c)) (list_all (λ c. not (nat_eq 114 c)) table) h).1 i (omega arith)
+no_r (c ∷ table) h (suc i) less = no_r table (and_parts (not (nat_eq 114 c)) (list_all (λ c. not (nat_eq 114 c)) table) h).1 i (omega arith)
 
 no_ref : (digits : Bytes) → list_all (λ d. nat_lt d 16) digits ≡ true → begins (codes "ref: ") (hex_text digits) ≡ false
 no_ref [] h = refl
-no_ref (d ∷ digits) h = first _ _ (no_r lower_digits refl d (low_digit d (both_true (nat_lt d 16) (list_all (λ d. nat_lt d 16) digits) h).0))
+no_ref (d ∷ digits) h = first _ _ (no_r lower_digits refl d (low_digit d (and_parts (nat_lt d 16) (list_all (λ d. nat_lt d 16) digits) h).0))
   where
     first : (a c : Bool) → a ≡ false → (a && c) ≡ false
     first true c e = cc
     first false c e = refl
 
-pub id_read : (kind : Kind) (id : Id) → is_id kind id ≡ true → id_from_hex kind (hex id) ≡ Some id
-id_read kind id h = id_from_hex-hex kind id h
-
-line_read : (text : Bytes) → line_text (line text) ≡ Some text
+pub line_read : (text : Bytes) → line_text (line text) ≡ Some text
 line_read text = ap (λ b. cond b (Some (take (length (line text) - 1) (line text))) None) ends_so ∙ ap Some (ap (λ n. take n (line text)) shorter ∙ take-append_seam text (10 ∷ []))
   where
     shorter : length (line text) - 1 ≡ length text
@@ -64,7 +62,7 @@ pub id_reads : (kind : Kind) (id : Id) → is_id kind id ≡ true → loose_read
 id_reads kind id h =
     ap (λ o. unwrap_or (option_map (loose_line kind) o) Faulty) (line_read (hex id))
     ∙ no_symbol (begins (codes "ref: ") (hex id)) _ (no_ref id.digits (id_digits kind id h))
-    ∙ ap (λ o. unwrap_or (option_map Holds o) Faulty) (id_read kind id h)
+    ∙ ap (λ o. unwrap_or (option_map Holds o) Faulty) (id_from_hex-hex kind id h)
   where
     no_symbol : (a b : Bool) → a ≡ false → cond (a && b) (Symbolic (drop 5 (hex id))) (unwrap_or (option_map Holds (id_from_hex kind (hex id))) Faulty) ≡ unwrap_or (option_map Holds (id_from_hex kind (hex id))) Faulty
     no_symbol true b e = cc
@@ -113,21 +111,21 @@ module _ (r : Repository) (name : Bytes) (id : Id) (actor : Actor) (message : By
   entry = move_entry r name id actor message
 
   pub id_moved : (q : Bytes) → id_at moved q ≡ cond (bytes_eq q name) (Some id) (id_at r q)
-  id_moved q = ap (option_map (λ (x : Reference). x.id)) (get_with r.names name ref q) ∙ go (bytes_eq q name)
+  id_moved q = ap (option_map (λ (x : Reference). x.id)) (get-with r.names name ref q) ∙ go (bytes_eq q name)
     where
       go : (b : Bool) → option_map (λ (x : Reference). x.id) (cond b (Some ref) (get r.names q)) ≡ cond b (Some id) (id_at r q)
       go true = refl
       go false = refl
 
   pub moves_moved : (q : Bytes) → moves_at moved q ≡ cond (bytes_eq q name) ref.moves (moves_at r q)
-  moves_moved q = ap (λ o. unwrap_or (option_map (λ (x : Reference). x.moves) o) []) (get_with r.names name ref q) ∙ go (bytes_eq q name)
+  moves_moved q = ap (λ o. unwrap_or (option_map (λ (x : Reference). x.moves) o) []) (get-with r.names name ref q) ∙ go (bytes_eq q name)
     where
       go : (b : Bool) → unwrap_or (option_map (λ (x : Reference). x.moves) (cond b (Some ref) (get r.names q))) [] ≡ cond b ref.moves (moves_at r q)
       go true = refl
       go false = refl
 
   pub stands_moved : (q : Bytes) → stands moved q ≡ (bytes_eq q name || stands r q)
-  stands_moved q = ap is_some (get_with r.names name ref q) ∙ go (bytes_eq q name)
+  stands_moved q = ap is_some (get-with r.names name ref q) ∙ go (bytes_eq q name)
     where
       go : (b : Bool) → is_some (cond b (Some ref) (get r.names q)) ≡ (b || stands r q)
       go true = refl

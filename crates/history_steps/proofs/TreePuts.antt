@@ -13,9 +13,10 @@ use Rattle.history_model.specs.Repository.{Values, HaveOwnIds}
 use Rattle.history_model.specs.StandsFor.{value_files}
 use Rattle.history_steps.specs.TreeSteps.{PutsValue, PutsStore, StandingIsStored, StoredStands, TreesTellTaken, OwnIdsStay, NoneUnfinished, RenamesPut}
 use Rattle.gix_hash_id.specs.declared.kind.Kind.{Kind}
-use Rattle.history_model.proofs.IdLemmas.{one_id, id_itself, ids_apart, get_with_id}
-use Rattle.history_model.proofs.PartLemmas.{either_false}
-use Rattle.history_model.proofs.PlaceLemmas.{one_text, text_itself, digest_is_id, file_at_id, file_has_id, same_file}
+use Rattle.history_model.proofs.IdLemmas.{one_id, id_itself, ids_apart, get_with_id, digest_is_id}
+use Rattle.history_model.proofs.PlaceLemmas.{one_text, text_itself, file_at_id, file_has_id, same_file}
+use Rattle.history_model.proofs.RecoveredLemmas.{place_apart}
+use Rattle.std.proofs.lemmas.Bool.{or_parts}
 
 pub halves_stand : HalvesStand
 halves_stand kind pair r = (
@@ -111,7 +112,7 @@ module _ (kind : Kind) (values : Values) (value : Value) where
       text_stands free stored = go (file_at tree place) refl
         where
           no_other : unwrap_or (option_map (λ text. not (bytes_eq (value_text kind value) text)) (file_at tree place)) false ≡ false
-          no_other = sym taken_told ∙ (either_false (id_eq id (null_id kind) || (id_eq id (empty_tree_id kind) && is_other kind (value_text kind (StoredFolder empty)) value)) _ free).1
+          no_other = sym taken_told ∙ (or_parts (id_eq id (null_id kind) || (id_eq id (empty_tree_id kind) && is_other kind (value_text kind (StoredFolder empty)) value)) _ free).1
 
           some_stands : is_some (file_at tree place) ≡ true
           some_stands = ap is_some at_place ∙ kept (get values id) ∙ stored
@@ -181,19 +182,6 @@ own_ids_stay kind values value own = stay kind values value own
 
 -- ---- a put by renaming
 
--- no object's place is that of the unfinished one
-pub unfinished_apart : (id : Id) → bytes_eq unfinished_place (object_place id) ≡ false
-unfinished_apart id = go (hex id)
-  where
-    or_later : (a b : Bool) → b ≡ false → (a && b) ≡ false
-    or_later true b e = e
-    or_later false b e = refl
-
-    go : (digits : Bytes) → bytes_eq unfinished_place (codes "objects/" ++ take 2 digits ++ 47 ∷ drop 2 digits) ≡ false
-    go [] = refl
-    go (a ∷ []) = or_later _ _ refl
-    go (a ∷ b ∷ digits) = or_later _ _ (or_later _ _ refl)
-
 pub none_unfinished : NoneUnfinished
 none_unfinished kind tree values own h = go (file_at tree unfinished_place) refl
   where
@@ -201,7 +189,7 @@ none_unfinished kind tree values own h = go (file_at tree unfinished_place) refl
     go None e = e
     go (Some text) e =
         let found = file_has_id kind values own unfinished_place text (sym (h.files unfinished_place) ∙ e) in
-        absurd (cc (sym (unfinished_apart found.0) ∙ ap (bytes_eq unfinished_place) (sym found.2) ∙ text_itself unfinished_place))
+        absurd (cc (sym (place_apart found.0) ∙ ap (bytes_eq unfinished_place) (sym found.2) ∙ text_itself unfinished_place))
 
 pub renames_put : RenamesPut
 renames_put kind old new values value own h renames = record { here = renames.here; others = others; folders = renames.folders }

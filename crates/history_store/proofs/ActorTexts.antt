@@ -23,11 +23,13 @@ use Rattle.gix_object_commit_lines.specs.Commit.{IsPerson}
 use Rattle.history_store.specs.Formats.{actor_of, person_of}
 use Rattle.history_store.specs.declared.actor.Actor as actors
 use Rattle.history_store.proofs.Offsets.{OffsetTold, offset_told}
-use Rattle.history_store.proofs.Spelled.{and_of, cut_same, has_it}
+use Rattle.history_store.proofs.Spelled.{cut_same}
+use Rattle.gix_ref_file.proofs.Rooted.{both}
+use Rattle.history_model.proofs.PartLemmas.{one_is_in}
 
 -- the byte stands in a text that is cut at it
 pub stands : (byte : ℕ) (text front back : Bytes) → text ≡ front ++ byte ∷ back → IsFalse (has_byte byte text) → ⊥
-stands byte text front back is none = cc (sym none ∙ ap (has_byte byte) is ∙ has_it byte front back)
+stands byte text front back is none = cc (sym none ∙ ap (has_byte byte) is ∙ one_is_in byte front back)
 
 -- ---- actors
 
@@ -40,10 +42,10 @@ pub record ActorParts (actor : Actor) : Type 0 where
 
 pub actor_parts : (actor : Actor) → IsTrue (is_actor actor) → ActorParts actor
 actor_parts actor h =
-    let a = and_of (not (is_empty actor.name) && is_actor_part actor.name && is_actor_part actor.email && nat_le actor.seconds max_seconds) (is_offset actor.offset) h in
-    let b = and_of (not (is_empty actor.name) && is_actor_part actor.name && is_actor_part actor.email) (nat_le actor.seconds max_seconds) a.0 in
-    let c = and_of (not (is_empty actor.name) && is_actor_part actor.name) (is_actor_part actor.email) b.0 in
-    let d = and_of (not (is_empty actor.name)) (is_actor_part actor.name) c.0 in
+    let a = both (not (is_empty actor.name) && is_actor_part actor.name && is_actor_part actor.email && nat_le actor.seconds max_seconds) (is_offset actor.offset) h in
+    let b = both (not (is_empty actor.name) && is_actor_part actor.name && is_actor_part actor.email) (nat_le actor.seconds max_seconds) a.0 in
+    let c = both (not (is_empty actor.name) && is_actor_part actor.name) (is_actor_part actor.email) b.0 in
+    let d = both (not (is_empty actor.name)) (is_actor_part actor.name) c.0 in
     record { named = d.0; name = d.1; email = c.1; seconds = small actor.seconds b.1; offset = a.1 }
   where
     small : (n : ℕ) → nat_le n max_seconds ≡ true → n ≤ max_seconds

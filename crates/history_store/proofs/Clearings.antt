@@ -12,7 +12,7 @@ use Rattle.gix_ref_file.specs.declared.files.FileError.TheVariants.{Failed}
 use Rattle.gix_ref_file.specs.declared.files.Place.{Place}
 use Rattle.gix_ref_file.specs.declared.files.Place.TheVariants as places
 use Rattle.gix_ref_file.proofs.Histories.{adds_weaker, adds_joined, adds_nothing}
-use Rattle.gix_ref_file.proofs.Rooted.{adds_now}
+use Rattle.gix_ref_file.proofs.Rooted.{adds_now, both}
 use Rattle.gix_ref_file.proofs.Trees.{get-removed, one_path, same_path_itself}
 use Rattle.gix_ref_file.proofs.Below.{path_in_folder}
 use Rattle.gix_ref_file.proofs.Listings.{in_folder, found, root_is_no_path, node_is}
@@ -63,10 +63,6 @@ folder_removed t k there = record {
 
 pub clears_nothing : (path : Bytes) (t : Tree) → ClearsWay path t t
 clears_nothing path t = record { files = λ q. refl; folders = λ q is. is; others = λ q is. inl is }
-
-both : (a b : Bool) → IsTrue (a && b) → IsTrue a × IsTrue b
-both true b h = (refl, h)
-both false b h = absurd (cc h)
 
 is_there : (t : Tree) (k : Bytes) → IsTrue (allows t (to_remove_folder k)) → IsTrue (is_folder (node_at t k))
 is_there t k may = (both (is_path k) (is_folder (node_at t k)) (both (is_path k && is_folder (node_at t k)) (is_empty_at t k) may).0).1

@@ -18,7 +18,8 @@ use Rattle.history_store.specs.Written.{NamesByCommit, NamesByParts, Naming, com
 use Rattle.gix_object_commit.specs.declared.commit.owned.Commit.{Commit}
 use Rattle.history_store.specs.declared.written.Named.{Named}
 use Rattle.history_store.proofs.CommitTexts.{ids_tell, plain_spelled}
-use Rattle.history_store.proofs.Spelled.{and_from, and_of}
+use Rattle.history_store.proofs.Spelled.{and_from}
+use Rattle.gix_ref_file.proofs.Rooted.{both}
 
 -- the limits of parents and title, and no parent twice
 abbrev pub within_limits : List Id → Bytes → Bool
@@ -36,19 +37,19 @@ commit_form kind value h =
     let ids = list_all (is_id kind) value.parents in
     let count = nat_le (length value.parents) max_parents in
     let once = not (has_twice id_eq value.parents) in
-    let a = and_of (ids && count && once && is_actor value.author && is_actor value.committer) (nat_le (length (title value.message)) max_title) h in
-    let b = and_of (ids && count && once && is_actor value.author) (is_actor value.committer) a.0 in
-    let c = and_of (ids && count && once) (is_actor value.author) b.0 in
-    let d = and_of (ids && count) once c.0 in
-    let e = and_of ids count d.0 in
+    let a = both (ids && count && once && is_actor value.author && is_actor value.committer) (nat_le (length (title value.message)) max_title) h in
+    let b = both (ids && count && once && is_actor value.author) (is_actor value.committer) a.0 in
+    let c = both (ids && count && once) (is_actor value.author) b.0 in
+    let d = both (ids && count) once c.0 in
+    let e = both ids count d.0 in
     record { parents = e.0; author = c.1; committer = b.1; limits = and_from _ _ (and_from _ _ e.1 d.1) a.1 }
 
 pub form_of : (kind : Kind) (value : CommitValue) → CommitForm kind value → IsTrue (is_commit_form kind value)
 form_of kind value form =
     let count = nat_le (length value.parents) max_parents in
     let once = not (has_twice id_eq value.parents) in
-    let a = and_of (count && once) (nat_le (length (title value.message)) max_title) form.limits in
-    let b = and_of count once a.0 in
+    let a = both (count && once) (nat_le (length (title value.message)) max_title) form.limits in
+    let b = both count once a.0 in
     and_from _ _ (and_from _ _ (and_from _ _ (and_from _ _ (and_from _ _ form.parents b.0) b.1) form.author) form.committer) a.1
 
 -- parts that aren't plain are none of them
@@ -75,7 +76,7 @@ over_limit kind parts commit told plain over named names =
     let are = names.parts_are in
     let form = commit_form kind names.value are.form in
     let same = sym told ∙ are.told in
-    let has = and_of (is_id kind (id_of commit.tree)) (list_all (is_id kind) (map id_of commit.parents.items)) plain.ids in
+    let has = both (is_id kind (id_of commit.tree)) (list_all (is_id kind) (map id_of commit.parents.items)) plain.ids in
     let parents = ids_tell kind _ _ has.1 form.parents (ap (λ (p : Parts). p.parents) same) in
     let message : commit.message ≡ names.value.message = ap (λ (p : Parts). p.message) same in
     cc (sym over ∙ (λ i. within_limits (parents i) (message i)) ∙ form.limits)
@@ -85,7 +86,7 @@ pub names_of_commit : (kind : Kind) (parts : Parts) (commit : Commit) (named : L
     → named ≡ named_by_commit (id_of commit.tree) (record { parents = map id_of commit.parents.items; author = own_actor commit.author; committer = own_actor commit.committer; message = commit.message; files = empty })
     → NamesByParts kind parts named
 names_of_commit kind parts commit named told plain within is =
-    let has = and_of (is_id kind (id_of commit.tree)) (list_all (is_id kind) (map id_of commit.parents.items)) plain.ids in
+    let has = both (is_id kind (id_of commit.tree)) (list_all (is_id kind) (map id_of commit.parents.items)) plain.ids in
     let value : CommitValue = record { parents = map id_of commit.parents.items; author = own_actor commit.author; committer = own_actor commit.committer; message = commit.message; files = empty } in
     record {
       tree = id_of commit.tree;

@@ -14,25 +14,25 @@ use Rattle.gix_object_commit_lines.specs.Commit.{Parts, SpellsCommit, commit_tex
 use Rattle.history_model.specs.Bytes.{Bytes, has_twice, line}
 use Rattle.history_model.specs.Forms.{is_id, is_actor, is_commit_form, title, max_parents, max_title}
 use Rattle.history_model.specs.Objects.{Actor, CommitValue, hex, actor_text, commit_content, folder_id, tree_text, root}
-use Rattle.history_model.proofs.IdLemmas.{digest_is_id, has_kind, id_digits, length-hex, low_digit}
-use Rattle.history_model.proofs.OnePairTexts.{hex_same}
+use Rattle.history_model.proofs.IdLemmas.{digest_is_id, has_kind, id_digits, length-hex, low_digit, hex_tells}
 use Rattle.history_store.specs.Commits.{IsCommitOf, IsPlain, IsPlainCommit}
 use Rattle.history_store.specs.Formats.{parts_of, plain_parts}
 use Rattle.gix_object_commit.specs.declared.commit.owned.Commit.{Commit}
 use Rattle.history_store.proofs.ActorTexts.{line_of_person, person_formed, person_tells}
-use Rattle.history_store.proofs.Spelled.{and_from, and_of}
+use Rattle.history_store.proofs.Spelled.{and_from}
+use Rattle.gix_ref_file.proofs.Rooted.{both}
 
 -- ---- ids
 
 in_table : (table : Bytes) → IsTrue (is_hex table) → (i : ℕ) → i < length table → IsTrue (is_ascii_hexdigit (slice_index table i))
 in_table [] are i less = absurd (omega arith)
-in_table (c ∷ table) are zero less = (and_of (is_ascii_hexdigit c) (is_hex table) are).0
-in_table (c ∷ table) are (suc i) less = in_table table (and_of (is_ascii_hexdigit c) (is_hex table) are).1 i (omega arith)
+in_table (c ∷ table) are zero less = (both (is_ascii_hexdigit c) (is_hex table) are).0
+in_table (c ∷ table) are (suc i) less = in_table table (both (is_ascii_hexdigit c) (is_hex table) are).1 i (omega arith)
 
 hex_is_hex : (digits : List ℕ) → IsTrue (list_all (λ d. nat_lt d 16) digits) → IsTrue (is_hex (hex_text digits))
 hex_is_hex [] are = refl
 hex_is_hex (d ∷ digits) are =
-    let parts = and_of (nat_lt d 16) (list_all (λ d. nat_lt d 16) digits) are in
+    let parts = both (nat_lt d 16) (list_all (λ d. nat_lt d 16) digits) are in
     and_from (is_ascii_hexdigit (hex_character d)) (is_hex (hex_text digits)) (in_table (codes "0123456789abcdef") refl d (low_digit d parts.0)) (hex_is_hex digits parts.1)
 
 pub id_formed : (kind : Kind) (id : Id) → IsTrue (is_id kind id) → IsHex (hex_len kind) (hex id)
@@ -41,7 +41,7 @@ id_formed kind id formed = (length-hex id ∙ (has_kind kind id formed).whole, h
 pub ids_formed : (kind : Kind) (ids : List Id) → IsTrue (list_all (is_id kind) ids) → All (IsHex (hex_len kind)) (map hex ids)
 ids_formed kind [] are = All-nil (IsHex (hex_len kind))
 ids_formed kind (id ∷ ids) are =
-    let parts = and_of (is_id kind id) (list_all (is_id kind) ids) are in
+    let parts = both (is_id kind id) (list_all (is_id kind) ids) are in
     All-cons (IsHex (hex_len kind)) (hex id) (map hex ids) (id_formed kind id parts.0) (ids_formed kind ids parts.1)
 
 pub ids_tell : (kind : Kind) (a b : List Id) → IsTrue (list_all (is_id kind) a) → IsTrue (list_all (is_id kind) b) → map hex a ≡ map hex b → a ≡ b
@@ -49,11 +49,11 @@ ids_tell kind [] [] a_are b_are same = refl
 ids_tell kind [] (id ∷ ids) a_are b_are same = cc
 ids_tell kind (id ∷ ids) [] a_are b_are same = cc
 ids_tell kind (a ∷ as_ids) (b ∷ bs_ids) a_are b_are same =
-    let a_parts = and_of (is_id kind a) (list_all (is_id kind) as_ids) a_are in
-    let b_parts = and_of (is_id kind b) (list_all (is_id kind) bs_ids) b_are in
+    let a_parts = both (is_id kind a) (list_all (is_id kind) as_ids) a_are in
+    let b_parts = both (is_id kind b) (list_all (is_id kind) bs_ids) b_are in
     let head : hex a ≡ hex b = cc in
     let tail : map hex as_ids ≡ map hex bs_ids = cc in
-    (λ i. hex_same kind a b a_parts.0 b_parts.0 head i ∷ ids_tell kind as_ids bs_ids a_parts.1 b_parts.1 tail i)
+    (λ i. hex_tells kind a b a_parts.0 b_parts.0 head i ∷ ids_tell kind as_ids bs_ids a_parts.1 b_parts.1 tail i)
 
 -- ---- parts
 
@@ -109,11 +109,11 @@ value_forms kind value h =
     let ids = list_all (is_id kind) value.parents in
     let count = nat_le (length value.parents) max_parents in
     let once = not (has_twice id_eq value.parents) in
-    let a = and_of (ids && count && once && is_actor value.author && is_actor value.committer) (nat_le (length (title value.message)) max_title) h in
-    let b = and_of (ids && count && once && is_actor value.author) (is_actor value.committer) a.0 in
-    let c = and_of (ids && count && once) (is_actor value.author) b.0 in
-    let d = and_of (ids && count) once c.0 in
-    record { tree = digest_is_id kind (tree_text (root kind value.files)); parents = (and_of ids count d.0).0; author = c.1; committer = b.1 }
+    let a = both (ids && count && once && is_actor value.author && is_actor value.committer) (nat_le (length (title value.message)) max_title) h in
+    let b = both (ids && count && once && is_actor value.author) (is_actor value.committer) a.0 in
+    let c = both (ids && count && once) (is_actor value.author) b.0 in
+    let d = both (ids && count) once c.0 in
+    record { tree = digest_is_id kind (tree_text (root kind value.files)); parents = (both ids count d.0).0; author = c.1; committer = b.1 }
 
 -- its content spells its parts
 pub value_spelled : (kind : Kind) (value : CommitValue) (content : Bytes) → IsTrue (is_commit_form kind value) → content ≡ commit_content kind value → SpellsCommit (hex_len kind) content (value_parts kind value)
@@ -141,10 +141,10 @@ value_plain kind value parts formed is =
 pub value_told : (kind : Kind) (value : CommitValue) (commit : Commit) → IsTrue (is_commit_form kind value) → parts_of commit ≡ value_parts kind value → IsPlainCommit kind commit → IsCommitOf kind commit value
 value_told kind value commit formed is plain =
     let forms = value_forms kind value formed in
-    let has = and_of (is_id kind (id_of commit.tree)) (list_all (is_id kind) (map id_of commit.parents.items)) plain.ids in
+    let has = both (is_id kind (id_of commit.tree)) (list_all (is_id kind) (map id_of commit.parents.items)) plain.ids in
     record {
       plain = plain;
-      tree = hex_same kind _ _ has.0 forms.tree (ap (λ p. p.tree) is);
+      tree = hex_tells kind _ _ has.0 forms.tree (ap (λ p. p.tree) is);
       parents = ids_tell kind _ _ has.1 forms.parents (ap (λ p. p.parents) is);
       author = person_tells _ _ plain.author.actor forms.author (ap (λ p. p.author) is);
       committer = person_tells _ _ plain.committer.actor forms.committer (ap (λ p. p.committer) is);
@@ -170,7 +170,7 @@ none_told text kind [] at default less none ids are same = absurd (omega arith)
 none_told text kind (t ∷ texts) at default less none [] are same = cc
 none_told text kind (t ∷ texts) zero default less none (id ∷ ids) are same =
     let head : text t ≡ hex id = cc in
-    none id (and_of (is_id kind id) (list_all (is_id kind) ids) are).0 head
+    none id (both (is_id kind id) (list_all (is_id kind) ids) are).0 head
 none_told text kind (t ∷ texts) (suc at) default less none (id ∷ ids) are same =
     let tail : map text texts ≡ map hex ids = cc in
-    none_told text kind texts at default (omega arith) none ids (and_of (is_id kind id) (list_all (is_id kind) ids) are).1 tail
+    none_told text kind texts at default (omega arith) none ids (both (is_id kind id) (list_all (is_id kind) ids) are).1 tail

@@ -30,7 +30,8 @@ use Rattle.history_store.specs.Commits.{IsCommitOf, IsPlainCommit}
 use Rattle.history_store.specs.Formats.{own_actor, parts_of, person_of}
 use Rattle.history_store.proofs.ActorTexts.{actor_parts}
 use Rattle.history_store.proofs.CommitTexts.{plain_spelled, text_of_commit}
-use Rattle.history_store.proofs.Spelled.{and_from, and_of}
+use Rattle.history_store.proofs.Spelled.{and_from}
+use Rattle.gix_ref_file.proofs.Rooted.{both}
 
 -- ---- the parts that are written
 
@@ -102,7 +103,7 @@ exchanged before (piece ∷ ps) a b c d rest s t f g none =
 pub none_refused : (kind : Kind) (commit : Commit) → IsPlainCommit kind commit → own_refusal commit ≡ None
 none_refused kind commit plain =
     let parts = own_parts commit in
-    let has = and_of (is_id kind (id_of commit.tree)) (list_all (is_id kind) (map id_of commit.parents.items)) plain.ids in
+    let has = both (is_id kind (id_of commit.tree)) (list_all (is_id kind) (map id_of commit.parents.items)) plain.ids in
     let spelled : SpellsCommit (hex_len kind) (commit_text parts) parts =
     subst (λ (p : Parts). SpellsCommit (hex_len kind) (commit_text p) p) (sym (parts_same kind commit plain))
     (plain_spelled kind (id_of commit.tree) (map id_of commit.parents.items) (own_actor commit.author) (own_actor commit.committer) commit.message has.0 has.1 plain.author.actor plain.committer.actor) in

@@ -18,14 +18,7 @@ use Rattle.gix_hash_id.specs.declared.kind.Kind.TheVariants.{Sha1, Sha256}
 use Rattle.history_model.specs.Places.{object_place, is_lower_hex, is_object_folder, is_name_folder, log_place}
 use Rattle.history_store.specs.Stores.{IsAbove, FoldersAbove}
 use Rattle.history_store.specs.References.{FoldersOfName}
-
-both : (a b : Bool) → (a && b) ≡ true → (a ≡ true) × (b ≡ true)
-both true b h = (refl, h)
-both false b h = cc
-
-neither : (a b : Bool) → (a || b) ≡ false → (a ≡ false) × (b ≡ false)
-neither true b h = cc
-neither false b h = (refl, h)
+use Rattle.std.proofs.lemmas.Bool.{or_parts, and_parts}
 
 head_same : (x y : ℕ) (s t : Bytes) → x ∷ s ≡ y ∷ t → x ≡ y
 head_same x y s t e = cc
@@ -45,23 +38,23 @@ pub behind : (front back place rest : Bytes) → has_byte 47 front ≡ false →
 behind [] back [] rest clear is = inl refl
 behind [] back (x ∷ place) rest clear is = inr (place, ap (λ b. b ∷ place) (sym (head_same 47 x back (place ++ 47 ∷ rest) is)), tail_same 47 x back (place ++ 47 ∷ rest) is)
 behind (f ∷ front) back [] rest clear is =
-    let no_slash : (f == 47) ≡ false = (neither (f == 47) (has_byte 47 front) clear).0 in
+    let no_slash : (f == 47) ≡ false = (or_parts (f == 47) (has_byte 47 front) clear).0 in
     let slash : (f == 47) ≡ true = ap (λ b. b == 47) (head_same f 47 (front ++ 47 ∷ back) rest is) in
     let wrong : true ≡ false = sym slash ∙ no_slash in
     absurd (cc wrong)
 behind (f ∷ front) back (x ∷ place) rest clear is =
     behind_more f x front back place rest (sym (head_same f x (front ++ 47 ∷ back) (place ++ 47 ∷ rest) is))
-    (behind front back place rest (neither (f == 47) (has_byte 47 front) clear).1 (tail_same f x (front ++ 47 ∷ back) (place ++ 47 ∷ rest) is))
+    (behind front back place rest (or_parts (f == 47) (has_byte 47 front) clear).1 (tail_same f x (front ++ 47 ∷ back) (place ++ 47 ∷ rest) is))
 
 pub none_above : (path place rest : Bytes) → has_byte 47 path ≡ false → path ≢ place ++ 47 ∷ rest
 none_above [] [] rest clear is = cc
 none_above [] (x ∷ place) rest clear is = cc
 none_above (p ∷ path) [] rest clear is =
-    let no_slash : (p == 47) ≡ false = (neither (p == 47) (has_byte 47 path) clear).0 in
+    let no_slash : (p == 47) ≡ false = (or_parts (p == 47) (has_byte 47 path) clear).0 in
     let slash : (p == 47) ≡ true = ap (λ b. b == 47) (head_same p 47 path rest is) in
     let wrong : true ≡ false = sym slash ∙ no_slash in
     absurd (cc wrong)
-none_above (p ∷ path) (x ∷ place) rest clear is = none_above path place rest (neither (p == 47) (has_byte 47 path) clear).1 (tail_same p x path (place ++ 47 ∷ rest) is)
+none_above (p ∷ path) (x ∷ place) rest clear is = none_above path place rest (or_parts (p == 47) (has_byte 47 path) clear).1 (tail_same p x path (place ++ 47 ∷ rest) is)
 
 -- ---- objects
 lower_digit : (d : ℕ) → d < 16 → is_lower_hex (hex_character d) ≡ true
@@ -86,7 +79,7 @@ lower_digit (suc (suc (suc (suc (suc (suc (suc (suc (suc (suc (suc (suc (suc (su
 digits_lower : (digits : List ℕ) → list_all (λ d. nat_lt d 16) digits ≡ true → list_all is_lower_hex (hex_text digits) ≡ true
 digits_lower [] low = refl
 digits_lower (d ∷ digits) low =
-    let parts = both (nat_lt d 16) (list_all (λ d. nat_lt d 16) digits) low in
+    let parts = and_parts (nat_lt d 16) (list_all (λ d. nat_lt d 16) digits) low in
     (λ i. lower_digit d (ltb-true _ _ parts.0) i && digits_lower digits parts.1 i)
 
 pub hex_lower : (kind : Kind) (id : Id) → is_id kind id ≡ true → list_all is_lower_hex (hex id) ≡ true
@@ -95,7 +88,7 @@ hex_lower kind id is = digits_lower id.digits (id_digits kind id is)
 pub no_slash_lower : (h : Bytes) → list_all is_lower_hex h ≡ true → has_byte 47 h ≡ false
 no_slash_lower [] lower = refl
 no_slash_lower (a ∷ h) lower =
-    let parts = both (is_lower_hex a) (list_all is_lower_hex h) lower in
+    let parts = and_parts (is_lower_hex a) (list_all is_lower_hex h) lower in
     (λ i. no_slash a parts.0 i || no_slash_lower h parts.1 i)
   where
     no_slash : (a : ℕ) → is_lower_hex a ≡ true → (a == 47) ≡ false
@@ -118,10 +111,10 @@ object_above (a ∷ []) place long lower above = absurd (omega (arith, long))
 object_above (a ∷ b ∷ h) place long lower (rest, is) = from_first (behind (codes "objects") (a ∷ b ∷ 47 ∷ h) place rest refl is)
   where
     rest_lower : list_all is_lower_hex h ≡ true
-    rest_lower = (both (is_lower_hex b) (list_all is_lower_hex h) (both (is_lower_hex a) (list_all is_lower_hex (b ∷ h)) lower).1).1
+    rest_lower = (and_parts (is_lower_hex b) (list_all is_lower_hex h) (and_parts (is_lower_hex a) (list_all is_lower_hex (b ∷ h)) lower).1).1
 
     two_lower : list_all is_lower_hex (a ∷ b ∷ []) ≡ true
-    two_lower = (λ i. (both (is_lower_hex a) (list_all is_lower_hex (b ∷ h)) lower).0 i && ((both (is_lower_hex b) (list_all is_lower_hex h) (both (is_lower_hex a) (list_all is_lower_hex (b ∷ h)) lower).1).0 i && true))
+    two_lower = (λ i. (and_parts (is_lower_hex a) (list_all is_lower_hex (b ∷ h)) lower).0 i && ((and_parts (is_lower_hex b) (list_all is_lower_hex h) (and_parts (is_lower_hex a) (list_all is_lower_hex (b ∷ h)) lower).1).0 i && true))
 
     from_second : (inner : Bytes) → Behind (a ∷ b ∷ []) h inner rest → is_object_folder (codes "objects/" ++ inner) ≡ true
     from_second inner (inl same) = ap (λ p. is_object_folder (codes "objects/" ++ p)) same ∙ two_lower

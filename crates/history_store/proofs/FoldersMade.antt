@@ -15,6 +15,7 @@ use Rattle.gix_ref_file.proofs.Trees.{get-inserted, get_inserted}
 use Rattle.gix_ref_file.proofs.Below.{path_in_folder}
 use Rattle.history_model.specs.Bytes.{Bytes}
 use Rattle.history_store.specs.Stores.{IsAbove, HasFoldersAbove, KeepsFolders, FoldersAbove}
+use Rattle.std.proofs.lemmas.Bool.{and_from, and_parts}
 
 -- ---- counts
 pub risen_later : (a b c d : ℕ) → a ≤ b → HasRisen b c → c ≤ d → HasRisen a d
@@ -56,13 +57,6 @@ all_front p (x ∷ xs) ys all = by_case (p x) all (all_front p xs ys)
     by_case true h rest = rest h
     by_case false h rest = cc
 
-both : (a b : Bool) → (a && b) ≡ true → (a ≡ true) × (b ≡ true)
-both true b h = (refl, h)
-both false b h = cc
-
-both_hold : (a b : Bool) → a ≡ true → b ≡ true → (a && b) ≡ true
-both_hold a b x y = λ i. x i && y i
-
 shorter_fits : (m n k : ℕ) → m ≤ n → nat_le n k ≡ true → nat_le m k ≡ true
 shorter_fits m n k short fits = by_test (nat_le m k) refl
   where
@@ -73,9 +67,9 @@ shorter_fits m n k short fits = by_test (nat_le m k) refl
 -- what a path stands below is a path
 pub path_above : (place path : Bytes) → IsAbove place path → IsTrue (is_path path) → IsTrue (is_path place)
 path_above place path (rest, is) whole =
-    let parts = both (nat_le (length path) 4096) (list_all is_component (slice_split is_slash path)) whole in
+    let parts = and_parts (nat_le (length path) 4096) (list_all is_component (slice_split is_slash path)) whole in
     let cut : slice_split is_slash path ≡ slice_split is_slash place ++ slice_split is_slash rest = ap (slice_split is_slash) is ∙ split_joined place rest in
-    both_hold (nat_le (length place) 4096) (list_all is_component (slice_split is_slash place))
+    and_from (nat_le (length place) 4096) (list_all is_component (slice_split is_slash place))
     (shorter_fits (length place) (length path) 4096 (omega (arith, ap length is, length-append place (47 ∷ rest))) parts.0)
     (all_front is_component (slice_split is_slash place) (slice_split is_slash rest) (ap (list_all is_component) (sym cut) ∙ parts.1))
 

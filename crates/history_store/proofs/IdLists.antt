@@ -13,7 +13,8 @@ use Rattle.std.specs.FinMap.{contains_key}
 use Rattle.std.specs.List.Sorted.{IsBinarySearchResult, IsNonDecreasingBy, IsSearchInRange}
 use Rattle.std.specs.Ordering.{ordering_index}
 use Rattle.history_store.specs.Ids.{are_lists, begins_with, is_list_of, is_one_of, joined, set_of, with_id}
-use Rattle.history_store.proofs.IdSets.{and_left, and_right, both_true, by_own_id, contains-set_of, has_with, insert_in_order, none_here, one_here, one_of_both, one_of_insert, one_set, or_false, or_group, or_swap, rising, AreInOrder, BelongsAt}
+use Rattle.history_store.proofs.IdSets.{by_own_id, contains-set_of, has_with, insert_in_order, none_here, one_here, one_of_both, one_of_insert, one_set, or_false, or_group, or_swap, rising, AreInOrder, BelongsAt}
+use Rattle.std.proofs.lemmas.Bool.{and_from, and_parts}
 
 -- ---- first bytes
 
@@ -37,18 +38,18 @@ begins_told byte x h = (bytes_eq-Decides (take 2 (id_of x).digits) (digits_of (b
 apart : (byte other : ℕ) (xs : List ObjectId) (q : Id) → list_all (begins_with other) xs ≡ true → Begins q byte → byte ≢ other → is_one_of xs q ≡ false
 apart byte other [] q all begins differ = refl
 apart byte other (x ∷ xs) q all begins differ =
-    let rest = apart byte other xs q (and_right _ _ all) begins differ in
+    let rest = apart byte other xs q (and_parts _ _ all).1 begins differ in
     by_test (id_eq q (id_of x)) refl rest
   where
     by_test : (b : Bool) → id_eq q (id_of x) ≡ b → is_one_of xs q ≡ false → (b || is_one_of xs q) ≡ false
-    by_test true same rest = absurd (differ (one_byte byte other (begins ∙ ap (λ (id : Id). take 2 id.digits) (one_id q (id_of x) same) ∙ told_byte other x (and_left _ _ all))))
+    by_test true same rest = absurd (differ (one_byte byte other (begins ∙ ap (λ (id : Id). take 2 id.digits) (one_id q (id_of x) same) ∙ told_byte other x (and_parts _ _ all).0)))
     by_test false same rest = rest
 
 none_among : (first : ℕ) (lists : List (Vec ObjectId Global)) → are_lists first lists ≡ true → (byte : ℕ) (q : Id) → Begins q byte → ((k : ℕ) → k < length lists → byte ≢ first + k) → is_one_of (joined lists) q ≡ false
 none_among first [] are byte q begins other = refl
 none_among first (l ∷ ls) are byte q begins other =
-    let here = apart byte first l.items q (and_left _ _ (and_left _ _ are)) begins (λ same. other 0 (omega arith) (omega (arith, same))) in
-    let rest = none_among (suc first) ls (and_right _ _ are) byte q begins (λ k lt same. other (suc k) (omega (arith, lt)) (omega (arith, same))) in
+    let here = apart byte first l.items q (and_parts _ _ (and_parts _ _ are).0).0 begins (λ same. other 0 (omega arith) (omega (arith, same))) in
+    let rest = none_among (suc first) ls (and_parts _ _ are).1 byte q begins (λ k lt same. other (suc k) (omega (arith, lt)) (omega (arith, same))) in
     one_of_both l.items (joined ls) q ∙ (λ i. here i || rest i)
 
 -- what the lists keep of an id is what its own list keeps
@@ -56,12 +57,12 @@ own_from : (first : ℕ) (lists : List (Vec ObjectId Global)) → are_lists firs
     → is_one_of (joined lists) q ≡ is_one_of (slice_index_or lists place d).items q
 own_from first [] are place d within q begins = absurd (omega (arith, within))
 own_from first (l ∷ ls) are zero d within q begins =
-    let rest = none_among (suc first) ls (and_right _ _ are) (first + 0) q begins (λ k lt same. absurd (omega (arith, same))) in
+    let rest = none_among (suc first) ls (and_parts _ _ are).1 (first + 0) q begins (λ k lt same. absurd (omega (arith, same))) in
     one_of_both l.items (joined ls) q ∙ ap (λ b. is_one_of l.items q || b) rest ∙ or_false (is_one_of l.items q)
 own_from first (l ∷ ls) are (suc place) d within q begins =
-    let here = apart (first + suc place) first l.items q (and_left _ _ (and_left _ _ are)) begins (λ same. absurd (omega (arith, same))) in
+    let here = apart (first + suc place) first l.items q (and_parts _ _ (and_parts _ _ are).0).0 begins (λ same. absurd (omega (arith, same))) in
     let moved : first + suc place ≡ suc first + place = omega arith in
-    one_of_both l.items (joined ls) q ∙ ap (λ b. b || is_one_of (joined ls) q) here ∙ own_from (suc first) ls (and_right _ _ are) place d (omega (arith, within)) q (subst (Begins q) moved begins)
+    one_of_both l.items (joined ls) q ∙ ap (λ b. b || is_one_of (joined ls) q) here ∙ own_from (suc first) ls (and_parts _ _ are).1 place d (omega (arith, within)) q (subst (Begins q) moved begins)
 
 pub own_list : (lists : List (Vec ObjectId Global)) → are_lists 0 lists ≡ true → (byte : ℕ) (d : Vec ObjectId Global) → byte < length lists → (q : Id) → Begins q byte
     → is_one_of (joined lists) q ≡ is_one_of (slice_index_or lists byte d).items q
@@ -83,10 +84,10 @@ list_at_from : (first : ℕ) (lists : List (Vec ObjectId Global)) → are_lists 
 list_at_from first [] are place d within = absurd (omega (arith, within))
 list_at_from first (l ∷ ls) are zero d within =
     let moved : first ≡ first + 0 = omega arith in
-    subst (λ n. is_list_of n l.items ≡ true) moved (and_left _ _ are)
+    subst (λ n. is_list_of n l.items ≡ true) moved (and_parts _ _ are).0
 list_at_from first (l ∷ ls) are (suc place) d within =
     let moved : suc first + place ≡ first + suc place = omega arith in
-    subst (λ n. is_list_of n (slice_index_or ls place d).items ≡ true) moved (list_at_from (suc first) ls (and_right _ _ are) place d (omega (arith, within)))
+    subst (λ n. is_list_of n (slice_index_or ls place d).items ≡ true) moved (list_at_from (suc first) ls (and_parts _ _ are).1 place d (omega (arith, within)))
 
 pub list_at : (lists : List (Vec ObjectId Global)) → are_lists 0 lists ≡ true → (byte : ℕ) (d : Vec ObjectId Global) → byte < length lists → is_list_of byte (slice_index_or lists byte d).items ≡ true
 list_at lists are byte d within =
@@ -97,10 +98,10 @@ set_from : (first : ℕ) (lists : List (Vec ObjectId Global)) → are_lists firs
 set_from first [] are place new is = are
 set_from first (l ∷ ls) are zero new is =
     let moved : first + 0 ≡ first = omega arith in
-    both_true _ _ (subst (λ n. is_list_of n new.items ≡ true) moved is) (and_right _ _ are)
+    and_from _ _ (subst (λ n. is_list_of n new.items ≡ true) moved is) (and_parts _ _ are).1
 set_from first (l ∷ ls) are (suc place) new is =
     let moved : first + suc place ≡ suc first + place = omega arith in
-    both_true _ _ (and_left _ _ are) (set_from (suc first) ls (and_right _ _ are) place new (subst (λ n. is_list_of n new.items ≡ true) moved is))
+    and_from _ _ (and_parts _ _ are).0 (set_from (suc first) ls (and_parts _ _ are).1 place new (subst (λ n. is_list_of n new.items ≡ true) moved is))
 
 pub set_list : (lists : List (Vec ObjectId Global)) → are_lists 0 lists ≡ true → (byte : ℕ) (new : Vec ObjectId Global) → is_list_of byte new.items ≡ true → are_lists 0 (slice_set lists byte new) ≡ true
 set_list lists are byte new is =
@@ -135,7 +136,7 @@ joined_longer (l ∷ ls) new none = ap (λ xs. l.items ++ xs) (joined_longer ls 
 
 longer_from : (first : ℕ) (lists : List (Vec ObjectId Global)) → are_lists first lists ≡ true → (new : Vec ObjectId Global) → new.items ≡ [] → are_lists first (lists ++ new ∷ []) ≡ true
 longer_from first [] are new none = ap (λ xs. is_list_of first xs && true) none
-longer_from first (l ∷ ls) are new none = both_true _ _ (and_left _ _ are) (longer_from (suc first) ls (and_right _ _ are) new none)
+longer_from first (l ∷ ls) are new none = and_from _ _ (and_parts _ _ are).0 (longer_from (suc first) ls (and_parts _ _ are).1 new none)
 
 pub longer : (lists : List (Vec ObjectId Global)) → are_lists 0 lists ≡ true → (new : Vec ObjectId Global) → new.items ≡ [] → are_lists 0 (lists ++ new ∷ []) ≡ true
 longer lists are new none = longer_from 0 lists are new none
@@ -149,7 +150,7 @@ longer_or_same lists are new none false after is = (ap (are_lists 0) is ∙ are,
 pub all_insert : (p : ObjectId → Bool) (xs : List ObjectId) (place : ℕ) (x : ObjectId) → list_all p xs ≡ true → p x ≡ true → list_all p (insert xs place x) ≡ true
 all_insert p xs zero x all one = λ i. one i && all i
 all_insert p [] (suc place) x all one = λ i. one i && true
-all_insert p (y ∷ xs) (suc place) x all one = both_true _ _ (and_left _ _ all) (all_insert p xs place x (and_right _ _ all) one)
+all_insert p (y ∷ xs) (suc place) x all one = and_from _ _ (and_parts _ _ all).0 (all_insert p xs place x (and_parts _ _ all).1 one)
 
 -- ---- a search in the id's own list
 
@@ -167,7 +168,7 @@ module _ (lists : List (Vec ObjectId Global)) (are : are_lists 0 lists ≡ true)
 
   pub contains_found : (r : Result ℕ ℕ) → IsSearchInRange r (length ids) → IsBinarySearchResult (λ y. by_own_id y id) ids r → (b : Bool) → b ≡ is_ok r → b ≡ contains_key (set_of (joined lists)) (id_of id)
   contains_found r inside position b told =
-      told ∙ found ids id r (and_right _ _ of_byte) inside position ∙ ap (λ xs. is_one_of xs (id_of id)) own_ids
+      told ∙ found ids id r (and_parts _ _ of_byte).1 inside position ∙ ap (λ xs. is_one_of xs (id_of id)) own_ids
       ∙ sym (own_list lists are byte list within (id_of id) begins) ∙ sym (contains-set_of (joined lists) (id_of id))
 
   pub listed_again : (r : Result ℕ ℕ) → IsSearchInRange r (length ids) → IsBinarySearchResult (λ y. by_own_id y id) ids r → is_ok r ≡ true → (new : Vec ObjectId Global) → new ≡ list
@@ -189,7 +190,7 @@ module _ (lists : List (Vec ObjectId Global)) (are : are_lists 0 lists ≡ true)
   module _ (place : ℕ) (fits : place ≤ length ids) (told : IsNonDecreasingBy (λ y. ordering_index (by_own_id y id)) ids → BelongsAt ids place id) (new : Vec ObjectId Global) (put_in : new.items ≡ insert ids place id) where
     pub still_lists : are_lists 0 (slice_set lists byte new) ≡ true
     still_lists = set_list lists are byte new (subst (λ xs. is_list_of byte xs ≡ true) (sym put_in)
-        (both_true _ _ (all_insert (begins_with byte) ids place id (and_left _ _ of_byte) (begins_told byte id begins)) (insert_in_order ids place id (and_right _ _ of_byte) fits (told (rising ids id (and_right _ _ of_byte))))))
+        (and_from _ _ (all_insert (begins_with byte) ids place id (and_parts _ _ of_byte).0 (begins_told byte id begins)) (insert_in_order ids place id (and_parts _ _ of_byte).1 fits (told (rising ids id (and_parts _ _ of_byte).1)))))
 
     pub listed_new : set_of (joined (slice_set lists byte new)) ≡ with_id (set_of (joined lists)) (id_of id)
     listed_new = one_set _ _ (λ q.

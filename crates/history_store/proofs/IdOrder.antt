@@ -14,8 +14,10 @@ use Rattle.gix_hash_id.specs.declared.object_id.ObjectId.{ObjectId}
 use Rattle.history_model.specs.Bytes.{Bytes}
 use Rattle.history_model.specs.Objects.{by_id}
 use Rattle.history_store.specs.Ids.{are_lists, begins_with, joined, marked, ComesBefore, IsAscending}
-use Rattle.history_store.proofs.IdSets.{and_left, and_right, by_own_id, less, AreInOrder}
+use Rattle.history_store.proofs.IdSets.{by_own_id, AreInOrder}
 use Rattle.history_store.proofs.IdLists.{told_byte}
+use Rattle.std.proofs.lemmas.Bool.{and_parts}
+use Rattle.gix_ref_file.proofs.Below.{when_lt}
 
 -- ---- within one list
 
@@ -28,7 +30,7 @@ before_in_kind x y is one_kind =
 
 all_before : (x : ObjectId) (ys : List ObjectId) → below_all by_id (id_of x) (marked ys) ≡ true → AllByRecursion (ComesBefore x) ys
 all_before x [] h = tt
-all_before x (y ∷ ys) h = (before_in_kind x y (less (by_own_id x y) (and_left _ _ h)), all_before x ys (and_right _ _ h))
+all_before x (y ∷ ys) h = (before_in_kind x y (when_lt (by_own_id x y) (and_parts _ _ h).0), all_before x ys (and_parts _ _ h).1)
 
 -- ---- across lists
 
@@ -65,21 +67,21 @@ module _ {X : Type 0} (P : X → Type 0) where
 
 of_list : (byte first : ℕ) (xs : List ObjectId) → byte < first → list_all (begins_with first) xs ≡ true → AllByRecursion (BeginsLater byte) xs
 of_list byte first [] lt all = tt
-of_list byte first (x ∷ xs) lt all = ((first, lt, and_left _ _ all), of_list byte first xs lt (and_right _ _ all))
+of_list byte first (x ∷ xs) lt all = ((first, lt, (and_parts _ _ all).0), of_list byte first xs lt (and_parts _ _ all).1)
 
 of_lists : (byte first : ℕ) (lists : List (Vec ObjectId Global)) → byte < first → are_lists first lists ≡ true → AllByRecursion (BeginsLater byte) (joined lists)
 of_lists byte first [] lt are = tt
 of_lists byte first (l ∷ ls) lt are =
-    all_joined (BeginsLater byte) l.items (joined ls) (of_list byte first l.items lt (and_left _ _ (and_left _ _ are))) (of_lists byte (suc first) ls (omega (arith, lt)) (and_right _ _ are))
+    all_joined (BeginsLater byte) l.items (joined ls) (of_list byte first l.items lt (and_parts _ _ (and_parts _ _ are).0).0) (of_lists byte (suc first) ls (omega (arith, lt)) (and_parts _ _ are).1)
 
 then_ascends : (byte : ℕ) (xs ys : List ObjectId) → list_all (begins_with byte) xs ≡ true → AreInOrder xs → AllByRecursion (BeginsLater byte) ys → IsAscending ys → IsAscending (xs ++ ys)
 then_ascends byte [] ys all order later ascend = ascend
 then_ascends byte (x ∷ xs) ys all order later ascend = (
-  all_joined (ComesBefore x) xs ys (all_before x xs (and_left _ _ order)) (all_later byte x ys (and_left _ _ all) later),
-  then_ascends byte xs ys (and_right _ _ all) (and_right _ _ order) later ascend,
+  all_joined (ComesBefore x) xs ys (all_before x xs (and_parts _ _ order).0) (all_later byte x ys (and_parts _ _ all).0 later),
+  then_ascends byte xs ys (and_parts _ _ all).1 (and_parts _ _ order).1 later ascend,
 )
 
 pub joined_ascends : (first : ℕ) (lists : List (Vec ObjectId Global)) → are_lists first lists ≡ true → IsAscending (joined lists)
 joined_ascends first [] are = tt
 joined_ascends first (l ∷ ls) are =
-    then_ascends first l.items (joined ls) (and_left _ _ (and_left _ _ are)) (and_right _ _ (and_left _ _ are)) (of_lists first (suc first) ls (omega arith) (and_right _ _ are)) (joined_ascends (suc first) ls (and_right _ _ are))
+    then_ascends first l.items (joined ls) (and_parts _ _ (and_parts _ _ are).0).0 (and_parts _ _ (and_parts _ _ are).0).1 (of_lists first (suc first) ls (omega arith) (and_parts _ _ are).1) (joined_ascends (suc first) ls (and_parts _ _ are).1)

@@ -23,6 +23,8 @@ use Rattle.gix_hash_id.specs.declared.object_id.ObjectId.{ObjectId}
 use Rattle.history_model.specs.Objects.{by_id}
 use Rattle.history_model.proofs.IdLemmas.{get_with_id, one_by_ids, same_id_tie}
 use Rattle.history_store.specs.Ids.{IdSet, is_one_of, marked, set_of, with_id}
+use Rattle.std.proofs.lemmas.Bool.{and_from, and_parts}
+use Rattle.gix_ref_file.proofs.Below.{when_lt}
 
 -- ---- sets
 
@@ -144,32 +146,15 @@ insert_in_order ids place id order within parts =
 
 -- ---- a search
 
-pub and_left : (a b : Bool) → (a && b) ≡ true → a ≡ true
-and_left true b h = refl
-and_left false b h = cc
-
-pub and_right : (a b : Bool) → (a && b) ≡ true → b ≡ true
-and_right true b h = h
-and_right false b h = cc
-
-pub both_true : (a b : Bool) → a ≡ true → b ≡ true → (a && b) ≡ true
-both_true true b one other = other
-both_true false b one other = one
-
-pub less : (r : Ordering) → is_lt r ≡ true → r ≡ Less
-less Less h = refl
-less Equal h = cc
-less Greater h = cc
-
 each_after : (ids : List ObjectId) → AreInOrder ids → (k : ℕ) (d : ObjectId) → 0 ≤ k → k + 1 < length ids → is_lt (by_own_id (slice_index_or ids (k + 1) d) (slice_index_or ids k d)) ≡ false
 each_after [] order k d low high = absurd (omega (arith, high))
 each_after (x ∷ []) order k d low high = absurd (omega (arith, high))
 each_after (x ∷ y ∷ ids) order zero d low high =
-    ap is_lt (turned y x Less (less (by_own_id x y) (and_left _ _ (and_left _ _ order))))
+    ap is_lt (turned y x Less (when_lt (by_own_id x y) (and_parts _ _ (and_parts _ _ order).0).0))
 each_after (x ∷ y ∷ ids) order (suc k) d low high =
     let next : suc (k + 1) ≡ suc k + 1 = omega arith in
     subst (λ n. is_lt (by_own_id (slice_index_or (x ∷ y ∷ ids) n d) (slice_index_or (x ∷ y ∷ ids) (suc k) d)) ≡ false) next
-    (each_after (y ∷ ids) (and_right _ _ order) k d (omega arith) (omega (arith, high)))
+    (each_after (y ∷ ids) (and_parts _ _ order).1 k d (omega arith) (omega (arith, high)))
 
 pub rising : (ids : List ObjectId) (id : ObjectId) → AreInOrder ids → IsNonDecreasingBy (λ y. ordering_index (by_own_id y id)) ids
 rising ids id order = searchable_from_sorted id_total id_of ids (id_of id) (each_after ids order)

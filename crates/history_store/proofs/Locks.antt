@@ -12,10 +12,10 @@ use Rattle.history_model.specs.Forms.{is_name, max_name}
 use Rattle.history_model.specs.Places.{log_place, is_lock_file}
 use Rattle.history_store.specs.Stores.{IsAbove}
 use Rattle.history_store.specs.References.{lock_place}
-use Rattle.history_model.proofs.PartLemmas.{both_true}
 use Rattle.history_model.proofs.NameLemmas.{ends_after}
 use Rattle.history_store.proofs.NameFolders.{refs_of}
 use Rattle.history_store.proofs.Ways.{name_parts}
+use Rattle.std.proofs.lemmas.Bool.{not-true, and_parts}
 
 abbrev lock_end : Bytes
 lock_end = codes ".lock"
@@ -56,22 +56,18 @@ no_dots part dots few = by_test (bytes_eq (part ++ lock_end) dots) refl
     by_test false apart = refl
     by_test true same = absurd (omega (arith, few, ap length ((bytes_eq-Decides (part ++ lock_end) dots).0 same), length-append part lock_end))
 
-not_false : (b : Bool) → not b ≡ true → b ≡ false
-not_false true h = cc
-not_false false h = refl
-
 locked_part : (part : Bytes) → is_component part ≡ true → is_component (part ++ lock_end) ≡ true
 locked_part part is =
-    let clean = not_false (list_any (λ byte. byte == 0) part) (both_true _ (not (list_any (λ byte. byte == 0) part)) is).1 in
+    let clean = not-true (list_any (λ byte. byte == 0) part) (and_parts _ (not (list_any (λ byte. byte == 0) part)) is).1 in
     let some : nat_lt 0 (length (part ++ lock_end)) ≡ true = grind (arith, nat_tests, length-append part lock_end) in
     let free : list_any (λ byte. byte == 0) (part ++ lock_end) ≡ false = list_any-append (λ byte. byte == 0) part lock_end ∙ ap (λ b. b || list_any (λ byte. byte == 0) lock_end) clean in
     λ i. some i && no_dots part (codes ".") (omega arith) i && no_dots part (codes "..") (omega arith) i && not (free i)
 
 locked_parts : (parts : List Bytes) → parts ≢ [] → list_all is_component parts ≡ true → list_all is_component (onto_last parts) ≡ true
 locked_parts [] some are = absurd (some refl)
-locked_parts (part ∷ []) some are = ap (λ b. b && true) (locked_part part (both_true (is_component part) true are).0)
+locked_parts (part ∷ []) some are = ap (λ b. b && true) (locked_part part (and_parts (is_component part) true are).0)
 locked_parts (part ∷ next ∷ parts) some are =
-    let both = both_true (is_component part) (list_all is_component (next ∷ parts)) are in
+    let both = and_parts (is_component part) (list_all is_component (next ∷ parts)) are in
     λ i. both.0 i && locked_parts (next ∷ parts) (λ e. cc) both.1 i
 
 short_enough : (n m : ℕ) → nat_le n 1024 ≡ true → m ≤ n + 5 → nat_le m 4096 ≡ true
@@ -80,7 +76,7 @@ short_enough n m short few = grind (arith, nat_tests)
 pub lock_path : (name : Bytes) → is_name name ≡ true → IsTrue (is_path (lock_place name))
 lock_path name h =
     let parts = ap (list_all is_component) (split_locked name) ∙ locked_parts (slice_split is_slash name) (none_split 0 name) (name_parts name h) in
-    λ i. short_enough (length name) (length (lock_place name)) (both_true _ (nat_le (length name) max_name) h).1 (omega (arith, length-append name lock_end)) i && parts i
+    λ i. short_enough (length name) (length (lock_place name)) (and_parts _ (nat_le (length name) max_name) h).1 (omega (arith, length-append name lock_end)) i && parts i
 
 -- ---- it stands where the name's own file does
 pub lock_beside_name : (name : Bytes) → parent (lock_place name) ≡ parent name

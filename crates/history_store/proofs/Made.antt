@@ -12,6 +12,7 @@ use Rattle.history_model.specs.StandsFor.{head_text}
 use Rattle.history_model.specs.Places.{file_at, head_place, unfinished_place}
 use Rattle.history_store.specs.Creation.{head_lock, IsCleared, HasHead}
 use Rattle.history_store.proofs.Stored.{apart_from_inserted, apart_from_removed}
+use Rattle.history_store.proofs.Beside.{file_removed}
 
 no_file : (o : Option Node) → Absent ≡ place_of o → bytes_of o ≡ None
 no_file None is = refl
@@ -20,9 +21,6 @@ no_file (Some folder) is = cc
 
 pub nothing_to_clear : (t : Tree) → Absent ≡ place_of (node_at t unfinished_place) → IsCleared t t
 nothing_to_clear t is = record { gone = no_file _ is; others = λ path apart. refl }
-
-file_removed : (t : Tree) (k : Bytes) → bytes_of (get (remove t k) k) ≡ None
-file_removed t k = ap bytes_of (get-removed t k k ∙ ap (λ same. cond same None (get t k)) (same_path_itself k))
 
 pub cleared : (old new : Tree) → new ≡ after (to_remove_file unfinished_place) old → IsCleared old new
 cleared old new is = record {

@@ -13,13 +13,13 @@ use Rattle.history_model.specs.Bytes.{Bytes}
 use Rattle.history_model.specs.Objects.{object_text}
 use Rattle.history_model.specs.Places.{file_at, object_place, unfinished_place}
 use Rattle.history_model.proofs.IdLemmas.{id_itself, ids_apart, one_id}
-use Rattle.history_steps.proofs.TreePuts.{unfinished_apart}
 use Rattle.history_store.specs.Ids.{IdSet, with_id}
 use Rattle.history_store.specs.KnownObjects.{object_at}
 use Rattle.history_store.specs.ObjectTexts.{object_in}
 use Rattle.history_store.specs.Stores.{IsIdTaken, MayStand}
 use Rattle.history_store.proofs.IdSets.{has_with}
 use Rattle.history_store.proofs.TextObjects.{object_in-text}
+use Rattle.history_model.proofs.RecoveredLemmas.{place_apart}
 
 -- ---- the map that a set of ids and a tree make
 
@@ -39,7 +39,7 @@ some_file None some = cc
 some_file (Some bytes) some = (bytes, refl)
 
 apart : (id : Id) → object_place id ≢ unfinished_place
-apart id same = cc (sym (unfinished_apart id) ∙ (bytes_eq-Decides unfinished_place (object_place id)).1 (sym same))
+apart id same = cc (sym (place_apart id) ∙ (bytes_eq-Decides unfinished_place (object_place id)).1 (sym same))
 
 pub map_length : {X Y : Type 0} (f : X → Y) (xs : List X) → length (map f xs) ≡ length xs
 map_length f [] = refl

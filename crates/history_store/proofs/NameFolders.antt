@@ -12,17 +12,18 @@ use Rattle.history_model.specs.Bytes.{Bytes, begins, ends}
 use Rattle.history_model.specs.FileMap.{components}
 use Rattle.history_model.specs.Forms.{is_name}
 use Rattle.gix_object_lines.specs.NameTest.{is_partial_name}
-use Rattle.history_model.proofs.NameLemmas.{and_first, ends_after, ends_cons, ends_parts, no_lock, or_some, some_or}
-use Rattle.history_model.proofs.PartLemmas.{both_true}
+use Rattle.history_model.proofs.NameLemmas.{ends_after, ends_cons, ends_parts, no_lock, some_or, partial_of}
 use Rattle.history_model.proofs.NameTests.{is_name_component, components_of}
 use Rattle.history_model.specs.Places.{is_name_folder, log_place}
 use Rattle.history_store.specs.Stores.{IsAbove}
 use Rattle.history_store.specs.References.{FoldersOfName}
 use Rattle.history_store.proofs.FolderPlaces.{Behind, behind}
+use Rattle.history_model.proofs.WholePaths.{begins_parts}
+use Rattle.std.proofs.lemmas.Bool.{and_parts, or_cases}
 
 with_byte : (b : ℕ) (back : Bytes) (parts : List Bytes) → list_any (ends back) parts ≡ true → list_any (ends back) (onto_first b parts) ≡ true
 with_byte b back [] h = cc
-with_byte b back (part ∷ parts) h = go (or_some (ends back part) (list_any (ends back) parts) h)
+with_byte b back (part ∷ parts) h = go (or_cases (ends back part) (list_any (ends back) parts) h)
   where
     go : (ends back part ≡ true) ⊎ (list_any (ends back) parts ≡ true) → (ends back (b ∷ part) || list_any (ends back) parts) ≡ true
     go (inl e) = some_or _ _ (inl (ends_cons b back part e))
@@ -37,9 +38,6 @@ part_before back rest (b ∷ front) here = go (part_before back rest front here)
         → list_any (ends back) (cond c ([] ∷ slice_split (λ b. b == 47) (front ++ back ++ 47 ∷ rest)) (onto_first b (slice_split (λ b. b == 47) (front ++ back ++ 47 ∷ rest)))) ≡ true
     go later true = some_or (ends back []) _ (inr later)
     go later false = with_byte b back (slice_split (λ b. b == 47) (front ++ back ++ 47 ∷ rest)) later
-
-pub partial_of : (name : Bytes) → is_name name ≡ true → is_partial_name name ≡ true
-partial_of name h = and_first _ _ (and_first _ _ (and_first _ _ h))
 
 no_lock_above : (name place rest : Bytes) → is_name name ≡ true → name ≡ place ++ 47 ∷ rest → ends (codes ".lock") place ≡ false
 no_lock_above name place rest h is = go (ends (codes ".lock") place) refl
@@ -65,16 +63,8 @@ no_lock_log name place rest h is = go (ends (codes ".lock") place) refl
         let wrong : false ≡ true = sym (no_lock (components name) (components_of name (partial_of name h))) ∙ some in
         absurd (cc wrong)
 
--- what begins so is the front and the rest
-pub begins_parts : (front text : Bytes) → begins front text ≡ true → text ≡ front ++ drop (length front) text
-begins_parts [] text h = refl
-begins_parts (f ∷ front) [] h = cc
-begins_parts (f ∷ front) (b ∷ text) h =
-    let parts = both_true (nat_eq f b) (begins front text) h in
-    (λ i. sym ((Decides-eqb f b).0 parts.0) i ∷ begins_parts front text parts.1 i)
-
 pub refs_of : (name : Bytes) → is_name name ≡ true → name ≡ codes "refs" ++ 47 ∷ drop 5 name
-refs_of name h = begins_parts (codes "refs/") name (both_true (is_partial_name name) (begins (codes "refs/") name) (and_first _ _ (and_first _ _ h))).1
+refs_of name h = begins_parts (codes "refs/") name (and_parts (is_partial_name name) (begins (codes "refs/") name) (and_parts _ _ (and_parts _ _ h).0).0).1
 
 abbrev is_lock : Bytes → Bool
 is_lock path = ends (codes ".lock") path

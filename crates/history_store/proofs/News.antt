@@ -7,7 +7,7 @@ use Rattle.std.specs.FinMap.{get, remove}
 use Rattle.gix_ref_file.specs.Tree.{Tree, Node, file, folder, same_path, bytes_of, bytes_at, is_folder}
 use Rattle.gix_ref_file.specs.Changes.{to_write, to_rename, to_remove_file, allows, after, is_file_at, may_hold_file}
 use Rattle.gix_ref_file.proofs.Trees.{one_path, same_path_itself, get-inserted, get-removed, no_folder}
-use Rattle.gix_ref_file.proofs.Rooted.{both, first}
+use Rattle.gix_ref_file.proofs.Rooted.{both, first, file_no_folder}
 use Rattle.history_model.specs.Bytes.{Bytes}
 use Rattle.history_model.specs.Places.{file_at, head_place, unfinished_place}
 use Rattle.history_store.specs.Creation.{HasHead, IsCleared, IsNew, SameFolders, head_lock}
@@ -19,7 +19,7 @@ apart : (p q : Bytes) → same_path p q ≡ false → p ≢ q
 apart p q is same = cc (sym is ∙ ap (λ x. same_path x q) same ∙ same_path_itself q)
 
 -- ---- a clear part
-clear_none : (part : Part) (permitted : Bytes) (tree : Tree) → IsClear part permitted tree → (path : Bytes) → path ≢ permitted → file_at tree path ≡ None
+pub clear_none : (part : Part) (permitted : Bytes) (tree : Tree) → IsClear part permitted tree → (path : Bytes) → path ≢ permitted → file_at tree path ≡ None
 clear_none part permitted tree clear [] other = refl
 clear_none part permitted tree clear (b ∷ path) other = by_case (get tree (b ∷ path)) (clear (b ∷ path))
   where
@@ -86,14 +86,9 @@ folders_kept t u k left no_folder not_folder is q = ap is_folder (is q) ∙ by_c
     by_case false other = refl
     by_case true same = not_folder ∙ sym (ap (λ p. is_folder (get t p)) (one_path q k same) ∙ no_folder)
 
-is_file : (o : Option Node) → IsTrue (is_some (bytes_of o)) → IsFalse (is_folder o)
-is_file None h = cc
-is_file (Some (file bytes)) h = refl
-is_file (Some folder) h = cc
-
 node_is_file : (t : Tree) (k : Bytes) → IsTrue (is_file_at t k) → IsFalse (is_folder (get t k))
 node_is_file t [] h = cc
-node_is_file t (b ∷ k) h = is_file (get t (b ∷ k)) h
+node_is_file t (b ∷ k) h = file_no_folder (get t (b ∷ k)) h
 
 room : (t : Tree) (k : Bytes) → IsTrue (may_hold_file t k) → IsFalse (is_folder (get t k))
 room t [] may = absurd (cc (no_folder t [] may))

@@ -17,14 +17,12 @@ use Rattle.history_steps.specs.TreeHalves.{HoldsValues}
 use Rattle.history_model.specs.Repository.{Values, HaveOwnIds}
 use Rattle.gix_hash_id.specs.declared.kind.Kind.{Kind}
 use Rattle.gix_hash_id.specs.declared.kind.Kind.TheVariants.{Sha1, Sha256}
-use Rattle.history_model.proofs.PlaceLemmas.{length_hex, id_length, file_has_id}
+use Rattle.history_model.proofs.PlaceLemmas.{id_length, file_has_id}
 use Rattle.history_store.specs.Stores.{IsAbove, NoFileAbove, HasFoldersAbove, FoldersAbove, IsObjectPlace, IsObjectPart}
 use Rattle.history_store.proofs.FolderPlaces.{behind, none_above, object_above, two_digits, hex_lower}
 use Rattle.history_store.proofs.FoldersMade.{split_joined}
-
-both : (a b : Bool) → (a && b) ≡ true → (a ≡ true) × (b ≡ true)
-both true b h = (refl, h)
-both false b h = cc
+use Rattle.std.proofs.lemmas.Bool.{and_parts}
+use Rattle.history_model.proofs.IdLemmas.{length-hex}
 
 -- The files of values are a part of objects.
 pub values_are_objects : (kind : Kind) (tree : Tree) (values : Values) → HoldsValues kind tree values → HaveOwnIds kind values → IsObjectPart tree
@@ -35,7 +33,7 @@ values_are_objects kind tree values holds own = record {
 
 -- ---- lengths
 hex_length : (kind : Kind) (id : Id) → is_id kind id ≡ true → length (hex id) ≡ hex_len kind
-hex_length kind id h = length_hex id ∙ id_length kind id h
+hex_length kind id h = length-hex id ∙ id_length kind id h
 
 place_length : (h : Bytes) → 2 ≤ length h → length (codes "objects/" ++ take 2 h ++ 47 ∷ drop 2 h) ≡ length h + 9
 place_length h long = omega (arith, length-append (codes "objects/" ++ take 2 h) (47 ∷ drop 2 h), length-append (codes "objects/") (take 2 h), length-take 2 h, length-drop 2 h)
@@ -56,7 +54,7 @@ folder_short path is = by_root (bytes_eq path (codes "objects")) refl is
   where
     by_root : (b : Bool) → bytes_eq path (codes "objects") ≡ b → (b || (begins (codes "objects/") path && length path == 10 && list_all is_lower_hex (drop 8 path))) ≡ true → length path ≤ 10
     by_root true root h = omega (arith, ap length ((bytes_eq-Decides path (codes "objects")).0 root))
-    by_root false other h = omega (arith, eqb-true _ _ (both (begins (codes "objects/") path) (length path == 10) (both (begins (codes "objects/") path && length path == 10) (list_all is_lower_hex (drop 8 path)) h).0).1)
+    by_root false other h = omega (arith, eqb-true _ _ (and_parts (begins (codes "objects/") path) (length path == 10) (and_parts (begins (codes "objects/") path && length path == 10) (list_all is_lower_hex (drop 8 path)) h).0).1)
 
 -- files are deep in the part, and no folder is
 file_long : (tree : Tree) (path text : Bytes) → IsObjectPart tree → file_at tree path ≡ Some text → 10 < length path
@@ -109,13 +107,13 @@ unfinished_above tree path (kind, id, is, at) above place (rest, below) = from (
 no_byte : (c : ℕ) (h : Bytes) → is_lower_hex c ≡ false → list_all is_lower_hex h ≡ true → list_any (λ b. b == c) h ≡ false
 no_byte c [] other lower = refl
 no_byte c (b ∷ h) other lower =
-    let parts = both (is_lower_hex b) (list_all is_lower_hex h) lower in
+    let parts = and_parts (is_lower_hex b) (list_all is_lower_hex h) lower in
     λ i. differ (b == c) refl i || no_byte c h other parts.1 i
   where
     differ : (t : Bool) → (b == c) ≡ t → t ≡ false
     differ false e = refl
     differ true e =
-        let wrong : false ≡ true = sym other ∙ ap is_lower_hex (sym ((Decides-eqb b c).0 e)) ∙ (both (is_lower_hex b) (list_all is_lower_hex h) lower).0 in
+        let wrong : false ≡ true = sym other ∙ ap is_lower_hex (sym ((Decides-eqb b c).0 e)) ∙ (and_parts (is_lower_hex b) (list_all is_lower_hex h) lower).0 in
         absurd (cc wrong)
 
 other_text : (h t : Bytes) → list_all is_lower_hex h ≡ true → list_all is_lower_hex t ≡ false → bytes_eq h t ≡ false
@@ -152,8 +150,8 @@ lower_parts : (h : Bytes) → list_all is_lower_hex h ≡ true → (list_all is_
 lower_parts [] lower = (refl, refl)
 lower_parts (a ∷ []) lower = (lower, refl)
 lower_parts (a ∷ b ∷ h) lower =
-    let first = both (is_lower_hex a) (list_all is_lower_hex (b ∷ h)) lower in
-    let second = both (is_lower_hex b) (list_all is_lower_hex h) first.1 in
+    let first = and_parts (is_lower_hex a) (list_all is_lower_hex (b ∷ h)) lower in
+    let second = and_parts (is_lower_hex b) (list_all is_lower_hex h) first.1 in
     ((λ i. first.0 i && (second.0 i && true)), second.1)
 
 some_digits : (kind : Kind) (h : Bytes) → length h ≡ hex_len kind → (0 < length (take 2 h)) × (0 < length (drop 2 h))

@@ -11,7 +11,8 @@ use Rattle.history_model.proofs.PlaceLemmas.{one_text, text_itself}
 use Rattle.gix_object_lines.specs.declared.lines.time.Time.{Time}
 use Rattle.gix_object_lines.proofs.TimeLemmas.{front_is, five_reads, offset_length, offset_once, seconds_written, two_spelled}
 use Rattle.history_store.specs.Actors.{IsOffsetOf}
-use Rattle.history_store.proofs.Spelled.{and_of}
+use Rattle.std.proofs.lemmas.Bool.{eqb-true, false_from_ne_true, or_cases}
+use Rattle.gix_ref_file.proofs.Rooted.{both}
 
 -- what an offset of the written form tells
 pub record OffsetTold (word : Bytes) : Type 0 where
@@ -57,13 +58,6 @@ behind word h m n hl ml some is = record {
   spelled = ap (λ k. 45 ∷ two_digits (k / 3600) ++ two_digits (k / 60 % 60)) (sym some) ∙ clock_spelled 45 h m ml ∙ sym is;
 }
 
-either : (a b : Bool) → (a || b) ≡ true → (a ≡ true) ⊎ (b ≡ true)
-either true b h = inl refl
-either false b h = inr h
-
-same : (a b : ℕ) → (a == b) ≡ true → a ≡ b
-same a b h = grind (arith, tests)
-
 low_tens : (c : ℕ) → nat_lt c 54 ≡ true → c < 54
 low_tens c h = grind (arith, tests)
 
@@ -78,20 +72,20 @@ offset_told (s ∷ a ∷ []) h = cc
 offset_told (s ∷ a ∷ b ∷ []) h = cc
 offset_told (s ∷ a ∷ b ∷ c ∷ []) h = cc
 offset_told (s ∷ a ∷ b ∷ c ∷ d ∷ []) h =
-    let outer = and_of ((s == 43 || s == 45) && list_all is_ascii_digit (a ∷ b ∷ c ∷ d ∷ []) && nat_lt c 54) (not (bytes_eq (s ∷ a ∷ b ∷ c ∷ d ∷ []) (codes "-0000"))) h in
-    let mid = and_of ((s == 43 || s == 45) && list_all is_ascii_digit (a ∷ b ∷ c ∷ d ∷ [])) (nat_lt c 54) outer.0 in
-    let inner = and_of (s == 43 || s == 45) (list_all is_ascii_digit (a ∷ b ∷ c ∷ d ∷ [])) mid.0 in
-    let one = and_of (is_ascii_digit a) (list_all is_ascii_digit (b ∷ c ∷ d ∷ [])) inner.1 in
-    let two = and_of (is_ascii_digit b) (list_all is_ascii_digit (c ∷ d ∷ [])) one.1 in
-    let three = and_of (is_ascii_digit c) (list_all is_ascii_digit (d ∷ [])) two.1 in
-    let four = and_of (is_ascii_digit d) true three.1 in
-    by_sign (either (s == 43) (s == 45) inner.0) outer.1 (low_tens c mid.1) (digit_low a one.0) (digit_high a one.0) (digit_low b two.0) (digit_high b two.0) (digit_low c three.0) (digit_low d four.0) (digit_high d four.0)
+    let outer = both ((s == 43 || s == 45) && list_all is_ascii_digit (a ∷ b ∷ c ∷ d ∷ []) && nat_lt c 54) (not (bytes_eq (s ∷ a ∷ b ∷ c ∷ d ∷ []) (codes "-0000"))) h in
+    let mid = both ((s == 43 || s == 45) && list_all is_ascii_digit (a ∷ b ∷ c ∷ d ∷ [])) (nat_lt c 54) outer.0 in
+    let inner = both (s == 43 || s == 45) (list_all is_ascii_digit (a ∷ b ∷ c ∷ d ∷ [])) mid.0 in
+    let one = both (is_ascii_digit a) (list_all is_ascii_digit (b ∷ c ∷ d ∷ [])) inner.1 in
+    let two = both (is_ascii_digit b) (list_all is_ascii_digit (c ∷ d ∷ [])) one.1 in
+    let three = both (is_ascii_digit c) (list_all is_ascii_digit (d ∷ [])) two.1 in
+    let four = both (is_ascii_digit d) true three.1 in
+    by_sign (or_cases (s == 43) (s == 45) inner.0) outer.1 (low_tens c mid.1) (digit_low a one.0) (digit_high a one.0) (digit_low b two.0) (digit_high b two.0) (digit_low c three.0) (digit_low d four.0) (digit_high d four.0)
   where
     by_sign : ((s == 43) ≡ true) ⊎ ((s == 45) ≡ true) → not (bytes_eq (s ∷ a ∷ b ∷ c ∷ d ∷ []) (codes "-0000")) ≡ true → c < 54
         → 48 ≤ a → a ≤ 57 → 48 ≤ b → b ≤ 57 → 48 ≤ c → 48 ≤ d → d ≤ 57 → OffsetTold (s ∷ a ∷ b ∷ c ∷ d ∷ [])
     by_sign (inl plus) other tens al ah bl bh cl dl dh =
         ahead (s ∷ a ∷ b ∷ c ∷ d ∷ []) (10 * (a - 48) + (b - 48)) (10 * (c - 48) + (d - 48)) (omega arith) (omega arith)
-        (ap (λ x. x ∷ a ∷ b ∷ c ∷ d ∷ []) (same s 43 plus) ∙ four_spelled 43 a b c d _ _ (two_spelled a b al ah bl bh) (two_spelled c d cl (omega arith) dl dh))
+        (ap (λ x. x ∷ a ∷ b ∷ c ∷ d ∷ []) (eqb-true s 43 plus) ∙ four_spelled 43 a b c d _ _ (two_spelled a b al ah bl bh) (two_spelled c d cl (omega arith) dl dh))
     by_sign (inr minus) other tens al ah bl bh cl dl dh = by_amount (3600 * (10 * (a - 48) + (b - 48)) + 60 * (10 * (c - 48) + (d - 48))) refl
       where
         by_amount : (n : ℕ) → 3600 * (10 * (a - 48) + (b - 48)) + 60 * (10 * (c - 48) + (d - 48)) ≡ n → OffsetTold (s ∷ a ∷ b ∷ c ∷ d ∷ [])
@@ -100,11 +94,11 @@ offset_told (s ∷ a ∷ b ∷ c ∷ d ∷ []) h =
             let q : b ≡ 48 = omega arith in
             let t : c ≡ 48 = omega arith in
             let u : d ≡ 48 = omega arith in
-            let word : s ∷ a ∷ b ∷ c ∷ d ∷ [] ≡ codes "-0000" = (λ i. same s 45 minus i ∷ p i ∷ q i ∷ t i ∷ u i ∷ []) in
+            let word : s ∷ a ∷ b ∷ c ∷ d ∷ [] ≡ codes "-0000" = (λ i. eqb-true s 45 minus i ∷ p i ∷ q i ∷ t i ∷ u i ∷ []) in
             absurd (not_true (bytes_eq (s ∷ a ∷ b ∷ c ∷ d ∷ []) (codes "-0000")) other (ap (λ w. bytes_eq w (codes "-0000")) word ∙ text_itself (codes "-0000")))
         by_amount (suc n) some =
             behind (s ∷ a ∷ b ∷ c ∷ d ∷ []) (10 * (a - 48) + (b - 48)) (10 * (c - 48) + (d - 48)) n (omega arith) (omega arith) some
-            (ap (λ x. x ∷ a ∷ b ∷ c ∷ d ∷ []) (same s 45 minus) ∙ four_spelled 45 a b c d _ _ (two_spelled a b al ah bl bh) (two_spelled c d cl (omega arith) dl dh))
+            (ap (λ x. x ∷ a ∷ b ∷ c ∷ d ∷ []) (eqb-true s 45 minus) ∙ four_spelled 45 a b c d _ _ (two_spelled a b al ah bl bh) (two_spelled c d cl (omega arith) dl dh))
 offset_told (s ∷ a ∷ b ∷ c ∷ d ∷ e ∷ more) h = cc
 
 -- ---- what is written has the written form
@@ -124,10 +118,6 @@ digits_formed h m hl ml = all_four _ _ _ _ (low_digit (h / 10) (omega arith)) (l
 four_true : (a b c d : Bool) → a ≡ true → b ≡ true → c ≡ true → d ≡ true → (a && b && c && d) ≡ true
 four_true a b c d p q r t = λ i. p i && q i && r i && t i
 
-pub false_where : (b : Bool) → (b ≡ true → ⊥) → b ≡ false
-false_where true h = absurd (h refl)
-false_where false h = refl
-
 not_zero : (n : ℕ) → (suc n % 60 ≡ 0) × (suc n < 360_000) → 45 ∷ two_digits (suc n / 3600) ++ two_digits (suc n / 60 % 60) ≡ codes "-0000" → ⊥
 not_zero n whole e =
     let a : 48 + suc n / 3600 / 10 ≡ 48 = cc in
@@ -140,7 +130,7 @@ pub written_formed : (z : ℤ) → IsSpellableOffset z → is_offset (offset_tex
 written_formed (pos n) whole = four_true _ _ _ _ refl (digits_formed (n / 3600) (n / 60 % 60) (omega (arith, whole.1)) (omega arith)) (tens_low (n / 60 % 60 / 10) (omega arith)) refl
 written_formed (negsuc n) whole =
     four_true _ _ _ _ refl (digits_formed (suc n / 3600) (suc n / 60 % 60) (omega (arith, whole.1)) (omega arith)) (tens_low (suc n / 60 % 60 / 10) (omega arith))
-    (ap not (false_where (bytes_eq (45 ∷ two_digits (suc n / 3600) ++ two_digits (suc n / 60 % 60)) (codes "-0000")) (λ e. not_zero n whole (one_text _ _ e))))
+    (ap not (false_from_ne_true (bytes_eq (45 ∷ two_digits (suc n / 3600) ++ two_digits (suc n / 60 % 60)) (codes "-0000")) (λ e. not_zero n whole (one_text _ _ e))))
 
 -- what is spelled has it where its minutes are below 60 and it isn't `-0000`
 pub spelled_formed : (s a b c d : ℕ) (z : ℤ) → SpellsOffset (s ∷ a ∷ b ∷ c ∷ d ∷ []) z → nat_lt c 54 ≡ true → bytes_eq (s ∷ a ∷ b ∷ c ∷ d ∷ []) (codes "-0000") ≡ false → is_offset (s ∷ a ∷ b ∷ c ∷ d ∷ []) ≡ true
@@ -168,7 +158,7 @@ offset_of word time z five spells is tens other =
     let whole_word = five_reads word five in
     let here = behind_zero _ time spells in
     let low : nat_lt (get_or word 3 0) 54 ≡ true = low_test (get_or word 3 0) tens in
-    let differs = false_where (bytes_eq (get_or word 0 0 ∷ get_or word 1 0 ∷ get_or word 2 0 ∷ get_or word 3 0 ∷ get_or word 4 0 ∷ []) (codes "-0000")) (λ e. other (whole_word ∙ one_text _ _ e)) in
+    let differs = false_from_ne_true (bytes_eq (get_or word 0 0 ∷ get_or word 1 0 ∷ get_or word 2 0 ∷ get_or word 3 0 ∷ get_or word 4 0 ∷ []) (codes "-0000")) (λ e. other (whole_word ∙ one_text _ _ e)) in
     let formed : is_offset word ≡ true = ap is_offset whole_word ∙ spelled_formed _ _ _ _ _ time.offset here low differs in
     let told = offset_told word formed in
     let one : told.offset ≡ z = offset_once word told.offset time.offset told.spells (subst (λ w. SpellsOffset w time.offset) (sym whole_word) here) ∙ sym is in

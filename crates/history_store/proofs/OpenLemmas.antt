@@ -20,6 +20,9 @@ use Rattle.history_store.specs.declared.opening.OpenError.{OpenError}
 use Rattle.history_store.specs.declared.parts.Part.{Part}
 use Rattle.history_store.specs.declared.parts.Part.TheVariants.{Objects, Names}
 use Rattle.std.specs.declared.alloc.Global.{Global}
+use Rattle.std.proofs.lemmas.Bool.{and_parts, eqb-true}
+use Rattle.history_model.proofs.WholePaths.{begins_parts}
+use Rattle.history_store.proofs.News.{clear_none}
 
 -- ---- HEAD
 
@@ -54,25 +57,11 @@ branch_read (Some text) branch h = ap Some h
 same_head : (a b : Bytes) → head_text a ≡ head_text b → a ≡ b
 same_head a b e = append_cancel_left (codes "ref: ") a b (append_cancel_right (codes "ref: " ++ a) (codes "ref: " ++ b) (10 ∷ []) e)
 
-either_test : (a b : Bool) → (a && b) ≡ true → (a ≡ true) × (b ≡ true)
-either_test true b e = (refl, e)
-either_test false b e = cc
-
-same_byte : (b c : ℕ) → (b == c) ≡ true → b ≡ c
-same_byte b c e = grind (arith, nat_tests)
-
-begins_parts : (front text : Bytes) → begins front text ≡ true → text ≡ front ++ drop (length front) text
-begins_parts [] text e = refl
-begins_parts (b ∷ front) [] e = cc
-begins_parts (b ∷ front) (c ∷ text) e =
-    let tests = either_test (b == c) (begins front text) e in
-    ap (λ x. x ∷ text) (sym (same_byte b c tests.0)) ∙ ap (λ xs. b ∷ xs) (begins_parts front text tests.1)
-
 -- HEAD names a branch that isn't a new repository's
 pub other_branch : (names : Tree) (branch : Bytes) → (nat_lt (length heads_front) (length branch) && begins heads_front branch) ≡ true → branch ≢ first_branch → HeadIs names branch
     → (rest : Bytes) × (rest ≢ []) × (rest ≢ codes "main") × HeadIs names (heads_front ++ rest)
 other_branch names branch e other head =
-    let tests = either_test (nat_lt (length heads_front) (length branch)) (begins heads_front branch) e in
+    let tests = and_parts (nat_lt (length heads_front) (length branch)) (begins heads_front branch) e in
     let long : length heads_front < length branch = grind (arith, nat_tests, tests.0) in
     let whole = begins_parts heads_front branch tests.1 in (
       drop (length heads_front) branch,
@@ -105,20 +94,16 @@ clear_folder part permitted path None h is = cc
 clear_folder part permitted path (Some (file bytes)) h is = cc
 clear_folder part permitted path (Some folder) h is = h
 
-no_file : (part : Part) (permitted : Bytes) (tree : Tree) → IsClear part permitted tree → (path : Bytes) → path ≢ permitted → file_at tree path ≡ None
-no_file part permitted tree h [] other = refl
-no_file part permitted tree h (b ∷ path) other = clear_file part permitted (b ∷ path) (get tree (b ∷ path)) (h (b ∷ path)) other
-
 no_object : (objects : Tree) → IsClear Objects [] objects → (path : Bytes) → file_at objects path ≡ None
 no_object objects h [] = refl
-no_object objects h (b ∷ path) = no_file Objects [] objects h (b ∷ path) (λ e. cc)
+no_object objects h (b ∷ path) = clear_none Objects [] objects h (b ∷ path) (λ e. cc)
 
 pub new_parts : (objects names : Tree) → IsClear Objects [] objects → IsClear Names head_place names → HeadIs names first_branch → IsNew objects names
 new_parts objects names h k head = record {
   no_object = no_object objects h;
   object_folders = λ path is. clear_folder Objects [] path (get objects path) (h path) is;
   head = head;
-  no_other = no_file Names head_place names k;
+  no_other = clear_none Names head_place names k;
   name_folders = λ path is. clear_folder Names head_place path (get names path) (k path) is;
 }
 

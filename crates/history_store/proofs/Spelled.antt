@@ -3,18 +3,13 @@ use Rattle.std.proofs.Common.{◌≡◌, ◌∙◌, ap, refl, sym, ℕ, Bool, tr
 use Rattle.std.specs.Prelude.{◌==◌, IsTrue, IsFalse}
 use Rattle.std.proofs.lemmas.Bool.Decides.{Decides-eqb}
 use Rattle.history_model.specs.Bytes.{Bytes, has_byte}
-
-pub and_of : (a b : Bool) → IsTrue (a && b) → IsTrue a × IsTrue b
-and_of true b h = (refl, h)
-and_of false b h = absurd (cc h)
+use Rattle.gix_ref_file.proofs.Rooted.{both}
+use Rattle.gix_ref_file.proofs.Trees.{from_not}
+use Rattle.history_model.proofs.PartLemmas.{one_is_in}
 
 pub and_from : (a b : Bool) → IsTrue a → IsTrue b → IsTrue (a && b)
 and_from true b p q = q
 and_from false b p q = p
-
-pub not_of : (b : Bool) → IsTrue (not b) → IsFalse b
-not_of true h = cc
-not_of false h = refl
 
 pub not_from : (b : Bool) → IsFalse b → IsTrue (not b)
 not_from true h = cc
@@ -22,14 +17,6 @@ not_from false h = refl
 
 at_itself : (byte : ℕ) → (byte == byte) ≡ true
 at_itself byte = (Decides-eqb byte byte).1 refl
-
-pub has_it : (byte : ℕ) (front back : Bytes) → has_byte byte (front ++ byte ∷ back) ≡ true
-has_it byte [] back = ap (λ b. b || has_byte byte back) (at_itself byte)
-has_it byte (x ∷ front) back = or_true (x == byte) _ (has_it byte front back)
-  where
-    or_true : (a b : Bool) → b ≡ true → (a || b) ≡ true
-    or_true true b h = refl
-    or_true false b h = h
 
 later : (a b : Bool) → IsFalse (a || b) → IsFalse b
 later true b h = cc

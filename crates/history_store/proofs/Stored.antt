@@ -8,7 +8,7 @@ use Rattle.gix_ref_file.specs.Tree.{Tree, Node, file, folder, same_path, node_at
 use Rattle.gix_ref_file.specs.Changes.{Change, to_write, to_append, to_rename, to_make_folder, allows, after, may_hold_file, is_file_at, MayLeave}
 use Rattle.gix_ref_file.specs.History.{History, Adds}
 use Rattle.gix_ref_file.proofs.Histories.{adds_weaker, adds_joined}
-use Rattle.gix_ref_file.proofs.Rooted.{adds_now}
+use Rattle.gix_ref_file.proofs.Rooted.{adds_now, first}
 use Rattle.gix_ref_file.proofs.Trees.{get-inserted, get-removed, get_inserted, one_path}
 use Rattle.history_model.specs.Bytes.{Bytes}
 use Rattle.gix_hash_id.specs.Id.{id_of}
@@ -48,10 +48,6 @@ pub apart_from_removed : (t : Tree) (k q : Bytes) → q ≢ k → file_at (remov
 apart_from_removed t k [] apart = refl
 apart_from_removed t k (b ∷ q) apart = ap bytes_of (get-removed t k (b ∷ q) ∙ ap (λ same. cond same None (get t (b ∷ q))) (other_path (b ∷ q) k apart))
 
-from_and : (a b : Bool) → IsTrue (a && b) → IsTrue a
-from_and true b h = refl
-from_and false b h = absurd (cc h)
-
 no_node : (o : Option Node) → IsTrue (is_none o) → bytes_of o ≡ None
 no_node None h = refl
 no_node (Some n) h = absurd (cc h)
@@ -67,7 +63,7 @@ folder_inserted t k (b ∷ q) absent = ap bytes_of (get-inserted t k folder (b �
 
 pub while_made : (folder' : Bytes) (t x : Tree) → MayLeave (to_make_folder folder') t x → SameFiles t x
 while_made k t x (inl same) = λ q. ap (λ y. file_at y q) same
-while_made k t x (inr (n, may, is)) = λ q. ap (λ y. file_at y q) is ∙ folder_inserted t k q (from_and _ _ may)
+while_made k t x (inr (n, may, is)) = λ q. ap (λ y. file_at y q) is ∙ folder_inserted t k q (first _ _ may)
 
 pub while_written : (bytes : Bytes) (t x : Tree) → MayLeave (to_write unfinished_place bytes) t x → KeepsFiles t x
 while_written bytes t x (inl same) = λ q apart. ap (λ y. file_at y q) same

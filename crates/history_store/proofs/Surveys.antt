@@ -17,6 +17,7 @@ use Rattle.gix_ref_file.proofs.Listings.{in_folder, root_is_no_path, node_is, na
 use Rattle.history_model.specs.Bytes.{Bytes}
 use Rattle.history_store.specs.Parts.{may_hold_folder, IsClearAt, IsClear, IsStray, above, IsClearBelow}
 use Rattle.history_store.specs.declared.parts.Part.{Part}
+use Rattle.gix_ref_file.proofs.Moved.{some_of_folder}
 
 -- a folder's path is shorter than those in it
 pub deeper : (place name : Bytes) → IsTrue (is_path (under place name)) → length place < length (under place name)
@@ -25,13 +26,10 @@ deeper [] (b ∷ name) is = omega arith
 deeper (b ∷ place) name is = omega (arith, length-append (b ∷ place) (47 ∷ name))
 
 -- ---- what stands above
-stands : (o : Option Node) → IsTrue (is_folder o) → IsSome o
-stands None h = absurd (cc h)
-stands (Some n) h = refl
 
 parent_of_folder : (tree : Tree) (path : Bytes) → IsRooted tree → IsTrue (is_folder (node_at tree path)) → IsTrue (is_folder (node_at tree (parent path)))
 parent_of_folder tree [] rooted is = refl
-parent_of_folder tree (b ∷ path) rooted is = (rooted (b ∷ path) (stands (get tree (b ∷ path)) is)).1
+parent_of_folder tree (b ∷ path) rooted is = (rooted (b ∷ path) (some_of_folder (get tree (b ∷ path)) is)).1
 
 folder_above : (tree : Tree) (n : ℕ) (path : Bytes) → IsRooted tree → IsSome (get tree path) → IsTrue (is_folder (node_at tree (above (suc n) path)))
 folder_above tree zero path rooted there = (rooted path there).1
@@ -77,13 +75,13 @@ module _ (part : Part) (permitted : Bytes) (tree : Tree) (rooted : IsRooted tree
     where
       by_case : (q : Bytes) → above (suc n) path ≡ q → (above (suc n) path ≡ place → IsSome (get tree path) → IsClearAt part permitted path (get tree path)) → IsClearAt part permitted path (get tree path)
       by_case [] is rest = rest (is ∙ sym (ap parent is) ∙ under) there
-      by_case (b ∷ q) is rest = (child (b ∷ q) (stands (get tree (b ∷ q)) (subst (λ p. IsTrue (is_folder (node_at tree p))) is (folder_above tree n path rooted there))) (ap parent (sym is) ∙ under)).1 n path is
+      by_case (b ∷ q) is rest = (child (b ∷ q) (some_of_folder (get tree (b ∷ q)) (subst (λ p. IsTrue (is_folder (node_at tree p))) is (folder_above tree n path rooted there))) (ap parent (sym is) ∙ under)).1 n path is
 
   -- all that the folder lists is clear
   pub all_clear : (place : Bytes) (names : List Bytes) → names ≡ names_at tree place → ((i : ℕ) → i < length names → IsClearFrom part permitted tree (under place (get_or names i []))) → IsClearBelow part permitted place tree
   all_clear place names is all n path under = if_stands part permitted path (get tree path) (below place (child place names is all) n path under)
 
-  -- nothing stands below a file
+  -- nothing some_of_folder below a file
   pub clear_file : (path : Bytes) (size : ℕ) → IsTrue (is_path path) → place_of (node_at tree path) ≡ places.File size → path ≡ permitted → IsClearFrom part permitted tree path
   clear_file path size is file_there same = (at_file (get tree path) (ap place_of (sym (node_is tree path is)) ∙ file_there), λ n p under. if_stands part permitted p (get tree p) (λ there. absurd (no_folder (node_at tree path) file_there (subst (λ q. IsTrue (is_folder (node_at tree q))) under (folder_above tree n p rooted there)))))
     where

@@ -15,7 +15,12 @@ use Rattle.history_model.specs.Objects.{TagValue, actor_text, hex, tag_content}
 use Rattle.history_model.proofs.NameTests.{unbarred_of}
 use Rattle.history_model.proofs.OnePairTexts.{actor_one_line, hex_high}
 use Rattle.history_store.specs.Written.{AreLines, AreTagParts, TagParts, tag_lines}
-use Rattle.history_store.proofs.Spelled.{and_from, and_of, cut_same, has_it, not_from, not_of}
+use Rattle.history_store.proofs.Spelled.{and_from, cut_same, not_from}
+use Rattle.history_model.proofs.OnePairLines.{six_parts}
+use Rattle.std.proofs.lemmas.Bool.{or_parts}
+use Rattle.gix_ref_file.proofs.Rooted.{both}
+use Rattle.gix_ref_file.proofs.Trees.{from_not}
+use Rattle.history_model.proofs.PartLemmas.{one_is_in}
 
 -- ---- lines
 
@@ -70,7 +75,7 @@ none_so P Q r is holds = subst (λ o. MatchOption o P Q) (sym is) holds
 pub line_told : (text word rest : Bytes) (found : Option (Bor (List ℕ) × Bor (List ℕ))) → text ≡ word ++ rest
     → MatchOption found (Lacks 10 rest) (λ cut. (rest ≡ cut.0.now ++ 10 ∷ cut.1.now) × Lacks 10 cut.0.now)
     → MatchOption found ((line after : Bytes) → Lacks 10 line → text ≢ word ++ (line ++ 10 ∷ after)) (λ cut. Lacks 10 cut.0.now × (text ≡ word ++ (cut.0.now ++ 10 ∷ cut.1.now)))
-line_told text word rest None is lacks = λ line after in_line other. cc (sym lacks ∙ ap (has_byte 10) (append_cancel_left word _ _ (sym is ∙ other)) ∙ has_it 10 line after)
+line_told text word rest None is lacks = λ line after in_line other. cc (sym lacks ∙ ap (has_byte 10) (append_cancel_left word _ _ (sym is ∙ other)) ∙ one_is_in 10 line after)
 line_told text word rest (Some cut) is told = (told.1, is ∙ ap (λ r. word ++ r) told.0)
 
 -- ---- names
@@ -90,9 +95,6 @@ bad_third false c h = refl
 abbrev pub value_parts : TagValue → TagParts
 value_parts tag = record { target = hex tag.target; name = tag.name; tagger = actor_text tag.tagger; message = tag.message }
 
-six_parts : (a b c d e m : Bytes) → a ++ b ++ c ++ d ++ e ++ m ≡ a ++ (b ++ (c ++ (d ++ (e ++ m))))
-six_parts a b c d e m = simp append_assoc
-
 line_cut : (word text rest : Bytes) → line (word ++ text) ++ rest ≡ word ++ (text ++ 10 ∷ rest)
 line_cut word text rest = append_assoc (word ++ text) (10 ∷ []) rest ∙ append_assoc word text (10 ∷ rest)
 
@@ -111,14 +113,6 @@ pub record TagForm (kind : Kind) (tag : TagValue) : Type 0 where
   pub some : IsFalse (is_empty tag.message)
   pub titled : length (title tag.message) ≤ max_title
 
-or_first : (a b : Bool) → (a || b) ≡ false → a ≡ false
-or_first true b h = cc
-or_first false b h = refl
-
-or_later : (a b : Bool) → (a || b) ≡ false → b ≡ false
-or_later true b h = cc
-or_later false b h = h
-
 small : (n : ℕ) → nat_le n max_title ≡ true → n ≤ max_title
 small n h = grind (arith, tests)
 
@@ -128,11 +122,11 @@ large n h = grind (arith, tests)
 pub tag_form : (kind : Kind) (tag : TagValue) → IsTrue (is_tag_form kind tag) → TagForm kind tag
 tag_form kind tag h =
     let some = not (is_empty tag.message) in
-    let a = and_of (is_id kind tag.target && is_tag_name tag.name && is_actor tag.tagger && some) (nat_le (length (title tag.message)) max_title) h in
-    let b = and_of (is_id kind tag.target && is_tag_name tag.name && is_actor tag.tagger) some a.0 in
-    let c = and_of (is_id kind tag.target && is_tag_name tag.name) (is_actor tag.tagger) b.0 in
-    let d = and_of (is_id kind tag.target) (is_tag_name tag.name) c.0 in
-    record { target = d.0; name = d.1; tagger = c.1; some = not_of _ b.1; titled = small _ a.1 }
+    let a = both (is_id kind tag.target && is_tag_name tag.name && is_actor tag.tagger && some) (nat_le (length (title tag.message)) max_title) h in
+    let b = both (is_id kind tag.target && is_tag_name tag.name && is_actor tag.tagger) some a.0 in
+    let c = both (is_id kind tag.target && is_tag_name tag.name) (is_actor tag.tagger) b.0 in
+    let d = both (is_id kind tag.target) (is_tag_name tag.name) c.0 in
+    record { target = d.0; name = d.1; tagger = c.1; some = from_not _ b.1; titled = small _ a.1 }
 
 pub form_of : (kind : Kind) (tag : TagValue) → TagForm kind tag → IsTrue (is_tag_form kind tag)
 form_of kind tag form =
@@ -140,20 +134,20 @@ form_of kind tag form =
 
 barred_none : (name : Bytes) → list_any is_barred name ≡ false → Lacks 10 name
 barred_none [] none = refl
-barred_none (b ∷ name) none = by_test (b == 10) refl (barred_none name (or_later (is_barred b) _ none))
+barred_none (b ∷ name) none = by_test (b == 10) refl (barred_none name (or_parts (is_barred b) _ none).1)
   where
     by_test : (t : Bool) → (b == 10) ≡ t → Lacks 10 name → (t || list_any (λ other. other == 10) name) ≡ false
     by_test false other later = later
-    by_test true same later = absurd (cc (sym (or_first (is_barred b) _ none) ∙ ap is_barred ((Decides-eqb b 10).0 same)))
+    by_test true same later = absurd (cc (sym (or_parts (is_barred b) _ none).0 ∙ ap is_barred ((Decides-eqb b 10).0 same)))
 
 name_in_line : (name : Bytes) → IsTrue (is_tag_name name) → Lacks 10 name
 name_in_line name is =
     let full = codes "refs/tags/" ++ name in
-    let a = and_of (is_name full && not (bytes_eq name (codes "@"))) (not (begins (codes "-") name)) is in
-    let b = and_of (is_name full) (not (bytes_eq name (codes "@"))) a.0 in
-    let c = and_of (is_partial_name full && begins (codes "refs/") full && is_utf8 full) (nat_le (length full) max_name) b.0 in
-    let d = and_of (is_partial_name full && begins (codes "refs/") full) (is_utf8 full) c.0 in
-    let e = and_of (is_partial_name full) (begins (codes "refs/") full) d.0 in
+    let a = both (is_name full && not (bytes_eq name (codes "@"))) (not (begins (codes "-") name)) is in
+    let b = both (is_name full) (not (bytes_eq name (codes "@"))) a.0 in
+    let c = both (is_partial_name full && begins (codes "refs/") full && is_utf8 full) (nat_le (length full) max_name) b.0 in
+    let d = both (is_partial_name full && begins (codes "refs/") full) (is_utf8 full) c.0 in
+    let e = both (is_partial_name full) (begins (codes "refs/") full) d.0 in
     barred_none full (unbarred_of full e.0)
 
 pub value_lines : (kind : Kind) (tag : TagValue) → TagForm kind tag → AreLines (value_parts tag)

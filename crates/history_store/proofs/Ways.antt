@@ -16,9 +16,9 @@ use Rattle.history_steps.specs.TreeHalves.{HoldsNames}
 use Rattle.history_store.specs.Stores.{IsAbove}
 use Rattle.history_store.specs.References.{HasWay, Logs}
 use Rattle.history_store.specs.declared.log_entry.LogEntry.{LogEntry}
-use Rattle.history_model.proofs.PartLemmas.{both_true}
-use Rattle.history_model.proofs.NameLemmas.{and_first}
-use Rattle.history_store.proofs.NameFolders.{partial_of, refs_of}
+use Rattle.history_store.proofs.NameFolders.{refs_of}
+use Rattle.std.proofs.lemmas.Bool.{not-true, and_parts}
+use Rattle.history_model.proofs.NameLemmas.{partial_of}
 
 -- ---- a name is a path, and so is its log's place
 split_free : (p : ℕ → Bool) (text : Bytes) → list_any p text ≡ false → list_all (λ part. not (list_any p part)) (slice_split is_slash text) ≡ true
@@ -54,22 +54,18 @@ not_dots part dots plain dotted = by_test (bytes_eq part dots) refl
     by_test false apart = refl
     by_test true same = let wrong : true ≡ false = sym dotted ∙ ap (begins (codes ".")) (sym ((bytes_eq-Decides part dots).0 same)) ∙ plain in absurd (cc wrong)
 
-not_false : (b : Bool) → not b ≡ true → b ≡ false
-not_false true h = cc
-not_false false h = refl
-
 one_part : (part : Bytes) → is_name_component part ≡ true → not (list_any (λ b. b == 0) part) ≡ true → is_component part ≡ true
 one_part [] is free = cc
 one_part (b ∷ part) is free =
-    let plain = not_false (begins (codes ".") (b ∷ part)) (both_true true (not (begins (codes ".") (b ∷ part))) (and_first _ _ is)).1 in
+    let plain = not-true (begins (codes ".") (b ∷ part)) (and_parts true (not (begins (codes ".") (b ∷ part))) (and_parts _ _ is).0).1 in
     let some : nat_lt 0 (length (b ∷ part)) ≡ true = grind (arith, nat_tests) in
     λ i. some i && not_dots (b ∷ part) (codes ".") plain refl i && not_dots (b ∷ part) (codes "..") plain refl i && free i
 
 all_parts : (parts : List Bytes) → list_all is_name_component parts ≡ true → list_all (λ part. not (list_any (λ b. b == 0) part)) parts ≡ true → list_all is_component parts ≡ true
 all_parts [] are free = refl
 all_parts (part ∷ parts) are free =
-    let here = both_true (is_name_component part) (list_all is_name_component parts) are in
-    let clean = both_true (not (list_any (λ b. b == 0) part)) (list_all (λ part. not (list_any (λ b. b == 0) part)) parts) free in
+    let here = and_parts (is_name_component part) (list_all is_name_component parts) are in
+    let clean = and_parts (not (list_any (λ b. b == 0) part)) (list_all (λ part. not (list_any (λ b. b == 0) part)) parts) free in
     λ i. one_part part here.0 clean.0 i && all_parts parts here.1 clean.1 i
 
 pub name_parts : (name : Bytes) → is_name name ≡ true → list_all is_component (slice_split is_slash name) ≡ true
@@ -82,7 +78,7 @@ within : (n m : ℕ) → nat_le n 1024 ≡ true → m ≤ n + 5 → nat_le m 409
 within n m short few = grind (arith, nat_tests)
 
 name_short : (name : Bytes) → is_name name ≡ true → nat_le (length name) 1024 ≡ true
-name_short name h = (both_true _ (nat_le (length name) max_name) h).1
+name_short name h = (and_parts _ (nat_le (length name) max_name) h).1
 
 pub name_path : (name : Bytes) → is_name name ≡ true → IsTrue (is_path name)
 name_path name h = λ i. within (length name) (length name) (name_short name h) (omega arith) i && name_parts name h i

@@ -13,6 +13,7 @@ use Rattle.history_word.specs.declared.place.Place.{Place}
 use Rattle.history_word.specs.declared.place.Place.TheVariants as place
 use Rattle.history_word.specs.declared.draft.Draft.{Draft}
 use Rattle.history_word.specs.declared.draft.Draft.TheVariants as draft
+use Rattle.std.proofs.lemmas.Bool.{and_from}
 
 pub live : (p : Place) → p ≢ place.Done → place_of p ≢ table.Done
 live place.Done h e = h refl
@@ -24,16 +25,12 @@ is_enough (draft.Files w) (model.Files word) h = (refl, refl)
 is_enough (draft.Show s) (model.Show word path) h = (refl, refl)
 is_enough d order h = absurd h
 
-both : (a b : Bool) → a ≡ true → b ≡ true → (a && b) ≡ true
-both true b e f = f
-both false b e f = cc
-
 -- at the end, the parts are those of the command that the draft has
 pub spells : (parts : List Part) (p : table.Place) (d : Draft) (order : model.Command) → reached parts ≡ Some (at [] p) → parts ≡ parts_of order → IsDraft d order → Spells (parts_text parts) order
 spells parts p d order e is h =
     let fit = parts_fit opens parts [] table.Start (at [] p) refl e in
     let enough = is_enough d order h in (
-      both (list_all is_part (parts_of order) && has_enough order) (is_spoken order)
-          (both (list_all is_part (parts_of order)) (has_enough order) (subst (λ ps. list_all is_part ps ≡ true) is fit.0) enough.0) enough.1,
+      and_from (list_all is_part (parts_of order) && has_enough order) (is_spoken order)
+          (and_from (list_all is_part (parts_of order)) (has_enough order) (subst (λ ps. list_all is_part ps ≡ true) is fit.0) enough.0) enough.1,
       ap parts_text is,
     )

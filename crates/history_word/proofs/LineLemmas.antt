@@ -19,6 +19,7 @@ use Rattle.history_word.specs.Held.{IsUnbroken}
 use Rattle.history_word.specs.Lines.{split_words, words_left, are_nonempty, IsCut}
 use Rattle.history_word.specs.declared.place.Place.{Place}
 use Rattle.history_word.specs.Drafts.{place_of, Says, IsLine}
+use Rattle.std.proofs.lemmas.Bool.{or_parts, and_parts}
 
 -- a line that is cut at its first space has the word before it, and then the others
 pub cut_words : (line word : Bytes) (rest : Option Bytes) → IsCut line word rest → split_words line ≡ word ∷ words_left rest
@@ -69,17 +70,9 @@ no_space : (line : Bytes) → list_all (without 32) (split_words line) ≡ true
 no_space [] = refl
 no_space (b ∷ line) = split_next 32 b line (b == 32) refl (λ e. e) (no_space line)
 
-left_false : (a b : Bool) → (a || b) ≡ false → (a ≡ false) × (b ≡ false)
-left_false true b e = cc
-left_false false b e = (refl, e)
-
 no_line_feed : (line : Bytes) → IsUnbroken line → list_all (without 10) (split_words line) ≡ true
 no_line_feed [] h = refl
-no_line_feed (b ∷ line) h = let parts = left_false (b == 10) (has_byte 10 line) h in split_next 10 b line (b == 32) refl (λ e. parts.0) (no_line_feed line parts.1)
-
-and_parts : (a b : Bool) → (a && b) ≡ true → (a ≡ true) × (b ≡ true)
-and_parts true b e = (refl, e)
-and_parts false b e = cc
+no_line_feed (b ∷ line) h = let parts = or_parts (b == 10) (has_byte 10 line) h in split_next 10 b line (b == 32) refl (λ e. parts.0) (no_line_feed line parts.1)
 
 all_three : (ws : List Bytes) → are_nonempty ws ≡ true → list_all (without 32) ws ≡ true → list_all (without 10) ws ≡ true → list_all is_word ws ≡ true
 all_three [] e f g = refl

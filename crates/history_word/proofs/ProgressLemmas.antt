@@ -15,6 +15,7 @@ use Rattle.history_model.specs.declared.Cause.TheVariants.{Syntax, Truncated, Li
 use Rattle.history_word.proofs.TableLaws.{line_goes, field_goes, run_append, heading_reads, heading_words, some_words, line_words, table_tells_stops}
 use Rattle.history_word.specs.Held.{IsLineOf}
 use Rattle.history_word.specs.Progress.{IsEndless, IsNoField, StopsFrom, IsCauseOf}
+use Rattle.std.proofs.lemmas.Option.{same_Some}
 
 -- ---- what was taken leads on
 
@@ -70,14 +71,11 @@ strange_stops place n xs live h strange =
 
 -- ---- no line says two things
 
-some_same : {A : Type 0} (x y : A) → Some x ≡ Some y → x ≡ y
-some_same x y e = cc
-
 pub one_heading : (a b : Heading) (text : Bytes) → text ≡ join_with_byte 32 (words_of a) → is_part (Line (words_of a)) ≡ true → are_sizes (sizes a) ≡ true
     → text ≡ join_with_byte 32 (words_of b) → is_part (Line (words_of b)) ≡ true → are_sizes (sizes b) ≡ true → a ≡ b
 one_heading a b text e known sized f known_too sized_too =
     let words : words_of a ≡ words_of b = sym (heading_words (words_of a) (some_words a) known) ∙ ap line_words (sym e ∙ f) ∙ heading_words (words_of b) (some_words b) known_too in
-    some_same a b (sym (heading_reads a sized) ∙ ap heading_of words ∙ heading_reads b sized_too)
+    same_Some a b (sym (heading_reads a sized) ∙ ap heading_of words ∙ heading_reads b sized_too)
 
 -- ---- the cause of what came
 

@@ -12,13 +12,11 @@ use Rattle.history_model.specs.declared.FileKind.{FileKind}
 use Rattle.history_model.specs.declared.FileKind.TheVariants.{File, Exec, Link}
 use Rattle.history_model.specs.Lines.{Role, Author, Committer, Tagger, Mover, Heading, CommitHeading, ParentHeading, PutHeading, RemoveHeading, RemoveFileHeading, ActorHeading, MessageHeading, EndHeading, TagHeading, MoveHeading, ToHeading, RenameHeading, DeleteHeading, SwitchHeading, PackHeading, IndexHeading, NamesHeading, FilesHeading, PastHeading, LogHeading, ShowHeading, role_word, size_words, words_of, sizes, are_sizes}
 use Rattle.history_word.specs.LineTable.{number_of, kind_of, expect_of, end_of_words, word_of_words, size_of_words, commit_of_words, put_of_words, actor_of_words, show_of_words, target_of_words, rename_of_words, delete_of_words, names_of_words, since_of, order_of, first_parents_of, item_of, Items, path_of, with_item, items_of, walk_of_words, log_of_words, name_heading_of, heading_of, WordsAreHeadings}
-use Rattle.history_model.proofs.PartLemmas.{both_true, below}
+use Rattle.history_model.proofs.PartLemmas.{below}
+use Rattle.std.proofs.lemmas.Bool.{and_from, eqb-true, and_parts}
+use Rattle.history_model.proofs.PlaceLemmas.{one_text}
 
 -- ---- options
-
-pub and_true : (a b : Bool) → a ≡ true → b ≡ true → (a && b) ≡ true
-and_true true b e f = f
-and_true false b e f = cc
 
 pub if_some : {A : Type 0} (b : Bool) (x : Option A) (y : A) → (if b then x else None) ≡ Some y → (b ≡ true) × (x ≡ Some y)
 if_some true x y e = (refl, e)
@@ -42,14 +40,14 @@ own = numerals_by_fold _ (search rules) (λ n ds. fold (λ n d. n * 10 + (d - 48
 
 without_zero : (w : Bytes) → list_all is_ascii_digit w ≡ true → 0 < length w → (get_or w 0 0 ≡ 48 → length w ≡ 1) → is_decimal w ≡ true
 without_zero [] h l z = absurd (omega arith)
-without_zero (d ∷ []) h l z = (both_true (is_ascii_digit d) true h).0
-without_zero (d ∷ e ∷ ds) h l z = and_true (not (d == 48)) (list_all is_ascii_digit (d ∷ e ∷ ds)) (grind (arith, tests)) h
+without_zero (d ∷ []) h l z = (and_parts (is_ascii_digit d) true h).0
+without_zero (d ∷ e ∷ ds) h l z = and_from (not (d == 48)) (list_all is_ascii_digit (d ∷ e ∷ ds)) (grind (arith, tests)) h
 
 is_decimal_digits : (w : Bytes) → is_decimal w ≡ true → (list_all is_ascii_digit w ≡ true) × (0 < length w) × (get_or w 0 0 ≡ 48 → length w ≡ 1)
 is_decimal_digits [] h = cc
-is_decimal_digits (d ∷ []) h = (and_true (is_ascii_digit d) true h refl, omega arith, λ e. refl)
+is_decimal_digits (d ∷ []) h = (and_from (is_ascii_digit d) true h refl, omega arith, λ e. refl)
 is_decimal_digits (d ∷ e ∷ ds) h =
-    let parts = both_true (not (d == 48)) (list_all is_ascii_digit (d ∷ e ∷ ds)) h in
+    let parts = and_parts (not (d == 48)) (list_all is_ascii_digit (d ∷ e ∷ ds)) h in
     (parts.1, omega arith, λ z. grind (arith, tests))
 
 pub if_taken : {A : Type 0} (b : Bool) (x : Option A) → b ≡ true → (if b then x else None) ≡ x
@@ -62,7 +60,7 @@ zero_alone (suc n) small z = absurd (omega (arith, first_decimal (suc n) (omega 
 
 number_told : (w : Bytes) (n : ℕ) → is_decimal w ≡ true → digits_value w ≡ n → nat_lt n (2 ^ 64) ≡ true → number_of w ≡ Some n
 number_told w n d v h =
-    if_taken (is_decimal w && nat_lt (digits_value w) (2 ^ 64)) (Some (digits_value w)) (and_true (is_decimal w) (nat_lt (digits_value w) (2 ^ 64)) d (subst (λ m. nat_lt m (2 ^ 64) ≡ true) (sym v) h))
+    if_taken (is_decimal w && nat_lt (digits_value w) (2 ^ 64)) (Some (digits_value w)) (and_from (is_decimal w) (nat_lt (digits_value w) (2 ^ 64)) d (subst (λ m. nat_lt m (2 ^ 64) ≡ true) (sym v) h))
     ∙ ap Some v
 
 pub number_decimal : (n : ℕ) → nat_lt n (2 ^ 64) ≡ true → number_of (decimal n) ≡ Some n
@@ -72,21 +70,18 @@ number_decimal n h =
     (without_zero (decimal n) (digits_decimal own n small) (decimal_nonempty n small) (zero_alone n small))
     (digits_value-decimal own n small) h
 
-some_same : {B : Type 0} {x y : B} → Some x ≡ Some y → x ≡ y
+pub some_same : {B : Type 0} {x y : B} → Some x ≡ Some y → x ≡ y
 some_same e = cc
 
 pub decimal_number : (w : Bytes) (n : ℕ) → number_of w ≡ Some n → (w ≡ decimal n) × (nat_lt n (2 ^ 64) ≡ true)
 decimal_number w n e =
     let parts = if_some (is_decimal w && nat_lt (digits_value w) (2 ^ 64)) (Some (digits_value w)) n e in
-    let tested = both_true (is_decimal w) (nat_lt (digits_value w) (2 ^ 64)) parts.0 in
+    let tested = and_parts (is_decimal w) (nat_lt (digits_value w) (2 ^ 64)) parts.0 in
     let value = some_same parts.1 in
     let form = is_decimal_digits w tested.0 in
     (sym (decimal-digits_value own w form.0 form.1 form.2 (below (digits_value w) tested.1)) ∙ ap decimal value, subst (λ m. nat_lt m (2 ^ 64) ≡ true) value tested.1)
 
 -- ---- words
-
-word_is : (u v : Bytes) → bytes_eq u v ≡ true → u ≡ v
-word_is u v h = (bytes_eq-Decides u v).0 h
 
 either_way : {A P : Type 0} (b : Bool) (x y : Option A) (z : A) → (if b then x else y) ≡ Some z → (b ≡ true → x ≡ Some z → P) → (y ≡ Some z → P) → P
 either_way true x y z e f g = f refl e
@@ -94,16 +89,16 @@ either_way false x y z e f g = g e
 
 kind_told : (w : Bytes) (kind : FileKind) → kind_of w ≡ Some kind → w ≡ kind_word kind
 kind_told w kind e =
-    either_way (bytes_eq w (codes "file")) (Some File) _ kind e (λ b f. word_is w (codes "file") b ∙ ap kind_word (some_same f)) (λ e.
-    either_way (bytes_eq w (codes "exec")) (Some Exec) _ kind e (λ b f. word_is w (codes "exec") b ∙ ap kind_word (some_same f)) (λ e.
-    either_way (bytes_eq w (codes "link")) (Some Link) None kind e (λ b f. word_is w (codes "link") b ∙ ap kind_word (some_same f)) (λ e. cc)))
+    either_way (bytes_eq w (codes "file")) (Some File) _ kind e (λ b f. one_text w (codes "file") b ∙ ap kind_word (some_same f)) (λ e.
+    either_way (bytes_eq w (codes "exec")) (Some Exec) _ kind e (λ b f. one_text w (codes "exec") b ∙ ap kind_word (some_same f)) (λ e.
+    either_way (bytes_eq w (codes "link")) (Some Link) None kind e (λ b f. one_text w (codes "link") b ∙ ap kind_word (some_same f)) (λ e. cc)))
 
 expect_told : (words : List Bytes) (expect : Expect) → expect_of words ≡ Some expect → words ≡ expect_words expect
 expect_told (first ∷ []) expect e =
-    either_way (bytes_eq first (codes "any")) (Some Any) _ expect e (λ b f. ap (λ w. w ∷ []) (word_is first (codes "any") b) ∙ ap expect_words (some_same f)) (λ e.
-    either_way (bytes_eq first (codes "new")) (Some New) None expect e (λ b f. ap (λ w. w ∷ []) (word_is first (codes "new") b) ∙ ap expect_words (some_same f)) (λ e. cc))
+    either_way (bytes_eq first (codes "any")) (Some Any) _ expect e (λ b f. ap (λ w. w ∷ []) (one_text first (codes "any") b) ∙ ap expect_words (some_same f)) (λ e.
+    either_way (bytes_eq first (codes "new")) (Some New) None expect e (λ b f. ap (λ w. w ∷ []) (one_text first (codes "new") b) ∙ ap expect_words (some_same f)) (λ e. cc))
 expect_told (first ∷ word ∷ []) expect e =
-    either_way (bytes_eq first (codes "at")) (Some (At word)) None expect e (λ b f. ap (λ w. w ∷ word ∷ []) (word_is first (codes "at") b) ∙ ap expect_words (some_same f)) (λ e. cc)
+    either_way (bytes_eq first (codes "at")) (Some (At word)) None expect e (λ b f. ap (λ w. w ∷ word ∷ []) (one_text first (codes "at") b) ∙ ap expect_words (some_same f)) (λ e. cc)
 expect_told words expect e = cc
 
 -- ---- lines
@@ -128,7 +123,7 @@ size_told : (first : Bytes) (g : ℕ → Heading) → ((n : ℕ) → words_of (g
 size_told first g spelled one (size ∷ []) h e =
     let n = map_some g (number_of size) h e in
     let size_is = decimal_number size n.0 n.1 in
-    told_as (first ∷ size ∷ []) (g n.0) h n.2 (ap (λ w. first ∷ w ∷ []) size_is.0 ∙ sym (spelled n.0)) (ap are_sizes (one n.0) ∙ and_true (nat_lt n.0 (2 ^ 64)) true size_is.1 refl)
+    told_as (first ∷ size ∷ []) (g n.0) h n.2 (ap (λ w. first ∷ w ∷ []) size_is.0 ∙ sym (spelled n.0)) (ap are_sizes (one n.0) ∙ and_from (nat_lt n.0 (2 ^ 64)) true size_is.1 refl)
 size_told first g spelled one words h e = cc
 
 commit_told : (words : List Bytes) (h : Heading) → commit_of_words words ≡ Some h → Tells (codes "commit" ∷ words) h
@@ -147,7 +142,7 @@ put_told (kind ∷ path ∷ content ∷ []) h e =
     let content_is = decimal_number content n.0 n.1 in
     told_as (codes "put" ∷ kind ∷ path ∷ content ∷ []) (PutHeading k.0 m.0 n.0) h n.2
     (λ i. codes "put" ∷ kind_is i ∷ path_is.0 i ∷ content_is.0 i ∷ [])
-    (and_true (nat_lt m.0 (2 ^ 64)) (nat_lt n.0 (2 ^ 64) && true) path_is.1 (and_true (nat_lt n.0 (2 ^ 64)) true content_is.1 refl))
+    (and_from (nat_lt m.0 (2 ^ 64)) (nat_lt n.0 (2 ^ 64) && true) path_is.1 (and_from (nat_lt n.0 (2 ^ 64)) true content_is.1 refl))
 put_told words h e = cc
 
 actor_told : (role : Role) (words : List Bytes) (h : Heading) → actor_of_words role words ≡ Some h → Tells (role_word role ∷ words) h
@@ -158,7 +153,7 @@ actor_told role (name ∷ email ∷ seconds ∷ offset ∷ []) h e =
     let email_is = decimal_number email n.0 n.1 in
     told_as (role_word role ∷ name ∷ email ∷ seconds ∷ offset ∷ []) (ActorHeading role m.0 n.0 seconds offset) h n.2
     (λ i. role_word role ∷ name_is.0 i ∷ email_is.0 i ∷ seconds ∷ offset ∷ [])
-    (and_true (nat_lt m.0 (2 ^ 64)) (nat_lt n.0 (2 ^ 64) && true) name_is.1 (and_true (nat_lt n.0 (2 ^ 64)) true email_is.1 refl))
+    (and_from (nat_lt m.0 (2 ^ 64)) (nat_lt n.0 (2 ^ 64) && true) name_is.1 (and_from (nat_lt n.0 (2 ^ 64)) true email_is.1 refl))
 actor_told role words h e = cc
 
 show_told : (words : List Bytes) (h : Heading) → show_of_words words ≡ Some h → Tells (codes "show" ∷ words) h
@@ -168,8 +163,8 @@ show_told (word ∷ path ∷ size ∷ []) h e =
     let n = map_some (λ n. ShowHeading word (Some n)) (number_of size) h found.1 in
     let size_is = decimal_number size n.0 n.1 in
     told_as (codes "show" ∷ word ∷ path ∷ size ∷ []) (ShowHeading word (Some n.0)) h n.2
-    (λ i. codes "show" ∷ word ∷ word_is path (codes "path") found.0 i ∷ size_is.0 i ∷ [])
-    (and_true (nat_lt n.0 (2 ^ 64)) true size_is.1 refl)
+    (λ i. codes "show" ∷ word ∷ one_text path (codes "path") found.0 i ∷ size_is.0 i ∷ [])
+    (and_from (nat_lt n.0 (2 ^ 64)) true size_is.1 refl)
 show_told words h e = cc
 
 target_told : (first : Bytes) (g : Bytes → Expect → Bytes → Heading) → ((n : Bytes) (x : Expect) (w : Bytes) → words_of (g n x w) ≡ first ∷ n ∷ (expect_words x ++ w ∷ [])) → ((n : Bytes) (x : Expect) (w : Bytes) → sizes (g n x w) ≡ [])
@@ -189,10 +184,10 @@ rename_told words h e = cc
 delete_told : (words : List Bytes) (h : Heading) → delete_of_words words ≡ Some h → Tells (codes "delete" ∷ words) h
 delete_told (name ∷ any ∷ []) h e =
     let found = if_some (bytes_eq any (codes "any")) (Some (DeleteHeading name None)) h e in
-    told_as (codes "delete" ∷ name ∷ any ∷ []) (DeleteHeading name None) h (some_same found.1) (ap (λ w. codes "delete" ∷ name ∷ w ∷ []) (word_is any (codes "any") found.0)) refl
+    told_as (codes "delete" ∷ name ∷ any ∷ []) (DeleteHeading name None) h (some_same found.1) (ap (λ w. codes "delete" ∷ name ∷ w ∷ []) (one_text any (codes "any") found.0)) refl
 delete_told (name ∷ at ∷ word ∷ []) h e =
     let found = if_some (bytes_eq at (codes "at")) (Some (DeleteHeading name (Some word))) h e in
-    told_as (codes "delete" ∷ name ∷ at ∷ word ∷ []) (DeleteHeading name (Some word)) h (some_same found.1) (ap (λ w. codes "delete" ∷ name ∷ w ∷ word ∷ []) (word_is at (codes "at") found.0)) refl
+    told_as (codes "delete" ∷ name ∷ at ∷ word ∷ []) (DeleteHeading name (Some word)) h (some_same found.1) (ap (λ w. codes "delete" ∷ name ∷ w ∷ word ∷ []) (one_text at (codes "at") found.0)) refl
 delete_told words h e = cc
 
 names_told : (words : List Bytes) (h : Heading) → names_of_words words ≡ Some h → Tells (codes "names" ∷ words) h
@@ -207,7 +202,7 @@ abbrev OrderIs : List Bytes → Order × List Bytes → Type 0
 OrderIs words o = words ≡ order_words o.0 ++ o.1
 
 order_is : (first word : Bytes) (words : List Bytes) (o p : Order × List Bytes) → bytes_eq first word ≡ true → p ≡ o → word ∷ words ≡ order_words p.0 ++ p.1 → OrderIs (first ∷ words) o
-order_is first word words o p b e is = ap (λ w. w ∷ words) (word_is first word b) ∙ is ∙ ap (λ q. order_words q.0 ++ q.1) e
+order_is first word words o p b e is = ap (λ w. w ∷ words) (one_text first word b) ∙ is ∙ ap (λ q. order_words q.0 ++ q.1) e
 
 since_told : (first word : Bytes) (order : Bytes → Order) → ((seconds : Bytes) → order_words (order seconds) ≡ word ∷ seconds ∷ []) → (words : List Bytes) (o : Order × List Bytes) → bytes_eq first word ≡ true → since_of order words ≡ Some o → OrderIs (first ∷ words) o
 since_told first word order spelled [] o b e = cc
@@ -227,17 +222,14 @@ order_told (first ∷ words) o e =
 
 first_told : (word : Bytes) (first : Bool) → first_parents_of word ≡ Some first → word ≡ parents_word first
 first_told word first e =
-    either_way (bytes_eq word (codes "first")) (Some true) _ first e (λ b f. word_is word (codes "first") b ∙ ap parents_word (some_same f)) (λ e.
-    either_way (bytes_eq word (codes "all")) (Some false) None first e (λ b f. word_is word (codes "all") b ∙ ap parents_word (some_same f)) (λ e. cc))
-
-same_number : (m n : ℕ) → (m == n) ≡ true → m ≡ n
-same_number m n h = grind (arith, tests)
+    either_way (bytes_eq word (codes "first")) (Some true) _ first e (λ b f. one_text word (codes "first") b ∙ ap parents_word (some_same f)) (λ e.
+    either_way (bytes_eq word (codes "all")) (Some false) None first e (λ b f. one_text word (codes "all") b ∙ ap parents_word (some_same f)) (λ e. cc))
 
 item_told : (word : Bytes) (item : LogItem) → item_of word ≡ Some item → word ≡ item_word item
 item_told [] item e = cc
 item_told (sign ∷ word) item e =
-    either_way (sign == 43) (Some (Tip word)) _ item e (λ b f. ap (λ s. s ∷ word) (same_number sign 43 b) ∙ ap item_word (some_same f)) (λ e.
-    either_way (sign == 45) (Some (Hidden word)) None item e (λ b f. ap (λ s. s ∷ word) (same_number sign 45 b) ∙ ap item_word (some_same f)) (λ e. cc))
+    either_way (sign == 43) (Some (Tip word)) _ item e (λ b f. ap (λ s. s ∷ word) (eqb-true sign 43 b) ∙ ap item_word (some_same f)) (λ e.
+    either_way (sign == 45) (Some (Hidden word)) None item e (λ b f. ap (λ s. s ∷ word) (eqb-true sign 45 b) ∙ ap item_word (some_same f)) (λ e. cc))
 
 -- the words are those of the items and the path, whose length is one
 abbrev ItemsAre : List Bytes → Items → Type 0
@@ -252,7 +244,7 @@ path_told (first ∷ size ∷ []) items e =
     let n = map_some (λ n. ([], Some n)) (number_of size) items found.1 in
     let size_is = decimal_number size n.0 n.1 in
     items_as (first ∷ size ∷ []) ([], Some n.0) items n.2
-    ((λ i. word_is first (codes "path") found.0 i ∷ size_is.0 i ∷ []), and_true (nat_lt n.0 (2 ^ 64)) true size_is.1 refl)
+    ((λ i. one_text first (codes "path") found.0 i ∷ size_is.0 i ∷ []), and_from (nat_lt n.0 (2 ^ 64)) true size_is.1 refl)
 path_told words items e = cc
 
 items_told : (words : List Bytes) (items : Items) → items_of words ≡ Some items → ItemsAre words items
@@ -284,7 +276,7 @@ log_told words h e =
 -- ---- by the first word
 
 named : (first word : Bytes) (words : List Bytes) (h : Heading) → bytes_eq first word ≡ true → Tells (word ∷ words) h → Tells (first ∷ words) h
-named first word words h b t = (ap (λ w. w ∷ words) (word_is first word b) ∙ t.0, t.1)
+named first word words h b t = (ap (λ w. w ∷ words) (one_text first word b) ∙ t.0, t.1)
 
 name_heading_told : (first : Bytes) (words : List Bytes) (h : Heading) → name_heading_of first words ≡ Some h → Tells (first ∷ words) h
 name_heading_told first words h e =
@@ -337,9 +329,9 @@ target_reads g name (At at) word = refl
 actor_reads : (role : Role) (name email : ℕ) (seconds offset : Bytes) → are_sizes (name ∷ email ∷ []) ≡ true
     → actor_of_words role (decimal name ∷ decimal email ∷ seconds ∷ offset ∷ []) ≡ Some (ActorHeading role name email seconds offset)
 actor_reads role name email seconds offset s =
-    let both = both_true (nat_lt name (2 ^ 64)) (nat_lt email (2 ^ 64) && true) s in
+    let both = and_parts (nat_lt name (2 ^ 64)) (nat_lt email (2 ^ 64) && true) s in
     ap (option_and_then (λ m. option_map (λ n. ActorHeading role m n seconds offset) (number_of (decimal email)))) (number_decimal name both.0)
-    ∙ ap (option_map (λ n. ActorHeading role name n seconds offset)) (number_decimal email (both_true (nat_lt email (2 ^ 64)) true both.1).0)
+    ∙ ap (option_map (λ n. ActorHeading role name n seconds offset)) (number_decimal email (and_parts (nat_lt email (2 ^ 64)) true both.1).0)
 
 order_reads : (order : Order) (words : List Bytes) → order_of (order_words order ++ words) ≡ Some (order, words)
 order_reads Breadth words = refl
@@ -356,7 +348,7 @@ first_reads false = refl
 
 items_read : (items : List LogItem) (path : Option ℕ) → are_sizes (option_list path) ≡ true → items_of (map item_word items ++ flat_map size_words (option_list path)) ≡ Some (items, path)
 items_read [] None s = refl
-items_read [] (Some n) s = ap (option_map (λ n. ([], Some n))) (number_decimal n (both_true (nat_lt n (2 ^ 64)) true s).0)
+items_read [] (Some n) s = ap (option_map (λ n. ([], Some n))) (number_decimal n (and_parts (nat_lt n (2 ^ 64)) true s).0)
 items_read (Tip word ∷ items) path s = ap (option_map (λ more. (Tip word ∷ more.0, more.1))) (items_read items path s)
 items_read (Hidden word ∷ items) path s = ap (option_map (λ more. (Hidden word ∷ more.0, more.1))) (items_read items path s)
 
@@ -369,16 +361,16 @@ log_reads order first items path s =
     ∙ ap (option_map (λ items. LogHeading order first items.0 items.1)) (items_read items path s)
 
 size_reads : (g : ℕ → Heading) (n : ℕ) → are_sizes (n ∷ []) ≡ true → option_map g (number_of (decimal n)) ≡ Some (g n)
-size_reads g n s = ap (option_map g) (number_decimal n (both_true (nat_lt n (2 ^ 64)) true s).0)
+size_reads g n s = ap (option_map g) (number_decimal n (and_parts (nat_lt n (2 ^ 64)) true s).0)
 
 pub heading_reads : (h : Heading) → are_sizes (sizes h) ≡ true → heading_of (words_of h) ≡ Some h
 heading_reads (CommitHeading name expect) s = ap (option_map (CommitHeading name)) (expect_reads expect)
 heading_reads (ParentHeading word) s = refl
 heading_reads (PutHeading kind path content) s =
-    let both = both_true (nat_lt path (2 ^ 64)) (nat_lt content (2 ^ 64) && true) s in
+    let both = and_parts (nat_lt path (2 ^ 64)) (nat_lt content (2 ^ 64) && true) s in
     ap (option_and_then (λ k. option_and_then (λ m. option_map (PutHeading k m) (number_of (decimal content))) (number_of (decimal path)))) (kind_reads kind)
     ∙ ap (option_and_then (λ m. option_map (PutHeading kind m) (number_of (decimal content)))) (number_decimal path both.0)
-    ∙ ap (option_map (PutHeading kind path)) (number_decimal content (both_true (nat_lt content (2 ^ 64)) true both.1).0)
+    ∙ ap (option_map (PutHeading kind path)) (number_decimal content (and_parts (nat_lt content (2 ^ 64)) true both.1).0)
 heading_reads (RemoveHeading path) s = size_reads RemoveHeading path s
 heading_reads (RemoveFileHeading path) s = size_reads RemoveFileHeading path s
 heading_reads (ActorHeading Author name email seconds offset) s = actor_reads Author name email seconds offset s

@@ -12,9 +12,10 @@ use Rattle.history_model.specs.Lines.{Role, Author, Committer, Tagger, Mover, He
 use Rattle.history_word.specs.LineTable.{Place, Start, Parents, Edits, ToCommitter, ToTagger, ToFirst, ToMore, ToMessage, ToEnd, Done, next_edit}
 use Rattle.history_word.specs.TableRuns.{Progress, at, begin, done, is_told, next_of, part_step_of, run_from_of, reached_of, IsLineAtOf}
 use Rattle.std.proofs.lemmas.List.{length-replicate}
-use Rattle.history_model.proofs.PartLemmas.{both_true, head_same, tail_same}
-use Rattle.history_word.proofs.TableLines.{and_true, if_taken, then_some}
+use Rattle.history_model.proofs.PartLemmas.{head_same, tail_same}
+use Rattle.history_word.proofs.TableLines.{if_taken, then_some}
 use Rattle.history_word.proofs.TableRunLemmas.{line_step, line_goes, field_goes, run_append, commands_run}
+use Rattle.std.proofs.lemmas.Bool.{and_parts, and_from}
 
 -- a field of this length
 zeros : ℕ → Bytes
@@ -82,10 +83,10 @@ module _ (offers : Heading → Bool) (some_offered : offers (FilesHeading (codes
       → list_all is_part (Line (words_of h) ∷ Field a ∷ Field b ∷ rest) ≡ true
       → (run_from (at [] place) (Line (words_of h) ∷ Field a ∷ Field b ∷ rest) ≡ run_from (at [] following) rest) × (list_all is_part rest ≡ true)
   two_fields place following h a b rest told stands parts =
-      let first = both_true (is_part (Line (words_of h))) (list_all is_part (Field a ∷ Field b ∷ rest)) parts in
-      let second = both_true (is_part (Field a)) (list_all is_part (Field b ∷ rest)) first.1 in
-      let third = both_true (is_part (Field b)) (list_all is_part rest) second.1 in
-      let sized : are_sizes (length a ∷ length b ∷ []) ≡ true = and_true (is_part (Field a)) (is_part (Field b) && true) second.0 (and_true (is_part (Field b)) true third.0 refl) in (
+      let first = and_parts (is_part (Line (words_of h))) (list_all is_part (Field a ∷ Field b ∷ rest)) parts in
+      let second = and_parts (is_part (Field a)) (list_all is_part (Field b ∷ rest)) first.1 in
+      let third = and_parts (is_part (Field b)) (list_all is_part rest) second.1 in
+      let sized : are_sizes (length a ∷ length b ∷ []) ≡ true = and_from (is_part (Field a)) (is_part (Field b) && true) second.0 (and_from (is_part (Field b)) true third.0 refl) in (
         run_line place following h (Field a ∷ Field b ∷ rest) stands first.0 (subst (λ ns. are_sizes ns ≡ true) (sym told) sized)
             ∙ ap (λ ns. run_from (at ns following) (Field a ∷ Field b ∷ rest)) told
             ∙ run_field a (length b ∷ []) following (Field b ∷ rest)
@@ -97,9 +98,9 @@ module _ (offers : Heading → Bool) (some_offered : offers (FilesHeading (codes
       → list_all is_part (Line (words_of h) ∷ Field a ∷ rest) ≡ true
       → (run_from (at [] place) (Line (words_of h) ∷ Field a ∷ rest) ≡ run_from (at [] following) rest) × (list_all is_part rest ≡ true)
   one_field place following h a rest told stands parts =
-      let first = both_true (is_part (Line (words_of h))) (list_all is_part (Field a ∷ rest)) parts in
-      let second = both_true (is_part (Field a)) (list_all is_part rest) first.1 in
-      let sized : are_sizes (length a ∷ []) ≡ true = and_true (is_part (Field a)) true second.0 refl in (
+      let first = and_parts (is_part (Line (words_of h))) (list_all is_part (Field a ∷ rest)) parts in
+      let second = and_parts (is_part (Field a)) (list_all is_part rest) first.1 in
+      let sized : are_sizes (length a ∷ []) ≡ true = and_from (is_part (Field a)) true second.0 refl in (
         run_line place following h (Field a ∷ rest) stands first.0 (subst (λ ns. are_sizes ns ≡ true) (sym told) sized)
             ∙ ap (λ ns. run_from (at ns following) (Field a ∷ rest)) told
             ∙ run_field a [] following rest,
@@ -109,7 +110,7 @@ module _ (offers : Heading → Bool) (some_offered : offers (FilesHeading (codes
   no_field : (place following : Place) (h : Heading) (rest : List Part) → sizes h ≡ [] → next place h ≡ Some following → list_all is_part (Line (words_of h) ∷ rest) ≡ true
       → (run_from (at [] place) (Line (words_of h) ∷ rest) ≡ run_from (at [] following) rest) × (list_all is_part rest ≡ true)
   no_field place following h rest told stands parts =
-      let first = both_true (is_part (Line (words_of h))) (list_all is_part rest) parts in (
+      let first = and_parts (is_part (Line (words_of h))) (list_all is_part rest) parts in (
         run_line place following h rest stands first.0 (subst (λ ns. are_sizes ns ≡ true) (sym told) refl) ∙ ap (λ ns. run_from (at ns following) rest) told,
         first.1,
       )
@@ -209,11 +210,11 @@ module _ (offers : Heading → Bool) (some_offered : offers (FilesHeading (codes
       → list_all is_part (parts_of (Log (record { order = order; first_parents = first; items = items; paths = paths }))) ≡ true
       → reached (parts_of (Log (record { order = order; first_parents = first; items = items; paths = paths }))) ≡ Some done
   log_reaches order first items [] enough offered parts =
-      alone_reaches (LogHeading order first items None) refl (if_taken (are_items items) (Some Done) (both_true (are_items items) true enough).0) offered parts
+      alone_reaches (LogHeading order first items None) refl (if_taken (are_items items) (Some Done) (and_parts (are_items items) true enough).0) offered parts
   log_reaches order first items (path ∷ []) enough offered parts =
-      path_reaches (LogHeading order first items (Some (length path))) path refl (if_taken (are_items items) (Some Done) (both_true (are_items items) true enough).0) offered parts
+      path_reaches (LogHeading order first items (Some (length path))) path refl (if_taken (are_items items) (Some Done) (and_parts (are_items items) true enough).0) offered parts
   log_reaches order first items (path ∷ other ∷ more) enough offered parts =
-      absurd (too_many (length more) (both_true (are_items items) (nat_le (length (path ∷ other ∷ more)) 1) enough).1)
+      absurd (too_many (length more) (and_parts (are_items items) (nat_le (length (path ∷ other ∷ more)) 1) enough).1)
 
   told_reaches : (command : Command) → has_enough command ≡ true → offers (first_line command) ≡ true → list_all is_part (parts_of command) ≡ true → reached (parts_of command) ≡ Some done
   told_reaches (Commit c) enough offered parts =
@@ -243,8 +244,8 @@ module _ (offers : Heading → Bool) (some_offered : offers (FilesHeading (codes
 
   command_reaches : (command : Command) → is_told offers command ≡ true → reached (parts_of command) ≡ Some done
   command_reaches command h =
-      let both = both_true (has_spelling command) (offers (first_line command)) h in
-      let spelled = both_true (list_all is_part (parts_of command)) (has_enough command) both.0 in
+      let both = and_parts (has_spelling command) (offers (first_line command)) h in
+      let spelled = and_parts (list_all is_part (parts_of command)) (has_enough command) both.0 in
       told_reaches command spelled.1 both.1 spelled.0
 
   pub table_tells_commands : (parts : List Part) → (reached parts ≡ Some done) ↔ ((command : Command) × (is_told offers command ≡ true) × (parts_of command ≡ parts))

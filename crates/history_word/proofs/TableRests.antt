@@ -11,9 +11,9 @@ use Rattle.history_model.specs.declared.Cause.TheVariants.{Syntax, Truncated, Li
 use Rattle.history_model.specs.Lines.{Heading, CommitHeading, ParentHeading, PutHeading, RemoveHeading, RemoveFileHeading, ActorHeading, MessageHeading, EndHeading, TagHeading, MoveHeading, ToHeading, RenameHeading, DeleteHeading, SwitchHeading, PackHeading, IndexHeading, NamesHeading, FilesHeading, PastHeading, LogHeading, ShowHeading, words_of}
 use Rattle.history_word.specs.LineTable.{Place, Start, Done}
 use Rattle.history_word.specs.TableRuns.{Progress, at, is_told, part_step_of, reached_of}
-use Rattle.history_model.proofs.PartLemmas.{both_true, either_false}
 use Rattle.history_word.proofs.TableRunLemmas.{line_goes, commands_run}
 use Rattle.history_word.proofs.TableReaches.{table_tells_fields, table_tells_lines, table_tells_what_fits, table_takes_fields, step_on}
+use Rattle.std.proofs.lemmas.Bool.{or_from, or_parts, and_parts}
 
 -- ---- the words of a line
 
@@ -23,32 +23,32 @@ line_words text = slice_split (λ b. eqb b 32) text
 one_word : (u : Bytes) → has_byte 32 u ≡ false → line_words u ≡ u ∷ []
 one_word [] h = refl
 one_word (b ∷ u) h =
-    let both = either_false (b == 32) (has_byte 32 u) h in
+    let both = or_parts (b == 32) (has_byte 32 u) h in
     slice_split-cons_no (λ b. eqb b 32) b u both.0 ∙ ap (onto_first b) (one_word u both.1)
 
 first_word : (u rest : Bytes) → has_byte 32 u ≡ false → line_words (u ++ 32 ∷ rest) ≡ u ∷ line_words rest
 first_word [] rest h = refl
 first_word (b ∷ u) rest h =
-    let both = either_false (b == 32) (has_byte 32 u) h in
+    let both = or_parts (b == 32) (has_byte 32 u) h in
     slice_split-cons_no (λ b. eqb b 32) b (u ++ 32 ∷ rest) both.0 ∙ ap (onto_first b) (first_word u rest both.1)
 
 spaceless : (w : Bytes) → is_word w ≡ true → has_byte 32 w ≡ false
-spaceless w h = turned (has_byte 32 w) (both_true (not (is_empty w)) (not (has_byte 32 w)) (both_true (not (is_empty w) && not (has_byte 32 w)) (not (has_byte 10 w)) h).0).1
+spaceless w h = turned (has_byte 32 w) (and_parts (not (is_empty w)) (not (has_byte 32 w)) (and_parts (not (is_empty w) && not (has_byte 32 w)) (not (has_byte 10 w)) h).0).1
   where
     turned : (b : Bool) → not b ≡ true → b ≡ false
     turned true h = cc
     turned false h = refl
 
 pub line_words_of : (u : Bytes) (us : List Bytes) → list_all is_word (u ∷ us) ≡ true → line_words (join_with_byte 32 (u ∷ us)) ≡ u ∷ us
-line_words_of u [] h = one_word u (spaceless u (both_true (is_word u) true h).0)
+line_words_of u [] h = one_word u (spaceless u (and_parts (is_word u) true h).0)
 line_words_of u (v ∷ us) h =
-    let both = both_true (is_word u) (list_all is_word (v ∷ us)) h in
+    let both = and_parts (is_word u) (list_all is_word (v ∷ us)) h in
     first_word u (join_with_byte 32 (v ∷ us)) (spaceless u both.0) ∙ ap (λ ws. u ∷ ws) (line_words_of v us both.1)
 
 -- the words of a line of the table
 pub heading_words : (us : List Bytes) → us ≢ [] → is_part (Line us) ≡ true → line_words (join_with_byte 32 us) ≡ us
 heading_words [] some h = absurd (some refl)
-heading_words (u ∷ us) some h = line_words_of u us (both_true (list_all is_word (u ∷ us)) (nat_le (length (join_with_byte 32 (u ∷ us))) max_line) h).0
+heading_words (u ∷ us) some h = line_words_of u us (and_parts (list_all is_word (u ∷ us)) (nat_le (length (join_with_byte 32 (u ∷ us))) max_line) h).0
 
 pub some_words : (h : Heading) → words_of h ≢ []
 some_words (CommitHeading name expect) e = cc
@@ -79,13 +79,9 @@ data Cut (t : Bytes) : Type 0 where
   whole : has_byte 10 t ≡ false → Cut t
   cut : (text more : Bytes) → t ≡ line text ++ more → has_byte 10 text ≡ false → Cut t
 
-or_false : (a b : Bool) → a ≡ false → b ≡ false → (a || b) ≡ false
-or_false true b e f = cc
-or_false false b e f = f
-
 cut_more : (b : ℕ) (t : Bytes) → (b == 10) ≡ false → Cut t → Cut (b ∷ t)
-cut_more b t other (whole none) = whole (or_false (b == 10) (has_byte 10 t) other none)
-cut_more b t other (cut text more is none) = cut (b ∷ text) more (ap (λ s. b ∷ s) is) (or_false (b == 10) (has_byte 10 text) other none)
+cut_more b t other (whole none) = whole (or_from (b == 10) (has_byte 10 t) other none)
+cut_more b t other (cut text more is none) = cut (b ∷ text) more (ap (λ s. b ∷ s) is) (or_from (b == 10) (has_byte 10 text) other none)
 
 is_ten : (b : ℕ) → (b == 10) ≡ true → b ≡ 10
 is_ten b h = grind (arith, tests)
@@ -105,15 +101,15 @@ none_in_front : (n : ℕ) (t : Bytes) → has_byte 10 t ≡ false → has_byte 1
 none_in_front zero t h = refl
 none_in_front (suc n) [] h = refl
 none_in_front (suc n) (b ∷ t) h =
-    let both = either_false (b == 10) (has_byte 10 t) h in
-    or_false (b == 10) (has_byte 10 (take n t)) both.0 (none_in_front n t both.1)
+    let both = or_parts (b == 10) (has_byte 10 t) h in
+    or_from (b == 10) (has_byte 10 (take n t)) both.0 (none_in_front n t both.1)
 
 none_before : (n : ℕ) (text more : Bytes) → n ≤ length text → has_byte 10 text ≡ false → has_byte 10 (take n (line text ++ more)) ≡ false
 none_before zero text more le h = refl
 none_before (suc n) [] more le h = absurd (omega arith)
 none_before (suc n) (b ∷ text) more le h =
-    let both = either_false (b == 10) (has_byte 10 text) h in
-    or_false (b == 10) (has_byte 10 (take n (line text ++ more))) both.0 (none_before n text more (omega arith) both.1)
+    let both = or_parts (b == 10) (has_byte 10 text) h in
+    or_from (b == 10) (has_byte 10 (take n (line text ++ more))) both.0 (none_before n text more (omega arith) both.1)
 
 record FieldCut (n : ℕ) (t : Bytes) : Type 0 where
   bytes : Bytes

@@ -8,11 +8,8 @@ use Rattle.history_model.specs.Commands as commands
 use Rattle.history_model.specs.Lines.{Role, Author, Committer, Tagger, Mover, Heading, CommitHeading, ParentHeading, PutHeading, RemoveHeading, RemoveFileHeading, ActorHeading, MessageHeading, EndHeading, TagHeading, MoveHeading, ToHeading, RenameHeading, DeleteHeading, SwitchHeading, PackHeading, IndexHeading, NamesHeading, FilesHeading, PastHeading, LogHeading, ShowHeading, role_word, words_of, sizes, are_sizes, first_line}
 use Rattle.history_word.specs.LineTable.{heading_of, Place, Start, Parents, Edits, ToCommitter, ToTagger, ToFirst, ToMore, ToMessage, ToEnd, Done, next_edit, next}
 use Rattle.history_word.specs.TableRuns.{Progress, at, done, is_told, next_of, after_line_of, part_step_of, run_from_of, reached_of}
-use Rattle.history_model.proofs.PartLemmas.{both_true}
-use Rattle.history_word.proofs.TableLines.{and_true, if_some, map_some, then_some, heading_told, heading_reads}
-
-some_same : {B : Type 0} {x y : B} → Some x ≡ Some y → x ≡ y
-some_same e = cc
+use Rattle.history_word.proofs.TableLines.{if_some, map_some, then_some, heading_told, heading_reads, some_same}
+use Rattle.std.proofs.lemmas.Bool.{and_parts, and_from}
 
 parts_tail : {p q : Part} {ps qs : List Part} → p ∷ ps ≡ q ∷ qs → ps ≡ qs
 parts_tail e = cc
@@ -106,15 +103,15 @@ module _ (offers : Heading → Bool) where
       let st = then_some (λ after. run_from after parts) (part_step [] place (Line words)) q e in
       let line = line_step place words st.0 st.1 in
       let rest = parts_fit parts st.0.fields st.0.place q (subst (λ f. are_sizes f ≡ true) line.fields line.sized) st.2 in
-      (and_true (is_part (Line words)) (list_all is_part parts) line.known rest.0, rest.1)
+      (and_from (is_part (Line words)) (list_all is_part parts) line.known rest.0, rest.1)
   parts_fit (Line words ∷ parts) (size ∷ fields) place q s e = cc
   parts_fit (Field bytes ∷ parts) [] place q s e = cc
   parts_fit (Field bytes ∷ parts) (size ∷ fields) place q s e =
       let st = then_some (λ after. run_from after parts) (part_step (size ∷ fields) place (Field bytes)) q e in
       let field = field_step size fields place bytes st.0 st.1 in
-      let both = both_true (nat_lt size (2 ^ 64)) (are_sizes fields) s in
+      let both = and_parts (nat_lt size (2 ^ 64)) (are_sizes fields) s in
       let rest = parts_fit parts st.0.fields st.0.place q (subst (λ p. are_sizes p.fields ≡ true) field.1 both.1) st.2 in
-      (and_true (nat_lt (length bytes) (2 ^ 64)) (list_all is_part parts) (subst (λ n. nat_lt n (2 ^ 64) ≡ true) (sym field.0) both.0) rest.0, rest.1)
+      (and_from (nat_lt (length bytes) (2 ^ 64)) (list_all is_part parts) (subst (λ n. nat_lt n (2 ^ 64) ≡ true) (sym field.0) both.0) rest.0, rest.1)
 
   -- ---- what leads to the end
 
@@ -438,14 +435,14 @@ module _ (offers : Heading → Bool) where
   start_line (PastHeading name) following rest s e = alone (PastHeading name) following rest (Past name) s e refl refl refl
   start_line (LogHeading order first items None) following rest s e =
       let found = if_some (are_items items) (Some Done) following s in
-      alone (LogHeading order first items None) following rest (Log (record { order = order; first_parents = first; items = items; paths = [] })) found.1 e (and_true (are_items items) true found.0 refl) refl refl
+      alone (LogHeading order first items None) following rest (Log (record { order = order; first_parents = first; items = items; paths = [] })) found.1 e (and_from (are_items items) true found.0 refl) refl refl
   start_line (LogHeading order first items (Some n)) following rest s e =
       let found = if_some (are_items items) (Some Done) following s in
       let f = field_run n [] following rest e in
       let tail = f.is ∙ ap (λ ps. Field f.bytes ∷ ps) (done_run f.rest (placed Done following [] f.rest found.1 f.goes)) in
       record {
         command = Log (record { order = order; first_parents = first; items = items; paths = f.bytes ∷ [] });
-        enough = and_true (are_items items) true found.0 refl;
+        enough = and_from (are_items items) true found.0 refl;
         first = ap (λ k. LogHeading order first items (Some k)) f.long;
         is = λ i. Line (codes "log" ∷ (order_words order ++ (parents_word first ∷ (map item_word items ++ (codes "path" ∷ decimal (f.long i) ∷ []))))) ∷ sym tail i;
       }
@@ -472,6 +469,6 @@ module _ (offers : Heading → Bool) where
       let is = run.is ∙ sym line.is in
       let parts_are = subst (λ ps. list_all is_part ps ≡ true) (sym is) (parts_fit parts [] Start done refl e).0 in (
         run.command,
-        and_true (has_spelling run.command) (offers (first_line run.command)) (and_true (list_all is_part (parts_of run.command)) (has_enough run.command) parts_are run.enough) (subst (λ h. offers h ≡ true) (sym run.first) found.0),
+        and_from (has_spelling run.command) (offers (first_line run.command)) (and_from (list_all is_part (parts_of run.command)) (has_enough run.command) parts_are run.enough) (subst (λ h. offers h ≡ true) (sym run.first) found.0),
         is,
       )

@@ -10,10 +10,10 @@ use Rattle.history_model.specs.Lines.{Heading, words_of, sizes, are_sizes}
 use Rattle.history_word.specs.LineTable.{heading_of, Place}
 use Rattle.history_word.specs.TableRuns.{at, reached, IsLineAt, StopsAt}
 use Rattle.history_model.specs.declared.Cause.{Cause}
-use Rattle.history_model.proofs.PartLemmas.{either_false}
-use Rattle.history_word.proofs.TableLines.{and_true, heading_told, heading_reads}
+use Rattle.history_word.proofs.TableLines.{heading_told, heading_reads}
 use Rattle.history_word.proofs.TableRests.{line_words, heading_words, some_words}
 use Rattle.history_word.proofs.TableStops.{table_tells_stops}
+use Rattle.std.proofs.lemmas.Bool.{and_parts, not-true, or_from, not_from_false, or_parts, and_from}
 
 -- ---- words without a byte
 
@@ -21,27 +21,11 @@ use Rattle.history_word.proofs.TableStops.{table_tells_stops}
 abbrev none_has : ℕ → List Bytes → Bool
 none_has d words = list_all (λ word. not (has_byte d word)) words
 
-not_false : (b : Bool) → b ≡ false → not b ≡ true
-not_false true h = cc
-not_false false h = refl
-
-not_true : (b : Bool) → not b ≡ true → b ≡ false
-not_true true h = cc
-not_true false h = refl
-
-or_false : (a b : Bool) → a ≡ false → b ≡ false → (a || b) ≡ false
-or_false true b e f = cc
-or_false false b e f = f
-
-both : (a b : Bool) → (a && b) ≡ true → (a ≡ true) × (b ≡ true)
-both true b h = (refl, h)
-both false b h = cc
-
 onto_none : (d b : ℕ) (words : List Bytes) → (b == d) ≡ false → none_has d words ≡ true → none_has d (onto_first b words) ≡ true
-onto_none d b [] other h = and_true (not ((b == d) || false)) true (not_false ((b == d) || false) (or_false (b == d) false other refl)) refl
+onto_none d b [] other h = and_from (not ((b == d) || false)) true (not_from_false ((b == d) || false) (or_from (b == d) false other refl)) refl
 onto_none d b (word ∷ words) other h =
-    let parts = both (not (has_byte d word)) (none_has d words) h in
-    and_true (not (has_byte d (b ∷ word))) (none_has d words) (not_false (has_byte d (b ∷ word)) (or_false (b == d) (has_byte d word) other (not_true (has_byte d word) parts.0))) parts.1
+    let parts = and_parts (not (has_byte d word)) (none_has d words) h in
+    and_from (not (has_byte d (b ∷ word))) (none_has d words) (not_from_false (has_byte d (b ∷ word)) (or_from (b == d) (has_byte d word) other (not-true (has_byte d word) parts.0))) parts.1
 
 no_spaces : (text : Bytes) → none_has 32 (line_words text) ≡ true
 no_spaces [] = refl
@@ -53,20 +37,20 @@ no_spaces (b ∷ text) = at_byte (b == 32) refl (no_spaces text)
 
 no_feeds : (text : Bytes) → has_byte 10 text ≡ false → none_has 10 (line_words text) ≡ true
 no_feeds [] none = refl
-no_feeds (b ∷ text) none = at_byte (b == 32) refl (no_feeds text (either_false (b == 10) (has_byte 10 text) none).1)
+no_feeds (b ∷ text) none = at_byte (b == 32) refl (no_feeds text (or_parts (b == 10) (has_byte 10 text) none).1)
   where
     at_byte : (same : Bool) → (b == 32) ≡ same → none_has 10 (line_words text) ≡ true → none_has 10 (line_words (b ∷ text)) ≡ true
     at_byte true h rest = ap (none_has 10) (slice_split-cons_yes (λ b. eqb b 32) b text h) ∙ rest
-    at_byte false h rest = ap (none_has 10) (slice_split-cons_no (λ b. eqb b 32) b text h) ∙ onto_none 10 b (line_words text) (either_false (b == 10) (has_byte 10 text) none).0 rest
+    at_byte false h rest = ap (none_has 10) (slice_split-cons_no (λ b. eqb b 32) b text h) ∙ onto_none 10 b (line_words text) (or_parts (b == 10) (has_byte 10 text) none).0 rest
 
 all_words : (words : List Bytes) → list_all (λ word. not (is_empty word)) words ≡ true → none_has 32 words ≡ true → none_has 10 words ≡ true → list_all is_word words ≡ true
 all_words [] some spaces feeds = refl
 all_words (word ∷ words) some spaces feeds =
-    let a = both (not (is_empty word)) (list_all (λ word. not (is_empty word)) words) some in
-    let b = both (not (has_byte 32 word)) (none_has 32 words) spaces in
-    let c = both (not (has_byte 10 word)) (none_has 10 words) feeds in
-    and_true (is_word word) (list_all is_word words)
-    (and_true (not (is_empty word) && not (has_byte 32 word)) (not (has_byte 10 word)) (and_true (not (is_empty word)) (not (has_byte 32 word)) a.0 b.0) c.0)
+    let a = and_parts (not (is_empty word)) (list_all (λ word. not (is_empty word)) words) some in
+    let b = and_parts (not (has_byte 32 word)) (none_has 32 words) spaces in
+    let c = and_parts (not (has_byte 10 word)) (none_has 10 words) feeds in
+    and_from (is_word word) (list_all is_word words)
+    (and_from (not (is_empty word) && not (has_byte 32 word)) (not (has_byte 10 word)) (and_from (not (is_empty word)) (not (has_byte 32 word)) a.0 b.0) c.0)
     (all_words words a.1 b.1 c.1)
 
 -- where no two spaces stand side by side, and none at an end, what stands between them is words
@@ -85,7 +69,7 @@ line_spelled text heading words short e =
     let told = heading_told (line_words text) heading e in
     let joined = sym (join_with_byte-slice_split 32 text) ∙ ap (join_with_byte 32) told.0 in (
       joined,
-      and_true (list_all is_word (words_of heading)) (nat_le (length (join_with_byte 32 (words_of heading))) max_line)
+      and_from (list_all is_word (words_of heading)) (nat_le (length (join_with_byte 32 (words_of heading))) max_line)
           (subst (λ ws. list_all is_word ws ≡ true) told.0 words)
           (subst (λ t. nat_le (length t) max_line ≡ true) joined (within (length text) max_line short)),
       told.1,

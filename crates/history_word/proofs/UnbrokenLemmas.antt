@@ -8,6 +8,7 @@ use Rattle.std.proofs.Math.Seq.{take-add}
 use Rattle.std.proofs.lemmas.Bool.Decides.{nat_tests}
 use Rattle.history_model.specs.Bytes.{has_byte}
 use Rattle.history_word.specs.Held.{IsUnbroken, IsLineOf}
+use Rattle.std.proofs.lemmas.Bool.{false_from_ne_true, or_from, or_parts}
 
 or_assoc : (a b c : Bool) → ((a || b) || c) ≡ (a || (b || c))
 or_assoc true b c = refl
@@ -17,19 +18,11 @@ has_byte-append : (d : ℕ) (a b : List ℕ) → has_byte d (a ++ b) ≡ (has_by
 has_byte-append d [] b = refl
 has_byte-append d (x ∷ a) b = ap (λ o. (x == d) || o) (has_byte-append d a b) ∙ sym (or_assoc (x == d) (has_byte d a) (has_byte d b))
 
-left_false : (a b : Bool) → (a || b) ≡ false → a ≡ false
-left_false true b e = cc
-left_false false b e = refl
-
-both_false : (a b : Bool) → a ≡ false → b ≡ false → (a || b) ≡ false
-both_false true b e f = cc
-both_false false b e f = f
-
 pub unbroken_front : (a b : List ℕ) → IsUnbroken (a ++ b) → IsUnbroken a
-unbroken_front a b h = left_false (has_byte 10 a) (has_byte 10 b) (sym (has_byte-append 10 a b) ∙ h)
+unbroken_front a b h = (or_parts (has_byte 10 a) (has_byte 10 b) (sym (has_byte-append 10 a b) ∙ h)).0
 
 pub unbroken_both : (a b : List ℕ) → IsUnbroken a → IsUnbroken b → IsUnbroken (a ++ b)
-unbroken_both a b h k = has_byte-append 10 a b ∙ both_false (has_byte 10 a) (has_byte 10 b) h k
+unbroken_both a b h k = has_byte-append 10 a b ∙ or_from (has_byte 10 a) (has_byte 10 b) h k
 
 pub unbroken_take : (n : ℕ) (xs : List ℕ) → IsUnbroken xs → IsUnbroken (take n xs)
 unbroken_take n xs h = unbroken_front (take n xs) (drop n xs) (subst IsUnbroken (sym (take-append-drop n xs)) h)
@@ -40,13 +33,9 @@ unbroken_less m n xs l h =
     let e : n ≡ m + (n - m) = omega arith in
     unbroken_front (take m xs) (take (n - m) (drop m xs)) (subst IsUnbroken (ap (λ k. take k xs) e ∙ take-add m (n - m) xs) h)
 
-not_true : (b : Bool) → (b ≡ true → ⊥) → b ≡ false
-not_true true h = absurd (h refl)
-not_true false h = refl
-
 pub unbroken_nowhere : (xs : List ℕ) → ((k : ℕ) → k < length xs → (get_or xs k 0 == 10) ≡ true → ⊥) → IsUnbroken xs
 unbroken_nowhere [] h = refl
-unbroken_nowhere (x ∷ xs) h = both_false (x == 10) (has_byte 10 xs) (not_true (x == 10) (h 0 (omega arith))) (unbroken_nowhere xs (λ k l e. h (suc k) (omega arith) e))
+unbroken_nowhere (x ∷ xs) h = or_from (x == 10) (has_byte 10 xs) (false_from_ne_true (x == 10) (h 0 (omega arith))) (unbroken_nowhere xs (λ k l e. h (suc k) (omega arith) e))
 
 -- the bytes from one place up to another
 abbrev pub between : ℕ → ℕ → List ℕ → List ℕ

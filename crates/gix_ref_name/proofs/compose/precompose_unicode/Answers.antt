@@ -7,19 +7,16 @@ use Rattle.unicode_normalization.specs.Forms.{nfc}
 use Rattle.unicode_normalization.proofs.FormsLemmas.{nfc_idem}
 use Rattle.gix_ref_name.specs.Composed.{composed}
 use Rattle.gix_ref_name.proofs.compose.precompose_unicode.Goals as goal
+use Rattle.std.proofs.lemmas.Bool.{false_from_ne_true}
 
 of_text : (bytes text : List ℕ) → IsUtf8 bytes → text ≡ bytes → encode_utf8_all (nfc (chars text)) ≡ composed bytes
 of_text bytes text valid is =
     ap (λ (t : List ℕ). encode_utf8_all (nfc (chars t))) is
     ∙ ap (λ (b : Bool). if b then encode_utf8_all (nfc (chars bytes)) else bytes) (sym (is_utf8-from_IsUtf8 bytes valid))
 
-only_false : (b : Bool) → (b ≡ true → ⊥) → b ≡ false
-only_false true h = absurd (h refl)
-only_false false h = refl
-
 of_none : (bytes : List ℕ) → (IsUtf8 bytes → ⊥) → bytes ≡ composed bytes
 of_none bytes invalid =
-    ap (λ (b : Bool). if b then encode_utf8_all (nfc (chars bytes)) else bytes) (sym (only_false (is_utf8 bytes) (λ e. invalid (IsUtf8-from_is_utf8 bytes e))))
+    ap (λ (b : Bool). if b then encode_utf8_all (nfc (chars bytes)) else bytes) (sym (false_from_ne_true (is_utf8 bytes) (λ e. invalid (IsUtf8-from_is_utf8 bytes e))))
 
 -- what is composed stays so
 stays : (text cs : List ℕ) → IsUtf8 text → text ≡ encode_utf8_all (nfc cs) → composed text ≡ text

@@ -3,27 +3,28 @@ use Rattle.history_model.specs.Forms.{max_content, title}
 use Rattle.history_model.specs.Causes.{is_bad_actor, is_bad_title}
 use Rattle.history_model.specs.declared.Cause.TheVariants.{BadTime}
 use Rattle.history.specs.CommitCauses.{AreTimes, ReadsTime}
-use Rattle.history.proofs.FieldLemmas.{turned, not_beyond, over}
+use Rattle.history.proofs.FieldLemmas.{not_beyond, over}
 use Rattle.history.proofs.FirstCauses.{long_content, long_message}
 use Rattle.history.proofs.Tested.{only_error}
-use Rattle.history.proofs.TimesLemmas.{actor_refused, time_refused, title_refused, size_refused, all_formed, some_bad, other_bad, neither_bad, good, time_good, absent}
+use Rattle.history.proofs.TimesLemmas.{actor_refused, time_refused, title_refused, size_refused, all_formed, some_bad, other_bad, neither_bad, time_good, absent}
 use Rattle.history.proofs.TitleLemmas.{bad_kept}
 use Rattle.history.proofs.causes.read_times.Goals as goal
 use Rattle.history.proofs.causes.read_times.Goals.{then-not-has_good_names-via-then-not-has_good_names, then-not-has_good_names-via-else-not-has_good_names+then-not-has_good_names-2, then-is_too_long-via-then-is_too_long, then-is_too_long-via-else-is_too_long+then-has_long_content}
+use Rattle.std.proofs.lemmas.Bool.{not-false, not-true}
 
 pub returns-then-not-has_good_names : goal.returns-then-not-has_good_names
 returns-then-not-has_good_names c = λ r order is_author is_committer is_message is_long paths.
     elim c.then-not-has_good_names.branch [
       | then-not-has_good_names-via-then-not-has_good_names w ↦
-          actor_refused r order paths (some_bad _ _ (turned (is_bad_actor order.author) (sym (c.has_good_names.ensures order.author is_author) ∙ w.if-not-has_good_names.true)))
+          actor_refused r order paths (some_bad _ _ (not-false (is_bad_actor order.author) (sym (c.has_good_names.ensures order.author is_author) ∙ w.if-not-has_good_names.true)))
       | then-not-has_good_names-via-else-not-has_good_names+then-not-has_good_names-2 w ↦
-          actor_refused r order paths (other_bad _ _ (turned (is_bad_actor order.committer) (sym (w.has_good_names-else-not-has_good_names.ensures order.committer is_committer) ∙ w.if-not-has_good_names-2.true)))
+          actor_refused r order paths (other_bad _ _ (not-false (is_bad_actor order.committer) (sym (w.has_good_names-else-not-has_good_names.ensures order.committer is_committer) ∙ w.if-not-has_good_names-2.true)))
     ]
 
 pub returns-in_err-author : goal.returns-in_err-author
 returns-in_err-author c = λ r order is_author is_committer is_message is_long paths.
-    let actors = neither_bad _ _ (good (is_bad_actor order.author) (sym (c.has_good_names.ensures order.author is_author) ∙ c.if-not-has_good_names.false))
-    (good (is_bad_actor order.committer) (sym (c.has_good_names-else-not-has_good_names.ensures order.committer is_committer) ∙ c.if-not-has_good_names-2.false)) in
+    let actors = neither_bad _ _ (not-true (is_bad_actor order.author) (sym (c.has_good_names.ensures order.author is_author) ∙ c.if-not-has_good_names.false))
+    (not-true (is_bad_actor order.committer) (sym (c.has_good_names-else-not-has_good_names.ensures order.committer is_committer) ∙ c.if-not-has_good_names-2.false)) in
     let told = absent c.time_of.result c.in_err-author.field-0.0 BadTime c.in_err-author.ensures.value in
     let time = subst (ReadsTime order.author) told.1 (c.time_of.ensures order.author is_author) in
     subst (AreTimes r order) (sym (only_error _ c.in_err-author.field-0.0 c.from_residual.ensures.1 ∙ ap Err told.0))
@@ -31,8 +32,8 @@ returns-in_err-author c = λ r order is_author is_committer is_message is_long p
 
 pub returns-in_err-committer : goal.returns-in_err-committer
 returns-in_err-committer c = λ r order is_author is_committer is_message is_long paths.
-    let actors = neither_bad _ _ (good (is_bad_actor order.author) (sym (c.has_good_names.ensures order.author is_author) ∙ c.if-not-has_good_names.false))
-    (good (is_bad_actor order.committer) (sym (c.has_good_names-else-not-has_good_names.ensures order.committer is_committer) ∙ c.if-not-has_good_names-2.false)) in
+    let actors = neither_bad _ _ (not-true (is_bad_actor order.author) (sym (c.has_good_names.ensures order.author is_author) ∙ c.if-not-has_good_names.false))
+    (not-true (is_bad_actor order.committer) (sym (c.has_good_names-else-not-has_good_names.ensures order.committer is_committer) ∙ c.if-not-has_good_names-2.false)) in
     let told = absent c.time_of-2.result c.in_err-committer.field-0.0 BadTime c.in_err-committer.ensures.value in
     let time = subst (ReadsTime order.committer) told.1 (c.time_of-2.ensures order.committer is_committer) in
     subst (AreTimes r order) (sym (only_error _ c.in_err-committer.field-0.0 c.from_residual-in_err-committer.ensures.1 ∙ ap Err told.0))
@@ -40,8 +41,8 @@ returns-in_err-committer c = λ r order is_author is_committer is_message is_lon
 
 pub returns-then-is_bad_title : goal.returns-then-is_bad_title
 returns-then-is_bad_title c = λ r order is_author is_committer is_message is_long paths.
-    let actors = neither_bad _ _ (good (is_bad_actor order.author) (sym (c.has_good_names.ensures order.author is_author) ∙ c.if-not-has_good_names.false))
-    (good (is_bad_actor order.committer) (sym (c.has_good_names-else-not-has_good_names.ensures order.committer is_committer) ∙ c.if-not-has_good_names-2.false)) in
+    let actors = neither_bad _ _ (not-true (is_bad_actor order.author) (sym (c.has_good_names.ensures order.author is_author) ∙ c.if-not-has_good_names.false))
+    (not-true (is_bad_actor order.committer) (sym (c.has_good_names-else-not-has_good_names.ensures order.committer is_committer) ∙ c.if-not-has_good_names-2.false)) in
     let author = subst (ReadsTime order.author) c.in_ok-author.ensures.ok_part (c.time_of.ensures order.author is_author) in
     let committer = subst (ReadsTime order.committer) c.in_ok-committer.ensures.ok_part (c.time_of-2.ensures order.committer is_committer) in
     let times = neither_bad _ _ (time_good order.author c.in_ok-author.author author) (time_good order.committer c.in_ok-committer.committer committer) in
@@ -50,8 +51,8 @@ returns-then-is_bad_title c = λ r order is_author is_committer is_message is_lo
 
 pub returns-then-is_too_long : goal.returns-then-is_too_long
 returns-then-is_too_long c = λ r order is_author is_committer is_message is_long paths.
-    let actors = neither_bad _ _ (good (is_bad_actor order.author) (sym (c.has_good_names.ensures order.author is_author) ∙ c.if-not-has_good_names.false))
-    (good (is_bad_actor order.committer) (sym (c.has_good_names-else-not-has_good_names.ensures order.committer is_committer) ∙ c.if-not-has_good_names-2.false)) in
+    let actors = neither_bad _ _ (not-true (is_bad_actor order.author) (sym (c.has_good_names.ensures order.author is_author) ∙ c.if-not-has_good_names.false))
+    (not-true (is_bad_actor order.committer) (sym (c.has_good_names-else-not-has_good_names.ensures order.committer is_committer) ∙ c.if-not-has_good_names-2.false)) in
     let author = subst (ReadsTime order.author) c.in_ok-author.ensures.ok_part (c.time_of.ensures order.author is_author) in
     let committer = subst (ReadsTime order.committer) c.in_ok-committer.ensures.ok_part (c.time_of-2.ensures order.committer is_committer) in
     let times = neither_bad _ _ (time_good order.author c.in_ok-author.author author) (time_good order.committer c.in_ok-committer.committer committer) in
@@ -66,8 +67,8 @@ returns-then-is_too_long c = λ r order is_author is_committer is_message is_lon
 
 pub returns : goal.returns
 returns c = λ r order is_author is_committer is_message is_long paths.
-    let actors = neither_bad _ _ (good (is_bad_actor order.author) (sym (c.has_good_names.ensures order.author is_author) ∙ c.if-not-has_good_names.false))
-    (good (is_bad_actor order.committer) (sym (c.has_good_names-else-not-has_good_names.ensures order.committer is_committer) ∙ c.if-not-has_good_names-2.false)) in
+    let actors = neither_bad _ _ (not-true (is_bad_actor order.author) (sym (c.has_good_names.ensures order.author is_author) ∙ c.if-not-has_good_names.false))
+    (not-true (is_bad_actor order.committer) (sym (c.has_good_names-else-not-has_good_names.ensures order.committer is_committer) ∙ c.if-not-has_good_names-2.false)) in
     let author = subst (ReadsTime order.author) c.in_ok-author.ensures.ok_part (c.time_of.ensures order.author is_author) in
     let committer = subst (ReadsTime order.committer) c.in_ok-committer.ensures.ok_part (c.time_of-2.ensures order.committer is_committer) in
     let times = neither_bad _ _ (time_good order.author c.in_ok-author.author author) (time_good order.committer c.in_ok-committer.committer committer) in

@@ -5,9 +5,10 @@ use Rattle.history_model.specs.Objects.{hex}
 use Rattle.history_model.specs.Replies.{ok, spelled_actor}
 use Rattle.history_model.specs.Spelling.{Line, Field, parent_part, actor_parts, part_text, parts_text}
 use Rattle.history_store.specs.Formats.{own_actor}
-use Rattle.history.proofs.ReplyTexts.{map-map, pieces, same_line}
+use Rattle.history.proofs.ReplyTexts.{pieces, same_line}
 use Rattle.history.proofs.showing.commit_text.Goals as goal
 use Rattle.gix_hash_id.specs.Id.{id_of}
+use Rattle.history_files.proofs.Lines.{map_twice}
 
 pub returns : goal.returns
 returns c = λ kind plain.
@@ -26,7 +27,7 @@ returns c = λ kind plain.
     let message = same_line (c.as_slice-7.result.now ∷ c.as_bytes-3.result.now ∷ []) (codes "message" ∷ decimal (length commit.message) ∷ []) c.actor-2.new.text.items c.line-4.new.text.items c.in_ok-line-4.ensures (cc) in
     let told : c.parent_lines.new.text.items ≡ c.line-3.new.text.items ++ parts_text (map (λ parent. parent_part (hex parent)) parents) =
     c.in_ok-parent_lines.ensures ∙ ap (λ ids. c.line-3.new.text.items ++ parts_text (map (λ id. parent_part (hex (id_of id))) ids)) c.as_slice-6.ensures
-    ∙ ap (λ ps. c.line-3.new.text.items ++ parts_text ps) (sym (map-map (λ parent. parent_part (hex parent)) id_of commit.parents.items)) in
+    ∙ ap (λ ps. c.line-3.new.text.items ++ parts_text ps) (sym (map_twice (λ parent. parent_part (hex parent)) id_of commit.parents.items)) in
     let bytes : c.field.new.text.items ≡ c.line-4.new.text.items ++ part_text (Field commit.message) =
     c.in_ok-field.ensures ∙ ap (λ message. c.line-4.new.text.items ++ part_text (Field message)) c.as_bytes-4.ensures in
     pieces (ok (codes "show" ∷ codes "commit" ∷ hex id ∷ [])) (Line (codes "tree" ∷ hex (id_of commit.tree) ∷ [])) (Line (codes "parents" ∷ decimal (length parents) ∷ []))

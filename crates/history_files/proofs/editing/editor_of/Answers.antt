@@ -11,10 +11,11 @@ use Rattle.history_files.proofs.Unopened.{none_into, same_into}
 use Rattle.history_files.specs.Editing.{IsBase, root_id}
 use Rattle.history_files.specs.Entries.{names_only, own_folders}
 use Rattle.history_files.specs.Opening.{EditsFiles}
-use Rattle.history_files.proofs.EmptyFiles.{empty_map, empty_trees, empty_unfolds, no_entries}
+use Rattle.history_files.proofs.EmptyFiles.{empty_map, empty_trees, empty_unfolds}
 use Rattle.history_files.proofs.Named.{own_trees}
 use Rattle.history_files.proofs.Breaks.{root_broken}
 use Rattle.history_files.proofs.editing.editor_of.Goals as goal
+use Rattle.gix_object_editor.proofs.WrittenFiles.{no_files}
 
 pub returns-in_ok-open_editor-in-Some-clause-base : goal.returns-in_ok-open_editor-in-Some-clause-base
 returns-in_ok-open_editor-in-Some-clause-base g c = λ honest kind files base.
@@ -35,7 +36,7 @@ returns-in_ok-new-in-None-clause-base g c = λ honest kind files base.
     subst (λ m. EditsFiles table kind m m c.in_ok-new-in-None.field-0) (sym is) (record {
       map = empty_map;
       trees = empty_trees kind table;
-      unfolds = λ trees stored. empty_unfolds kind _ (λ q. c.in_ok-new-in-None.ensures.files trees q ∙ ap (λ es. files_of_tree trees (map own_item es) q) none ∙ no_entries trees q);
+      unfolds = λ trees stored. empty_unfolds kind _ (λ q. c.in_ok-new-in-None.ensures.files trees q ∙ ap (λ es. files_of_tree trees (map own_item es) q) none ∙ no_files trees q);
       each = c.in_ok-new-in-None.ensures.each (names_only kind (own_folders empty)) (subst (λ es. ItemsHave (names_only kind (own_folders empty)) (map own_item es)) (sym none) (λ k d within. absurd (omega arith)));
     })
 

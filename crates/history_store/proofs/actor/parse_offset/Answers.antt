@@ -7,14 +7,15 @@ use Rattle.std.proofs.lemmas.Int.{to_z-of_z}
 use Rattle.std.proofs.lemmas.Slice.Eq.{slice_eq-Decides}
 use Rattle.gix_object_lines.specs.declared.lines.time.Time.{Time}
 use Rattle.history_model.specs.Forms.{is_offset}
-use Rattle.history_store.proofs.Offsets.{false_where, offset_of, offset_reads}
+use Rattle.history_store.proofs.Offsets.{offset_of, offset_reads}
 use Rattle.history_store.proofs.actor.parse_offset.Goals as goal
+use Rattle.std.proofs.lemmas.Bool.{false_from_ne_true}
 
 none_some : {A : Type 0} (x : A) → ◌≡◌ {A = Option A} None (Some x) → ⊥
 none_some x e = cc
 
 pub returns-in_err-time : goal.returns-in_err-time
-returns-in_err-time c = rw c.from_residual.ensures (false_where (is_offset c.args.word.now) (λ formed.
+returns-in_err-time c = rw c.from_residual.ensures (false_from_ne_true (is_offset c.args.word.now) (λ formed.
     let told = offset_reads c.args.word.now formed in
     none_some told.0 (sym c.in_err-time.was ∙ c.ok.ensures.value ∙ ap result_ok (c.read_time.ensures.every told.0 told.1))))
 

@@ -1,6 +1,6 @@
 use Rattle.std.proofs.Common.{◌≡◌, ◌∙◌, ap, sym, refl, Bool, true, false, not, length, inl, inr}
 use Rattle.std.specs.Prelude.{◌==◌}
-use Rattle.std.proofs.lemmas.Bool.{false≢true}
+use Rattle.std.proofs.lemmas.Bool.{false≢true, not-true}
 use Rattle.std.proofs.lemmas.Bool.Decides.{Decides-eqb}
 use Rattle.std.proofs.lemmas.Slice.Eq.{slice_eq-Decides}
 use Rattle.gix_object_lines.proofs.lines.name.obeys_rules.Goals as goal
@@ -8,10 +8,6 @@ use Rattle.gix_object_lines.proofs.lines.name.obeys_rules.Goals as goal
 -- what was tested and didn't hold
 refused : {P : Type 0} (b : Bool) → b ≡ false → (P → b ≡ true) → P → ⊥
 refused b fails f p = false≢true (sym fails ∙ f p)
-
-opposite : (b : Bool) → not b ≡ true → b ≡ false
-opposite true e = cc
-opposite false e = refl
 
 not_true : (b : Bool) → (b ≡ true → ⊥) → not b ≡ true
 not_true true h = absurd (h refl)
@@ -26,7 +22,7 @@ returns c = (
     no_lock_last = λ h. refused c.has_barred_end.result c.if-has_barred_end.false c.has_barred_end.ensures.1 (inl h);
     no_lock_before_slash = λ h. refused c.holds_barred_edge.result c.if-holds_barred_edge.false c.holds_barred_edge.ensures.1 (inr h);
     no_two_dots = λ h. refused c.holds_double.result c.if-holds_double.false c.holds_double.ensures.1 (inl h);
-    no_barred_byte = λ h. refused c.holds_barred_byte.result (opposite c.holds_barred_byte.result e) c.holds_barred_byte.ensures.1 h;
+    no_barred_byte = λ h. refused c.holds_barred_byte.result (not-true c.holds_barred_byte.result e) c.holds_barred_byte.ensures.1 h;
     no_slash_first = λ h. refused c.has_barred_start.result c.if-has_barred_start.false c.has_barred_start.ensures.1 (inr h);
     no_slash_last = λ h. refused c.has_barred_end.result c.if-has_barred_end.false c.has_barred_end.ensures.1 (inr (inr h));
     no_two_slashes = λ h. refused c.holds_double.result c.if-holds_double.false c.holds_double.ensures.1 (inr h);

@@ -6,10 +6,7 @@ use Rattle.gix_object_tag.specs.OwnedText.{is_bad_offset}
 use Rattle.gix_object_tag.specs.TagText.{is_marked}
 use Rattle.gix_object_tag.proofs.ActorLines.{spellable}
 use Rattle.gix_object_tag.proofs.tag.spelling.is_spellable.Goals as goal
-
-opposite : (b : Bool) → not b ≡ true → b ≡ false
-opposite true e = absurd cc
-opposite false e = refl
+use Rattle.std.proofs.lemmas.Bool.{not-true}
 
 pub returns-clause-yes : goal.returns-clause-yes
 returns-clause-yes c = λ e.
@@ -18,4 +15,4 @@ returns-clause-yes c = λ e.
     spellable actor.name actor.email actor.time
     (ap is_marked (sym c.as_bytes.ensures) ∙ sym c.is_marked.ensures ∙ c.if-is_marked.false)
     (ap is_marked (sym c.as_bytes-2.ensures) ∙ sym c.is_marked-2.ensures ∙ c.if-is_marked-2.false)
-    (ap is_bad_offset (sym (to_z-of_z w32 actor.time.offset small)) ∙ sym c.is_bad_offset.ensures ∙ opposite c.is_bad_offset.result e)
+    (ap is_bad_offset (sym (to_z-of_z w32 actor.time.offset small)) ∙ sym c.is_bad_offset.ensures ∙ not-true c.is_bad_offset.result e)

@@ -25,13 +25,13 @@ use Rattle.gix_traverse_commit.specs.declared.simple.faults.Error.{Error}
 use Rattle.gix_traverse_commit.proofs.ByTime.{timing_same, under_source}
 use Rattle.gix_traverse_commit.proofs.Ending.{gains_more, gains_same}
 use Rattle.gix_traverse_commit.proofs.Meeting.{list_same}
-use Rattle.gix_traverse_commit.proofs.Pending.{is_false}
 use Rattle.gix_traverse_commit.proofs.Simply.{accepts_more}
 use Rattle.gix_traverse_commit.proofs.Times.{met_or_accepted}
 use Rattle.gix_traverse_commit.proofs.Awaiting.{waits_in}
 use Rattle.gix_traverse_commit.proofs.Counting.{paints_none}
 use Rattle.std.proofs.lemmas.Result.{err_from_is_err_and}
 use Rattle.gix_traverse_commit.proofs.simple.Simple.begin.Goals as goal
+use Rattle.std.proofs.lemmas.Bool.{false_from_ne_true}
 
 pub returns-clause-going : goal.returns-clause-going
 returns-clause-going g c = λ honest0 commits told0 ids a sure0 m0.
@@ -89,7 +89,7 @@ returns-clause-counted g c = λ a m.
           (λ x (k, y, out). (
             subst (λ (ts : List ObjectId). Contains ts x) (sym w.tips) k,
             c.in_default.ensures.met x ∙ met_or_accepted a.accepts c.gather.new.self.known.nodes x (w.asked.refused x) y,
-            is_false (is_hidden c.paint.new.known.nodes x) (λ t. out ((painted x).0 t)),
+            false_from_ne_true (is_hidden c.paint.new.known.nodes x) (λ t. out ((painted x).0 t)),
           ))
           (tips.list (subst (λ (t : Option Timing). IsSome t) (sym order) some)));
     }
@@ -172,7 +172,7 @@ returns-clause-awaits g c = λ a m honest0 commits told0.
     (λ x (k, y, out). (
       subst (λ (ts : List ObjectId). Contains ts x) (sym w.tips) k,
       c.in_default.ensures.met x ∙ met_or_accepted a.accepts c.gather.new.self.known.nodes x (w.asked.refused x) y,
-      is_false (is_hidden c.paint.new.known.nodes x) (λ t. out ((painted x).0 t)),
+      false_from_ne_true (is_hidden c.paint.new.known.nodes x) (λ t. out ((painted x).0 t)),
     ))
     empty
 

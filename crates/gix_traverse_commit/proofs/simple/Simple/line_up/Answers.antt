@@ -21,13 +21,14 @@ use Rattle.gix_traverse_commit.proofs.ByTime.{is_sure, timing_same}
 use Rattle.gix_traverse_commit.specs.Keeping.{KeptAll}
 use Rattle.gix_traverse_commit.proofs.Chosen.{chosen_none, met_tips}
 use Rattle.gix_traverse_commit.proofs.Keeping.{kept_none}
-use Rattle.gix_traverse_commit.proofs.Simply.{accepts_more, and_left, and_right, kept_tip, refused_tip}
+use Rattle.gix_traverse_commit.proofs.Simply.{accepts_more, kept_tip, refused_tip}
 use Rattle.gix_traverse_commit.proofs.Timely.{in_nil, met_none}
 use Rattle.gix_traverse_commit.proofs.simple.Simple.line_up.Goals as goal
+use Rattle.std.proofs.lemmas.Bool.{and_parts}
 
 -- what the predicate refuses isn't kept
 refused_since : (h a t : Bool) → a ≡ false → (not h && (a && t)) ≡ true → ⊥
-refused_since h a t e k = let f = and_left a t (and_right (not h) (a && t) k) in let z : ⊥ = cc in z
+refused_since h a t e k = let f = (and_parts a t (and_parts (not h) (a && t) k).1).0 in let z : ⊥ = cc in z
 
 pub returns-in_default-clause-going : goal.returns-in_default-clause-going
 returns-in_default-clause-going g c = λ honest commits told ids a sure m.

@@ -1,9 +1,9 @@
 use Rattle.std.proofs.Common.{inl, inr}
 use Rattle.gix_traverse_commit.specs.Simply.{times_queued}
 use Rattle.gix_traverse_commit.proofs.Ending.{gains_none}
-use Rattle.gix_traverse_commit.proofs.Pending.{is_false}
 use Rattle.gix_traverse_commit.proofs.Rest.{begun_to, rest_turned}
 use Rattle.gix_traverse_commit.proofs.simple.Simple.turn.Goals as goal
+use Rattle.std.proofs.lemmas.Bool.{false_from_ne_true}
 
 pub returns-then-not-self-clause-ahead : goal.returns-then-not-self-clause-ahead
 returns-then-not-self-clause-ahead g c = λ a m. elim m [
@@ -22,7 +22,7 @@ returns-clause-ahead g c = λ a m. elim m [
   | inl (inl n) ↦ (let b = n.begun in let f = c.if-not-self.false in let z : ⊥ = cc in absurd z)
   | inl (inr t) ↦ (let b = t.begun in let f = c.if-not-self.false in let z : ⊥ = cc in absurd z)
   | inr u ↦ inr (rest_turned g.P.Accept.accepts a c.args.self.now (record c.args.self.now { tips = c.clear.new.self; begun = c.is_idle-self.result }) u c.clear.ensures.items
-      (is_false c.is_idle-self.result (λ h. let both = c.is_idle-self.ensures.0 h in u.goes_on (record { begun = begun_to g.P.Accept.accepts c.args.self.now a u; empty = both.0; none_waits = both.1 }))))
+      (false_from_ne_true c.is_idle-self.result (λ h. let both = c.is_idle-self.ensures.0 h in u.goes_on (record { begun = begun_to g.P.Accept.accepts c.args.self.now a u; empty = both.0; none_waits = both.1 }))))
 ]
 
 pub returns-then-not-self-clause-emptied : goal.returns-then-not-self-clause-emptied

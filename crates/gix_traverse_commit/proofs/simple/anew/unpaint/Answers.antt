@@ -7,9 +7,9 @@ use Rattle.gix_traverse_commit.specs.Nodes.{is_hidden}
 use Rattle.gix_traverse_commit.specs.declared.nodes.Marks.{Marks}
 use Rattle.gix_traverse_commit.proofs.Chosen.{take_all}
 use Rattle.gix_traverse_commit.proofs.NodeLemmas.{hidden_among}
-use Rattle.gix_traverse_commit.proofs.Pending.{is_false}
 use Rattle.gix_traverse_commit.proofs.Simply.{in_push, met_same, taken_off, take_push}
 use Rattle.gix_traverse_commit.proofs.simple.anew.unpaint.Goals as goal
+use Rattle.std.proofs.lemmas.Bool.{false_from_ne_true}
 
 pub ids-preserved : goal.ids-preserved
 ids-preserved c =
@@ -30,7 +30,7 @@ ids-preserved c =
     }
 
 pub returns-clause-unpainted : goal.returns-clause-unpainted
-returns-clause-unpainted c = λ x. is_false (is_hidden c.ids.known.nodes x) (λ h.
+returns-clause-unpainted c = λ x. false_from_ne_true (is_hidden c.ids.known.nodes x) (λ h.
     let (was, out) = c.ids.invariant.left x h in
     let all = take_all c.deref-id-items.result.now c.ids.id-index c.ids-test.false ∙ c.deref-id-items.ensures.value in
     out (subst (λ (zs : List ObjectId). Contains zs x) (sym (all ∙ c.in_ok-ids.ensures)) (hidden_among c.args.known.now.nodes x was)))

@@ -4,7 +4,6 @@ use Rattle.gix_ref_file.specs.declared.files.FileError.{FileError}
 use Rattle.gix_ref_file.specs.declared.files.FileError.TheVariants as files
 use Rattle.history_model.specs.Objects.{object_text}
 use Rattle.history_model.specs.Forms.{is_id}
-use Rattle.history_model.proofs.PlaceLemmas.{digest_is_id}
 use Rattle.history_store.specs.Stores.{FoldersAbove, KeepsFolders, IsObjectPlace, MayPut, MayStand, place_of, text_of, put_fault}
 use Rattle.history_store.specs.declared.object.NewObject.{NewObject}
 use Rattle.history_store.specs.declared.objects.PutMadeError.TheVariants as errors
@@ -19,6 +18,7 @@ use Rattle.history_store.proofs.Stored.{taken_by_other, none_other, same_other, 
 use Rattle.history_store.proofs.objects.Objects.put_made.Goals as goal
 use Rattle.history_store.proofs.objects.Objects.put_made.Goals.{then-branch+in_ok-holds+else-not-branch, else-branch+in_ok-write}
 use Rattle.gix_hash_id.specs.Id.{id_of}
+use Rattle.history_model.proofs.IdLemmas.{digest_is_id}
 
 spelled : (object : NewObject) (content header : Bytes) → content ≡ object.content.items → header ≡ header_text object.kind (length content) → header ++ content ≡ text_of object
 spelled object content header same is = ap (λ h. h ++ content) is ∙ ap (object_text object.kind) same

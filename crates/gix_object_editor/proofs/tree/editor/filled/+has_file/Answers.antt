@@ -9,9 +9,10 @@ use Rattle.gix_object_editor.specs.Files.{Bytes}
 use Rattle.gix_object_editor.specs.Nodes.{slots_of, slot_in, child_of, child_or}
 use Rattle.gix_object_editor.proofs.Slots.{key_cmp, is_named, node_at}
 use Rattle.gix_object_editor.proofs.Loaded.{not_null, null_by_test}
-use Rattle.gix_object_editor.proofs.Filled.{AreOf, NoFile, NoFiles, all_of, none_below, no_file_null, no_file_child, found_entry, found_child, isnt, is_so}
+use Rattle.gix_object_editor.proofs.Filled.{AreOf, NoFile, NoFiles, all_of, none_below, no_file_null, no_file_child, found_entry, found_child}
 use Rattle.gix_object_editor.proofs.tree.editor.filled.+has_file.Goals.{in-Some-child, in-None-child}
 use Rattle.gix_object_editor.proofs.tree.editor.filled.+has_file.Goals as goal
+use Rattle.std.proofs.lemmas.Bool.{not-true, not-false}
 
 pub loop-slot-init : goal.loop-slot-init
 loop-slot-init t c =
@@ -48,7 +49,7 @@ returns-then-filled-clause-found t c = λ _ trees filled.
           found_child trees (slots_of nodes) c.args.at.0 here.0.0 c.in-Some.slot.now w.in-Some-child.child.0 here.0.1
           (ap (λ o. child_or o (λ k. Some k) None) w.in-Some-child.is) (w.has_file-filled.ensures.found (sym w.filled-is ∙ c.if-filled.true) trees filled)
       | in-None-child w ↦
-          let null : w.is_null.result ≡ false = isnt w.is_null.result (sym w.filled-is ∙ c.if-filled.true) in
+          let null : w.is_null.result ≡ false = not-true w.is_null.result (sym w.filled-is ∙ c.if-filled.true) in
           found_entry trees (slots_of nodes) c.args.at.0 here.0.0 c.in-Some.slot.now here.0.1 w.in-None-child.is
           (filled c.args.at.0 here.0.0 c.in-Some.slot.now here.0.1 w.in-None-child.is (not_null (id_of c.in-Some.slot.now.oid) w.is_null.result w.is_null.ensures null))
     ]
@@ -63,7 +64,7 @@ loop-slot-preserved t c =
           (w.has_file-filled.ensures.none (sym w.filled-is ∙ c.if-filled.false))
       | in-None-child w ↦
           no_file_null (slots_of nodes) c.in-Some.slot.now w.in-None-child.is
-          (null_by_test (id_of c.in-Some.slot.now.oid) w.is_null.result w.is_null.ensures (is_so w.is_null.result (sym w.filled-is ∙ c.if-filled.false)))
+          (null_by_test (id_of c.in-Some.slot.now.oid) w.is_null.result w.is_null.ensures (not-false w.is_null.result (sym w.filled-is ∙ c.if-filled.false)))
     ] in
     record {
       next = tt;
