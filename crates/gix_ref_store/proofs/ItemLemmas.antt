@@ -10,8 +10,8 @@ use Rattle.gix_ref_format.specs.Packed.{Record}
 use Rattle.gix_ref_format.specs.PackedBuffer.{hit}
 use Rattle.gix_ref_format.specs.Lookup.{packed_hit, packed_key, is_own}
 use Rattle.gix_ref_format.specs.declared.packed.buffer.Buffer.{Buffer}
-use Rattle.gix_ref_store.specs.Readings.{Reading, Stands, Absent, Faulty, Met, reading_among}
-use Rattle.gix_ref_store.specs.Finds.{records_in, TellsReading}
+use Rattle.gix_ref_store.specs.NameStates.{NameState, Stands, Absent, Faulty, Met, state_among}
+use Rattle.gix_ref_store.specs.Finds.{records_in, TellsState}
 use Rattle.gix_ref_store.specs.Searches.{reads_in}
 use Rattle.gix_ref_store.specs.Items.{is_there, met_by, mets_of, left_in, GivesNext, TellsName}
 use Rattle.gix_ref_store.specs.Listings.{IsListing}
@@ -24,12 +24,12 @@ use Rattle.gix_ref_store.specs.declared.store.file.iter.Error.{Error}
 use Rattle.gix_ref_store.specs.declared.store.file.iter.Error.TheVariants.{Traversal, ReadFileContents, ReferenceCreation, Memory}
 use Rattle.gix_ref_store.specs.declared.store.file.iter.LooseThenPacked.{LooseThenPacked}
 
-not_there : (r : Reading) → is_there r ≡ false → r ≡ Absent
+not_there : (r : NameState) → is_there r ≡ false → r ≡ Absent
 not_there Absent is = refl
 not_there (Stands points peeled) is = cc
 not_there (Faulty why) is = cc
 
-module _ (read : List ℕ → Reading) (n : List ℕ) (rest : List (List ℕ)) where
+module _ (read : List ℕ → NameState) (n : List ℕ) (rest : List (List ℕ)) where
   is_next : is_there (read n) ≡ true → mets_of read (n ∷ rest) ≡ met_by read n ∷ mets_of read rest
   is_next is = ap (λ b. map (met_by read) (cond b (n ∷ filter (λ name. is_there (read name)) rest) (filter (λ name. is_there (read name)) rest))) is
 
@@ -42,12 +42,12 @@ module _ (read : List ℕ → Reading) (n : List ℕ) (rest : List (List ℕ)) w
 
   -- another is given
   pub given : (item : Result Reference Error) → TellsName n (read n) (Some item) → GivesNext read (mets_of read (n ∷ rest)) (Some item) (mets_of read rest)
-  given (Ok r) (same, reads) = is_next (ap is_there reads) ∙ (λ i. record { name = same i; reading = reads i } ∷ mets_of read rest)
-  given (Err (ReferenceCreation name reason)) (same, reads) = is_next (ap is_there reads) ∙ (λ i. record { name = same i; reading = reads i } ∷ mets_of read rest)
+  given (Ok r) (same, reads) = is_next (ap is_there reads) ∙ (λ i. record { name = same i; name_state = reads i } ∷ mets_of read rest)
+  given (Err (ReferenceCreation name reason)) (same, reads) = is_next (ap is_there reads) ∙ (λ i. record { name = same i; name_state = reads i } ∷ mets_of read rest)
   given (Err (ReadFileContents name)) same = by_case (is_there (read n)) refl
     where
-      by_case : (b : Bool) → is_there (read n) ≡ b → ((read name ≡ Absent) × (mets_of read (n ∷ rest) ≡ mets_of read rest)) ⊎ ((r : Reading) × (mets_of read (n ∷ rest) ≡ record { name = name; reading = r } ∷ mets_of read rest))
-      by_case true is = inr (read n, is_next is ∙ (λ i. record { name = same i; reading = read n } ∷ mets_of read rest))
+      by_case : (b : Bool) → is_there (read n) ≡ b → ((read name ≡ Absent) × (mets_of read (n ∷ rest) ≡ mets_of read rest)) ⊎ ((r : NameState) × (mets_of read (n ∷ rest) ≡ record { name = name; name_state = r } ∷ mets_of read rest))
+      by_case true is = inr (read n, is_next is ∙ (λ i. record { name = same i; name_state = read n } ∷ mets_of read rest))
       by_case false is = inl (sym (ap read same) ∙ not_there (read n) is, is_over is)
   given (Err Memory) told = by_case (is_there (read n)) refl
     where
@@ -56,18 +56,18 @@ module _ (read : List ℕ → Reading) (n : List ℕ) (rest : List (List ℕ)) w
       by_case false is = inl (is_over is)
   given (Err Traversal) told = told
 
-pub gives_from : (read : List ℕ → Reading) (before left after : List Met) (item : Option (Result Reference Error)) → left ≡ before → GivesNext read left item after
+pub gives_from : (read : List ℕ → NameState) (before left after : List Met) (item : Option (Result Reference Error)) → left ≡ before → GivesNext read left item after
     → GivesNext read before item after
 gives_from read before left after item is gives = subst (λ (l : List Met). GivesNext read l item after) is gives
 
 -- ---- what a listing is made of
 pub of_items : {F : Type 0} (tree : Tree) (asked : List ℕ → Bool) (store : Store F) (packed : Option (Bor Buffer)) (names : List (List ℕ)) (items : LooseThenPacked F)
     → items.search.store.now ≡ store → items.search.packed ≡ packed → items.names ≡ names
-    → IsListing (reading_among (base_of store) tree (records_in packed)) asked (mets_of (reading_among (base_of store) tree (records_in packed)) names)
-    → IsListing (reading_among (base_of store) tree (records_in packed)) asked (left_in tree items)
+    → IsListing (state_among (base_of store) tree (records_in packed)) asked (mets_of (state_among (base_of store) tree (records_in packed)) names)
+    → IsListing (state_among (base_of store) tree (records_in packed)) asked (left_in tree items)
 of_items tree asked store packed names items s p n listing =
-    subst (λ (out : List Met). IsListing (reading_among (base_of store) tree (records_in packed)) asked out)
-    (λ i. mets_of (reading_among (base_of (sym s i)) tree (records_in (sym p i))) (sym n i)) listing
+    subst (λ (out : List Met). IsListing (state_among (base_of store) tree (records_in packed)) asked out)
+    (λ i. mets_of (state_among (base_of (sym s i)) tree (records_in (sym p i))) (sym n i)) listing
 
 pub still_places : (b : Base) (tree : Tree) (asked : List ℕ → Bool) (old new : List (List ℕ)) → Keeps old new → GathersPlaces b tree asked old → GathersPlaces b tree asked new
 still_places b tree asked old new keeps gathers name file full so = keeps name (gathers name file full so)
@@ -102,7 +102,7 @@ step {F} tree start now name rest item same names left told =
     (subst (λ (ns : List (List ℕ)). GivesNext (reads_in tree now.search) (mets_of (reads_in tree now.search) ns) (Some item) (mets_of (reads_in tree now.search) rest)) (sym names)
     (given (reads_in tree now.search) name rest item (subst (λ s. TellsName name (reads_in tree s name) (Some item)) (sym same) told))))
 
-pub told_found : (name : List ℕ) (r : Reading) (found : Reference) → TellsReading name r (Ok (Some found)) → TellsName name r (Some (Ok found))
+pub told_found : (name : List ℕ) (r : NameState) (found : Reference) → TellsState name r (Ok (Some found)) → TellsName name r (Some (Ok found))
 told_found name r found (same, reads) = (sym same, reads)
 
 pub left_on : {F : Type 0} (tree : Tree) (now : LooseThenPacked F) (name : List ℕ) (rest : List (List ℕ)) → now.names ≡ name ∷ rest → TellsName name (reads_in tree now.search name) None

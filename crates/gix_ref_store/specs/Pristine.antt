@@ -5,21 +5,21 @@ use Rattle.gix_ref_file.specs.Tree.{Tree}
 use Rattle.gix_ref_name.specs.Targets.{Points, ToName}
 use Rattle.gix_ref_store.specs.Listings.{all_names}
 use Rattle.gix_ref_store.specs.Places.{Base}
-use Rattle.gix_ref_store.specs.Readings.{Reading, Stands, reading_among, packed_text_in}
+use Rattle.gix_ref_store.specs.NameStates.{NameState, Stands, state_among, packed_text_in}
 use Rattle.gix_ref_store.specs.Stores.{base_of}
 use Rattle.gix_ref_store.specs.declared.store.file.Store.{Store}
 use Rattle.gix_ref_store.specs.declared.store.file.iter.Error.{Error}
 use Rattle.gix_ref_store.specs.declared.store.file.iter.Error.TheVariants.{Traversal, ReadFileContents, ReferenceCreation, Memory}
 
 -- what `HEAD` reads as
-abbrev pub head_in : Base → Tree → Reading
-head_in b tree = reading_among b tree [] (codes "HEAD")
+abbrev pub head_in : Base → Tree → NameState
+head_in b tree = state_among b tree [] (codes "HEAD")
 
-abbrev pub PointsNowhere : Reading → Type 0
+abbrev pub PointsNowhere : NameState → Type 0
 PointsNowhere r = (points : Points) (peeled : Option Id) → r ≢ Stands points peeled
 
 -- one of the names asked for points to something
-abbrev pub SomeStands : (List ℕ → Reading) → (List ℕ → Bool) → Type 0
+abbrev pub SomeStands : (List ℕ → NameState) → (List ℕ → Bool) → Type 0
 SomeStands read asked =
     (name : List ℕ) × (points : Points) × (peeled : Option Id) × IsTrue (asked name)
     × (read name ≡ Stands points peeled)
@@ -29,7 +29,7 @@ SomeStands read asked =
 pub record IsPristine {F : Type 0} (store : Store F) (tree : Tree) (branch : List ℕ) : Type 0 where
   pub head : head_in (base_of store) tree ≡ Stands (ToName branch) None
   pub unpacked : packed_text_in (base_of store) tree ≡ None
-  pub alone : ¬ SomeStands (reading_among (base_of store) tree []) (all_names store)
+  pub alone : ¬ SomeStands (state_among (base_of store) tree []) (all_names store)
 
 -- why it isn't told: a folder couldn't be listed, a file not be read, or memory was refused
 abbrev pub MayStopAt : Type 0 → Error → Type 0

@@ -3,35 +3,35 @@ use Rattle.std.specs.Prelude.{ℕ, ◌≡◌, List, ◌∷◌, Option, option_ma
 use Rattle.gix_ref_file.specs.Tree.{Tree}
 use Rattle.gix_ref_format.specs.Packed.{Record}
 use Rattle.gix_ref_format.specs.Lookup.{packed_hit}
-use Rattle.gix_ref_store.specs.Readings.{Reading, packed_reading, reading_among, first_met}
+use Rattle.gix_ref_store.specs.NameStates.{NameState, packed_state, state_among, first_met}
 use Rattle.gix_ref_store.specs.Stores.{base_of}
-use Rattle.gix_ref_store.specs.Finds.{met_of, records_in, LookupFault, TellsReading}
+use Rattle.gix_ref_store.specs.Finds.{met_of, records_in, LookupFault, TellsState}
 use Rattle.gix_ref_store.specs.declared.reference.Reference.{Reference}
 use Rattle.gix_ref_store.specs.declared.store.file.find.Error.{Error}
 use Rattle.gix_ref_store.specs.declared.store.file.search.Search.{Search}
 
 -- what a name reads as in this tree, with the records that a search has
-abbrev pub reads_in : {F : Type 0} → Tree → Search F → List ℕ → Reading
-reads_in tree search = reading_among (base_of search.store.now) tree (records_in search.packed)
+abbrev pub reads_in : {F : Type 0} → Tree → Search F → List ℕ → NameState
+reads_in tree search = state_among (base_of search.store.now) tree (records_in search.packed)
 
 -- what a search over these names answers
-abbrev pub Finds : (List ℕ → Reading) → List (List ℕ) → Result (Option Reference) Error → Type 0
+abbrev pub Finds : (List ℕ → NameState) → List (List ℕ) → Result (Option Reference) Error → Type 0
 Finds read names result =
     MatchResult result (λ found. option_map met_of found ≡ first_met read names)
     (LookupFault (first_met read names))
 
 -- what it answers of one name
-abbrev pub AnswersName : (List ℕ → Reading) → List ℕ → Result (Option Reference) Error → Type 0
-AnswersName read name result = TellsReading name (read name) result
+abbrev pub AnswersName : (List ℕ → NameState) → List ℕ → Result (Option Reference) Error → Type 0
+AnswersName read name result = TellsState name (read name) result
 
 -- what it answers of the first of the names
-abbrev pub AnswersFirst : (List ℕ → Reading) → List (List ℕ) → Result (Option Reference) Error
+abbrev pub AnswersFirst : (List ℕ → NameState) → List (List ℕ) → Result (Option Reference) Error
     → Type 0
 AnswersFirst read names result =
     (first : List ℕ) × (rest : List (List ℕ)) × (names ≡ first ∷ rest)
-    × TellsReading first (read first) result
+    × TellsState first (read first) result
 
 -- the record of the name is told
 abbrev pub AnswersRecord : List Record → List ℕ → Option Reference → Type 0
 AnswersRecord records name found =
-    TellsReading name (packed_reading (packed_hit records name)) (Ok found)
+    TellsState name (packed_state (packed_hit records name)) (Ok found)

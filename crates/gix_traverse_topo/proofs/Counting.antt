@@ -12,7 +12,7 @@ use Rattle.gix_traverse_commit.specs.Numbered.{same_id}
 use Rattle.gix_traverse_commit.specs.Order.{At}
 use Rattle.gix_traverse_commit.proofs.Ids.{same_id_apart}
 use Rattle.gix_traverse_commit.proofs.Lists.{at_one, at_from_contains, at_from_push, contains_from_at, none_at_nil, three}
-use Rattle.gix_traverse_topo.specs.Nodes.{readings, counts, EachCount, NamesAre, IsOnce}
+use Rattle.gix_traverse_topo.specs.Nodes.{all_facts, counts, EachCount, NamesAre, IsOnce}
 use Rattle.gix_traverse_topo.specs.Standing.{id_at, ids_of, CountsOff, passed, counted, freed, NotCounted, GoesOff, RowOff}
 use Rattle.gix_traverse_topo.specs.Turns.{times, total, names_of, named_so_far, Freed}
 use Rattle.gix_traverse_topo.specs.Waiting.{Joined}
@@ -163,7 +163,7 @@ module _ (way : ObjectId → List ObjectId) (h : Commits ObjectId) (before row h
     numbered = λ p c. let (k, a) = at_from_contains [] p c in absurd (none_at_nil k p a);
   }
 
-  pub row_more : (m : ℕ) (y : ObjectId) (cs cs' : List ℕ) (ready' ready'' : Ready) → At row m y → length cs ≡ length known.ids.keys → RowOff known.hidden known.ids.keys way h before row xs ready m cs ready' → CountsOff known.hidden known.ids.keys (readings known.nodes.items) cs ready' y cs' ready'' → RowOff known.hidden known.ids.keys way h before row xs ready (m + 1) cs' ready''
+  pub row_more : (m : ℕ) (y : ObjectId) (cs cs' : List ℕ) (ready' ready'' : Ready) → At row m y → length cs ≡ length known.ids.keys → RowOff known.hidden known.ids.keys way h before row xs ready m cs ready' → CountsOff known.hidden known.ids.keys (all_facts known.nodes.items) cs ready' y cs' ready'' → RowOff known.hidden known.ids.keys way h before row xs ready (m + 1) cs' ready''
   row_more m y cs cs' ready' ready'' here long r (passed none e f) =
       record {
         more = r.more;
@@ -190,7 +190,7 @@ module _ (way : ObjectId → List ObjectId) (h : Commits ObjectId) (before row h
         joined = subst (λ (q : Ready). Joined ready r.more q) (sym f) r.joined;
         numbered = r.numbered;
       }
-  row_more m y cs cs' ready' ready'' here long r (freed {n = n} {pending = pending} {reading = reading} l a b e at_n told timed j) =
+  row_more m y cs cs' ready' ready'' here long r (freed {n = n} {pending = pending} {facts = facts} l a b e at_n told timed j) =
       let b' : At cs n (0 + 1) = b in
       let now = r.counted n y 1 l a b in
       let next = freeing.counted same_id same_id_apart way xs xs_once before row m y here in
@@ -207,7 +207,7 @@ module _ (way : ObjectId → List ObjectId) (h : Commits ObjectId) (before row h
         numbered = λ p c. elim (Contains-push_cases r.more pending p c) [
           | inl d ↦ r.numbered p d
           | inr g ↦ subst (λ (q : Pending). (x : ObjectId) × (known.hidden ≤ q.number.0) × At known.ids.keys q.number.0 x × (q.time ≡ (h x).time)) g
-              (y, omega (arith, at_n), subst (λ (k : ℕ). At known.ids.keys k y) (sym at_n) a, timed ∙ goes.timed n y reading l a (contains_from_at row m y here) told)
+              (y, omega (arith, at_n), subst (λ (k : ℕ). At known.ids.keys k y) (sym at_n) a, timed ∙ goes.timed n y facts l a (contains_from_at row m y here) told)
         ];
       }
 

@@ -15,14 +15,14 @@ use Rattle.gix_traverse_commit.specs.declared.rows.Row.{Row}
 use Rattle.gix_traverse_commit.proofs.Lists.{at_from_contains, contains_from_at, none_at_nil, three}
 use Rattle.gix_traverse_topo.specs.Exploring.{IsPainted, Numbers, IsExplored}
 use Rattle.gix_traverse_topo.specs.Faults.{StopsAtEnds, IsFaultOf}
-use Rattle.gix_traverse_topo.specs.Nodes.{readings, counts, EachCount, IsOnce, IsReading, ParentsFrom}
+use Rattle.gix_traverse_topo.specs.Nodes.{all_facts, counts, EachCount, IsOnce, AreFacts, ParentsFrom}
 use Rattle.gix_traverse_topo.specs.Standing.{as_read}
 use Rattle.gix_traverse_topo.specs.Turns.{names_of}
 use Rattle.gix_traverse_topo.specs.Walking.{Walking}
 use Rattle.gix_traverse_topo.specs.declared.error.Error.{Error}
 use Rattle.gix_traverse_topo.specs.declared.known.Known.{Known}
 use Rattle.gix_traverse_topo.specs.declared.known.Node.{Node}
-use Rattle.gix_traverse_topo.specs.declared.known.Reading.{Reading}
+use Rattle.gix_traverse_topo.specs.declared.known.Facts.{Facts}
 use Rattle.gix_traverse_topo.proofs.Found.{fault_in, parents_so, reached_read}
 use Rattle.gix_traverse_topo.proofs.Meeting.{length_map, at_back}
 use Rattle.gix_traverse_topo.proofs.Updates.{at_within}
@@ -33,7 +33,7 @@ module _ (honest may_fail : Type 0) (rows : List Row) (table : Table) (ends : Li
   none_twice : IsOnce {I = ObjectId} []
   none_twice j k x a b = absurd (none_at_nil j x a)
 
-  one_by_one : (h : Commits ObjectId) → ParentsFrom 0 h keys (readings nodes) → (x : ObjectId) → Contains keys x ↔ ReachedFrom h ends x
+  one_by_one : (h : Commits ObjectId) → ParentsFrom 0 h keys (all_facts nodes) → (x : ObjectId) → Contains keys x ↔ ReachedFrom h ends x
   one_by_one h t x =
       let walks = (walks_all honest may_fail rows table All ends [] [] high keys nodes w full refl none_twice h t).0 in
       let each = walks.breadth.list.each x in (
@@ -58,46 +58,46 @@ module _ (honest may_fail : Type 0) (rows : List Row) (table : Table) (ends : Li
   pub as_many : length nodes ≡ length keys
   as_many = w.many refl
 
-  read : (n : ℕ) (x : ObjectId) (reading : Reading) → At keys n x → At (readings nodes) n reading → IsReading honest may_fail rows table x reading
-  read n x reading a b = w.read n x reading (omega arith) (let m = slice_get_within keys n x a in omega arith) a b
+  read : (n : ℕ) (x : ObjectId) (facts : Facts) → At keys n x → At (all_facts nodes) n facts → AreFacts honest may_fail rows table x facts
+  read n x facts a b = w.read n x facts (omega arith) (let m = slice_get_within keys n x a in omega arith) a b
 
   -- all that the ends reach is read
-  pub painted : (known : Known) → known.ids.keys ≡ keys → known.nodes.items ≡ nodes → known.hidden ≡ length keys → ((n : ℕ) (reading : Reading) → At (readings nodes) n reading → reading.fault ≡ None) → IsPainted honest may_fail rows table ends known
+  pub painted : (known : Known) → known.ids.keys ≡ keys → known.nodes.items ≡ nodes → known.hidden ≡ length keys → ((n : ℕ) (facts : Facts) → At (all_facts nodes) n facts → facts.fault ≡ None) → IsPainted honest may_fail rows table ends known
   painted known e f l no_fault = record {
     once = subst (λ (ks : List ObjectId). IsOnce ks) (sym e) once;
     all_read = ap length f ∙ as_many ∙ sym (ap length e);
     all_hidden = l ∙ sym (ap length e);
-    read = λ n x reading a b. read n x reading (key e n x a) (told f n reading b);
-    no_fault = λ n reading b. no_fault n reading (told f n reading b);
-    hides = λ h t x. subst (λ (ks : List ObjectId). Contains ks x ↔ ReachedFrom h ends x) (sym e) (one_by_one h (λ n y r m a b. t n y r m (subst (λ (ks : List ObjectId). At ks n y) (sym e) a) (subst (λ (ns : List Node). At (readings ns) n r) (sym f) b)) x);
+    read = λ n x facts a b. read n x facts (key e n x a) (told f n facts b);
+    no_fault = λ n facts b. no_fault n facts (told f n facts b);
+    hides = λ h t x. subst (λ (ks : List ObjectId). Contains ks x ↔ ReachedFrom h ends x) (sym e) (one_by_one h (λ n y r m a b. t n y r m (subst (λ (ks : List ObjectId). At ks n y) (sym e) a) (subst (λ (ns : List Node). At (all_facts ns) n r) (sym f) b)) x);
   }
     where
       key : known.ids.keys ≡ keys → (n : ℕ) (x : ObjectId) → At known.ids.keys n x → At keys n x
       key e n x a = subst (λ (ks : List ObjectId). At ks n x) e a
 
-      told : known.nodes.items ≡ nodes → (n : ℕ) (r : Reading) → At (readings known.nodes.items) n r → At (readings nodes) n r
-      told f n r b = subst (λ (ns : List Node). At (readings ns) n r) f b
+      told : known.nodes.items ≡ nodes → (n : ℕ) (r : Facts) → At (all_facts known.nodes.items) n r → At (all_facts nodes) n r
+      told f n r b = subst (λ (ns : List Node). At (all_facts ns) n r) f b
 
   -- a commit that isn't read is one that the ends reach
-  pub stops : (n : ℕ) (reading : Reading) (error : Error) → At (readings nodes) n reading → reading.fault ≡ Some error → StopsAtEnds honest may_fail rows table ends error
-  stops n reading error b e =
-      let long = length_map (λ (v : Node). v.reading) nodes in
-      let (x, a) = at_within keys n (omega (arith, slice_get_within (readings nodes) n reading b, as_many)) in
+  pub stops : (n : ℕ) (facts : Facts) (error : Error) → At (all_facts nodes) n facts → facts.fault ≡ Some error → StopsAtEnds honest may_fail rows table ends error
+  stops n facts error b e =
+      let long = length_map (λ (v : Node). v.facts) nodes in
+      let (x, a) = at_within keys n (omega (arith, slice_get_within (all_facts nodes) n facts b, as_many)) in
       record {
         id = x;
-        cause = subst (λ o. IfSome o (IsFaultOf honest may_fail rows table x)) e (read n x reading a b).cause;
+        cause = subst (λ o. IfSome o (IsFaultOf honest may_fail rows table x)) e (read n x facts a b).cause;
         reached = λ yes g are.
-            reached_read (fault_in keys (readings nodes)) g ends ((one_by_one (as_read (fault_in keys (readings nodes)) g) (parents_so honest may_fail rows table keys (readings nodes) once read yes g are) x).0 (contains_from_at keys n x a));
+            reached_read (fault_in keys (all_facts nodes)) g ends ((one_by_one (as_read (fault_in keys (all_facts nodes)) g) (parents_so honest may_fail rows table keys (all_facts nodes) once read yes g are) x).0 (contains_from_at keys n x a));
       }
 
 -- ---- behind it what the tips reach
 
 module _ (honest may_fail : Type 0) (rows : List Row) (table : Table) (tips ends : List ObjectId) (parents : Parents) (old mid : Known) (high : ℕ) (p : IsPainted honest may_fail rows table ends old) (w : Walking honest may_fail rows table parents tips old.ids.keys old.nodes.items high mid.ids.keys mid.nodes.items) (full : length mid.ids.keys ≤ high) (hidden : mid.hidden ≡ old.hidden) where
-  forward : (n : ℕ) (r : Reading) → At (readings old.nodes.items) n r → At (readings mid.nodes.items) n r
-  forward n r b = w.told_kept n r (let l = slice_get_within (readings old.nodes.items) n r b in omega (arith, length_map (λ (v : Node). v.reading) old.nodes.items)) b
+  forward : (n : ℕ) (r : Facts) → At (all_facts old.nodes.items) n r → At (all_facts mid.nodes.items) n r
+  forward n r b = w.told_kept n r (let l = slice_get_within (all_facts old.nodes.items) n r b in omega (arith, length_map (λ (v : Node). v.facts) old.nodes.items)) b
 
-  back : (n : ℕ) (r : Reading) → n < length old.nodes.items → At (readings mid.nodes.items) n r → At (readings old.nodes.items) n r
-  back n r l b = at_back (readings old.nodes.items) (readings mid.nodes.items) forward n r (omega (arith, length_map (λ (v : Node). v.reading) old.nodes.items)) b
+  back : (n : ℕ) (r : Facts) → n < length old.nodes.items → At (all_facts mid.nodes.items) n r → At (all_facts old.nodes.items) n r
+  back n r l b = at_back (all_facts old.nodes.items) (all_facts mid.nodes.items) forward n r (omega (arith, length_map (λ (v : Node). v.facts) old.nodes.items)) b
 
   mid_once : IsOnce mid.ids.keys
   mid_once = w.once p.once
@@ -105,11 +105,11 @@ module _ (honest may_fail : Type 0) (rows : List Row) (table : Table) (tips ends
   below : (n : ℕ) (x : ObjectId) → At mid.ids.keys n x → n < high
   below n x a = let l = slice_get_within mid.ids.keys n x a in omega (arith, full)
 
-  mid_read : (n : ℕ) (x : ObjectId) (reading : Reading) → At mid.ids.keys n x → At (readings mid.nodes.items) n reading → IsReading honest may_fail rows table x reading
-  mid_read n x reading a b = elim (three n (length old.nodes.items)) [
-    | inl lt ↦ p.read n x reading (at_back old.ids.keys mid.ids.keys w.keys_kept n x (omega (arith, p.all_read)) a) (back n reading lt b)
-    | inr (inl e) ↦ w.read n x reading (omega arith) (below n x a) a b
-    | inr (inr gt) ↦ w.read n x reading (omega arith) (below n x a) a b
+  mid_read : (n : ℕ) (x : ObjectId) (facts : Facts) → At mid.ids.keys n x → At (all_facts mid.nodes.items) n facts → AreFacts honest may_fail rows table x facts
+  mid_read n x facts a b = elim (three n (length old.nodes.items)) [
+    | inl lt ↦ p.read n x facts (at_back old.ids.keys mid.ids.keys w.keys_kept n x (omega (arith, p.all_read)) a) (back n facts lt b)
+    | inr (inl e) ↦ w.read n x facts (omega arith) (below n x a) a b
+    | inr (inr gt) ↦ w.read n x facts (omega arith) (below n x a) a b
   ]
 
   mid_hidden : mid.hidden ≡ length old.ids.keys
@@ -120,11 +120,11 @@ module _ (honest may_fail : Type 0) (rows : List Row) (table : Table) (tips ends
     once = mid_once;
     all_read = w.many p.all_read;
     read = mid_read;
-    no_fault = λ n reading l b. p.no_fault n reading (back n reading (omega (arith, l, mid_hidden, p.all_read)) b);
+    no_fault = λ n facts l b. p.no_fault n facts (back n facts (omega (arith, l, mid_hidden, p.all_read)) b);
     numbers = numbers_of;
   }
     where
-      numbers_of : (h : Commits ObjectId) → ParentsFrom 0 h mid.ids.keys (readings mid.nodes.items) → Numbers h tips ends parents mid
+      numbers_of : (h : Commits ObjectId) → ParentsFrom 0 h mid.ids.keys (all_facts mid.nodes.items) → Numbers h tips ends parents mid
       numbers_of h t =
           let (walks, counted) = walks_all honest may_fail rows table parents tips old.ids.keys old.nodes.items high mid.ids.keys mid.nodes.items w full p.all_read p.once h (λ n x r l a b. t n x r (omega arith) a b) in
           record {

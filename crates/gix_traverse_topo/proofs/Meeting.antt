@@ -20,10 +20,10 @@ use Rattle.gix_traverse_commit.proofs.Lists.{at_one, at_from_contains, contains_
 use Rattle.gix_traverse_commit.proofs.Slow.{contains_from_any, any_from_contains}
 use Rattle.gix_traverse_topo.specs.Meeting.{IsRow, Met, Walks}
 use Rattle.gix_traverse_commit.specs.Rows.{AllHeld}
-use Rattle.gix_traverse_topo.specs.Nodes.{readings, counts, IsOnce, IsReading, ParentsFrom}
+use Rattle.gix_traverse_topo.specs.Nodes.{all_facts, counts, IsOnce, AreFacts, ParentsFrom}
 use Rattle.gix_traverse_topo.specs.Walking.{Visits, Walking}
 use Rattle.gix_traverse_topo.specs.declared.known.Node.{Node}
-use Rattle.gix_traverse_topo.specs.declared.known.Reading.{Reading}
+use Rattle.gix_traverse_topo.specs.declared.known.Facts.{Facts}
 use Rattle.gix_traverse_topo.proofs.Turns.{at_append_cases}
 use Rattle.gix_traverse_commit.proofs.NodeLemmas.{find_passes}
 

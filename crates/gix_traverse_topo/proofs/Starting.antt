@@ -24,7 +24,7 @@ use Rattle.gix_traverse_commit.proofs.Ids.{same_id_apart}
 use Rattle.gix_traverse_commit.proofs.Listing.{listed_reached}
 use Rattle.gix_traverse_commit.proofs.Lists.{at_one, at_from_contains, contains_from_at, none_at_nil, three}
 use Rattle.gix_traverse_topo.specs.Exploring.{Numbers, IsExplored}
-use Rattle.gix_traverse_topo.specs.Nodes.{readings, counts, IsOnce, Tells}
+use Rattle.gix_traverse_topo.specs.Nodes.{all_facts, counts, IsOnce, Tells}
 use Rattle.gix_traverse_topo.specs.Standing.{id_at, ids_of, Comes, Ranks, Standing, Stands, Begins, as_read, topo_request, all_accepted}
 use Rattle.gix_traverse_topo.specs.Turns.{times, names_of, Waits}
 use Rattle.gix_traverse_topo.specs.Waiting.{pending_cmp, waiting, Sorted, IsFree}
@@ -32,7 +32,7 @@ use Rattle.gix_traverse_topo.specs.declared.init.Sorting.{Sorting}
 use Rattle.gix_traverse_topo.specs.declared.init.Sorting.TheVariants.{DateOrder, TopoOrder}
 use Rattle.gix_traverse_topo.specs.declared.known.Known.{Known}
 use Rattle.gix_traverse_topo.specs.declared.known.Node.{Node}
-use Rattle.gix_traverse_topo.specs.declared.known.Reading.{Reading}
+use Rattle.gix_traverse_topo.specs.declared.known.Facts.{Facts}
 use Rattle.gix_traverse_topo.specs.declared.ready.Pending.{Pending}
 use Rattle.gix_traverse_topo.specs.declared.ready.Ready.{Ready}
 use Rattle.gix_traverse_topo.specs.declared.ready.Ready.TheVariants.{ByDate, Topological}
@@ -102,11 +102,11 @@ times_once (x ∷ xs) (suc k) (suc l) y t lt a b = times_once xs k l y (omega ar
 
 -- the commits, as far as the walk read them
 abbrev pub found_in : Known → Commits ObjectId → Commits ObjectId
-found_in known g = as_read (fault_in known.ids.keys (readings known.nodes.items)) g
+found_in known g = as_read (fault_in known.ids.keys (all_facts known.nodes.items)) g
 
-module _ (honest may_fail : Type 0) (rows : List Row) (table : Table) (tips ends : List ObjectId) (parents : Parents) (known : Known) (e : IsExplored honest may_fail rows table tips ends parents known) (sorting : Sorting) (first : List Pending) (ready : Ready) (f : IsFree known.hidden (readings known.nodes.items) (counts known.nodes.items) first) (same : IsPermutation first (waiting ready)) (sorted : Sorted sorting ready) where
-  long_told : length (readings known.nodes.items) ≡ length known.ids.keys
-  long_told = length_map (λ (v : Node). v.reading) known.nodes.items ∙ e.all_read
+module _ (honest may_fail : Type 0) (rows : List Row) (table : Table) (tips ends : List ObjectId) (parents : Parents) (known : Known) (e : IsExplored honest may_fail rows table tips ends parents known) (sorting : Sorting) (first : List Pending) (ready : Ready) (f : IsFree known.hidden (all_facts known.nodes.items) (counts known.nodes.items) first) (same : IsPermutation first (waiting ready)) (sorted : Sorted sorting ready) where
+  long_told : length (all_facts known.nodes.items) ≡ length known.ids.keys
+  long_told = length_map (λ (v : Node). v.facts) known.nodes.items ∙ e.all_read
 
   long_counts : length (counts known.nodes.items) ≡ length known.ids.keys
   long_counts = length_map (λ (v : Node). v.names) known.nodes.items ∙ e.all_read
@@ -119,7 +119,7 @@ module _ (honest may_fail : Type 0) (rows : List Row) (table : Table) (tips ends
   single x = let bag = ids_permuted known.ids.keys first (waiting ready) same x in let l = once_times (ids_of known.ids.keys first) x ids_once in omega arith
     where
       key_of : (p : Pending) → Contains first p → (x : ObjectId) × At known.ids.keys p.number.0 x
-      key_of p c = let (l, a, (r, b, t)) = f.each p c in at_within known.ids.keys p.number.0 (omega (arith, slice_get_within (readings known.nodes.items) p.number.0 r b, long_told))
+      key_of p c = let (l, a, (r, b, t)) = f.each p c in at_within known.ids.keys p.number.0 (omega (arith, slice_get_within (all_facts known.nodes.items) p.number.0 r b, long_told))
 
       number_same : (p q : Pending) → Contains first p → Contains first q → id_at known.ids.keys p.number.0 ≡ id_at known.ids.keys q.number.0 → p.number.0 ≡ q.number.0
       number_same p q c d same_ids =
@@ -140,17 +140,17 @@ module _ (honest may_fail : Type 0) (rows : List Row) (table : Table) (tips ends
           ]
 
   module _ (yes : honest) (g : Commits ObjectId) (are : AreTold rows table g) where
-    tells : (n : ℕ) (x : ObjectId) (reading : Reading) → At known.ids.keys n x → At (readings known.nodes.items) n reading → Tells rows (found_in known g) x reading
-    tells n x reading a b = tells_so honest may_fail rows table known.ids.keys (readings known.nodes.items) e.once e.read yes g are n x reading a b
+    tells : (n : ℕ) (x : ObjectId) (facts : Facts) → At known.ids.keys n x → At (all_facts known.nodes.items) n facts → Tells rows (found_in known g) x facts
+    tells n x facts a b = tells_so honest may_fail rows table known.ids.keys (all_facts known.nodes.items) e.once e.read yes g are n x facts a b
 
     num : Numbers (found_in known g) tips ends parents known
-    num = e.numbers (found_in known g) (parents_so honest may_fail rows table known.ids.keys (readings known.nodes.items) e.once e.read yes g are)
+    num = e.numbers (found_in known g) (parents_so honest may_fail rows table known.ids.keys (all_facts known.nodes.items) e.once e.read yes g are)
 
     -- one that waits has a number, and none names it
     free : (p : Pending) → Contains (waiting ready) p → (x : ObjectId) × (known.hidden ≤ p.number.0) × At known.ids.keys p.number.0 x × (p.time ≡ ((found_in known g) x).time) × Contains num.xs x × (names_of same_id (asked_parents parents (found_in known g)) x num.xs ≡ 0)
     free p c =
         let (l, a, (r, b, t)) = f.each p (from_waiting p c) in
-        let (x, k) = at_within known.ids.keys p.number.0 (omega (arith, slice_get_within (readings known.nodes.items) p.number.0 r b, long_told)) in
+        let (x, k) = at_within known.ids.keys p.number.0 (omega (arith, slice_get_within (all_facts known.nodes.items) p.number.0 r b, long_told)) in
         (x, l, k, t ∙ (tells p.number.0 x r k b).time, in_set known.ids.keys num.hs num.xs p.number.0 x num.keys_are (omega (arith, num.hidden_are)) k, sym (num.counted p.number.0 x 0 l k a))
 
     some : (x : ObjectId) → Contains (ids_of known.ids.keys (waiting ready)) x → Contains num.xs x × (names_of same_id (asked_parents parents (found_in known g)) x num.xs ≡ 0)
@@ -169,11 +169,11 @@ module _ (honest may_fail : Type 0) (rows : List Row) (table : Table) (tips ends
     every x s n =
         let (m, l, k) = number_in known.ids.keys num.hs num.xs x num.keys_are s in
         let within = slice_get_within known.ids.keys m x k in
-        let (reading, b) = at_within (readings known.nodes.items) m (omega (arith, long_told)) in
+        let (facts, b) = at_within (all_facts known.nodes.items) m (omega (arith, long_told)) in
         let (count, a) = at_within (counts known.nodes.items) m (omega (arith, long_counts)) in
         let low : known.hidden ≤ m = omega (arith, num.hidden_are) in
         let zero_is : count ≡ 0 = num.counted m x count low k a ∙ n in
-        let (p, c, i) = f.every m reading low (subst (λ (v : ℕ). At (counts known.nodes.items) m v) zero_is a) b in
+        let (p, c, i) = f.every m facts low (subst (λ (v : ℕ). At (counts known.nodes.items) m v) zero_is a) b in
         named p c m x i k
 
     waits : (Comes : List ObjectId → ObjectId → ObjectId → Type 0) → Waits same_id (asked_parents parents (found_in known g)) (Contains num.xs) Comes [] (ids_of known.ids.keys (waiting ready))
@@ -234,7 +234,7 @@ module _ (honest may_fail : Type 0) (rows : List Row) (table : Table) (tips ends
       hidden_are = num.hidden_are;
       keys_once = e.once;
       all_read = e.all_read;
-      tells = λ n x reading l a b out. tells n x reading a b;
+      tells = λ n x facts l a b out. tells n x facts a b;
       counted = λ n x count l a b. let c = num.counted n x count l a b in omega arith;
       numbered = λ p c. let (x, l, k, t, s, n) = free p c in (x, l, k, t);
       waits = waits (Comes sorting (asked_parents parents (found_in known g)) tips (λ z. ((found_in known g) z).time));
@@ -247,8 +247,8 @@ module _ (honest may_fail : Type 0) (rows : List Row) (table : Table) (tips ends
         let (k, a) = at_from_contains num.hs x c in
         let within = slice_get_within num.hs k x a in
         let there : At known.ids.keys k x = subst (λ (zs : List ObjectId). At zs k x) (sym num.keys_are) (in_front num.hs num.xs k x a) in
-        let (reading, b) = at_within (readings known.nodes.items) k (omega (arith, slice_get_within known.ids.keys k x there, long_told)) in
-        read_is (fault_in known.ids.keys (readings known.nodes.items)) g x (fault_at known.ids.keys (readings known.nodes.items) k x reading e.once there b ∙ e.no_fault k reading (omega (arith, num.hidden_are)) b)
+        let (facts, b) = at_within (all_facts known.nodes.items) k (omega (arith, slice_get_within known.ids.keys k x there, long_told)) in
+        read_is (fault_in known.ids.keys (all_facts known.nodes.items)) g x (fault_at known.ids.keys (all_facts known.nodes.items) k x facts e.once there b ∙ e.no_fault k facts (omega (arith, num.hidden_are)) b)
       where
         in_front : (hs xs : List ObjectId) (k : ℕ) (x : ObjectId) → At hs k x → At (hs ++ xs) k x
         in_front [] xs k x a = absurd (none_at_nil k x a)
@@ -279,15 +279,15 @@ module _ (honest may_fail : Type 0) (rows : List Row) (table : Table) (tips ends
         past (tip {x = y} t l) = tip t (λ c. l.1 ((num.hides y).0 c))
         past (parent {y = y} r n l) = parent (past r) n (λ c. l.1 ((num.hides y).0 c))
 
-    stands : (accepts : ObjectId → Bool) → Stands sorting rows (fault_in known.ids.keys (readings known.nodes.items)) g tips ends parents accepts [] known ready
+    stands : (accepts : ObjectId → Bool) → Stands sorting rows (fault_in known.ids.keys (all_facts known.nodes.items)) g tips ends parents accepts [] known ready
     stands accepts = record {
       hs = num.hs;
       xs = num.xs;
       finished = [];
       standing = standing;
       lists = lists;
-      hides = λ x. ((λ r. reached_read (fault_in known.ids.keys (readings known.nodes.items)) g ends r), (λ r. hidden_back r));
-      faulty = λ n x reading l a b out. sym (fault_at known.ids.keys (readings known.nodes.items) n x reading e.once a b);
+      hides = λ x. ((λ r. reached_read (fault_in known.ids.keys (all_facts known.nodes.items)) g ends r), (λ r. hidden_back r));
+      faulty = λ n x facts l a b out. sym (fault_at known.ids.keys (all_facts known.nodes.items) n x facts e.once a b);
       finished_read = λ x c. let (k, a) = at_from_contains [] x c in absurd (none_at_nil k x a);
       given_are = refl;
     }
@@ -295,14 +295,14 @@ module _ (honest may_fail : Type 0) (rows : List Row) (table : Table) (tips ends
     -- what is known, ends or tips reach
     reached : (x : ObjectId) → Contains known.ids.keys x → ReachedFrom g ends x ⊎ Listed g (topo_request tips ends parents all_accepted) x
     reached x c = elim (Contains-append_cases num.hs num.xs x (subst (λ (zs : List ObjectId). Contains zs x) num.keys_are c)) [
-      | inl d ↦ inl (reached_read (fault_in known.ids.keys (readings known.nodes.items)) g ends ((num.hides x).0 d))
-      | inr d ↦ inr (in_walk sorting rows (fault_in known.ids.keys (readings known.nodes.items)) g tips ends parents all_accepted (found_in known g) num.xs lists (λ y. ((λ r. reached_read (fault_in known.ids.keys (readings known.nodes.items)) g ends r), (λ r. hidden_back r))) (λ y z s n. edges_read (fault_in known.ids.keys (readings known.nodes.items)) g y z n) x d)
+      | inl d ↦ inl (reached_read (fault_in known.ids.keys (all_facts known.nodes.items)) g ends ((num.hides x).0 d))
+      | inr d ↦ inr (in_walk sorting rows (fault_in known.ids.keys (all_facts known.nodes.items)) g tips ends parents all_accepted (found_in known g) num.xs lists (λ y. ((λ r. reached_read (fault_in known.ids.keys (all_facts known.nodes.items)) g ends r), (λ r. hidden_back r))) (λ y z s n. edges_read (fault_in known.ids.keys (all_facts known.nodes.items)) g y z n) x d)
     ]
 
   pub begins : (accepts : ObjectId → Bool) → Begins honest may_fail sorting rows table tips ends parents accepts known ready
   begins accepts = record {
-    faults = fault_in known.ids.keys (readings known.nodes.items);
-    causes = causes honest may_fail rows table known.ids.keys (readings known.nodes.items) e.once e.read;
+    faults = fault_in known.ids.keys (all_facts known.nodes.items);
+    causes = causes honest may_fail rows table known.ids.keys (all_facts known.nodes.items) e.once e.read;
     known_reached = λ yes g are. reached yes g are;
     stands = λ yes g are. stands yes g are accepts;
   }

@@ -14,14 +14,14 @@ use Rattle.gix_traverse_commit.specs.declared.parents.Parents.{Parents}
 use Rattle.gix_traverse_commit.specs.declared.rows.Row.{Row}
 use Rattle.gix_traverse_commit.proofs.Ids.{same_id_apart}
 use Rattle.gix_traverse_commit.proofs.Lists.{at_one, at_from_contains, contains_from_at, none_at_nil, at_append}
-use Rattle.gix_traverse_topo.specs.Nodes.{readings, counts, IsOnce}
+use Rattle.gix_traverse_topo.specs.Nodes.{all_facts, counts, IsOnce}
 use Rattle.gix_traverse_topo.specs.Standing.{id_at, ids_of, Comes, Ranks, GoesOff, RowOff, Standing}
 use Rattle.gix_traverse_topo.specs.Turns.{times, names_of, named_so_far, SameBag, Fresh, Rising, Waits, Ranked}
 use Rattle.gix_traverse_topo.specs.Waiting.{waiting, Joined, Popped}
 use Rattle.gix_traverse_topo.specs.declared.init.Sorting.{Sorting}
 use Rattle.gix_traverse_topo.specs.declared.init.Sorting.TheVariants.{DateOrder, TopoOrder}
 use Rattle.gix_traverse_topo.specs.declared.known.Known.{Known}
-use Rattle.gix_traverse_topo.specs.declared.known.Reading.{Reading}
+use Rattle.gix_traverse_topo.specs.declared.known.Facts.{Facts}
 use Rattle.gix_traverse_topo.specs.declared.ready.Pending.{Pending}
 use Rattle.gix_traverse_topo.specs.declared.ready.Ready.{Ready}
 use Rattle.gix_traverse_topo.specs.declared.ready.Ready.TheVariants.{ByDate, Topological}
@@ -172,7 +172,7 @@ module _ (sorting : Sorting) (rows : List Row) (h : Commits ObjectId) (tips : Li
       keys_once = st.keys_once;
       all_read = st.all_read;
       room = λ m y a c. freeing.room_in_row same_id same_id_apart (asked_parents parents h) xs xs_once finished row x e st.waits.before_once st.waits.inside top.0 top.1 m y a;
-      timed = λ n y reading l a c b. (st.tells n y reading l a b (λ f. turns.child_inside same_id same_id_apart (asked_parents parents h) (Contains xs) (Comes sorting (asked_parents parents h) tips (λ z. (h z).time)) finished (ids_of known.ids.keys (waiting ready)) (ids_of known.ids.keys (waiting ready')) x st.waits bag y f (subst (λ (zs : List ObjectId). Contains zs y) e c))).time;
+      timed = λ n y facts l a c b. (st.tells n y facts l a b (λ f. turns.child_inside same_id same_id_apart (asked_parents parents h) (Contains xs) (Comes sorting (asked_parents parents h) tips (λ z. (h z).time)) finished (ids_of known.ids.keys (waiting ready)) (ids_of known.ids.keys (waiting ready')) x st.waits bag y f (subst (λ (zs : List ObjectId). Contains zs y) e c))).time;
       counted = λ n y count l a b. let o = st.counted n y count l a b in let z : times (same_id y) (take 0 row) ≡ 0 = none y row in omega arith;
     }
       where
@@ -181,13 +181,13 @@ module _ (sorting : Sorting) (rows : List Row) (h : Commits ObjectId) (tips : Li
         none y (z ∷ zs) = refl
 
     -- the step
-    pub step : (row : List ObjectId) (m : ℕ) (known' : Known) (ready'' : Ready) → row ≡ asked_parents parents h x → length row ≤ m → RowOff known.hidden known.ids.keys (asked_parents parents h) h finished row xs ready' m (counts known'.nodes.items) ready'' → known'.ids ≡ known.ids → known'.hidden ≡ known.hidden → length known'.nodes.items ≡ length known.nodes.items → ((k : ℕ) (reading : Reading) → (k ≡ p.number.0 → ⊥) → At (readings known'.nodes.items) k reading → At (readings known.nodes.items) k reading) → Standing sorting rows h tips parents hs xs (finished ++ x ∷ []) known' ready''
+    pub step : (row : List ObjectId) (m : ℕ) (known' : Known) (ready'' : Ready) → row ≡ asked_parents parents h x → length row ≤ m → RowOff known.hidden known.ids.keys (asked_parents parents h) h finished row xs ready' m (counts known'.nodes.items) ready'' → known'.ids ≡ known.ids → known'.hidden ≡ known.hidden → length known'.nodes.items ≡ length known.nodes.items → ((k : ℕ) (facts : Facts) → (k ≡ p.number.0 → ⊥) → At (all_facts known'.nodes.items) k facts → At (all_facts known.nodes.items) k facts) → Standing sorting rows h tips parents hs xs (finished ++ x ∷ []) known' ready''
     step row m known' ready'' e long r same_ids same_hidden same_length others = record {
       keys_are = ap (λ i. i.keys) same_ids ∙ st.keys_are;
       hidden_are = same_hidden ∙ st.hidden_are;
       keys_once = subst (λ (zs : List ObjectId). IsOnce zs) (sym keys_same) st.keys_once;
       all_read = same_length ∙ st.all_read ∙ sym (ap length keys_same);
-      tells = λ n y reading l a b out. st.tells n y reading (subst (λ (k : ℕ). k ≤ n) same_hidden l) (back n y a) (others n reading (λ f. out (subst (λ (z : ObjectId). Contains (finished ++ x ∷ []) z) (at_one known.ids.keys p.number.0 x y here (subst (λ (k : ℕ). At known.ids.keys k y) f (back n y a))) (Contains-push finished x))) b) (λ f. out (Contains-append_left finished (x ∷ []) y f));
+      tells = λ n y facts l a b out. st.tells n y facts (subst (λ (k : ℕ). k ≤ n) same_hidden l) (back n y a) (others n facts (λ f. out (subst (λ (z : ObjectId). Contains (finished ++ x ∷ []) z) (at_one known.ids.keys p.number.0 x y here (subst (λ (k : ℕ). At known.ids.keys k y) f (back n y a))) (Contains-push finished x))) b) (λ f. out (Contains-append_left finished (x ∷ []) y f));
       counted = λ n y count l a b. let o = r.counted n y count (subst (λ (k : ℕ). k ≤ n) same_hidden l) (back n y a) b in let g = so_far y in omega arith;
       numbered = λ q c. numbered q (joined_in ready' ready'' r.more q r.joined c);
       waits = subst (λ (zs : List ObjectId). Waits same_id (asked_parents parents h) (Contains xs) (Comes sorting (asked_parents parents h) tips (λ y. (h y).time)) (finished ++ x ∷ []) (ids_of zs (waiting ready''))) (sym keys_same)

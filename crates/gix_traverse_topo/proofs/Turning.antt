@@ -14,7 +14,7 @@ use Rattle.gix_traverse_commit.specs.declared.rows.Row.{Row}
 use Rattle.gix_traverse_commit.proofs.Ids.{same_id_apart}
 use Rattle.gix_traverse_commit.proofs.Lists.{at_one, at_from_contains, none_at_nil}
 use Rattle.gix_traverse_commit.proofs.Listing.{asked_parent, listed_reached, listed_from_reached}
-use Rattle.gix_traverse_topo.specs.Nodes.{readings, counts, Tells, IsOnce}
+use Rattle.gix_traverse_topo.specs.Nodes.{all_facts, counts, Tells, IsOnce}
 use Rattle.gix_traverse_topo.specs.Standing.{id_at, ids_of, Comes, Gives, GoesOff, RowOff, Standing, Steps, IsInfo, IsNext, Stands, as_read, IsTurn, IsTurnOf, topo_request, all_accepted, Answers, NoneReachesItself, weight}
 use Rattle.gix_traverse_topo.specs.Turns.{total}
 use Rattle.gix_traverse_topo.specs.Waiting.{waiting, Popped}
@@ -24,7 +24,7 @@ use Rattle.gix_traverse_topo.specs.declared.init.Sorting.{Sorting}
 use Rattle.gix_traverse_topo.specs.declared.init.Sorting.TheVariants.{DateOrder, TopoOrder}
 use Rattle.gix_traverse_topo.specs.declared.known.Known.{Known}
 use Rattle.gix_traverse_topo.specs.declared.known.Node.{Node}
-use Rattle.gix_traverse_topo.specs.declared.known.Reading.{Reading}
+use Rattle.gix_traverse_topo.specs.declared.known.Facts.{Facts}
 use Rattle.gix_traverse_topo.specs.declared.ready.Pending.{Pending}
 use Rattle.gix_traverse_topo.specs.declared.ready.Ready.{Ready}
 use Rattle.gix_traverse_topo.proofs.Counting.{at_id, number_in}
@@ -46,33 +46,33 @@ turn_falls known known' a b c p h l = let e = popped_length a b p h in omega ari
 
 module _ (sorting : Sorting) (rows : List Row) (h : Commits ObjectId) (tips : List ObjectId) (parents : Parents) (hs xs finished : List ObjectId) (known : Known) (ready : Ready) (st : Standing sorting rows h tips parents hs xs finished known ready) (p : Pending) (ready' : Ready) (popped : Popped ready p ready') where
   -- what was read of the commit whose turn it is
-  told_of : (x : ObjectId) (reading : Reading) → At known.ids.keys p.number.0 x → At (readings known.nodes.items) p.number.0 reading → Tells rows h x reading
-  told_of x reading here at =
+  told_of : (x : ObjectId) (facts : Facts) → At known.ids.keys p.number.0 x → At (all_facts known.nodes.items) p.number.0 facts → Tells rows h x facts
+  told_of x facts here at =
       let low = (stepping.x_of sorting rows h tips parents hs xs finished known ready st p ready' popped).1 in
       let top = stepping.top sorting rows h tips parents hs xs finished known ready st p ready' popped x here in
-      st.tells p.number.0 x reading low here at top.1
+      st.tells p.number.0 x facts low here at top.1
 
-  row_of : (x : ObjectId) (reading : Reading) → At known.ids.keys p.number.0 x → At (readings known.nodes.items) p.number.0 reading → asked parents reading.parents.items ≡ asked_parents parents h x
-  row_of x reading here at = ap (asked parents) (told_of x reading here at).parents ∙ sym (asked_same parents h x)
+  row_of : (x : ObjectId) (facts : Facts) → At known.ids.keys p.number.0 x → At (all_facts known.nodes.items) p.number.0 facts → asked parents facts.parents.items ≡ asked_parents parents h x
+  row_of x facts here at = ap (asked parents) (told_of x facts here at).parents ∙ sym (asked_same parents h x)
 
   pub steps : (new : Known) (ready'' : Ready) (info : Info) → new.ids ≡ known.ids → new.hidden ≡ known.hidden → Gives p.number.0 parents known ready' new ready'' info → Steps sorting rows h tips parents hs xs finished known ready new ready'' info
   steps new ready'' info same_ids same_hidden gives =
       let x : ObjectId = info.id in
-      let tells = told_of x gives.reading gives.id gives.at in
-      let e = row_of x gives.reading gives.id gives.at in
+      let tells = told_of x gives.facts gives.id gives.at in
+      let e = row_of x gives.facts gives.id gives.at in
       let once = stepping.xs_once sorting rows h tips parents hs xs finished known ready st p ready' popped x gives.id in
-      let goes = stepping.goes_off sorting rows h tips parents hs xs finished known ready st p ready' popped x gives.id (asked parents gives.reading.parents.items) e in
+      let goes = stepping.goes_off sorting rows h tips parents hs xs finished known ready st p ready' popped x gives.id (asked parents gives.facts.parents.items) e in
       let (m, long, off) = gives.off (asked_parents parents h) h finished hs xs goes once in
       let top = stepping.top sorting rows h tips parents hs xs finished known ready st p ready' popped x gives.id in
       record {
-        standing = stepping.step sorting rows h tips parents hs xs finished known ready st p ready' popped x gives.id (asked parents gives.reading.parents.items) m new ready'' e long off same_ids same_hidden gives.as_many gives.others;
+        standing = stepping.step sorting rows h tips parents hs xs finished known ready st p ready' popped x gives.id (asked parents gives.facts.parents.items) m new ready'' e long off same_ids same_hidden gives.as_many gives.others;
         is_info = record {
           parents = gives.parents ∙ tells.parents;
           time = gives.time ∙ ap Some tells.time;
           generation = subst (λ (o : Option ℕ). HasRowsGeneration rows info.id o) (sym gives.generation) tells.generation;
         };
         number = p.number.0;
-        reading = gives.reading;
+        facts = gives.facts;
         new_one = top.1;
         behind = (stepping.x_of sorting rows h tips parents hs xs finished known ready st p ready' popped).1;
         id = gives.id;
@@ -81,17 +81,17 @@ module _ (sorting : Sorting) (rows : List Row) (h : Commits ObjectId) (tips : Li
         others = gives.others;
       }
 
-  pub turn_of : (error : Error) → ((way : ObjectId → List ObjectId) (h : Commits ObjectId) (before hs xs : List ObjectId) (reading : Reading) → At (readings known.nodes.items) p.number.0 reading → GoesOff way h before (asked parents reading.parents.items) hs xs known → IsOnce xs → (error ≡ Memory) ⊎ (reading.fault ≡ Some error)) → (error ≡ Memory) ⊎ ((x : ObjectId) × (n : ℕ) × (reading : Reading) × At known.ids.keys n x × At (readings known.nodes.items) n reading × (reading.fault ≡ Some error) × IsNext sorting h tips parents (Contains xs) finished x)
+  pub turn_of : (error : Error) → ((way : ObjectId → List ObjectId) (h : Commits ObjectId) (before hs xs : List ObjectId) (facts : Facts) → At (all_facts known.nodes.items) p.number.0 facts → GoesOff way h before (asked parents facts.parents.items) hs xs known → IsOnce xs → (error ≡ Memory) ⊎ (facts.fault ≡ Some error)) → (error ≡ Memory) ⊎ ((x : ObjectId) × (n : ℕ) × (facts : Facts) × At known.ids.keys n x × At (all_facts known.nodes.items) n facts × (facts.fault ≡ Some error) × IsNext sorting h tips parents (Contains xs) finished x)
   turn_of error refused =
       let (x, low, here, timed) = stepping.x_of sorting rows h tips parents hs xs finished known ready st p ready' popped in
-      let within : p.number.0 < length (readings known.nodes.items) = omega (arith, slice_get_within known.ids.keys p.number.0 x here, st.all_read, length_map (λ (v : Node). v.reading) known.nodes.items) in
-      let (reading, at) = at_within (readings known.nodes.items) p.number.0 within in
-      let e = row_of x reading here at in
+      let within : p.number.0 < length (all_facts known.nodes.items) = omega (arith, slice_get_within known.ids.keys p.number.0 x here, st.all_read, length_map (λ (v : Node). v.facts) known.nodes.items) in
+      let (facts, at) = at_within (all_facts known.nodes.items) p.number.0 within in
+      let e = row_of x facts here at in
       let once = stepping.xs_once sorting rows h tips parents hs xs finished known ready st p ready' popped x here in
-      let goes = stepping.goes_off sorting rows h tips parents hs xs finished known ready st p ready' popped x here (asked parents reading.parents.items) e in
-      elim (refused (asked_parents parents h) h finished hs xs reading at goes once) [
+      let goes = stepping.goes_off sorting rows h tips parents hs xs finished known ready st p ready' popped x here (asked parents facts.parents.items) e in
+      elim (refused (asked_parents parents h) h finished hs xs facts at goes once) [
         | inl m ↦ inl m
-        | inr f ↦ inr (x, p.number.0, reading, here, at, f, next x here)
+        | inr f ↦ inr (x, p.number.0, facts, here, at, f, next x here)
       ]
     where
       next : (x : ObjectId) → At known.ids.keys p.number.0 x → IsNext sorting h tips parents (Contains xs) finished x
@@ -137,7 +137,7 @@ module _ (sorting : Sorting) (rows : List Row) (faults : ObjectId → Option Err
       standing = s.standing;
       lists = sd.lists;
       hides = sd.hides;
-      faulty = λ n x reading l a b out. sd.faulty n x reading (subst (λ (k : ℕ). k ≤ n) hidden_same l) (back n x a) (s.others n reading (λ e. out (subst (λ (z : ObjectId). Contains (sd.finished ++ info.id ∷ []) z) (at_one old.ids.keys s.number info.id x s.id (subst (λ (k : ℕ). At old.ids.keys k x) e (back n x a))) (Contains-push sd.finished info.id))) b) (λ c. out (more x c));
+      faulty = λ n x facts l a b out. sd.faulty n x facts (subst (λ (k : ℕ). k ≤ n) hidden_same l) (back n x a) (s.others n facts (λ e. out (subst (λ (z : ObjectId). Contains (sd.finished ++ info.id ∷ []) z) (at_one old.ids.keys s.number info.id x s.id (subst (λ (k : ℕ). At old.ids.keys k x) e (back n x a))) (Contains-push sd.finished info.id))) b) (λ c. out (more x c));
       finished_read = λ x c. elim (Contains-push_cases sd.finished info.id x c) [ inl d ↦ sd.finished_read x d | inr e ↦ subst (λ (z : ObjectId). faults z ≡ None) e unfaulted ];
       given_are = ap (λ (zs : List ObjectId). zs ++ filter accepts (info.id ∷ [])) sd.given_are ∙ sym (filter_push accepts sd.finished info.id);
     },
@@ -158,7 +158,7 @@ module _ (sorting : Sorting) (rows : List Row) (faults : ObjectId → Option Err
       more x c = Contains-append_left sd.finished (info.id ∷ []) x c
 
       unfaulted : faults info.id ≡ None
-      unfaulted = sym (sd.faulty s.number info.id s.reading s.behind s.id s.at s.new_one) ∙ s.read
+      unfaulted = sym (sd.faulty s.number info.id s.facts s.behind s.id s.at s.new_one) ∙ s.read
 
       same : as_read faults g info.id ≡ g info.id
       same = read_is faults g info.id unfaulted
@@ -231,35 +231,35 @@ module _ (sorting : Sorting) (rows : List Row) (faults : ObjectId → Option Err
 
 -- ---- what a call gave
 
-pub gives_of : (r : Result Info Error) (n : ℕ) (along : Parents) (old mid new : Known) (ready ready' : Ready) → mid.ids ≡ old.ids → readings mid.nodes.items ≡ readings old.nodes.items → counts new.nodes.items ≡ counts mid.nodes.items → length new.nodes.items ≡ length old.nodes.items → ((reading : Reading) → At (readings old.nodes.items) n reading → reading.fault ≡ None) → ((k : ℕ) (reading : Reading) → (k ≡ n → ⊥) → At (readings new.nodes.items) k reading → At (readings mid.nodes.items) k reading)
-    → ((way : ObjectId → List ObjectId) (h : Commits ObjectId) (before hs xs : List ObjectId) (reading : Reading) → At (readings old.nodes.items) n reading → GoesOff way h before (asked along reading.parents.items) hs xs old → IsOnce xs → (m : ℕ) × (length (asked along reading.parents.items) ≤ m) × RowOff old.hidden old.ids.keys way h before (asked along reading.parents.items) xs ready m (counts mid.nodes.items) ready')
-    → IfOk r (λ info. At mid.ids.keys n info.id × ((reading : Reading) × At (readings mid.nodes.items) n reading × (info.parent_ids.items ≡ reading.parents.items) × (info.generation ≡ reading.generation) × (info.commit_time ≡ Some reading.time)))
+pub gives_of : (r : Result Info Error) (n : ℕ) (along : Parents) (old mid new : Known) (ready ready' : Ready) → mid.ids ≡ old.ids → all_facts mid.nodes.items ≡ all_facts old.nodes.items → counts new.nodes.items ≡ counts mid.nodes.items → length new.nodes.items ≡ length old.nodes.items → ((facts : Facts) → At (all_facts old.nodes.items) n facts → facts.fault ≡ None) → ((k : ℕ) (facts : Facts) → (k ≡ n → ⊥) → At (all_facts new.nodes.items) k facts → At (all_facts mid.nodes.items) k facts)
+    → ((way : ObjectId → List ObjectId) (h : Commits ObjectId) (before hs xs : List ObjectId) (facts : Facts) → At (all_facts old.nodes.items) n facts → GoesOff way h before (asked along facts.parents.items) hs xs old → IsOnce xs → (m : ℕ) × (length (asked along facts.parents.items) ≤ m) × RowOff old.hidden old.ids.keys way h before (asked along facts.parents.items) xs ready m (counts mid.nodes.items) ready')
+    → IfOk r (λ info. At mid.ids.keys n info.id × ((facts : Facts) × At (all_facts mid.nodes.items) n facts × (info.parent_ids.items ≡ facts.parents.items) × (info.generation ≡ facts.generation) × (info.commit_time ≡ Some facts.time)))
     → IfOk r (Gives n along old ready new ready')
-gives_of (Ok info) n along old mid new ready ready' ids told same_counts many unfaulted others off (id, (reading, at, ps, generation, time)) =
-    let at' : At (readings old.nodes.items) n reading = subst (λ (zs : List Reading). At zs n reading) told at in
+gives_of (Ok info) n along old mid new ready ready' ids told same_counts many unfaulted others off (id, (facts, at, ps, generation, time)) =
+    let at' : At (all_facts old.nodes.items) n facts = subst (λ (zs : List Facts). At zs n facts) told at in
     record {
-      reading = reading;
+      facts = facts;
       at = at';
-      read = unfaulted reading at';
+      read = unfaulted facts at';
       id = subst (λ (zs : List ObjectId). At zs n info.id) (ap (λ i. i.keys) ids) id;
       parents = ps;
       generation = generation;
       time = time;
       off = λ way h before hs xs goes once.
-          let (m, l, r) = off way h before hs xs reading at' goes once in
-          (m, l, subst (λ (cs : List ℕ). RowOff old.hidden old.ids.keys way h before (asked along reading.parents.items) xs ready m cs ready') (sym same_counts) r);
-      others = λ k other d a. subst (λ (zs : List Reading). At zs k other) told (others k other d a);
+          let (m, l, r) = off way h before hs xs facts at' goes once in
+          (m, l, subst (λ (cs : List ℕ). RowOff old.hidden old.ids.keys way h before (asked along facts.parents.items) xs ready m cs ready') (sym same_counts) r);
+      others = λ k other d a. subst (λ (zs : List Facts). At zs k other) told (others k other d a);
       as_many = many;
     }
 gives_of (Err e) n along old mid new ready ready' ids told same_counts many unfaulted others off taken = tt
 
-pub take_refused : (r : Result Info Error) (n : ℕ) (along : Parents) (old mid : Known) → mid.ids ≡ old.ids → readings mid.nodes.items ≡ readings old.nodes.items → IfErr r (λ _. (length (readings mid.nodes.items) ≤ n) ⊎ (length mid.ids.keys ≤ n)) → IfErr r (λ error. (way : ObjectId → List ObjectId) (h : Commits ObjectId) (before hs xs : List ObjectId) (reading : Reading) → At (readings old.nodes.items) n reading → GoesOff way h before (asked along reading.parents.items) hs xs old → IsOnce xs → (error ≡ Memory) ⊎ (reading.fault ≡ Some error))
+pub take_refused : (r : Result Info Error) (n : ℕ) (along : Parents) (old mid : Known) → mid.ids ≡ old.ids → all_facts mid.nodes.items ≡ all_facts old.nodes.items → IfErr r (λ _. (length (all_facts mid.nodes.items) ≤ n) ⊎ (length mid.ids.keys ≤ n)) → IfErr r (λ error. (way : ObjectId → List ObjectId) (h : Commits ObjectId) (before hs xs : List ObjectId) (facts : Facts) → At (all_facts old.nodes.items) n facts → GoesOff way h before (asked along facts.parents.items) hs xs old → IsOnce xs → (error ≡ Memory) ⊎ (facts.fault ≡ Some error))
 take_refused (Ok info) n along old mid ids told refused = tt
-take_refused (Err e) n along old mid ids told refused = λ way h before hs xs reading at goes once.
-    let within = slice_get_within (readings old.nodes.items) n reading at in
+take_refused (Err e) n along old mid ids told refused = λ way h before hs xs facts at goes once.
+    let within = slice_get_within (all_facts old.nodes.items) n facts at in
     let same = ap length told in
     let keys = ap (λ i. length i.keys) ids in
-    let long = length_map (λ (v : Node). v.reading) old.nodes.items in
+    let long = length_map (λ (v : Node). v.facts) old.nodes.items in
     let all = goes.all_read in
     absurd (elim refused [ inl l ↦ omega arith | inr l ↦ omega arith ])
 
@@ -304,8 +304,8 @@ module _ (sorting : Sorting) (rows : List Row) (faults : ObjectId → Option Err
       let all : IsTurnOf sorting rows tips parents sd.finished known ready error = subst (λ (p : Parents). IsTurnOf sorting rows tips p sd.finished known ready error) same_parents (refused sorting rows tips sd.finished) in
       elim (all (as_read faults g) sd.hs sd.xs sd.standing) [
         | inl m ↦ inl m
-        | inr (x, n, reading, a, b, f, next) ↦ (
+        | inr (x, n, facts, a, b, f, next) ↦ (
             let (m, l, a') = number_in known.ids.keys sd.hs sd.xs x sd.standing.keys_are next.listed in
             let same : n ≡ m = sd.standing.keys_once n m x a a' in
-            inr (x, sym (sd.faulty n x reading (omega (arith, l, same, sd.standing.hidden_are)) a b next.new) ∙ f, turn_next x next))
+            inr (x, sym (sd.faulty n x facts (omega (arith, l, same, sd.standing.hidden_are)) a b next.new) ∙ f, turn_next x next))
       ]

@@ -16,12 +16,12 @@ use Rattle.gix_hash_id.specs.declared.object_id.ObjectId.{ObjectId}
 use Rattle.gix_hash_id.specs.declared.object_id.ObjectId.TheVariants.{Sha1}
 use Rattle.gix_traverse_commit.specs.Order.{At}
 use Rattle.gix_traverse_commit.proofs.Lists.{at_from_contains, contains_from_at, none_at_nil, at_from_push, three}
-use Rattle.gix_traverse_topo.specs.Nodes.{readings, counts}
+use Rattle.gix_traverse_topo.specs.Nodes.{all_facts, counts}
 use Rattle.gix_traverse_topo.specs.Standing.{CountsOff, counted, freed}
 use Rattle.gix_traverse_topo.specs.Turns.{total}
 use Rattle.gix_traverse_topo.specs.Waiting.{waiting, Joined, Popped, IsFree, pending_cmp}
 use Rattle.gix_traverse_topo.specs.declared.known.Node.{Node}
-use Rattle.gix_traverse_topo.specs.declared.known.Reading.{Reading}
+use Rattle.gix_traverse_topo.specs.declared.known.Facts.{Facts}
 use Rattle.gix_traverse_topo.specs.declared.ready.Pending.{Pending}
 use Rattle.gix_traverse_topo.specs.declared.ready.Ready.{Ready}
 use Rattle.gix_traverse_topo.specs.declared.ready.Ready.TheVariants.{ByDate, Topological}
@@ -29,40 +29,40 @@ use Rattle.gix_traverse_topo.proofs.Counting.{at_set_away, at_set_here, at_set_o
 use Rattle.gix_traverse_topo.proofs.Meeting.{at_map, from_map, length_map}
 
 -- a changed count leaves what was read
-pub set_readings : (nodes : List Node) (n k : ℕ) (node : Node) → node ≡ get_or nodes n node → readings (set nodes n (record { reading = node.reading; names = k })) ≡ readings nodes
-set_readings [] n k node e = refl
-set_readings (x ∷ xs) zero k node e = ap (λ (v : Node). v.reading ∷ readings xs) e
-set_readings (x ∷ xs) (suc n) k node e = ap (λ (zs : List Reading). x.reading ∷ zs) (set_readings xs n k node e)
+pub set_facts : (nodes : List Node) (n k : ℕ) (node : Node) → node ≡ get_or nodes n node → all_facts (set nodes n (record { facts = node.facts; names = k })) ≡ all_facts nodes
+set_facts [] n k node e = refl
+set_facts (x ∷ xs) zero k node e = ap (λ (v : Node). v.facts ∷ all_facts xs) e
+set_facts (x ∷ xs) (suc n) k node e = ap (λ (zs : List Facts). x.facts ∷ zs) (set_facts xs n k node e)
 
-pub set_counts : (nodes : List Node) (n k : ℕ) (r : Reading) → counts (set nodes n (record { reading = r; names = k })) ≡ set (counts nodes) n k
+pub set_counts : (nodes : List Node) (n k : ℕ) (r : Facts) → counts (set nodes n (record { facts = r; names = k })) ≡ set (counts nodes) n k
 set_counts [] n k r = refl
 set_counts (x ∷ xs) zero k r = refl
 set_counts (x ∷ xs) (suc n) k r = ap (λ (zs : List ℕ). x.names ∷ zs) (set_counts xs n k r)
 
--- a changed reading leaves the counts
-pub same_counts : (nodes : List Node) (n : ℕ) (r : Reading) (node : Node) → node ≡ get_or nodes n node → counts (set nodes n (record { reading = r; names = node.names })) ≡ counts nodes
+-- changed facts leave the counts
+pub same_counts : (nodes : List Node) (n : ℕ) (r : Facts) (node : Node) → node ≡ get_or nodes n node → counts (set nodes n (record { facts = r; names = node.names })) ≡ counts nodes
 same_counts [] n r node e = refl
 same_counts (x ∷ xs) zero r node e = ap (λ (v : Node). v.names ∷ counts xs) e
 same_counts (x ∷ xs) (suc n) r node e = ap (λ (zs : List ℕ). x.names ∷ zs) (same_counts xs n r node e)
 
-pub other_readings : (nodes : List Node) (n : ℕ) (v : Node) (k : ℕ) (r : Reading) → (k ≡ n → ⊥) → At (readings (set nodes n v)) k r → At (readings nodes) k r
-other_readings nodes n v k r d a =
-    let (node, b, e) = from_map (λ (x : Node). x.reading) (set nodes n v) k r a in
-    subst (λ (z : Reading). At (readings nodes) k z) e (at_map (λ (x : Node). x.reading) nodes k node (at_set_other nodes n k v node d b))
+pub other_facts : (nodes : List Node) (n : ℕ) (v : Node) (k : ℕ) (r : Facts) → (k ≡ n → ⊥) → At (all_facts (set nodes n v)) k r → At (all_facts nodes) k r
+other_facts nodes n v k r d a =
+    let (node, b, e) = from_map (λ (x : Node). x.facts) (set nodes n v) k r a in
+    subst (λ (z : Facts). At (all_facts nodes) k z) e (at_map (λ (x : Node). x.facts) nodes k node (at_set_other nodes n k v node d b))
 
-pub readings_put : (nodes : List Node) (n : ℕ) (v : Node) (k : ℕ) (r : Reading) → (k ≡ n → ⊥) → At (readings nodes) k r → At (readings (set nodes n v)) k r
-readings_put nodes n v k r d a =
-    let (node, b, e) = from_map (λ (x : Node). x.reading) nodes k r a in
-    subst (λ (z : Reading). At (readings (set nodes n v)) k z) e (at_map (λ (x : Node). x.reading) (set nodes n v) k node (at_set_away nodes n k v node d b))
+pub all_facts_put : (nodes : List Node) (n : ℕ) (v : Node) (k : ℕ) (r : Facts) → (k ≡ n → ⊥) → At (all_facts nodes) k r → At (all_facts (set nodes n v)) k r
+all_facts_put nodes n v k r d a =
+    let (node, b, e) = from_map (λ (x : Node). x.facts) nodes k r a in
+    subst (λ (z : Facts). At (all_facts (set nodes n v)) k z) e (at_map (λ (x : Node). x.facts) (set nodes n v) k node (at_set_away nodes n k v node d b))
 
-pub reading_put : (nodes : List Node) (n : ℕ) (v : Node) → n < length nodes → At (readings (set nodes n v)) n v.reading
-reading_put nodes n v l = at_map (λ (x : Node). x.reading) (set nodes n v) n v (at_set_here nodes n v l)
+pub facts_put : (nodes : List Node) (n : ℕ) (v : Node) → n < length nodes → At (all_facts (set nodes n v)) n v.facts
+facts_put nodes n v l = at_map (λ (x : Node). x.facts) (set nodes n v) n v (at_set_here nodes n v l)
 
 pub node_at : (nodes : List Node) (n : ℕ) (node : Node) → n < length nodes → node ≡ get_or nodes n node → At nodes n node
 node_at nodes n node l e = slice_get-get_or nodes n node l ∙ ap Some (sym e)
 
-pub reading_at : (nodes : List Node) (n : ℕ) (node : Node) → n < length nodes → node ≡ get_or nodes n node → At (readings nodes) n node.reading
-reading_at nodes n node l e = at_map (λ (x : Node). x.reading) nodes n node (node_at nodes n node l e)
+pub facts_at : (nodes : List Node) (n : ℕ) (node : Node) → n < length nodes → node ≡ get_or nodes n node → At (all_facts nodes) n node.facts
+facts_at nodes n node l e = at_map (λ (x : Node). x.facts) nodes n node (node_at nodes n node l e)
 
 pub count_at : (nodes : List Node) (n : ℕ) (node : Node) → n < length nodes → node ≡ get_or nodes n node → At (counts nodes) n node.names
 count_at nodes n node l e = at_map (λ (x : Node). x.names) nodes n node (node_at nodes n node l e)
@@ -103,12 +103,12 @@ past_end (x ∷ xs) (suc n) e = let r = past_end xs n e in omega arith
 
 -- ---- those that wait at first
 
-pub record FreeTo (low high : ℕ) (told : List Reading) (cs : List ℕ) (first : List Pending) : Type 0 where
-  pub each : (pending : Pending) → Contains first pending → (low ≤ pending.number.0) × (pending.number.0 < high) × At cs pending.number.0 0 × ((reading : Reading) × At told pending.number.0 reading × (pending.time ≡ reading.time))
-  pub every : (n : ℕ) (reading : Reading) → low ≤ n → n < high → At cs n 0 → At told n reading → (pending : Pending) × Contains first pending × (pending.number.0 ≡ n)
+pub record FreeTo (low high : ℕ) (told : List Facts) (cs : List ℕ) (first : List Pending) : Type 0 where
+  pub each : (pending : Pending) → Contains first pending → (low ≤ pending.number.0) × (pending.number.0 < high) × At cs pending.number.0 0 × ((facts : Facts) × At told pending.number.0 facts × (pending.time ≡ facts.time))
+  pub every : (n : ℕ) (facts : Facts) → low ≤ n → n < high → At cs n 0 → At told n facts → (pending : Pending) × Contains first pending × (pending.number.0 ≡ n)
   pub ascending : (k l : ℕ) (p q : Pending) → k < l → At first k p → At first l q → p.number.0 < q.number.0
 
-module _ (low : ℕ) (told : List Reading) (cs : List ℕ) where
+module _ (low : ℕ) (told : List Facts) (cs : List ℕ) where
   pub free_none : (high : ℕ) → high ≤ low → (first : List Pending) → first ≡ [] → FreeTo low high told cs first
   free_none high l first e = subst (λ (zs : List Pending). FreeTo low high told cs zs) (sym e) (record {
     each = λ p c. let (k, a) = at_from_contains [] p c in absurd (none_at_nil k p a);
@@ -127,12 +127,12 @@ module _ (low : ℕ) (told : List Reading) (cs : List ℕ) where
     ascending = f.ascending;
   }
 
-  pub free_push : (high : ℕ) (first : List Pending) (p : Pending) (reading : Reading) → FreeTo low high told cs first → low ≤ high → p.number.0 ≡ high → At cs high 0 → At told high reading → p.time ≡ reading.time → FreeTo low (high + 1) told cs (first ++ p ∷ [])
-  free_push high first p reading f l e a b t = record {
+  pub free_push : (high : ℕ) (first : List Pending) (p : Pending) (facts : Facts) → FreeTo low high told cs first → low ≤ high → p.number.0 ≡ high → At cs high 0 → At told high facts → p.time ≡ facts.time → FreeTo low (high + 1) told cs (first ++ p ∷ [])
+  free_push high first p facts f l e a b t = record {
     each = λ q c. elim (Contains-push_cases first p q c) [
       | inl d ↦ (let (l', m, a', r) = f.each q d in (l', omega arith, a', r))
-      | inr g ↦ subst (λ (v : Pending). (low ≤ v.number.0) × (v.number.0 < high + 1) × At cs v.number.0 0 × ((r : Reading) × At told v.number.0 r × (v.time ≡ r.time))) g
-          (omega arith, omega arith, subst (λ (k : ℕ). At cs k 0) (sym e) a, (reading, subst (λ (k : ℕ). At told k reading) (sym e) b, t))
+      | inr g ↦ subst (λ (v : Pending). (low ≤ v.number.0) × (v.number.0 < high + 1) × At cs v.number.0 0 × ((r : Facts) × At told v.number.0 r × (v.time ≡ r.time))) g
+          (omega arith, omega arith, subst (λ (k : ℕ). At cs k 0) (sym e) a, (facts, subst (λ (k : ℕ). At told k facts) (sym e) b, t))
     ];
     every = λ n r m lt c d. elim (three n high) [
       | inl k ↦ (let (q, i, j) = f.every n r m k c d in (q, Contains-append_left first (p ∷ []) q i, j))
@@ -195,17 +195,17 @@ not_zero cs n free f e a = let z : free ≡ true = f 0 a in let w : ⊥ = cc in 
 
 -- ---- a name is counted off
 
-pub off_freed : (low : ℕ) (keys : List ObjectId) (told told' : List Reading) (cs cs' : List ℕ) (ready ready' : Ready) (id : ObjectId) (number : Number) (count : ℕ) (last : Bool) (o : Option Pending) (pending : Pending) → last ≡ true → low ≤ number.0 → At keys number.0 id → At cs number.0 (count + 1) → cs' ≡ set cs number.0 count → last ≡ eqb count 0 → told' ≡ told → o ≡ Some pending → IfSome o (λ p. (p.number ≡ number) × ((r : Reading) × At told' number.0 r × (p.time ≡ r.time))) → Joined ready (pending ∷ []) ready' → CountsOff low keys told cs ready id cs' ready'
+pub off_freed : (low : ℕ) (keys : List ObjectId) (told told' : List Facts) (cs cs' : List ℕ) (ready ready' : Ready) (id : ObjectId) (number : Number) (count : ℕ) (last : Bool) (o : Option Pending) (pending : Pending) → last ≡ true → low ≤ number.0 → At keys number.0 id → At cs number.0 (count + 1) → cs' ≡ set cs number.0 count → last ≡ eqb count 0 → told' ≡ told → o ≡ Some pending → IfSome o (λ p. (p.number ≡ number) × ((r : Facts) × At told' number.0 r × (p.time ≡ r.time))) → Joined ready (pending ∷ []) ready' → CountsOff low keys told cs ready id cs' ready'
 off_freed low keys told told' cs cs' ready ready' id number count last o pending t l a b e f s g p j =
     let z : count ≡ 0 = eqb_zero count (sym f ∙ t) in
-    let found : (pending.number ≡ number) × ((r : Reading) × At told' number.0 r × (pending.time ≡ r.time)) = subst (λ (q : Option Pending). IfSome q (λ p. (p.number ≡ number) × ((r : Reading) × At told' number.0 r × (p.time ≡ r.time)))) g p in
+    let found : (pending.number ≡ number) × ((r : Facts) × At told' number.0 r × (pending.time ≡ r.time)) = subst (λ (q : Option Pending). IfSome q (λ p. (p.number ≡ number) × ((r : Facts) × At told' number.0 r × (p.time ≡ r.time)))) g p in
     let (r, c, d) = found.1 in
-    freed {n = number.0} {pending = pending} {reading = r} l a (subst (λ (k : ℕ). At cs number.0 (k + 1)) z b) (e ∙ ap (set cs number.0) z) (ap (λ (n : Number). n.0) found.0) (subst (λ (zs : List Reading). At zs number.0 r) s c) d j
+    freed {n = number.0} {pending = pending} {facts = r} l a (subst (λ (k : ℕ). At cs number.0 (k + 1)) z b) (e ∙ ap (set cs number.0) z) (ap (λ (n : Number). n.0) found.0) (subst (λ (zs : List Facts). At zs number.0 r) s c) d j
   where
     eqb_zero : (k : ℕ) → eqb k 0 ≡ true → k ≡ 0
     eqb_zero k e = grind (arith, nat_tests)
 
-pub off_counted : (low : ℕ) (keys : List ObjectId) (told : List Reading) (cs cs' : List ℕ) (ready : Ready) (id : ObjectId) (number : Number) (count : ℕ) (last : Bool) → last ≡ false → low ≤ number.0 → At keys number.0 id → At cs number.0 (count + 1) → cs' ≡ set cs number.0 count → last ≡ eqb count 0 → CountsOff low keys told cs ready id cs' ready
+pub off_counted : (low : ℕ) (keys : List ObjectId) (told : List Facts) (cs cs' : List ℕ) (ready : Ready) (id : ObjectId) (number : Number) (count : ℕ) (last : Bool) → last ≡ false → low ≤ number.0 → At keys number.0 id → At cs number.0 (count + 1) → cs' ≡ set cs number.0 count → last ≡ eqb count 0 → CountsOff low keys told cs ready id cs' ready
 off_counted low keys told cs cs' ready id number count last t l a b e f =
     counted {n = number.0} {count = count} l a b (λ z. let g : eqb 0 0 ≡ false = ap (λ (k : ℕ). eqb k 0) (sym z) ∙ sym f ∙ t in let w : ⊥ = cc in w) e refl
 
@@ -218,8 +218,8 @@ set_falls (suc low) (c ∷ cs) (suc n) count l a = set_falls low cs n count (ome
 pub off_falls : (low : ℕ) (cs cs' : List ℕ) (n count : ℕ) → low ≤ n → At cs n (count + 1) → cs' ≡ set cs n count → total (λ c. c) (drop low cs') + 1 ≡ total (λ c. c) (drop low cs)
 off_falls low cs cs' n count l a e = ap (λ (zs : List ℕ). total (λ c. c) (drop low zs) + 1) e ∙ set_falls low cs n count l a
 
-pub many_counts : (a b : List Node) → readings a ≡ readings b → length (counts a) ≡ length b
-many_counts a b e = length_map (λ (v : Node). v.names) a ∙ sym (length_map (λ (v : Node). v.reading) a) ∙ ap length e ∙ length_map (λ (v : Node). v.reading) b
+pub many_counts : (a b : List Node) → all_facts a ≡ all_facts b → length (counts a) ≡ length b
+many_counts a b e = length_map (λ (v : Node). v.names) a ∙ sym (length_map (λ (v : Node). v.facts) a) ∙ ap length e ∙ length_map (λ (v : Node). v.facts) b
 
-pub many_nodes : (a b : List Node) → readings a ≡ readings b → length a ≡ length b
-many_nodes a b e = sym (length_map (λ (v : Node). v.reading) a) ∙ ap length e ∙ length_map (λ (v : Node). v.reading) b
+pub many_nodes : (a b : List Node) → all_facts a ≡ all_facts b → length a ≡ length b
+many_nodes a b e = sym (length_map (λ (v : Node). v.facts) a) ∙ ap length e ∙ length_map (λ (v : Node). v.facts) b

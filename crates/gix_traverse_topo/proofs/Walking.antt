@@ -18,19 +18,19 @@ use Rattle.gix_traverse_commit.proofs.Lists.{at_one, at_push, once_push, take_ag
 use Rattle.gix_traverse_commit.proofs.Ids.{same_id_apart}
 use Rattle.gix_traverse_commit.proofs.Slow.{any_from_contains}
 use Rattle.gix_traverse_topo.specs.Meeting.{IsRow, Met, Walks}
-use Rattle.gix_traverse_topo.specs.Nodes.{readings, counts, EachCount, IsOnce, IsReading, NamesAre, ParentsFrom, ParentsIn}
+use Rattle.gix_traverse_topo.specs.Nodes.{all_facts, counts, EachCount, IsOnce, AreFacts, NamesAre, ParentsFrom, ParentsIn}
 use Rattle.gix_traverse_topo.specs.Turns.{names_of, times}
 use Rattle.gix_traverse_topo.specs.Walking.{Meets, Names, Visits, Walking}
 use Rattle.gix_traverse_topo.specs.declared.known.Node.{Node}
-use Rattle.gix_traverse_topo.specs.declared.known.Reading.{Reading}
+use Rattle.gix_traverse_topo.specs.declared.known.Facts.{Facts}
 use Rattle.gix_traverse_topo.proofs.Counting.{names_as, names_more, names_none, names_pushed}
 use Rattle.gix_traverse_topo.proofs.Degree.{total_push}
 use Rattle.gix_traverse_topo.proofs.Meeting.{MetSo, asked_same, at_back, at_length_append, keys_more, length_map, map_push, meet_more, met_all, met_once, row_met}
 use Rattle.gix_traverse_topo.proofs.Updates.{at_within, whole}
 use Rattle.gix_traverse_commit.proofs.Simply.{take_push}
 
-long_told : (nodes : List Node) → length (readings nodes) ≡ length nodes
-long_told nodes = length_map (λ (node : Node). node.reading) nodes
+long_told : (nodes : List Node) → length (all_facts nodes) ≡ length nodes
+long_told nodes = length_map (λ (node : Node). node.facts) nodes
 
 as_long : {A : Type 0} (xs ys : List A) → ((k : ℕ) (x : A) → At xs k x → At ys k x) → length xs ≤ length ys
 as_long [] ys kept = omega arith
@@ -72,7 +72,7 @@ once_more keys keys' y e o = go (list_any (same_id y) keys) refl
 pub record MeetsSo (ids keys : List ObjectId) (nodes : List Node) (keys' : List ObjectId) (nodes' : List Node) (m : ℕ) : Type 0 where
   pub kept : (k : ℕ) (x : ObjectId) → At keys k x → At keys' k x
   pub once : IsOnce keys → IsOnce keys'
-  pub told : (k : ℕ) (reading : Reading) → At (readings nodes) k reading → At (readings nodes') k reading
+  pub told : (k : ℕ) (facts : Facts) → At (all_facts nodes) k facts → At (all_facts nodes') k facts
   pub many : length nodes ≡ length keys → length nodes' ≡ length keys'
   pub met : (way : ObjectId → List ObjectId) (tips hs xs : List ObjectId) (p : ℕ) → keys ≡ hs ++ xs → Read way tips (NotIn hs) xs p 0 → IsRow way tips xs p ids → MetSo way tips hs keys' p m ids
 
@@ -85,7 +85,7 @@ so_none ids keys nodes = record {
   met = λ way tips hs xs p e r row. record { xs = xs; keys_are = e; read = r; row = row };
 }
 
-pub so_more : (ids keys : List ObjectId) (nodes : List Node) (keys' : List ObjectId) (nodes' : List Node) (m : ℕ) (y : ObjectId) (keys'' : List ObjectId) (nodes'' : List Node) → MeetsSo ids keys nodes keys' nodes' m → At ids m y → keys'' ≡ cond (list_any (same_id y) keys') keys' (keys' ++ y ∷ []) → ((k : ℕ) (reading : Reading) → At (readings nodes') k reading → At (readings nodes'') k reading) → (length nodes' ≡ length keys' → length nodes'' ≡ length keys'') → MeetsSo ids keys nodes keys'' nodes'' (m + 1)
+pub so_more : (ids keys : List ObjectId) (nodes : List Node) (keys' : List ObjectId) (nodes' : List Node) (m : ℕ) (y : ObjectId) (keys'' : List ObjectId) (nodes'' : List Node) → MeetsSo ids keys nodes keys' nodes' m → At ids m y → keys'' ≡ cond (list_any (same_id y) keys') keys' (keys' ++ y ∷ []) → ((k : ℕ) (facts : Facts) → At (all_facts nodes') k facts → At (all_facts nodes'') k facts) → (length nodes' ≡ length keys' → length nodes'' ≡ length keys'') → MeetsSo ids keys nodes keys'' nodes'' (m + 1)
 so_more ids keys nodes keys' nodes' m y keys'' nodes'' s here e told many = record {
   kept = λ k x a. keys_more keys' keys'' y e k x (s.kept k x a);
   once = λ o. once_more keys' keys'' y e (s.once o);
@@ -95,11 +95,11 @@ so_more ids keys nodes keys' nodes' m y keys'' nodes'' s here e told many = reco
 }
 
 -- a name of one of them is counted
-pub so_named : (ids keys : List ObjectId) (nodes : List Node) (keys' : List ObjectId) (nodes' nodes'' : List Node) (m : ℕ) → MeetsSo ids keys nodes keys' nodes' m → readings nodes'' ≡ readings nodes' → MeetsSo ids keys nodes keys' nodes'' m
+pub so_named : (ids keys : List ObjectId) (nodes : List Node) (keys' : List ObjectId) (nodes' nodes'' : List Node) (m : ℕ) → MeetsSo ids keys nodes keys' nodes' m → all_facts nodes'' ≡ all_facts nodes' → MeetsSo ids keys nodes keys' nodes'' m
 so_named ids keys nodes keys' nodes' nodes'' m s e = record {
   kept = s.kept;
   once = s.once;
-  told = λ k r a. subst (λ (rs : List Reading). At rs k r) (sym e) (s.told k r a);
+  told = λ k r a. subst (λ (rs : List Facts). At rs k r) (sym e) (s.told k r a);
   many = λ f. sym (long_told nodes'') ∙ ap length e ∙ long_told nodes' ∙ s.many f;
   met = s.met;
 }
@@ -113,7 +113,7 @@ so_all ids keys nodes keys' nodes' m s l = record {
 }
 
 pub meets_longer : (ids keys : List ObjectId) (nodes : List Node) (keys' : List ObjectId) (nodes' : List Node) → Meets ids keys nodes keys' nodes' → length nodes ≤ length nodes'
-meets_longer ids keys nodes keys' nodes' m = let l = as_long (readings nodes) (readings nodes') m.told in let e = long_told nodes in let f = long_told nodes' in omega arith
+meets_longer ids keys nodes keys' nodes' m = let l = as_long (all_facts nodes) (all_facts nodes') m.told in let e = long_told nodes in let f = long_told nodes' in omega arith
 
 -- without names
 pub names_kept : (keys : List ObjectId) (nodes : List Node) → Names (λ _. 0) keys nodes keys nodes
@@ -152,8 +152,8 @@ old_key keys keys' y new n t e = go (list_any (same_id y) keys) refl
     go true f = rw f at e
     go false f = absurd (let g : new ≡ not false = rw f at n in let z : ⊥ = cc in z)
 
-pub told_pushed : (nodes nodes' : List Node) (node : Node) → nodes' ≡ nodes ++ node ∷ [] → (k : ℕ) (reading : Reading) → At (readings nodes) k reading → At (readings nodes') k reading
-told_pushed nodes nodes' node e k r a = subst (λ (rs : List Reading). At rs k r) (sym (ap readings e ∙ map_push (λ (v : Node). v.reading) nodes node)) (at_push (readings nodes) node.reading k r a)
+pub told_pushed : (nodes nodes' : List Node) (node : Node) → nodes' ≡ nodes ++ node ∷ [] → (k : ℕ) (facts : Facts) → At (all_facts nodes) k facts → At (all_facts nodes') k facts
+told_pushed nodes nodes' node e k r a = subst (λ (rs : List Facts). At rs k r) (sym (ap all_facts e ∙ map_push (λ (v : Node). v.facts) nodes node)) (at_push (all_facts nodes) node.facts k r a)
 
 pub many_pushed : (nodes nodes' : List Node) (node : Node) (keys keys' : List ObjectId) (y : ObjectId) → nodes' ≡ nodes ++ node ∷ [] → keys' ≡ keys ++ y ∷ [] → length nodes ≡ length keys → length nodes' ≡ length keys'
 many_pushed nodes nodes' node keys keys' y e f l = ap length e ∙ length-append nodes (node ∷ []) ∙ ap (λ (n : ℕ). n + 1) l ∙ sym (ap length f ∙ length-append keys (y ∷ []))
@@ -200,13 +200,13 @@ module _ (honest may_fail : Type 0) (rows : List Row) (table : Table) (along : P
     once = λ o. met_once (λ _. []) row keys' keys'' 0 (row_met keys' keys'' row v.meets.met) (w.once o);
     told_kept = λ k r l a. v.others k r (λ e. omega (arith, w.placed)) (w.told_kept k r l a);
     many = λ e. v.many ∙ v.meets.many (w.many e);
-    within = (let l = slice_get_within (readings nodes'') high v.reading v.placed in let e = long_told nodes'' in omega arith);
+    within = (let l = slice_get_within (all_facts nodes'') high v.facts v.placed in let e = long_told nodes'' in omega arith);
     read = λ n x r l lt a b. elim (three n high) [
       | inl less ↦ earlier n x r l less a b
       | inr (inl e) ↦ (
           let same : x ≡ id = at_one keys'' high x id (subst (λ (k : ℕ). At keys'' k x) e a) (v.meets.kept high id here) in
-          let told : r ≡ v.reading = at_one (readings nodes'') high r v.reading (subst (λ (k : ℕ). At (readings nodes'') k r) e b) v.placed in
-          subst (λ (s : Reading). IsReading honest may_fail rows table x s) (sym told) (subst (λ (z : ObjectId). IsReading honest may_fail rows table z v.reading) (sym same) v.is_read))
+          let told : r ≡ v.facts = at_one (all_facts nodes'') high r v.facts (subst (λ (k : ℕ). At (all_facts nodes'') k r) e b) v.placed in
+          subst (λ (s : Facts). AreFacts honest may_fail rows table x s) (sym told) (subst (λ (z : ObjectId). AreFacts honest may_fail rows table z v.facts) (sym same) v.is_read))
       | inr (inr gt) ↦ absurd (omega arith)
     ];
     place = suc w.place;
@@ -215,24 +215,24 @@ module _ (honest may_fail : Type 0) (rows : List Row) (table : Table) (along : P
   }
     where
       row : List ObjectId
-      row = asked along v.reading.parents.items
+      row = asked along v.facts.parents.items
 
       room : high < length keys'
       room = slice_get_within keys' high id here
 
-      earlier : (n : ℕ) (x : ObjectId) (r : Reading) → length nodes ≤ n → n < high → At keys'' n x → At (readings nodes'') n r → IsReading honest may_fail rows table x r
+      earlier : (n : ℕ) (x : ObjectId) (r : Facts) → length nodes ≤ n → n < high → At keys'' n x → At (all_facts nodes'') n r → AreFacts honest may_fail rows table x r
       earlier n x r l less a b =
-          let (s, c) = at_within (readings nodes') n (let e = long_told nodes' in omega (arith, w.within)) in
-          let same : s ≡ r = at_one (readings nodes'') n s r (v.others n s (λ e. omega arith) c) b in
-          subst (λ (q : Reading). IsReading honest may_fail rows table x q) same (w.read n x s l less (at_back keys' keys'' v.meets.kept n x (omega (arith, room)) a) c)
+          let (s, c) = at_within (all_facts nodes') n (let e = long_told nodes' in omega (arith, w.within)) in
+          let same : s ≡ r = at_one (all_facts nodes'') n s r (v.others n s (λ e. omega arith) c) b in
+          subst (λ (q : Facts). AreFacts honest may_fail rows table x q) same (w.read n x s l less (at_back keys' keys'' v.meets.kept n x (omega (arith, room)) a) c)
 
-      met : length nodes ≡ length keys → IsOnce keys → (h : Commits ObjectId) → ParentsIn (length nodes) (high + 1) h keys'' (readings nodes'') → (m : Met (asked_parents along h) tips keys keys'' (suc w.place)) × NamesAre (length keys) keys'' (counts nodes'') (λ y. names_of same_id (asked_parents along h) y (take (suc w.place) m.xs))
+      met : length nodes ≡ length keys → IsOnce keys → (h : Commits ObjectId) → ParentsIn (length nodes) (high + 1) h keys'' (all_facts nodes'') → (m : Met (asked_parents along h) tips keys keys'' (suc w.place)) × NamesAre (length keys) keys'' (counts nodes'') (λ y. names_of same_id (asked_parents along h) y (take (suc w.place) m.xs))
       met e o h t =
           let way = asked_parents along h in
           let (m, named) = w.met e o h (λ n x r l lt a b. t n x r l (omega arith) (v.meets.kept n x a) (v.others n r (λ f. omega arith) b)) in
           let there : At m.xs w.place id = at_length_append keys m.xs w.place id (subst (λ (zs : List ObjectId). At zs (length keys + w.place) id) m.keys_are (subst (λ (n : ℕ). At keys' n id) (w.placed ∙ ap (λ (n : ℕ). n + w.place) e) here)) in
           let within = slice_get_within m.xs w.place id there in
-          let parents : v.reading.parents.items ≡ (h id).parents = t high id v.reading (omega (arith, w.placed)) (omega arith) (v.meets.kept high id here) v.placed in
+          let parents : v.facts.parents.items ≡ (h id).parents = t high id v.facts (omega (arith, w.placed)) (omega arith) (v.meets.kept high id here) v.placed in
           let same_row : way id ≡ row = asked_same along h id ∙ ap (asked along) (sym parents) in
           let next : Met way tips keys keys'' (suc w.place) = v.meets.met way tips keys m.xs (suc w.place) m.keys_are (read_next way tips (NotIn keys) m.xs w.place m.count m.read m.all (omega arith)) (id, there, same_row) in
           let more : NamesAre (length keys) keys'' (counts nodes'') (λ y. names_of same_id way y (take w.place m.xs) + times (same_id y) row) = v.names (length keys) (λ y. names_of same_id way y (take w.place m.xs)) (w.once o) (w.many e) named in
@@ -244,7 +244,7 @@ module _ (honest may_fail : Type 0) (rows : List Row) (table : Table) (along : P
           )
 
   -- all are read
-  pub walks_all : (high : ℕ) (keys' : List ObjectId) (nodes' : List Node) → Walking honest may_fail rows table along tips keys nodes high keys' nodes' → length keys' ≤ high → length nodes ≡ length keys → IsOnce keys → (h : Commits ObjectId) → ParentsFrom (length nodes) h keys' (readings nodes') → (s : Walks (asked_parents along h) tips keys keys') × EachCount (length keys) keys' (counts nodes') (λ y count. count ≡ names_of same_id (asked_parents along h) y s.xs)
+  pub walks_all : (high : ℕ) (keys' : List ObjectId) (nodes' : List Node) → Walking honest may_fail rows table along tips keys nodes high keys' nodes' → length keys' ≤ high → length nodes ≡ length keys → IsOnce keys → (h : Commits ObjectId) → ParentsFrom (length nodes) h keys' (all_facts nodes') → (s : Walks (asked_parents along h) tips keys keys') × EachCount (length keys) keys' (counts nodes') (λ y count. count ≡ names_of same_id (asked_parents along h) y s.xs)
   walks_all high keys' nodes' w l e o h t =
       let way = asked_parents along h in
       let (m, named) = w.met e o h (λ n x r low lt a b. t n x r low a b) in

@@ -9,10 +9,10 @@ use Rattle.gix_traverse_commit.specs.Painting.{ReachedFrom}
 use Rattle.gix_traverse_commit.specs.Standing.{NotIn}
 use Rattle.gix_traverse_commit.specs.declared.parents.Parents.{Parents}
 use Rattle.gix_traverse_commit.specs.declared.rows.Row.{Row}
-use Rattle.gix_traverse_topo.specs.Nodes.{readings, counts, EachCount, IsOnce, IsReading, ParentsFrom}
+use Rattle.gix_traverse_topo.specs.Nodes.{all_facts, counts, EachCount, IsOnce, AreFacts, ParentsFrom}
 use Rattle.gix_traverse_topo.specs.Turns.{names_of}
 use Rattle.gix_traverse_topo.specs.declared.known.Known.{Known}
-use Rattle.gix_traverse_topo.specs.declared.known.Reading.{Reading}
+use Rattle.gix_traverse_topo.specs.declared.known.Facts.{Facts}
 
 -- all that the ends reach is read, and nothing else is known
 pub record IsPainted (honest may_fail : Type 0) (rows : List Row) (table : Table)
@@ -20,11 +20,11 @@ pub record IsPainted (honest may_fail : Type 0) (rows : List Row) (table : Table
   pub once : IsOnce known.ids.keys
   pub all_read : length known.nodes.items ≡ length known.ids.keys
   pub all_hidden : known.hidden ≡ length known.ids.keys
-  pub read : (n : ℕ) (x : ObjectId) (reading : Reading) → At known.ids.keys n x
-      → At (readings known.nodes.items) n reading → IsReading honest may_fail rows table x reading
-  pub no_fault : (n : ℕ) (reading : Reading) → At (readings known.nodes.items) n reading
-      → reading.fault ≡ None
-  pub hides : (h : Commits ObjectId) → ParentsFrom 0 h known.ids.keys (readings known.nodes.items)
+  pub read : (n : ℕ) (x : ObjectId) (facts : Facts) → At known.ids.keys n x
+      → At (all_facts known.nodes.items) n facts → AreFacts honest may_fail rows table x facts
+  pub no_fault : (n : ℕ) (facts : Facts) → At (all_facts known.nodes.items) n facts
+      → facts.fault ≡ None
+  pub hides : (h : Commits ObjectId) → ParentsFrom 0 h known.ids.keys (all_facts known.nodes.items)
       → (x : ObjectId) → Contains known.ids.keys x ↔ ReachedFrom h ends x
 
 -- behind those that the ends reach stand those that the tips reach past them, in breadth order, and names are counted
@@ -45,10 +45,10 @@ pub record IsExplored (honest may_fail : Type 0) (rows : List Row) (table : Tabl
     (tips ends : List ObjectId) (parents : Parents) (known : Known) : Type 0 where
   pub once : IsOnce known.ids.keys
   pub all_read : length known.nodes.items ≡ length known.ids.keys
-  pub read : (n : ℕ) (x : ObjectId) (reading : Reading) → At known.ids.keys n x
-      → At (readings known.nodes.items) n reading → IsReading honest may_fail rows table x reading
-  pub no_fault : (n : ℕ) (reading : Reading) → n < known.hidden
-      → At (readings known.nodes.items) n reading → reading.fault ≡ None
+  pub read : (n : ℕ) (x : ObjectId) (facts : Facts) → At known.ids.keys n x
+      → At (all_facts known.nodes.items) n facts → AreFacts honest may_fail rows table x facts
+  pub no_fault : (n : ℕ) (facts : Facts) → n < known.hidden
+      → At (all_facts known.nodes.items) n facts → facts.fault ≡ None
   pub numbers : (h : Commits ObjectId)
-      → ParentsFrom 0 h known.ids.keys (readings known.nodes.items)
+      → ParentsFrom 0 h known.ids.keys (all_facts known.nodes.items)
       → Numbers h tips ends parents known

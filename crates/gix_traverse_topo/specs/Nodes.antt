@@ -11,52 +11,52 @@ use Rattle.gix_traverse_commit.specs.declared.fetch.FetchError.{FetchError}
 use Rattle.gix_traverse_commit.specs.declared.fetch.FetchError.TheVariants as fetch
 use Rattle.gix_traverse_topo.specs.Faults.{IsFaultOf, error_of}
 use Rattle.gix_traverse_topo.specs.declared.known.Node.{Node}
-use Rattle.gix_traverse_topo.specs.declared.known.Reading.{Reading}
+use Rattle.gix_traverse_topo.specs.declared.known.Facts.{Facts}
 
 -- what was read of each
-abbrev pub readings : List Node → List Reading
-readings nodes = map (λ (node : Node). node.reading) nodes
+abbrev pub all_facts : List Node → List Facts
+all_facts nodes = map (λ (node : Node). node.facts) nodes
 
 -- how often each is still named
 abbrev pub counts : List Node → List ℕ
 counts nodes = map (λ (node : Node). node.names) nodes
 
--- the reading tells the commit
+-- the facts tell the commit
 pub record Tells (rows : List Row) (g : Commits ObjectId) (id : ObjectId)
-    (reading : Reading) : Type 0 where
-  pub parents : reading.parents.items ≡ (g id).parents
-  pub time : reading.time ≡ (g id).time
-  pub generation : HasRowsGeneration rows id reading.generation
+    (facts : Facts) : Type 0 where
+  pub parents : facts.parents.items ≡ (g id).parents
+  pub time : facts.time ≡ (g id).time
+  pub generation : HasRowsGeneration rows id facts.generation
 
 -- what was read of a commit: all that is told of it, or why nothing is, and then it counts as one without parents
-pub record IsReading (honest may_fail : Type 0) (rows : List Row) (table : Table) (id : ObjectId)
-    (reading : Reading) : Type 0 where
-  pub told : honest → (g : Commits ObjectId) → AreTold rows table g → reading.fault ≡ None
-      → Tells rows g id reading
-  pub blank : IsSome reading.fault
-      → (reading.parents.items ≡ []) × (reading.time ≡ pos 0)
-      × HasRowsGeneration rows id reading.generation
-  pub cause : IfSome reading.fault (IsFaultOf honest may_fail rows table id)
+pub record AreFacts (honest may_fail : Type 0) (rows : List Row) (table : Table) (id : ObjectId)
+    (facts : Facts) : Type 0 where
+  pub told : honest → (g : Commits ObjectId) → AreTold rows table g → facts.fault ≡ None
+      → Tells rows g id facts
+  pub blank : IsSome facts.fault
+      → (facts.parents.items ≡ []) × (facts.time ≡ pos 0)
+      × HasRowsGeneration rows id facts.generation
+  pub cause : IfSome facts.fault (IsFaultOf honest may_fail rows table id)
 
 -- it stands for a commit that isn't read, for this fault, which isn't want of memory
-pub record IsBlank (fault : FetchError) (reading : Reading) : Type 0 where
-  pub parents : reading.parents.items ≡ []
-  pub time : reading.time ≡ pos 0
-  pub generation : reading.generation ≡ None
-  pub because : reading.fault ≡ Some (error_of fault)
+pub record IsBlank (fault : FetchError) (facts : Facts) : Type 0 where
+  pub parents : facts.parents.items ≡ []
+  pub time : facts.time ≡ pos 0
+  pub generation : facts.generation ≡ None
+  pub because : facts.fault ≡ Some (error_of fault)
   pub no_memory : fault ≡ fetch.Memory → ⊥
 
--- from this number on each commit's reading tells it
-abbrev pub TellFrom : ℕ → List Row → Commits ObjectId → List ObjectId → List Reading → Type 0
+-- from this number on each commit's facts tell it
+abbrev pub TellFrom : ℕ → List Row → Commits ObjectId → List ObjectId → List Facts → Type 0
 TellFrom low rows g keys told =
-    (n : ℕ) (x : ObjectId) (reading : Reading) → low ≤ n → At keys n x → At told n reading
-    → Tells rows g x reading
+    (n : ℕ) (x : ObjectId) (facts : Facts) → low ≤ n → At keys n x → At told n facts
+    → Tells rows g x facts
 
 -- from this number on each commit's parents are those that were read
-abbrev pub ParentsFrom : ℕ → Commits ObjectId → List ObjectId → List Reading → Type 0
+abbrev pub ParentsFrom : ℕ → Commits ObjectId → List ObjectId → List Facts → Type 0
 ParentsFrom low g keys told =
-    (n : ℕ) (x : ObjectId) (reading : Reading) → low ≤ n → At keys n x → At told n reading
-    → reading.parents.items ≡ (g x).parents
+    (n : ℕ) (x : ObjectId) (facts : Facts) → low ≤ n → At keys n x → At told n facts
+    → facts.parents.items ≡ (g x).parents
 
 -- from this number on this holds of each commit and its count
 abbrev pub EachCount : ℕ → List ObjectId → List ℕ → (ObjectId → ℕ → Type 0) → Type 0
@@ -68,10 +68,10 @@ abbrev pub IsOnce : {I : Type 0} → List I → Type 0
 IsOnce {I} xs = (j k : ℕ) (x : I) → At xs j x → At xs k x → j ≡ k
 
 -- from low up to high each commit's parents are those that were read
-abbrev pub ParentsIn : ℕ → ℕ → Commits ObjectId → List ObjectId → List Reading → Type 0
+abbrev pub ParentsIn : ℕ → ℕ → Commits ObjectId → List ObjectId → List Facts → Type 0
 ParentsIn low high g keys told =
-    (n : ℕ) (x : ObjectId) (reading : Reading) → low ≤ n → n < high → At keys n x
-    → At told n reading → reading.parents.items ≡ (g x).parents
+    (n : ℕ) (x : ObjectId) (facts : Facts) → low ≤ n → n < high → At keys n x
+    → At told n facts → facts.parents.items ≡ (g x).parents
 
 -- from this number on each commit is counted so often, and what has no number is named never
 abbrev pub NamesAre : ℕ → List ObjectId → List ℕ → (ObjectId → ℕ) → Type 0

@@ -15,7 +15,7 @@ use Rattle.gix_traverse_commit.specs.declared.info.Info.{Info}
 use Rattle.gix_traverse_commit.specs.declared.parents.Parents.{Parents}
 use Rattle.gix_traverse_commit.specs.declared.rows.Row.{Row}
 use Rattle.gix_traverse_topo.specs.Faults.{IsFaultOf}
-use Rattle.gix_traverse_topo.specs.Nodes.{readings, counts, Tells, EachCount, IsOnce}
+use Rattle.gix_traverse_topo.specs.Nodes.{all_facts, counts, Tells, EachCount, IsOnce}
 use Rattle.gix_traverse_topo.specs.Turns.{total, names_of, named_so_far, Freed, Waits, Ranked}
 use Rattle.gix_traverse_topo.specs.Waiting.{pending_cmp, waiting, Joined}
 use Rattle.gix_traverse_topo.specs.declared.error.Error.{Error}
@@ -23,7 +23,7 @@ use Rattle.gix_traverse_topo.specs.declared.error.Error.TheVariants.{Memory}
 use Rattle.gix_traverse_topo.specs.declared.init.Sorting.{Sorting}
 use Rattle.gix_traverse_topo.specs.declared.init.Sorting.TheVariants.{DateOrder, TopoOrder}
 use Rattle.gix_traverse_topo.specs.declared.known.Known.{Known}
-use Rattle.gix_traverse_topo.specs.declared.known.Reading.{Reading}
+use Rattle.gix_traverse_topo.specs.declared.known.Facts.{Facts}
 use Rattle.gix_traverse_topo.specs.declared.ready.Pending.{Pending}
 use Rattle.gix_traverse_topo.specs.declared.ready.Ready.{Ready}
 use Rattle.gix_traverse_topo.specs.declared.ready.Ready.TheVariants.{ByDate, Topological}
@@ -56,15 +56,15 @@ weight known ready =
     total (λ count. count) (drop known.hidden (counts known.nodes.items)) + length (waiting ready)
 
 -- a name of this commit is counted off, and it waits where that was the last
-pub data CountsOff (low : ℕ) (keys : List ObjectId) (told : List Reading) (cs : List ℕ)
+pub data CountsOff (low : ℕ) (keys : List ObjectId) (told : List Facts) (cs : List ℕ)
     (ready : Ready) (id : ObjectId) (cs' : List ℕ) (ready' : Ready) : Type 0 where
   passed : (IsOnce keys → (n : ℕ) → At keys n id → n < low) → cs' ≡ cs → ready' ≡ ready
       → CountsOff low keys told cs ready id cs' ready'
   counted : {n count : ℕ} → low ≤ n → At keys n id → At cs n (count + 1) → (count ≡ 0 → ⊥)
       → cs' ≡ slice_set cs n count → ready' ≡ ready → CountsOff low keys told cs ready id cs' ready'
-  freed : {n : ℕ} {pending : Pending} {reading : Reading} → low ≤ n → At keys n id → At cs n 1
-      → cs' ≡ slice_set cs n 0 → pending.number.0 ≡ n → At told n reading
-      → pending.time ≡ reading.time → Joined ready (pending ∷ []) ready'
+  freed : {n : ℕ} {pending : Pending} {facts : Facts} → low ≤ n → At keys n id → At cs n 1
+      → cs' ≡ slice_set cs n 0 → pending.number.0 ≡ n → At told n facts
+      → pending.time ≡ facts.time → Joined ready (pending ∷ []) ready'
       → CountsOff low keys told cs ready id cs' ready'
 
 -- no name of this commit is left to be counted off, or it isn't known
@@ -80,9 +80,9 @@ pub record GoesOff (way : ObjectId → List ObjectId) (h : Commits ObjectId)
   pub all_read : length known.nodes.items ≡ length known.ids.keys
   pub room : (m : ℕ) (y : ObjectId) → At row m y → Contains xs y
       → named_so_far same_id way before row m y + 1 ≤ names_of same_id way y xs
-  pub timed : (n : ℕ) (y : ObjectId) (reading : Reading) → known.hidden ≤ n
-      → At known.ids.keys n y → Contains row y → At (readings known.nodes.items) n reading
-      → reading.time ≡ (h y).time
+  pub timed : (n : ℕ) (y : ObjectId) (facts : Facts) → known.hidden ≤ n
+      → At known.ids.keys n y → Contains row y → At (all_facts known.nodes.items) n facts
+      → facts.time ≡ (h y).time
   pub counted : EachCount known.hidden known.ids.keys (counts known.nodes.items)
       (λ y count. count + named_so_far same_id way before row 0 y ≡ names_of same_id way y xs)
 
@@ -107,9 +107,9 @@ pub record Standing (sorting : Sorting) (rows : List Row) (h : Commits ObjectId)
   pub hidden_are : known.hidden ≡ length hs
   pub keys_once : IsOnce known.ids.keys
   pub all_read : length known.nodes.items ≡ length known.ids.keys
-  pub tells : (n : ℕ) (x : ObjectId) (reading : Reading) → known.hidden ≤ n
-      → At known.ids.keys n x → At (readings known.nodes.items) n reading
-      → (Contains finished x → ⊥) → Tells rows h x reading
+  pub tells : (n : ℕ) (x : ObjectId) (facts : Facts) → known.hidden ≤ n
+      → At known.ids.keys n x → At (all_facts known.nodes.items) n facts
+      → (Contains finished x → ⊥) → Tells rows h x facts
   pub counted : EachCount known.hidden known.ids.keys (counts known.nodes.items)
       (λ y count. count + names_of same_id (asked_parents parents h) y finished
       ≡ names_of same_id (asked_parents parents h) y xs)
@@ -142,20 +142,20 @@ pub record IsNext (sorting : Sorting) (h : Commits ObjectId) (tips : List Object
 -- one commit is taken out of those that wait, and its names are counted off
 pub record Gives (number : ℕ) (along : Parents) (old : Known) (ready : Ready) (new : Known)
     (ready' : Ready) (info : Info) : Type 0 where
-  pub reading : Reading
-  pub at : At (readings old.nodes.items) number reading
-  pub read : reading.fault ≡ None
+  pub facts : Facts
+  pub at : At (all_facts old.nodes.items) number facts
+  pub read : facts.fault ≡ None
   pub id : At old.ids.keys number info.id
-  pub parents : info.parent_ids.items ≡ reading.parents.items
-  pub generation : info.generation ≡ reading.generation
-  pub time : info.commit_time ≡ Some reading.time
+  pub parents : info.parent_ids.items ≡ facts.parents.items
+  pub generation : info.generation ≡ facts.generation
+  pub time : info.commit_time ≡ Some facts.time
   pub off : (way : ObjectId → List ObjectId) (h : Commits ObjectId) (before hs xs : List ObjectId)
-      → GoesOff way h before (asked along reading.parents.items) hs xs old → IsOnce xs
-      → (m : ℕ) × (length (asked along reading.parents.items) ≤ m)
-      × RowOff old.hidden old.ids.keys way h before (asked along reading.parents.items) xs ready m
+      → GoesOff way h before (asked along facts.parents.items) hs xs old → IsOnce xs
+      → (m : ℕ) × (length (asked along facts.parents.items) ≤ m)
+      × RowOff old.hidden old.ids.keys way h before (asked along facts.parents.items) xs ready m
       (counts new.nodes.items) ready'
-  pub others : (k : ℕ) (other : Reading) → (k ≡ number → ⊥)
-      → At (readings new.nodes.items) k other → At (readings old.nodes.items) k other
+  pub others : (k : ℕ) (other : Facts) → (k ≡ number → ⊥)
+      → At (all_facts new.nodes.items) k other → At (all_facts old.nodes.items) k other
   pub as_many : length new.nodes.items ≡ length old.nodes.items
 
 -- it gives the commit whose turn it is, which was read
@@ -165,14 +165,14 @@ pub record Steps (sorting : Sorting) (rows : List Row) (h : Commits ObjectId)
   pub standing : Standing sorting rows h tips parents hs xs (finished ++ info.id ∷ []) new ready'
   pub is_info : IsInfo rows h info
   pub number : ℕ
-  pub reading : Reading
+  pub facts : Facts
   pub new_one : Contains finished info.id → ⊥
   pub behind : old.hidden ≤ number
   pub id : At old.ids.keys number info.id
-  pub at : At (readings old.nodes.items) number reading
-  pub read : reading.fault ≡ None
-  pub others : (k : ℕ) (other : Reading) → (k ≡ number → ⊥)
-      → At (readings new.nodes.items) k other → At (readings old.nodes.items) k other
+  pub at : At (all_facts old.nodes.items) number facts
+  pub read : facts.fault ≡ None
+  pub others : (k : ℕ) (other : Facts) → (k ≡ number → ⊥)
+      → At (all_facts new.nodes.items) k other → At (all_facts old.nodes.items) k other
 
 -- the walk that is asked for
 abbrev pub topo_request : {I : Type 0} → List I → List I → Parents → (I → Bool) → WalkRequest I
@@ -215,9 +215,9 @@ pub record Stands (sorting : Sorting) (rows : List Row) (faults : ObjectId → O
   pub hides : (x : ObjectId)
       → Hides (as_read faults g) (topo_request tips ends parents all_accepted) x
       ↔ Hides g (topo_request tips ends parents all_accepted) x
-  pub faulty : (n : ℕ) (x : ObjectId) (reading : Reading) → known.hidden ≤ n
-      → At known.ids.keys n x → At (readings known.nodes.items) n reading
-      → (Contains finished x → ⊥) → reading.fault ≡ faults x
+  pub faulty : (n : ℕ) (x : ObjectId) (facts : Facts) → known.hidden ≤ n
+      → At known.ids.keys n x → At (all_facts known.nodes.items) n facts
+      → (Contains finished x → ⊥) → facts.fault ≡ faults x
   pub finished_read : (x : ObjectId) → Contains finished x → faults x ≡ None
   pub given_are : given ≡ filter accepts finished
 
@@ -250,6 +250,6 @@ IsTurnOf sorting rows tips parents finished known ready error =
     (h : Commits ObjectId) (hs xs : List ObjectId)
     → Standing sorting rows h tips parents hs xs finished known ready
     → (error ≡ Memory)
-    ⊎ ((x : ObjectId) × (n : ℕ) × (reading : Reading) × At known.ids.keys n x
-    × At (readings known.nodes.items) n reading × (reading.fault ≡ Some error)
+    ⊎ ((x : ObjectId) × (n : ℕ) × (facts : Facts) × At known.ids.keys n x
+    × At (all_facts known.nodes.items) n facts × (facts.fault ≡ Some error)
     × IsNext sorting h tips parents (Contains xs) finished x)

@@ -7,7 +7,7 @@ use Rattle.std.specs.declared.cmp.Ordering.{Ordering}
 use Rattle.gix_traverse_commit.specs.Order.{At}
 use Rattle.gix_traverse_topo.specs.declared.init.Sorting.{Sorting}
 use Rattle.gix_traverse_topo.specs.declared.init.Sorting.TheVariants.{DateOrder, TopoOrder}
-use Rattle.gix_traverse_topo.specs.declared.known.Reading.{Reading}
+use Rattle.gix_traverse_topo.specs.declared.known.Facts.{Facts}
 use Rattle.gix_traverse_topo.specs.declared.ready.Pending.{Pending}
 use Rattle.gix_traverse_topo.specs.declared.ready.Ready.{Ready}
 use Rattle.gix_traverse_topo.specs.declared.ready.Ready.TheVariants.{ByDate, Topological}
@@ -47,12 +47,12 @@ Popped (ByDate old) first (Topological new) = ⊥
 Popped (Topological old) first (ByDate new) = ⊥
 
 -- those from this number on that none names, in the order of their numbers
-pub record IsFree (low : ℕ) (told : List Reading) (cs : List ℕ)
+pub record IsFree (low : ℕ) (told : List Facts) (cs : List ℕ)
     (first : List Pending) : Type 0 where
   pub each : (pending : Pending) → Contains first pending
       → (low ≤ pending.number.0) × At cs pending.number.0 0
-      × ((reading : Reading) × At told pending.number.0 reading × (pending.time ≡ reading.time))
-  pub every : (n : ℕ) (reading : Reading) → low ≤ n → At cs n 0 → At told n reading
+      × ((facts : Facts) × At told pending.number.0 facts × (pending.time ≡ facts.time))
+  pub every : (n : ℕ) (facts : Facts) → low ≤ n → At cs n 0 → At told n facts
       → (pending : Pending) × Contains first pending × (pending.number.0 ≡ n)
   pub ascending : (k l : ℕ) (p q : Pending) → k < l → At first k p → At first l q
       → p.number.0 < q.number.0

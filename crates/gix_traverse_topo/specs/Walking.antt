@@ -10,17 +10,17 @@ use Rattle.gix_traverse_commit.specs.Standing.{NotIn}
 use Rattle.gix_traverse_commit.specs.declared.parents.Parents.{Parents}
 use Rattle.gix_traverse_commit.specs.declared.rows.Row.{Row}
 use Rattle.gix_traverse_topo.specs.Meeting.{IsRow, Met}
-use Rattle.gix_traverse_topo.specs.Nodes.{readings, counts, IsOnce, IsReading, NamesAre, ParentsIn}
+use Rattle.gix_traverse_topo.specs.Nodes.{all_facts, counts, IsOnce, AreFacts, NamesAre, ParentsIn}
 use Rattle.gix_traverse_topo.specs.Turns.{names_of, times}
 use Rattle.gix_traverse_topo.specs.declared.known.Node.{Node}
-use Rattle.gix_traverse_topo.specs.declared.known.Reading.{Reading}
+use Rattle.gix_traverse_topo.specs.declared.known.Facts.{Facts}
 
 -- each of these has a number, and what was known stays
 pub record Meets (ids keys : List ObjectId) (nodes : List Node) (keys' : List ObjectId)
     (nodes' : List Node) : Type 0 where
   pub kept : (k : ℕ) (x : ObjectId) → At keys k x → At keys' k x
-  pub told : (k : ℕ) (reading : Reading) → At (readings nodes) k reading
-      → At (readings nodes') k reading
+  pub told : (k : ℕ) (facts : Facts) → At (all_facts nodes) k facts
+      → At (all_facts nodes') k facts
   pub many : length nodes ≡ length keys → length nodes' ≡ length keys'
   pub met : (way : ObjectId → List ObjectId) (tips hs xs : List ObjectId) (p : ℕ)
       → keys ≡ hs ++ xs → Read way tips (NotIn hs) xs p 0 → IsRow way tips xs p ids
@@ -36,15 +36,15 @@ Names more keys nodes keys' nodes' = (low : ℕ) (names : ObjectId → ℕ) → 
 pub record Visits (honest may_fail : Type 0) (rows : List Row) (table : Table) (along : Parents)
     (number : ℕ) (id : ObjectId) (keys : List ObjectId) (nodes : List Node) (keys' : List ObjectId)
     (nodes' : List Node) : Type 0 where
-  pub reading : Reading
-  pub is_read : IsReading honest may_fail rows table id reading
-  pub placed : At (readings nodes') number reading
-  pub others : (k : ℕ) (other : Reading) → (k ≡ number → ⊥) → At (readings nodes) k other
-      → At (readings nodes') k other
+  pub facts : Facts
+  pub is_read : AreFacts honest may_fail rows table id facts
+  pub placed : At (all_facts nodes') number facts
+  pub others : (k : ℕ) (other : Facts) → (k ≡ number → ⊥) → At (all_facts nodes) k other
+      → At (all_facts nodes') k other
   pub middle : List Node
-  pub meets : Meets (asked along reading.parents.items) keys nodes keys' middle
+  pub meets : Meets (asked along facts.parents.items) keys nodes keys' middle
   pub many : length nodes' ≡ length middle
-  pub names : Names (λ y. times (same_id y) (asked along reading.parents.items)) keys nodes keys'
+  pub names : Names (λ y. times (same_id y) (asked along facts.parents.items)) keys nodes keys'
       nodes'
 
 -- behind the commits that were known those up to high are read, and the names that they give are counted
@@ -53,17 +53,17 @@ pub record Walking (honest may_fail : Type 0) (rows : List Row) (table : Table) 
     (nodes' : List Node) : Type 0 where
   pub keys_kept : (k : ℕ) (x : ObjectId) → At keys k x → At keys' k x
   pub once : IsOnce keys → IsOnce keys'
-  pub told_kept : (k : ℕ) (reading : Reading) → k < length nodes → At (readings nodes) k reading
-      → At (readings nodes') k reading
+  pub told_kept : (k : ℕ) (facts : Facts) → k < length nodes → At (all_facts nodes) k facts
+      → At (all_facts nodes') k facts
   pub many : length nodes ≡ length keys → length nodes' ≡ length keys'
   pub within : high ≤ length nodes'
-  pub read : (n : ℕ) (x : ObjectId) (reading : Reading) → length nodes ≤ n → n < high
-      → At keys' n x → At (readings nodes') n reading
-      → IsReading honest may_fail rows table x reading
+  pub read : (n : ℕ) (x : ObjectId) (facts : Facts) → length nodes ≤ n → n < high
+      → At keys' n x → At (all_facts nodes') n facts
+      → AreFacts honest may_fail rows table x facts
   pub place : ℕ
   pub placed : high ≡ length nodes + place
   pub met : length nodes ≡ length keys → IsOnce keys → (h : Commits ObjectId)
-      → ParentsIn (length nodes) high h keys' (readings nodes')
+      → ParentsIn (length nodes) high h keys' (all_facts nodes')
       → (m : Met (asked_parents along h) tips keys keys' place)
       × NamesAre (length keys) keys' (counts nodes')
       (λ y. names_of same_id (asked_parents along h) y (take place m.xs))

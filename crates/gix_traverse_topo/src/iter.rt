@@ -7,13 +7,13 @@ ghost use Rattle.gix_traverse_commit.specs.Commits.{Commits, asked};
 ghost use Rattle.gix_traverse_commit.specs.Order.{At};
 ghost use Rattle.gix_traverse_commit.specs.declared.rows.Row.{Row};
 ghost use Rattle.gix_traverse_topo.specs.declared.init.Sorting.{Sorting};
-ghost use Rattle.gix_traverse_topo.specs.Nodes.{readings, counts, IsOnce};
+ghost use Rattle.gix_traverse_topo.specs.Nodes.{all_facts, counts, IsOnce};
 ghost use Rattle.gix_traverse_topo.specs.Asking.{lookups_of};
 ghost use Rattle.gix_traverse_topo.specs.Giving.{AsksEach, AsksFault, AsksRest, GivesNext, answers_left};
 ghost use Rattle.gix_traverse_topo.specs.Standing.{Answers, CountsOff, Gives, GoesOff, IsInfo, IsTurn, IsTurnOf, NoneReachesItself, NotCounted, RowOff, Standing, Stands, Steps, all_accepted, topo_request, weight};
 ghost use Rattle.gix_traverse_topo.specs.Waiting.{waiting};
 ghost use Rattle.gix_hash_id.specs.Id.{id_of};
-ghost use Rattle.gix_traverse_topo.specs.declared.known.Reading.{Reading};
+ghost use Rattle.gix_traverse_topo.specs.declared.known.Facts.{Facts};
 ghost use Rattle.gix_traverse_topo.specs.declared.error.Error.{Error};
 ghost use Rattle.gix_traverse_topo.specs.declared.error.Error.TheVariants.{Memory};
 
@@ -40,9 +40,9 @@ fn count_off(known: &mut Known, ready: &mut Ready, id: &ObjectId) -> Result<(), 
     ensures ids { known.new.ids ≡ known.old.ids }
     ensures hidden { known.new.hidden ≡ known.old.hidden }
     ensures as_many { length known.new.nodes.items ≡ length known.old.nodes.items }
-    ensures readings { readings known.new.nodes.items ≡ readings known.old.nodes.items }
+    ensures all_facts { all_facts known.new.nodes.items ≡ all_facts known.old.nodes.items }
     ensures counted { OnOk result (CountsOff known.old.hidden known.old.ids.keys
-        (readings known.old.nodes.items) (counts known.old.nodes.items) ready.old id.now
+        (all_facts known.old.nodes.items) (counts known.old.nodes.items) ready.old id.now
         (counts known.new.nodes.items) ready.new) }
     ensures refused { IfErr result (λ error. (error ≡ Memory)
         ⊎ NotCounted known.old.hidden known.old.ids.keys (counts known.old.nodes.items) id.now) }
@@ -68,19 +68,19 @@ fn count_row_off(
     ensures ids { known.new.ids ≡ known.old.ids }
     ensures hidden { known.new.hidden ≡ known.old.hidden }
     ensures as_many { length known.new.nodes.items ≡ length known.old.nodes.items }
-    ensures readings { readings known.new.nodes.items ≡ readings known.old.nodes.items }
+    ensures all_facts { all_facts known.new.nodes.items ≡ all_facts known.old.nodes.items }
     ensures off { (way : ObjectId → List ObjectId) (h : Commits ObjectId)
-        (before hs xs : List ObjectId) (reading : Reading)
-        → At (readings known.old.nodes.items) number.0 reading
-        → GoesOff way h before (asked along reading.parents.items) hs xs known.old → IsOnce xs
-        → OnOk result ((m : ℕ) × (length (asked along reading.parents.items) ≤ m)
+        (before hs xs : List ObjectId) (facts : Facts)
+        → At (all_facts known.old.nodes.items) number.0 facts
+        → GoesOff way h before (asked along facts.parents.items) hs xs known.old → IsOnce xs
+        → OnOk result ((m : ℕ) × (length (asked along facts.parents.items) ≤ m)
         × RowOff known.old.hidden known.old.ids.keys way h before
-        (asked along reading.parents.items) xs ready.old m (counts known.new.nodes.items)
+        (asked along facts.parents.items) xs ready.old m (counts known.new.nodes.items)
         ready.new) }
     ensures refused { IfErr result (λ error. (way : ObjectId → List ObjectId) (h : Commits ObjectId)
-        (before hs xs : List ObjectId) (reading : Reading)
-        → At (readings known.old.nodes.items) number.0 reading
-        → GoesOff way h before (asked along reading.parents.items) hs xs known.old → IsOnce xs
+        (before hs xs : List ObjectId) (facts : Facts)
+        → At (all_facts known.old.nodes.items) number.0 facts
+        → GoesOff way h before (asked along facts.parents.items) hs xs known.old → IsOnce xs
         → error ≡ Memory) }
     ensures falls { OnOk result (weight known.new ready.new ≤ weight known.old ready.old) }
 {
@@ -98,10 +98,10 @@ fn give(known: &mut Known, ready: &mut Ready, number: Number, along: Parents) ->
     ensures hidden { known.new.hidden ≡ known.old.hidden }
     ensures gives { IfOk result (Gives number.0 along known.old ready.old known.new ready.new) }
     ensures refused { IfErr result (λ error. (way : ObjectId → List ObjectId) (h : Commits ObjectId)
-        (before hs xs : List ObjectId) (reading : Reading)
-        → At (readings known.old.nodes.items) number.0 reading
-        → GoesOff way h before (asked along reading.parents.items) hs xs known.old → IsOnce xs
-        → (error ≡ Memory) ⊎ (reading.fault ≡ Some error)) }
+        (before hs xs : List ObjectId) (facts : Facts)
+        → At (all_facts known.old.nodes.items) number.0 facts
+        → GoesOff way h before (asked along facts.parents.items) hs xs known.old → IsOnce xs
+        → (error ≡ Memory) ⊎ (facts.fault ≡ Some error)) }
     ensures falls { OnOk result (weight known.new ready.new ≤ weight known.old ready.old) }
 {
     known.check(number)?;

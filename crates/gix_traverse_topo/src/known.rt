@@ -10,13 +10,13 @@ ghost use Rattle.gix_traverse_commit.specs.Numbered.{same_id};
 ghost use Rattle.gix_traverse_commit.specs.Order.{At};
 ghost use Rattle.gix_traverse_commit.specs.Rows.{AllHeld, Holds};
 ghost use Rattle.gix_traverse_commit.specs.Told.{rows_of};
-ghost use Rattle.gix_traverse_topo.specs.Nodes.{readings, counts, IsBlank, IsReading, NamesAre, IsOnce};
+ghost use Rattle.gix_traverse_topo.specs.Nodes.{all_facts, counts, IsBlank, AreFacts, NamesAre, IsOnce};
 ghost use Rattle.gix_traverse_topo.specs.Turns.{times};
 ghost use Rattle.gix_traverse_topo.specs.Waiting.{IsFree};
 ghost use Rattle.gix_traverse_topo.specs.Walking.{Meets, Names, Visits, Walking};
 ghost use Rattle.gix_traverse_topo.specs.declared.error.Error.TheVariants.{Memory, MissingStateUnexpected, MissingIndegreeUnexpected};
 ghost use Rattle.gix_traverse_topo.specs.declared.known.Node.{Node};
-ghost use Rattle.gix_traverse_topo.specs.declared.known.Reading.{Reading};
+ghost use Rattle.gix_traverse_topo.specs.declared.known.Facts.{Facts};
 
 use crate::Error;
 use crate::ready::Pending;
@@ -34,7 +34,7 @@ pub(crate) struct Number(pub usize);
 
 /// What was read of a commit. One that isn't read counts as one without parents, of time 0.
 #[derive(Drop)]
-pub(crate) struct Reading {
+pub(crate) struct Facts {
     /// The ids of all its parents.
     pub parents: ParentIds,
     /// Its committer's seconds.
@@ -49,7 +49,7 @@ pub(crate) struct Reading {
 #[derive(Drop)]
 pub(crate) struct Node {
     /// What was read of it.
-    pub reading: Reading,
+    pub facts: Facts,
     /// How often it is named as a parent by the commits that are still to be given.
     pub names: usize,
 }
@@ -66,10 +66,10 @@ pub(crate) struct Known {
 }
 
 // What stands for a commit until it is read.
-fn unread(alloc: Global) -> Reading
+fn unread(alloc: Global) -> Facts
     ensures { result.parents.items ≡ [] }
 {
-    Reading {
+    Facts {
         parents: ParentIds::new(alloc),
         time: 0,
         generation: None,
@@ -78,13 +78,13 @@ fn unread(alloc: Global) -> Reading
 }
 
 // What stands for a commit that isn't read, for this fault.
-fn blank(alloc: Global, fault: FetchError) -> Result<Reading, Error>
+fn blank(alloc: Global, fault: FetchError) -> Result<Facts, Error>
     ensures blank { IfOk result (IsBlank fault) }
     ensures refused { IfErr result (λ error. error ≡ Memory) }
 {
     match fault {
         FetchError::Memory => Err(Error::Memory),
-        other => Ok(Reading {
+        other => Ok(Facts {
             parents: ParentIds::new(alloc),
             time: 0,
             generation: None,
@@ -94,10 +94,10 @@ fn blank(alloc: Global, fault: FetchError) -> Result<Reading, Error>
 }
 
 // Reads a commit.
-fn read<F: Find>(source: &mut Source<F>, id: &ObjectId) -> Result<Reading, Error>
+fn read<F: Find>(source: &mut Source<F>, id: &ObjectId) -> Result<Facts, Error>
     ensures objects { source.new.objects ≡ source.old.objects }
     ensures rows { source.new.rows ≡ source.old.rows }
-    ensures read { IfOk result (IsReading (F.is_honest source.old.objects)
+    ensures read { IfOk result (AreFacts (F.is_honest source.old.objects)
         (F.may_fail source.old.objects) (rows_of source.old.rows) (F.table source.old.objects)
         id.now) }
     ensures counted { source.new.lookups ≤ source.old.lookups + 1 }
@@ -106,12 +106,12 @@ fn read<F: Find>(source: &mut Source<F>, id: &ObjectId) -> Result<Reading, Error
     ensures asked { (¬ Holds (rows_of source.old.rows) id.now)
         → source.new.lookups ≡ one_more source.old.lookups }
     ensures closed { Holds (rows_of source.old.rows) id.now
-        → IfOk result (λ reading. AllHeld (rows_of source.old.rows) reading.parents.items) }
+        → IfOk result (λ facts. AllHeld (rows_of source.old.rows) facts.parents.items) }
     ensures refused { IfErr result (λ error. error ≡ Memory) }
 {
     let alloc: Global = *source.buffer.allocator();
     match source.fetch(id, Parents::All) {
-        Ok(commit) => Ok(Reading {
+        Ok(commit) => Ok(Facts {
             parents: commit.parents,
             time: commit.time.unwrap_or(0),
             generation: commit.generation,
@@ -123,7 +123,7 @@ fn read<F: Find>(source: &mut Source<F>, id: &ObjectId) -> Result<Reading, Error
 
 // Counts one more name of a commit.
 fn add_name(nodes: &mut Vec<Node>, number: Number) -> Result<(), Error>
-    ensures readings { readings nodes.new.items ≡ readings nodes.old.items }
+    ensures all_facts { all_facts nodes.new.items ≡ all_facts nodes.old.items }
     ensures added { OnOk result ((count : ℕ) × At (counts nodes.old.items) number.0 count
         × (counts nodes.new.items ≡ slice_set (counts nodes.old.items) number.0 (count + 1))) }
     ensures refused { IfErr result (λ error. (error ≡ Memory)
@@ -138,25 +138,25 @@ fn add_name(nodes: &mut Vec<Node>, number: Number) -> Result<(), Error>
 }
 
 // Puts what was read of a commit in the place of what stood for it.
-fn put_reading(nodes: &mut Vec<Node>, number: Number, reading: Reading) -> Result<(), Error>
+fn put_facts(nodes: &mut Vec<Node>, number: Number, facts: Facts) -> Result<(), Error>
     ensures as_many { length nodes.new.items ≡ length nodes.old.items }
     ensures counts { counts nodes.new.items ≡ counts nodes.old.items }
-    ensures put { OnOk result (At (readings nodes.new.items) number.0 reading) }
-    ensures others { (k : ℕ) (other : Reading) → (k ≡ number.0 → ⊥)
-        → At (readings nodes.old.items) k other → At (readings nodes.new.items) k other }
+    ensures put { OnOk result (At (all_facts nodes.new.items) number.0 facts) }
+    ensures others { (k : ℕ) (other : Facts) → (k ≡ number.0 → ⊥)
+        → At (all_facts nodes.old.items) k other → At (all_facts nodes.new.items) k other }
     ensures refused { IfErr result (λ _. length nodes.old.items ≤ number.0) }
 {
     if nodes.as_slice().len() <= number.0 {
         return Err(Error::MissingStateUnexpected);
     }
-    nodes[number.0].reading = reading;
+    nodes[number.0].facts = facts;
     Ok(())
 }
 
 /// Counts a name of a commit off, and tells whether it was the last.
 pub(crate) fn take_name(nodes: &mut Vec<Node>, number: Number) -> Result<bool, Error>
     ensures as_many { length nodes.new.items ≡ length nodes.old.items }
-    ensures readings { readings nodes.new.items ≡ readings nodes.old.items }
+    ensures all_facts { all_facts nodes.new.items ≡ all_facts nodes.old.items }
     ensures taken { IfOk result (λ last. (count : ℕ)
         × At (counts nodes.old.items) number.0 (count + 1)
         × (counts nodes.new.items ≡ slice_set (counts nodes.old.items) number.0 count)
@@ -177,10 +177,10 @@ pub(crate) fn take_name(nodes: &mut Vec<Node>, number: Number) -> Result<bool, E
 }
 
 // The parents, which are handed out.
-fn take_parents(reading: &mut Reading, alloc: Global) -> ParentIds
-    ensures { result.items ≡ reading.old.parents.items }
+fn take_parents(facts: &mut Facts, alloc: Global) -> ParentIds
+    ensures { result.items ≡ facts.old.parents.items }
 {
-    mem::replace(&mut reading.parents, ParentIds::new(alloc))
+    mem::replace(&mut facts.parents, ParentIds::new(alloc))
 }
 
 impl Known {
@@ -216,9 +216,9 @@ impl Known {
         ensures keys { OnOk result
             (self.new.ids.keys ≡ insert_key same_id self.old.ids.keys id.now) }
         ensures number { IfOk result (λ number. At self.new.ids.keys number.0 id.now) }
-        ensures told { OnOk result ((k : ℕ) (reading : Reading)
-            → At (readings self.old.nodes.items) k reading
-            → At (readings self.new.nodes.items) k reading) }
+        ensures told { OnOk result ((k : ℕ) (facts : Facts)
+            → At (all_facts self.old.nodes.items) k facts
+            → At (all_facts self.new.nodes.items) k facts) }
         ensures many { OnOk result (length self.old.nodes.items ≡ length self.old.ids.keys
             → length self.new.nodes.items ≡ length self.new.ids.keys) }
         ensures names { OnOk result ((low : ℕ) (names : ObjectId → ℕ)
@@ -231,7 +231,7 @@ impl Known {
         if is_new {
             let alloc: Global = *self.nodes.allocator();
             self.nodes.push(Node {
-                reading: unread(alloc),
+                facts: unread(alloc),
                 names: 0,
             })?;
         }
@@ -297,9 +297,9 @@ impl Known {
         ensures refused { length self.old.nodes.items ≡ length self.old.ids.keys
             → number.0 < length self.old.ids.keys → IfErr result (λ error. error ≡ Memory) }
     {
-        let reading = read(source, id)?;
-        self.name_all(asked_of(reading.parents.as_slice(), along))?;
-        put_reading(&mut self.nodes, number, reading)?;
+        let facts = read(source, id)?;
+        self.name_all(asked_of(facts.parents.as_slice(), along))?;
+        put_facts(&mut self.nodes, number, facts)?;
         Ok(())
     }
 
@@ -347,13 +347,13 @@ impl Known {
 
     /// Why a commit isn't read, where there is one that isn't.
     pub fn first_fault(&self) -> Option<Error>
-        ensures fault { IfSome result (λ error. (n : ℕ) × (reading : Reading)
-            × At (readings self.now.nodes.items) n reading × (reading.fault ≡ Some error)) }
-        ensures none { IfNone result ((n : ℕ) (reading : Reading)
-            → At (readings self.now.nodes.items) n reading → reading.fault ≡ None) }
+        ensures fault { IfSome result (λ error. (n : ℕ) × (facts : Facts)
+            × At (all_facts self.now.nodes.items) n facts × (facts.fault ≡ Some error)) }
+        ensures none { IfNone result ((n : ℕ) (facts : Facts)
+            → At (all_facts self.now.nodes.items) n facts → facts.fault ≡ None) }
     {
         'nodes: for node in self.nodes.as_slice() {
-            if let Some(error) = node.reading.fault {
+            if let Some(error) = node.facts.fault {
                 return Some(error);
             }
         }
@@ -377,12 +377,12 @@ impl Known {
 
     /// Of the parents that the walk goes along the one at this index.
     pub fn parent(&self, number: Number, index: usize, along: Parents) -> Option<ObjectId>
-        ensures parent { (reading : Reading) → At (readings self.now.nodes.items) number.0 reading
-            → result ≡ slice_get (asked along reading.parents.items) index }
+        ensures parent { (facts : Facts) → At (all_facts self.now.nodes.items) number.0 facts
+            → result ≡ slice_get (asked along facts.parents.items) index }
         ensures room { IfSome result (λ _. index + 1 < 2 ^ 64) }
     {
         let node = self.nodes.get(number.0)?;
-        asked_of(node.reading.parents.as_slice(), along)
+        asked_of(node.facts.parents.as_slice(), along)
             .get(index)
             .copied()
     }
@@ -390,13 +390,13 @@ impl Known {
     /// A commit that waits for its turn.
     pub fn pending(&self, number: Number) -> Option<Pending>
         ensures pending { IfSome result (λ pending. (pending.number ≡ number)
-            × ((reading : Reading) × At (readings self.now.nodes.items) number.0 reading
-            × (pending.time ≡ reading.time))) }
-        ensures none { IfNone result (length (readings self.now.nodes.items) ≤ number.0) }
+            × ((facts : Facts) × At (all_facts self.now.nodes.items) number.0 facts
+            × (pending.time ≡ facts.time))) }
+        ensures none { IfNone result (length (all_facts self.now.nodes.items) ≤ number.0) }
     {
         let node = self.nodes.get(number.0)?;
         Some(Pending {
-            time: node.reading.time,
+            time: node.facts.time,
             number,
         })
     }
@@ -414,7 +414,7 @@ impl Known {
 
     /// Those that the tips reach and none names, in the order of their numbers.
     pub fn free(&self, alloc: Global) -> Result<Vec<Pending>, Error>
-        ensures free { IfOk result (λ first. IsFree self.now.hidden (readings self.now.nodes.items)
+        ensures free { IfOk result (λ first. IsFree self.now.hidden (all_facts self.now.nodes.items)
             (counts self.now.nodes.items) first.items) }
         ensures refused { IfErr result (λ error. error ≡ Memory) }
     {
@@ -431,16 +431,16 @@ impl Known {
 
     /// Whether this commit is read. It is an error that tells why where it isn't.
     pub fn check(&self, number: Number) -> Result<(), Error>
-        ensures read { OnOk result ((reading : Reading)
-            → At (readings self.now.nodes.items) number.0 reading → reading.fault ≡ None) }
-        ensures refused { IfErr result (λ error. (reading : Reading)
-            → At (readings self.now.nodes.items) number.0 reading → reading.fault ≡ Some error) }
+        ensures read { OnOk result ((facts : Facts)
+            → At (all_facts self.now.nodes.items) number.0 facts → facts.fault ≡ None) }
+        ensures refused { IfErr result (λ error. (facts : Facts)
+            → At (all_facts self.now.nodes.items) number.0 facts → facts.fault ≡ Some error) }
     {
         let node = self
             .nodes
             .get(number.0)
             .ok_or(Error::MissingStateUnexpected)?;
-        match node.reading.fault {
+        match node.facts.fault {
             Some(error) => Err(error),
             None => Ok(()),
         }
@@ -452,14 +452,14 @@ impl Known {
         ensures ids { self.new.ids ≡ self.old.ids }
         ensures hidden { self.new.hidden ≡ self.old.hidden }
         ensures counts { counts self.new.nodes.items ≡ counts self.old.nodes.items }
-        ensures others { (k : ℕ) (reading : Reading) → (k ≡ number.0 → ⊥)
-            → At (readings self.new.nodes.items) k reading
-            → At (readings self.old.nodes.items) k reading }
+        ensures others { (k : ℕ) (facts : Facts) → (k ≡ number.0 → ⊥)
+            → At (all_facts self.new.nodes.items) k facts
+            → At (all_facts self.old.nodes.items) k facts }
         ensures taken { IfOk result (λ info. At self.old.ids.keys number.0 info.id
-            × ((reading : Reading) × At (readings self.old.nodes.items) number.0 reading
-            × (info.parent_ids.items ≡ reading.parents.items)
-            × (info.generation ≡ reading.generation) × (info.commit_time ≡ Some reading.time))) }
-        ensures refused { IfErr result (λ _. (length (readings self.old.nodes.items) ≤ number.0)
+            × ((facts : Facts) × At (all_facts self.old.nodes.items) number.0 facts
+            × (info.parent_ids.items ≡ facts.parents.items)
+            × (info.generation ≡ facts.generation) × (info.commit_time ≡ Some facts.time))) }
+        ensures refused { IfErr result (λ _. (length (all_facts self.old.nodes.items) ≤ number.0)
             ⊎ (length self.old.ids.keys ≤ number.0)) }
     {
         let alloc: Global = *self.nodes.allocator();
@@ -471,9 +471,9 @@ impl Known {
             .nodes
             .get(number.0)
             .ok_or(Error::MissingStateUnexpected)?;
-        let generation = node.reading.generation;
-        let time = node.reading.time;
-        let parent_ids = take_parents(&mut self.nodes[number.0].reading, alloc);
+        let generation = node.facts.generation;
+        let time = node.facts.time;
+        let parent_ids = take_parents(&mut self.nodes[number.0].facts, alloc);
         Ok(Info {
             id,
             parent_ids,

@@ -9,7 +9,7 @@ use Rattle.history_model.specs.Objects.{CommitValue, StoredCommit, StoredBytes, 
 use Rattle.gix_hash_id.specs.Id.{Id, id_of}
 use Rattle.history_model.specs.Repository.{Repository, HasWholeNames, IsWholeStore, as_commit, peeled_value}
 use Rattle.history_model.specs.Meaning.{first_files}
-use Rattle.history_model.specs.Words.{WordReading, ReadsAs, Unborn, Unknown, Ambiguous, word_reading, commit_read}
+use Rattle.history_model.specs.Words.{WordMeaning, ReadsAs, Unborn, Unknown, Ambiguous, word_meaning, commit_read}
 use Rattle.history_model.specs.Commands.{Command, Files, Show}
 use Rattle.history_model.specs.Replies.{FilesAre, ShowsCommit, ShowsContent, reply_text}
 use Rattle.history_model.specs.Answers.{StandsForCommit, files_shown, commit_shown, content_shown}
@@ -43,7 +43,7 @@ reading_fault MayFail r order (Refused cause) h = absurd h
 reading_fault MayFail r order (Fault fault) h = h
 
 -- a word that stands for no commit is told by its cause
-pub unread : (MayFail : Type 0) (r : Repository) (order : Command) (word : Bytes) (stopped : Stopped) → ((cause : Cause) → word_cause (word_reading r word) ≡ Some cause → first_cause r order ≡ Some cause)
+pub unread : (MayFail : Type 0) (r : Repository) (order : Command) (word : Bytes) (stopped : Stopped) → ((cause : Cause) → word_cause (word_meaning r word) ≡ Some cause → first_cause r order ≡ Some cause)
     → ReadsWord MayFail r word (Err stopped) → AnswersReading MayFail r order (Err stopped)
 unread MayFail r order word (Refused cause) told h = told cause h
 unread MayFail r order word (Fault fault) told h = h
@@ -59,7 +59,7 @@ given MayFail P r order (Ok text) h answers = answers text h
 given MayFail P r order (Err stopped) h answers = reading_fault MayFail r order stopped h
 
 -- by a word that reads so, or for another cause
-abbrev by_word : WordReading → Option Cause → Option Cause
+abbrev by_word : WordMeaning → Option Cause → Option Cause
 by_word x rest = cond (is_unknown x || false) (Some UnknownWord) (cond (is_unborn x || false) (Some UnbornHead) rest)
 
 -- by what a good path meets
@@ -69,42 +69,42 @@ by_path files path = cond (has_below files path || false) (Some IsFolder) (cond 
 module _ (r : Repository) (o : IsOffered r) (w : HasWholeNames r) where
   -- ---- refused words
 
-  word_refused : (word : Bytes) (cause : Cause) (rest : Option Cause) → word_cause (word_reading r word) ≡ Some cause → by_word (word_reading r word) rest ≡ Some cause
-  word_refused word cause rest e = go (word_reading r word) refl e
+  word_refused : (word : Bytes) (cause : Cause) (rest : Option Cause) → word_cause (word_meaning r word) ≡ Some cause → by_word (word_meaning r word) rest ≡ Some cause
+  word_refused word cause rest e = go (word_meaning r word) refl e
     where
-      go : (x : WordReading) → word_reading r word ≡ x → word_cause x ≡ Some cause → by_word x rest ≡ Some cause
+      go : (x : WordMeaning) → word_meaning r word ≡ x → word_cause x ≡ Some cause → by_word x rest ≡ Some cause
       go (ReadsAs id) is h = cc
       go Unborn is h = h
       go Unknown is h = h
       go Ambiguous is h = absurd (none_is_ambiguous r word is)
 
-  files_causes : (word : Bytes) → first_cause r (Files word) ≡ by_word (word_reading r word) None
+  files_causes : (word : Bytes) → first_cause r (Files word) ≡ by_word (word_meaning r word) None
   files_causes word = first_offered_cause r (Files word) o w refl
 
-  commit_causes : (word : Bytes) → first_cause r (Show word None) ≡ by_word (word_reading r word) None
+  commit_causes : (word : Bytes) → first_cause r (Show word None) ≡ by_word (word_meaning r word) None
   commit_causes word = first_offered_cause r (Show word None) o w refl
 
-  path_causes : (word path : Bytes) → first_cause r (Show word (Some path)) ≡ by_word (word_reading r word) (cond (is_bad_path path || false) (Some BadPath) (by_path (word_files r word) path))
+  path_causes : (word path : Bytes) → first_cause r (Show word (Some path)) ≡ by_word (word_meaning r word) (cond (is_bad_path path || false) (Some BadPath) (by_path (word_files r word) path))
   path_causes word path = first_offered_cause r (Show word (Some path)) o w refl
 
-  pub files_refused : (word : Bytes) (cause : Cause) → word_cause (word_reading r word) ≡ Some cause → first_cause r (Files word) ≡ Some cause
+  pub files_refused : (word : Bytes) (cause : Cause) → word_cause (word_meaning r word) ≡ Some cause → first_cause r (Files word) ≡ Some cause
   files_refused word cause e = files_causes word ∙ word_refused word cause None e
 
-  pub show_refused : (word : Bytes) (path : Option Bytes) (cause : Cause) → word_cause (word_reading r word) ≡ Some cause → first_cause r (Show word path) ≡ Some cause
+  pub show_refused : (word : Bytes) (path : Option Bytes) (cause : Cause) → word_cause (word_meaning r word) ≡ Some cause → first_cause r (Show word path) ≡ Some cause
   show_refused word None cause e = commit_causes word ∙ word_refused word cause None e
   show_refused word (Some path) cause e = path_causes word path ∙ word_refused word cause _ e
 
   -- ---- the commit that a word reads as
 
-  pub reads_commit : (word : Bytes) (id : Id) → word_reading r word ≡ ReadsAs id → (commit : CommitValue) × (get r.objects id ≡ Some (StoredCommit commit))
+  pub reads_commit : (word : Bytes) (id : Id) → word_meaning r word ≡ ReadsAs id → (commit : CommitValue) × (get r.objects id ≡ Some (StoredCommit commit))
   reads_commit word id reads = let held = words_read_names r word id reads in names_hold_commits r held.0 id o w held.1
 
-  stands_for : (word : Bytes) (id : Id) (commit : CommitValue) → word_reading r word ≡ ReadsAs id → get r.objects id ≡ Some (StoredCommit commit) → StandsForCommit r word id commit
+  stands_for : (word : Bytes) (id : Id) (commit : CommitValue) → word_meaning r word ≡ ReadsAs id → get r.objects id ≡ Some (StoredCommit commit) → StandsForCommit r word id commit
   stands_for word id commit reads at = record { read = ap (commit_read r) reads ∙ ap (option_and_then (peeled_value id)) at; holds = ap (option_and_then as_commit) at }
 
   -- ---- what is shown
 
-  pub files_answered : (MayFail : Type 0) (word : Bytes) (id : Id) (commit : CommitValue) (found : List FoundFile) (text : Vec ℕ Global) → word_reading r word ≡ ReadsAs id → get r.objects id ≡ Some (StoredCommit commit)
+  pub files_answered : (MayFail : Type 0) (word : Bytes) (id : Id) (commit : CommitValue) (found : List FoundFile) (text : Vec ℕ Global) → word_meaning r word ≡ ReadsAs id → get r.objects id ≡ Some (StoredCommit commit)
       → map line_of found ≡ map (file_line r.kind) (entries commit.files) → text.items ≡ reply_text (FilesAre (map line_of found)) → AnswersReading MayFail r (Files word) (Ok text)
   files_answered MayFail word id commit found text reads at are written = (
     FilesAre (files_shown r commit.files),
@@ -113,7 +113,7 @@ module _ (r : Repository) (o : IsOffered r) (w : HasWholeNames r) where
     (id, commit, stands_for word id commit reads at, refl),
   )
 
-  pub commit_answered : (MayFail : Type 0) (word : Bytes) (id : ObjectId) (value : CommitValue) (commit : commits.Commit) (text : Vec ℕ Global) → word_reading r word ≡ ReadsAs (id_of id) → get r.objects (id_of id) ≡ Some (StoredCommit value)
+  pub commit_answered : (MayFail : Type 0) (word : Bytes) (id : ObjectId) (value : CommitValue) (commit : commits.Commit) (text : Vec ℕ Global) → word_meaning r word ≡ ReadsAs (id_of id) → get r.objects (id_of id) ≡ Some (StoredCommit value)
       → IsCommitOf r.kind commit value → text.items ≡ reply_text (ShowsCommit (shown_commit id commit)) → AnswersReading MayFail r (Show word None) (Ok text)
   commit_answered MayFail word id value commit text reads at is written =
       let shown : shown_commit id commit ≡ commit_shown r (id_of id) value = λ i. record { id = id_of id; tree = is.tree i; parents = is.parents i; author = is.author i; committer = is.committer i; message = is.message i } in (
@@ -125,25 +125,25 @@ module _ (r : Repository) (o : IsOffered r) (w : HasWholeNames r) where
 
   -- ---- what stands at a path
 
-  word_files_are : (word : Bytes) (id : Id) (commit : CommitValue) → word_reading r word ≡ ReadsAs id → get r.objects id ≡ Some (StoredCommit commit) → word_files r word ≡ commit.files
+  word_files_are : (word : Bytes) (id : Id) (commit : CommitValue) → word_meaning r word ≡ ReadsAs id → get r.objects id ≡ Some (StoredCommit commit) → word_files r word ≡ commit.files
   word_files_are word id commit reads at =
       let stands = stands_for word id commit reads at in
       ap (λ found. first_files r (option_to_list found)) stands.read ∙ ap (λ found. unwrap_or (option_map (λ commit. commit.files) found) empty) stands.holds
 
   -- the causes that are left to a word that reads
-  path_cause : (word path : Bytes) (id : Id) (commit : CommitValue) → word_reading r word ≡ ReadsAs id → get r.objects id ≡ Some (StoredCommit commit)
+  path_cause : (word path : Bytes) (id : Id) (commit : CommitValue) → word_meaning r word ≡ ReadsAs id → get r.objects id ≡ Some (StoredCommit commit)
       → first_cause r (Show word (Some path)) ≡ cond (is_bad_path path || false) (Some BadPath) (by_path commit.files path)
   path_cause word path id commit reads at =
       path_causes word path
       ∙ ap (λ x. by_word x (cond (is_bad_path path || false) (Some BadPath) (by_path (word_files r word) path))) reads
       ∙ ap (λ files. cond (is_bad_path path || false) (Some BadPath) (by_path files path)) (word_files_are word id commit reads at)
 
-  pub bad_path_refused : (word path : Bytes) (id : Id) → word_reading r word ≡ ReadsAs id → is_bad_path path ≡ true → first_cause r (Show word (Some path)) ≡ Some BadPath
+  pub bad_path_refused : (word path : Bytes) (id : Id) → word_meaning r word ≡ ReadsAs id → is_bad_path path ≡ true → first_cause r (Show word (Some path)) ≡ Some BadPath
   bad_path_refused word path id reads bad =
       let found = reads_commit word id reads in
       path_cause word path id found.0 reads found.1 ∙ ap (λ b. cond (b || false) (Some BadPath) (by_path (found.0).files path)) bad
 
-  module _ (word path : Bytes) (id : Id) (commit : CommitValue) (reads : word_reading r word ≡ ReadsAs id) (at : get r.objects id ≡ Some (StoredCommit commit)) (good : is_bad_path path ≡ false) where
+  module _ (word path : Bytes) (id : Id) (commit : CommitValue) (reads : word_meaning r word ≡ ReadsAs id) (at : get r.objects id ≡ Some (StoredCommit commit)) (good : is_bad_path path ≡ false) where
     good_cause : first_cause r (Show word (Some path)) ≡ by_path commit.files path
     good_cause = path_cause word path id commit reads at ∙ ap (λ b. cond (b || false) (Some BadPath) (by_path commit.files path)) good
 

@@ -8,7 +8,7 @@ use Rattle.history_model.specs.Bytes.{Bytes, has_twice}
 use Rattle.gix_hash_id.specs.Id.{Id, id_of}
 use Rattle.gix_hash_id.specs.Order.{id_eq}
 use Rattle.history_model.specs.Repository.{Repository, HasWholeNames, id_at, stands}
-use Rattle.history_model.specs.Words.{WordReading, ReadsAs, Unborn, Unknown, Ambiguous, word_reading, commit_of}
+use Rattle.history_model.specs.Words.{WordMeaning, ReadsAs, Unborn, Unknown, Ambiguous, word_meaning, commit_of}
 use Rattle.history_model.specs.Commands.{Commit, CommitCommand, Expect, Any, New, At}
 use Rattle.history_model.specs.CommandParts.{at_word}
 use Rattle.history_model.specs.Meaning.{branch_or_name, name_commit, parents_of}
@@ -22,11 +22,11 @@ use Rattle.history_word.specs.Commands.{IsExpect}
 use Rattle.history_word.specs.declared.command.Expect.TheVariants as sent
 use Rattle.gix_hash_id.specs.declared.object_id.ObjectId.{ObjectId}
 use Rattle.history.specs.Acts.{IsReadingFault, Gives}
-use Rattle.history.specs.Bases.{IsExpected, expected_readings, words_cause, held_cause, reads_as, parents_cause}
+use Rattle.history.specs.Bases.{IsExpected, expected_meanings, words_cause, held_cause, reads_as, parents_cause}
 use Rattle.history.specs.CommitCauses.{first_among, word_causes, held_causes, parent_causes, IsToldBy, Tests}
-use Rattle.history.specs.Readings.{reading_of, commit_in}
-use Rattle.history.specs.declared.words.WordReading as own
-use Rattle.history.specs.declared.words.WordReading.TheVariants as read
+use Rattle.history.specs.Meanings.{meaning_of, commit_in}
+use Rattle.history.specs.declared.words.WordMeaning as own
+use Rattle.history.specs.declared.words.WordMeaning.TheVariants as read
 use Rattle.history.specs.declared.base.Expected.{Expected}
 use Rattle.history.specs.declared.base.Expected.TheVariants as expected
 use Rattle.history.specs.declared.stopped.Stopped.{Stopped}
@@ -56,10 +56,10 @@ new_sent r Any h = absurd h
 new_sent r New h = tt
 new_sent r (At word) h = absurd h
 
-pub at_sent : (r : Repository) (word : Vec ℕ Global) (reading : own.WordReading) (expect : Expect) → IsExpect (sent.At word) expect → reading_of reading ≡ word_reading r word.items → IsExpected r expect (expected.At reading)
-at_sent r word reading Any h is = absurd h
-at_sent r word reading New h is = absurd h
-at_sent r word reading (At bytes) h is = is ∙ ap (word_reading r) h
+pub at_sent : (r : Repository) (word : Vec ℕ Global) (meaning : own.WordMeaning) (expect : Expect) → IsExpect (sent.At word) expect → meaning_of meaning ≡ word_meaning r word.items → IsExpected r expect (expected.At meaning)
+at_sent r word meaning Any h is = absurd h
+at_sent r word meaning New h is = absurd h
+at_sent r word meaning (At bytes) h is = is ∙ ap (word_meaning r) h
 
 -- a fault of reading is told whatever the causes
 pub fault_told : (MayFail : Type 0) (causes : List Cause) (r : Repository) (order : CommitCommand) (stopped : Stopped) → IsReadingFault MayFail stopped → IsToldBy MayFail causes r order stopped
@@ -76,32 +76,32 @@ any_map p f [] = refl
 any_map p f (x ∷ xs) = ap (λ b. p (f x) || b) (any_map p f xs)
 
 module _ (r : Repository) (order : CommitCommand) where
-  words_told : first_among word_causes r (Commit order) ≡ words_cause (map (word_reading r) (at_word order.expect ++ order.parents))
+  words_told : first_among word_causes r (Commit order) ≡ words_cause (map (word_meaning r) (at_word order.expect ++ order.parents))
   words_told = λ i.
       let words = at_word order.expect ++ order.parents in
-      cond (sym (any_map is_unknown (word_reading r) words) i) (Some UnknownWord) (cond (sym (any_map is_unborn (word_reading r) words) i) (Some UnbornHead) None)
+      cond (sym (any_map is_unknown (word_meaning r) words) i) (Some UnknownWord) (cond (sym (any_map is_unborn (word_meaning r) words) i) (Some UnbornHead) None)
 
-  at_readings : (expect : Expect) (what : Expected) → IsExpected r expect what → expected_readings what ≡ map (word_reading r) (at_word expect)
-  at_readings Any expected.Any is = refl
-  at_readings New expected.New is = refl
-  at_readings (At word) (expected.At reading) is = ap (λ x. x ∷ []) is
-  at_readings Any expected.New is = absurd is
-  at_readings Any (expected.At reading) is = absurd is
-  at_readings New expected.Any is = absurd is
-  at_readings New (expected.At reading) is = absurd is
-  at_readings (At word) expected.Any is = absurd is
-  at_readings (At word) expected.New is = absurd is
+  at_meanings : (expect : Expect) (what : Expected) → IsExpected r expect what → expected_meanings what ≡ map (word_meaning r) (at_word expect)
+  at_meanings Any expected.Any is = refl
+  at_meanings New expected.New is = refl
+  at_meanings (At word) (expected.At meaning) is = ap (λ x. x ∷ []) is
+  at_meanings Any expected.New is = absurd is
+  at_meanings Any (expected.At meaning) is = absurd is
+  at_meanings New expected.Any is = absurd is
+  at_meanings New (expected.At meaning) is = absurd is
+  at_meanings (At word) expected.Any is = absurd is
+  at_meanings (At word) expected.New is = absurd is
 
   -- what the parents' words read as
-  pub parent_readings : (words : List (Vec ℕ Global)) (readings : List own.WordReading) → map (λ (word : Vec ℕ Global). word.items) words ≡ order.parents
-      → map reading_of readings ≡ map (λ (word : Vec ℕ Global). word_reading r word.items) words → map reading_of readings ≡ map (word_reading r) order.parents
-  parent_readings words readings are is = is ∙ sym (map_twice (word_reading r) (λ (word : Vec ℕ Global). word.items) words) ∙ ap (map (word_reading r)) are
+  pub parent_meanings : (words : List (Vec ℕ Global)) (meanings : List own.WordMeaning) → map (λ (word : Vec ℕ Global). word.items) words ≡ order.parents
+      → map meaning_of meanings ≡ map (λ (word : Vec ℕ Global). word_meaning r word.items) words → map meaning_of meanings ≡ map (word_meaning r) order.parents
+  parent_meanings words meanings are is = is ∙ sym (map_twice (word_meaning r) (λ (word : Vec ℕ Global). word.items) words) ∙ ap (map (word_meaning r)) are
 
-  pub words_so : (what : Expected) (readings : List own.WordReading) → IsExpected r order.expect what → map reading_of readings ≡ map (word_reading r) order.parents
-      → first_among word_causes r (Commit order) ≡ words_cause (expected_readings what ++ map reading_of readings)
-  words_so what readings is are =
+  pub words_so : (what : Expected) (meanings : List own.WordMeaning) → IsExpected r order.expect what → map meaning_of meanings ≡ map (word_meaning r) order.parents
+      → first_among word_causes r (Commit order) ≡ words_cause (expected_meanings what ++ map meaning_of meanings)
+  words_so what meanings is are =
       words_told
-      ∙ ap words_cause (map-append (word_reading r) (at_word order.expect) order.parents ∙ (λ i. sym (at_readings order.expect what is) i ++ sym are i))
+      ∙ ap words_cause (map-append (word_meaning r) (at_word order.expect) order.parents ∙ (λ i. sym (at_meanings order.expect what is) i ++ sym are i))
 
 -- ---- what the name holds
 
@@ -115,7 +115,7 @@ module _ (r : Repository) (order : CommitCommand) (o : IsOffered r) (w : HasWhol
       (cond (list_any (stands r) (map (λ (e : Bytes × Expect). e.0) (filter (λ (e : Bytes × Expect). is_new e.1) ((name, expect) ∷ [])))) (Some Taken)
       (cond (list_any (is_elsewhere r) ((name, expect) ∷ [])) (Some NotExpected) None))
 
-  compared : (id : Id) (x : WordReading) → cond (not (same_id (Some id) (read_id x)) || false) (Some NotExpected) None ≡ reads_as id x
+  compared : (id : Id) (x : WordMeaning) → cond (not (same_id (Some id) (read_id x)) || false) (Some NotExpected) None ≡ reads_as id x
   compared id (ReadsAs other) = go (id_eq id other)
     where
       go : (b : Bool) → cond (not b || false) (Some NotExpected) None ≡ cond b None (Some NotExpected)
@@ -129,16 +129,16 @@ module _ (r : Repository) (order : CommitCommand) (o : IsOffered r) (w : HasWhol
   by_expect Any expected.Any held is at = refl
   by_expect New expected.New None is at = ap (λ s. cond (s || false) (Some Taken) None) (stands_so r name None at)
   by_expect New expected.New (Some id) is at = ap (λ s. cond (s || false) (Some Taken) None) (stands_so r name (Some id) at)
-  by_expect (At word) (expected.At reading) None is at =
+  by_expect (At word) (expected.At meaning) None is at =
       ap (λ s. cond (not s || false) (Some NoSuchName) (cond (list_any (is_elsewhere r) ((name, At word) ∷ [])) (Some NotExpected) None)) (stands_so r name None at)
-  by_expect (At word) (expected.At reading) (Some id) is at =
+  by_expect (At word) (expected.At meaning) (Some id) is at =
       ap (λ s. cond (not s || false) (Some NoSuchName) (cond (list_any (is_elsewhere r) ((name, At word) ∷ [])) (Some NotExpected) None)) (stands_so r name (Some id) at)
       ∙ (λ i. cond (not (same_id ((names_stand_for_theirs r name o w ∙ at) i) ((words_stand_for_theirs r word o w ∙ ap read_id (sym is)) i)) || false) (Some NotExpected) None)
-      ∙ compared id (reading_of reading)
+      ∙ compared id (meaning_of meaning)
   by_expect Any expected.New held is at = absurd is
-  by_expect Any (expected.At reading) held is at = absurd is
+  by_expect Any (expected.At meaning) held is at = absurd is
   by_expect New expected.Any held is at = absurd is
-  by_expect New (expected.At reading) held is at = absurd is
+  by_expect New (expected.At meaning) held is at = absurd is
   by_expect (At word) expected.Any held is at = absurd is
   by_expect (At word) expected.New held is at = absurd is
 
@@ -147,20 +147,20 @@ module _ (r : Repository) (order : CommitCommand) (o : IsOffered r) (w : HasWhol
 
   -- ---- the parents
 
-  ids_read : (readings : List own.WordReading) → map id_of (filter_map commit_in readings) ≡ filter_map read_id (map reading_of readings)
+  ids_read : (meanings : List own.WordMeaning) → map id_of (filter_map commit_in meanings) ≡ filter_map read_id (map meaning_of meanings)
   ids_read [] = refl
-  ids_read (read.Commit id ∷ readings) = ap (λ ids. id_of id ∷ ids) (ids_read readings)
-  ids_read (read.Unborn ∷ readings) = ids_read readings
-  ids_read (read.Unknown ∷ readings) = ids_read readings
+  ids_read (read.Commit id ∷ meanings) = ap (λ ids. id_of id ∷ ids) (ids_read meanings)
+  ids_read (read.Unborn ∷ meanings) = ids_read meanings
+  ids_read (read.Unknown ∷ meanings) = ids_read meanings
 
-  commits_read : (words : List Bytes) → filter_map (commit_of r) words ≡ filter_map read_id (map (word_reading r) words)
+  commits_read : (words : List Bytes) → filter_map (commit_of r) words ≡ filter_map read_id (map (word_meaning r) words)
   commits_read [] = refl
   commits_read (word ∷ words) = λ i. cons_option (words_stand_for_theirs r word o w i) (commits_read words i)
 
-  pub parents_told : (held : Option ObjectId) (readings : List own.WordReading) (parents : List ObjectId) → option_map id_of held ≡ id_at r name → map reading_of readings ≡ map (word_reading r) order.parents
-      → parents ≡ option_to_list held ++ filter_map commit_in readings → map id_of parents ≡ parents_of r order
-  parents_told held readings parents at are is =
-      ap (map id_of) is ∙ map-append id_of (option_to_list held) (filter_map commit_in readings)
+  pub parents_told : (held : Option ObjectId) (meanings : List own.WordMeaning) (parents : List ObjectId) → option_map id_of held ≡ id_at r name → map meaning_of meanings ≡ map (word_meaning r) order.parents
+      → parents ≡ option_to_list held ++ filter_map commit_in meanings → map id_of parents ≡ parents_of r order
+  parents_told held meanings parents at are is =
+      ap (map id_of) is ∙ map-append id_of (option_to_list held) (filter_map commit_in meanings)
       ∙ (λ i. first i ++ second i)
     where
       told : (held : Option ObjectId) → map id_of (option_to_list held) ≡ option_to_list (option_map id_of held)
@@ -170,21 +170,21 @@ module _ (r : Repository) (order : CommitCommand) (o : IsOffered r) (w : HasWhol
       first : map id_of (option_to_list held) ≡ option_to_list (name_commit r name)
       first = told held ∙ ap option_to_list (at ∙ sym (names_stand_for_theirs r name o w))
 
-      second : map id_of (filter_map commit_in readings) ≡ filter_map (commit_of r) order.parents
-      second = ids_read readings ∙ ap (filter_map read_id) are ∙ sym (commits_read order.parents)
+      second : map id_of (filter_map commit_in meanings) ≡ filter_map (commit_of r) order.parents
+      second = ids_read meanings ∙ ap (filter_map read_id) are ∙ sym (commits_read order.parents)
 
   pub parents_so : (parents : List ObjectId) → map id_of parents ≡ parents_of r order → first_among parent_causes r (Commit order) ≡ parents_cause (map id_of parents)
   parents_so parents is = ap parents_cause (sym is)
 
 -- ---- one word after another
 
--- one reading more of the words
-pub reading_added : (r : Repository) (words : List (Vec ℕ Global)) (i : ℕ) (word : Vec ℕ Global) (reading : own.WordReading) (readings more : List own.WordReading) → i < length words → word ≡ get_or words i word
-    → reading_of reading ≡ word_reading r word.items → map reading_of readings ≡ map (λ (word : Vec ℕ Global). word_reading r word.items) (take i words) → more ≡ readings ++ reading ∷ []
-    → map reading_of more ≡ map (λ (word : Vec ℕ Global). word_reading r word.items) (take (i + 1) words)
-reading_added r words i word reading readings more less is read so_far added =
-    ap (map reading_of) added ∙ map-append reading_of readings (reading ∷ []) ∙ (λ j. so_far j ++ read j ∷ [])
-    ∙ sym (ap (map (λ (word : Vec ℕ Global). word_reading r word.items)) (take_more words i word less ∙ ap (λ (x : Vec ℕ Global). take i words ++ x ∷ []) (sym is)) ∙ map-append (λ (word : Vec ℕ Global). word_reading r word.items) (take i words) (word ∷ []))
+-- the meaning of one word more
+pub meaning_added : (r : Repository) (words : List (Vec ℕ Global)) (i : ℕ) (word : Vec ℕ Global) (meaning : own.WordMeaning) (meanings more : List own.WordMeaning) → i < length words → word ≡ get_or words i word
+    → meaning_of meaning ≡ word_meaning r word.items → map meaning_of meanings ≡ map (λ (word : Vec ℕ Global). word_meaning r word.items) (take i words) → more ≡ meanings ++ meaning ∷ []
+    → map meaning_of more ≡ map (λ (word : Vec ℕ Global). word_meaning r word.items) (take (i + 1) words)
+meaning_added r words i word meaning meanings more less is read so_far added =
+    ap (map meaning_of) added ∙ map-append meaning_of meanings (meaning ∷ []) ∙ (λ j. so_far j ++ read j ∷ [])
+    ∙ sym (ap (map (λ (word : Vec ℕ Global). word_meaning r word.items)) (take_more words i word less ∙ ap (λ (x : Vec ℕ Global). take i words ++ x ∷ []) (sym is)) ∙ map-append (λ (word : Vec ℕ Global). word_meaning r word.items) (take i words) (word ∷ []))
 
 -- ---- ids that stand twice
 

@@ -2,7 +2,7 @@
 use Rattle.std.proofs.Common.{◌≡◌, ◌∙◌, inl, inr, ℕ, ◌≤◌, refl, ap, arith, Result, Ok, Err}
 use Rattle.std.specs.Prelude.{OnOk}
 use Rattle.gix_ref_file.specs.History.{HasRisen}
-use Rattle.history.specs.Acts.{HasFailedCall, CountsRise, CountsStay}
+use Rattle.history.specs.Acts.{CountsFailure, CountsRise, KeepsCounts}
 use Rattle.history.specs.Face.{objects_part, names_part}
 use Rattle.history.specs.declared.repository.Repository.{Repository}
 
@@ -19,23 +19,23 @@ module _ {F : Type 0} (failures : F → ℕ) where
   pub counts_joined : (a b c : Repository F) → CountsRise failures a b → CountsRise failures b c → CountsRise failures a c
   counts_joined a b c h k = record { objects = omega arith; names = omega arith }
 
-  pub stay_same : (a b : Repository F) → b ≡ a → CountsStay failures a b
+  pub stay_same : (a b : Repository F) → b ≡ a → KeepsCounts failures a b
   stay_same a b same = record { objects = ap (λ s. failures (objects_part s)) same; names = ap (λ s. failures (names_part s)) same }
 
-  pub stay_joined : (a b c : Repository F) → CountsStay failures a b → CountsStay failures b c → CountsStay failures a c
+  pub stay_joined : (a b c : Repository F) → KeepsCounts failures a b → KeepsCounts failures b c → KeepsCounts failures a c
   stay_joined a b c h k = record { objects = k.objects ∙ h.objects; names = k.names ∙ h.names }
 
   -- a command that reads leaves the counts, whatever it answers
-  pub idle_stays : {T E : Type 0} (result : Result T E) (a : Repository F) → OnOk result (CountsStay failures a a)
+  pub idle_stays : {T E : Type 0} (result : Result T E) (a : Repository F) → OnOk result (KeepsCounts failures a a)
   idle_stays (Ok value) a = stay_same a a refl
   idle_stays (Err error) a = tt
 
-  pub failed_later : (MayFail : Type 0) (a b c : Repository F) → HasFailedCall failures MayFail a b → CountsRise failures b c → HasFailedCall failures MayFail a c
+  pub failed_later : (MayFail : Type 0) (a b c : Repository F) → CountsFailure failures MayFail a b → CountsRise failures b c → CountsFailure failures MayFail a c
   failed_later MayFail a b c (inl h) k = inl (risen_later _ _ _ h k.objects)
   failed_later MayFail a b c (inr (inl h)) k = inr (inl (risen_later _ _ _ h k.names))
   failed_later MayFail a b c (inr (inr h)) k = inr (inr h)
 
-  pub failed_before : (MayFail : Type 0) (a b c : Repository F) → CountsRise failures a b → HasFailedCall failures MayFail b c → HasFailedCall failures MayFail a c
+  pub failed_before : (MayFail : Type 0) (a b c : Repository F) → CountsRise failures a b → CountsFailure failures MayFail b c → CountsFailure failures MayFail a c
   failed_before MayFail a b c k (inl h) = inl (risen_before _ _ _ k.objects h)
   failed_before MayFail a b c k (inr (inl h)) = inr (inl (risen_before _ _ _ k.names h))
   failed_before MayFail a b c k (inr (inr h)) = inr (inr h)

@@ -12,7 +12,7 @@ use Rattle.gix_object_lines.specs.NameTest.{is_partial_name}
 use Rattle.std.specs.Str.{is_utf8}
 use Rattle.history_model.specs.PackedNames.{id_from_hex, line_text}
 use Rattle.history_model.specs.Places.{Pair, file_at, packed_place, head_place, is_log_place}
-use Rattle.history_model.specs.Readings.{Reading, Holds, Symbolic, Absent, Faulty, reading, loose_reading, loose_line, packed_text_reading}
+use Rattle.history_model.specs.NameStates.{NameState, Holds, Symbolic, Absent, Faulty, name_state, loose_state, loose_line, packed_text_state}
 use Rattle.history_model.specs.StandsFor.{StandsFor}
 use Rattle.gix_hash_id.specs.declared.kind.Kind.{Kind}
 use Rattle.history_model.proofs.PlaceLemmas.{one_text, texts_apart}
@@ -30,7 +30,7 @@ use Rattle.std.proofs.lemmas.Bool.{and_parts}
 
 module _ (kind : Kind) where
   -- a text that spells an id reads as it, where it reads as an id
-  spelled : (text digits : Bytes) (id found : Id) → text ≡ line digits → id_from_hex kind digits ≡ Some id → loose_reading kind text ≡ Holds found → id ≡ found
+  spelled : (text digits : Bytes) (id found : Id) → text ≡ line digits → id_from_hex kind digits ≡ Some id → loose_state kind text ≡ Holds found → id ≡ found
   spelled text digits id found is spells reads =
       by_symbol (begins (codes "ref: ") digits && is_name (drop 5 digits))
       (ap (λ o. cond (begins (codes "ref: ") digits && is_name (drop 5 digits)) (Symbolic (drop 5 digits)) (unwrap_or (option_map Holds o) Faulty)) (sym spells)
@@ -41,7 +41,7 @@ module _ (kind : Kind) where
       by_symbol false e = holds_same e
 
   -- a text that spells none reads as none
-  unspelled : (text : Bytes) (found : Id) → ((digits : Bytes) → text ≡ line digits → id_from_hex kind digits ≡ None) → loose_reading kind text ≢ Holds found
+  unspelled : (text : Bytes) (found : Id) → ((digits : Bytes) → text ≡ line digits → id_from_hex kind digits ≡ None) → loose_state kind text ≢ Holds found
   unspelled text found none reads = by_end (ends (10 ∷ []) text) refl reads
     where
       by_symbol : (digits : Bytes) (b : Bool) → cond b (Symbolic (drop 5 digits)) Faulty ≡ Holds found → ⊥
@@ -69,11 +69,11 @@ no_log (b ∷ name) h = first (nat_eq 114 b) (nat_eq 108 b) _ _ (grind (arith, t
 
 module _ (pair : Pair) (r : Repository) (stand : StandsFor r.kind pair r) (unpacked : file_at pair.names packed_place ≡ None) (name : Bytes) where
   -- where no names are packed
-  abbrev loose : Option Bytes → Reading
-  loose found = cond (is_name name) (unwrap_or (option_map (loose_reading r.kind) found) Absent) Absent
+  abbrev loose : Option Bytes → NameState
+  loose found = cond (is_name name) (unwrap_or (option_map (loose_state r.kind) found) Absent) Absent
 
-  read_loose : reading r.kind pair.names name ≡ loose (file_at pair.names name)
-  read_loose = ap (λ found. cond (is_name name) (unwrap_or (option_map (loose_reading r.kind) (file_at pair.names name)) (unwrap_or (option_map (packed_text_reading r.kind name) found) Absent)) Absent) unpacked
+  read_loose : name_state r.kind pair.names name ≡ loose (file_at pair.names name)
+  read_loose = ap (λ found. cond (is_name name) (unwrap_or (option_map (loose_state r.kind) (file_at pair.names name)) (unwrap_or (option_map (packed_text_state r.kind name) found) Absent)) Absent) unpacked
 
   -- what a name that holds an id reads as
   reads : (id : Id) → id_at r name ≡ Some id → loose (file_at pair.names name) ≡ Holds id
@@ -90,7 +90,7 @@ module _ (pair : Pair) (r : Repository) (stand : StandsFor r.kind pair r) (unpac
   no_file true id e = absurd cc
   no_file false id e = absurd cc
 
-  of_name : {C : Type 0} (b : Bool) (text : Bytes) (id : Id) → cond b (loose_reading r.kind text) Absent ≡ Holds id → (loose_reading r.kind text ≡ Holds id → C) → C
+  of_name : {C : Type 0} (b : Bool) (text : Bytes) (id : Id) → cond b (loose_state r.kind text) Absent ≡ Holds id → (loose_state r.kind text ≡ Holds id → C) → C
   of_name true text id e f = f e
   of_name false text id e f = absurd cc
 

@@ -22,7 +22,7 @@ use Rattle.history.specs.declared.running.RunError.{RunError}
 use Rattle.history.specs.declared.running.RunError.TheVariants.{Read, Write}
 use Rattle.history.specs.declared.repository.Repository.{Repository as Store}
 use Rattle.gix_ref_file.specs.History.{HasRisen}
-use Rattle.history.specs.Acts.{CountsRise, HasFailedCall}
+use Rattle.history.specs.Acts.{CountsRise, CountsFailure}
 use Rattle.history.specs.Runs.{EndsRun}
 use Rattle.std.proofs.lemmas.Bool.{or_parts, not-false}
 use Rattle.history.proofs.Counts.{risen_later, risen_before}
@@ -158,13 +158,13 @@ pub counts_then : {F : Type 0} (failures : F → ℕ) (old mid new : Store F) �
 counts_then failures old mid new h k = record { objects = omega (arith, h.objects, k.objects); names = omega (arith, h.names, k.names) }
 
 -- a call that failed first has failed
-pub failed_first : {F : Type 0} (failures : F → ℕ) (MayFail : Type 0) (old mid new : Store F) → CountsRise failures mid new → HasFailedCall failures MayFail old mid → HasFailedCall failures MayFail old new
+pub failed_first : {F : Type 0} (failures : F → ℕ) (MayFail : Type 0) (old mid new : Store F) → CountsRise failures mid new → CountsFailure failures MayFail old mid → CountsFailure failures MayFail old new
 failed_first failures MayFail old mid new k (inl h) = inl (risen_later _ _ _ h k.objects)
 failed_first failures MayFail old mid new k (inr (inl h)) = inr (inl (risen_later _ _ _ h k.names))
 failed_first failures MayFail old mid new k (inr (inr h)) = inr (inr h)
 
 -- and one that failed then
-pub failed_then : {F : Type 0} (failures : F → ℕ) (MayFail : Type 0) (old mid new : Store F) → CountsRise failures old mid → HasFailedCall failures MayFail mid new → HasFailedCall failures MayFail old new
+pub failed_then : {F : Type 0} (failures : F → ℕ) (MayFail : Type 0) (old mid new : Store F) → CountsRise failures old mid → CountsFailure failures MayFail mid new → CountsFailure failures MayFail old new
 failed_then failures MayFail old mid new k (inl h) = inl (risen_before _ _ _ k.objects h)
 failed_then failures MayFail old mid new k (inr (inl h)) = inr (inl (risen_before _ _ _ k.names h))
 failed_then failures MayFail old mid new k (inr (inr h)) = inr (inr h)

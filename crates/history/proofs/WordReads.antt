@@ -5,7 +5,7 @@ use Rattle.std.proofs.lemmas.List.{append-nil, drop_all}
 use Rattle.history_model.specs.Bytes.{Bytes, begins}
 use Rattle.history_model.specs.Forms.{is_private}
 use Rattle.history_model.specs.Repository.{Repository, Reference, id_at, stands}
-use Rattle.history_model.specs.Words.{ReadsAs, Unknown, word_reading, name_reading, id_reading, candidates, head_word}
+use Rattle.history_model.specs.Words.{ReadsAs, Unknown, word_meaning, name_meaning, id_meaning, candidates, head_word}
 use Rattle.gix_ref_file.specs.History.{History}
 use Rattle.history_store.specs.References.{NameHolds}
 use Rattle.gix_hash_id.specs.declared.object_id.ObjectId.{ObjectId}
@@ -86,19 +86,19 @@ module _ (r : Repository) (word : Bytes) where
     next_found e there = next ∙ found_here (get_or items i d) (drop (i + 1) items) (ap may_mean (sym is) ∙ e) (ap (stands r) (sym is) ∙ there) ∙ ap Some (sym is)
 
   -- a word but HEAD reads as the first of its names that stands, or as none
-  pub reads_found : bytes_eq word head_word ≡ false → (found : Option Bytes) → first_meant r word ≡ found → word_reading r word ≡ unwrap_or (option_map (λ name. name_reading (id_at r name)) found) Unknown
+  pub reads_found : bytes_eq word head_word ≡ false → (found : Option Bytes) → first_meant r word ≡ found → word_meaning r word ≡ unwrap_or (option_map (λ name. name_meaning (id_at r name)) found) Unknown
   unfolding first_meant
   reads_found other found e =
-      ap (λ b. cond b (name_reading (id_at r r.branch)) (unwrap_or (option_map (λ name. name_reading (id_at r name)) (find (stands r) (candidates word))) (id_reading r word))) other
-      ∙ ap (λ o. unwrap_or (option_map (λ name. name_reading (id_at r name)) o) Unknown) e
+      ap (λ b. cond b (name_meaning (id_at r r.branch)) (unwrap_or (option_map (λ name. name_meaning (id_at r name)) (find (stands r) (candidates word))) (id_meaning r word))) other
+      ∙ ap (λ o. unwrap_or (option_map (λ name. name_meaning (id_at r name)) o) Unknown) e
 
-  pub reads_branch : bytes_eq word head_word ≡ true → word_reading r word ≡ name_reading (id_at r r.branch)
-  reads_branch is = ap (λ b. cond b (name_reading (id_at r r.branch)) (unwrap_or (option_map (λ name. name_reading (id_at r name)) (find (stands r) (candidates word))) (id_reading r word))) is
+  pub reads_branch : bytes_eq word head_word ≡ true → word_meaning r word ≡ name_meaning (id_at r r.branch)
+  reads_branch is = ap (λ b. cond b (name_meaning (id_at r r.branch)) (unwrap_or (option_map (λ name. name_meaning (id_at r name)) (find (stands r) (candidates word))) (id_meaning r word))) is
 
-  pub found_reads : bytes_eq word head_word ≡ false → (name : Bytes) (id : Id) → first_meant r word ≡ Some name → id_at r name ≡ Some id → ReadsAs id ≡ word_reading r word
-  found_reads other name id e at = sym (reads_found other (Some name) e ∙ ap name_reading at)
+  pub found_reads : bytes_eq word head_word ≡ false → (name : Bytes) (id : Id) → first_meant r word ≡ Some name → id_at r name ≡ Some id → ReadsAs id ≡ word_meaning r word
+  found_reads other name id e at = sym (reads_found other (Some name) e ∙ ap name_meaning at)
 
-  pub none_reads : bytes_eq word head_word ≡ false → (items : List Ends) (i : ℕ) → length items ≤ i → first_meant r word ≡ first_left r word (drop i items) → Unknown ≡ word_reading r word
+  pub none_reads : bytes_eq word head_word ≡ false → (items : List Ends) (i : ℕ) → length items ≤ i → first_meant r word ≡ first_left r word (drop i items) → Unknown ≡ word_meaning r word
   none_reads other items i past e = sym (reads_found other None (e ∙ ap (first_left r word) (drop_all i items past) ∙ none_left))
 
 -- a name that holds an id stands, and one that holds none doesn't
@@ -122,7 +122,7 @@ module _ {F : Type 0} (IsHonest : F → Type 0) (history : F → History) (repos
 
   -- HEAD reads as what its branch's file tells
   pub branch_reads : (word place : Bytes) → bytes_eq word head_word ≡ true → place ≡ repository.branch.items → (found : Option ObjectId) → NameHolds repository.names.kind (history (names_part repository)).tree place found
-      → name_reading (option_map id_of found) ≡ word_reading r word
+      → name_meaning (option_map id_of found) ≡ word_meaning r word
   branch_reads word place is same found holds =
-      ap name_reading (held IsHonest history repository r stand place (ap (begins (codes "refs/")) same ∙ branch_is_name IsHonest history repository r stand) found (of_one_kind place found holds))
-      ∙ ap (λ n. name_reading (id_at r n)) (same ∙ stand.stands.branch) ∙ sym (reads_branch r word is)
+      ap name_meaning (held IsHonest history repository r stand place (ap (begins (codes "refs/")) same ∙ branch_is_name IsHonest history repository r stand) found (of_one_kind place found holds))
+      ∙ ap (λ n. name_meaning (id_at r n)) (same ∙ stand.stands.branch) ∙ sym (reads_branch r word is)

@@ -7,20 +7,20 @@ use Rattle.history_model.specs.Commands as orders
 use Rattle.history_model.specs.Repository as plain
 use Rattle.history_model.specs.Meaning.{parents_of}
 use Rattle.history_model.specs.Stage.{is_spoken}
-use Rattle.history_word.specs.Commands.{AreEdits, IsCommit, IsReading}
+use Rattle.history_word.specs.Commands.{AreEdits, IsCommit, IsReceived}
 use Rattle.history_word.specs.declared.command.CommitCommand.{CommitCommand}
 use Rattle.history_word.specs.declared.command.Edit.{Edit}
-use Rattle.history_word.specs.declared.reader.Reading.{Reading}
+use Rattle.history_word.specs.declared.reader.Received.{Received}
 use Rattle.history.specs.CommitCauses.{first_among, name_causes}
 use Rattle.history.specs.Serving.{Serves}
 use Rattle.history.specs.declared.repository.Repository.{Repository}
 
 -- A repository is asked for what was read: this command, which is offered.
 pub record Asked {F : Type 0} (IsHonest : F → Type 0) (history : F → History)
-    (repository : Repository F) (reading : Reading)
+    (repository : Repository F) (received : Received)
     (r : plain.Repository) (order : orders.Command) : Type 0 where
   pub serves : Serves IsHonest history repository r
-  pub reads : IsReading reading order
+  pub reads : IsReceived received order
   pub offered : IsTrue (is_spoken order)
 
 -- A repository is asked for this commit.

@@ -6,7 +6,7 @@ use Rattle.history_model.specs.Repository as plain
 use Rattle.history_model.specs.Repository.{id_at}
 use Rattle.history_model.specs.Forms.{max_parents}
 use Rattle.history_model.specs.Words as model
-use Rattle.history_model.specs.Words.{word_reading}
+use Rattle.history_model.specs.Words.{word_meaning}
 use Rattle.history_model.specs.Commands as orders
 use Rattle.history_model.specs.Meaning.{branch_or_name, parents_of}
 use Rattle.history_model.specs.Causes.{is_unknown, is_unborn}
@@ -14,7 +14,7 @@ use Rattle.history_model.specs.declared.Cause.{Cause}
 use Rattle.history_model.specs.declared.Cause.TheVariants.{UnknownWord, UnbornHead, NoSuchName, Taken, NotExpected, TooManyParents, DuplicateParent}
 use Rattle.gix_hash_id.specs.Id.{Id, id_of}
 use Rattle.gix_hash_id.specs.Order.{id_eq}
-use Rattle.history.specs.Readings.{reading_of}
+use Rattle.history.specs.Meanings.{meaning_of}
 use Rattle.history.specs.declared.base.Base.{Base}
 use Rattle.history.specs.declared.base.Expected.{Expected}
 use Rattle.history.specs.declared.base.Expected.TheVariants.{Any, New, At}
@@ -23,23 +23,23 @@ use Rattle.history.specs.declared.base.Expected.TheVariants.{Any, New, At}
 abbrev pub IsExpected : plain.Repository → orders.Expect → Expected → Type 0
 IsExpected r orders.Any Any = ⊤
 IsExpected r orders.New New = ⊤
-IsExpected r (orders.At word) (At reading) = reading_of reading ≡ word_reading r word
+IsExpected r (orders.At word) (At meaning) = meaning_of meaning ≡ word_meaning r word
 IsExpected r _ _ = ⊥
 
 -- what the word of the expectation reads as, if there is one
-abbrev pub expected_readings : Expected → List model.WordReading
-expected_readings Any = []
-expected_readings New = []
-expected_readings (At reading) = reading_of reading ∷ []
+abbrev pub expected_meanings : Expected → List model.WordMeaning
+expected_meanings Any = []
+expected_meanings New = []
+expected_meanings (At meaning) = meaning_of meaning ∷ []
 
 -- why one of the words that read so stands for no commit
-abbrev pub words_cause : List model.WordReading → Option Cause
-words_cause readings =
-    if list_any is_unknown readings then Some UnknownWord else if list_any is_unborn readings
+abbrev pub words_cause : List model.WordMeaning → Option Cause
+words_cause meanings =
+    if list_any is_unknown meanings then Some UnknownWord else if list_any is_unborn meanings
     then Some UnbornHead else None
 
 -- whether a word that reads so reads as this id
-abbrev pub reads_as : Id → model.WordReading → Option Cause
+abbrev pub reads_as : Id → model.WordMeaning → Option Cause
 reads_as id (model.ReadsAs other) = if id_eq id other then None else Some NotExpected
 reads_as id _ = Some NotExpected
 
@@ -48,8 +48,8 @@ abbrev pub held_cause : Expected → Option Id → Option Cause
 held_cause Any held = None
 held_cause New None = None
 held_cause New (Some id) = Some Taken
-held_cause (At reading) None = Some NoSuchName
-held_cause (At reading) (Some id) = reads_as id (reading_of reading)
+held_cause (At meaning) None = Some NoSuchName
+held_cause (At meaning) (Some id) = reads_as id (meaning_of meaning)
 
 -- why these can't be a commit's parents
 abbrev pub parents_cause : List Id → Option Cause

@@ -13,8 +13,8 @@ use Rattle.history_word.specs.Taking.{Gave}
 use Rattle.history_word.specs.declared.buffer.Buffer.{Buffer}
 use Rattle.history_word.specs.declared.command.Command as read_commands
 use Rattle.history_word.specs.declared.command.Command.TheVariants as command
-use Rattle.history_word.specs.declared.reader.Reading.{Reading}
-use Rattle.history_word.specs.declared.reader.Reading.TheVariants as reading
+use Rattle.history_word.specs.declared.reader.Received.{Received}
+use Rattle.history_word.specs.declared.reader.Received.TheVariants as received
 use Rattle.history.specs.declared.running.RunError.{RunError}
 use Rattle.history.specs.declared.running.RunError.TheVariants.{Read, Write}
 
@@ -34,9 +34,9 @@ changes_files (command.Files word) = false
 changes_files (command.Show show) = false
 
 -- whether the command that was read changes files
-abbrev pub is_changing : Reading → Bool
-is_changing (reading.Command command) = changes_files command
-is_changing (reading.NoMemory changing) = changing
+abbrev pub is_changing : Received → Bool
+is_changing (received.Command command) = changes_files command
+is_changing (received.NoMemory changing) = changing
 
 module _ {S : Type 0} (left : S → Option (List ℕ)) (readings : S → ℕ) where
   -- The readings made through the buffer meanwhile were counted by the reader, as far as a `u64` counts, and gave bytes.

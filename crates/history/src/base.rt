@@ -8,21 +8,21 @@ ghost use Rattle.history_model.specs.Forms.{is_name};
 ghost use Rattle.history_model.specs.Commands as orders;
 ghost use Rattle.history_model.specs.Repository as plain;
 ghost use Rattle.history_model.specs.Repository.{id_at};
-ghost use Rattle.history_model.specs.Words.{word_reading};
+ghost use Rattle.history_model.specs.Words.{word_meaning};
 ghost use Rattle.history_model.specs.Meaning.{branch_or_name};
 ghost use Rattle.history_word.specs.Commands.{IsExpect};
 ghost use Rattle.history.specs.Acts.{Gives};
 ghost use Rattle.history.specs.Asked.{AskedCommit};
-ghost use Rattle.history.specs.Bases.{IsBase, IsExpected, expected_readings, held_cause, parents_cause, words_cause};
+ghost use Rattle.history.specs.Bases.{IsBase, IsExpected, expected_meanings, held_cause, parents_cause, words_cause};
 ghost use Rattle.history.specs.CommitCauses.{Tests, name_causes, place_causes};
-ghost use Rattle.history.specs.Readings.{commit_in, reading_of};
+ghost use Rattle.history.specs.Meanings.{commit_in, meaning_of};
 ghost use Rattle.history.specs.Serving.{Serves};
 ghost use Rattle.gix_hash_id.specs.Id.{id_of};
 ghost use Rattle.gix_hash_id.specs.Order.{id_eq};
 
 use crate::repository::Repository;
 use crate::stopped::Stopped;
-use crate::words::WordReading;
+use crate::words::WordMeaning;
 use gix_hash::ObjectId;
 use gix_ref_file::Files;
 use history_model::Cause;
@@ -43,29 +43,29 @@ pub(crate) struct Base {
 enum Expected {
     Any,
     New,
-    At(WordReading),
+    At(WordMeaning),
 }
 
 impl Expected {
     /// Whether the word reads as nothing.
     fn is_unknown(self) -> bool
-        ensures { result ≡ list_any is_unknown (expected_readings self) }
+        ensures { result ≡ list_any is_unknown (expected_meanings self) }
     {
         match self {
             Expected::Any => false,
             Expected::New => false,
-            Expected::At(reading) => reading.is_unknown(),
+            Expected::At(meaning) => meaning.is_unknown(),
         }
     }
 
     /// Whether the word is HEAD, whose branch doesn't stand.
     fn is_unborn(self) -> bool
-        ensures { result ≡ list_any is_unborn (expected_readings self) }
+        ensures { result ≡ list_any is_unborn (expected_meanings self) }
     {
         match self {
             Expected::Any => false,
             Expected::New => false,
-            Expected::At(reading) => reading.is_unborn(),
+            Expected::At(meaning) => meaning.is_unborn(),
         }
     }
 
@@ -80,8 +80,8 @@ impl Expected {
                 Some(_) => Err(Cause::Taken),
                 None => Ok(()),
             },
-            Expected::At(reading) => match held {
-                Some(id) => reading.test(id),
+            Expected::At(meaning) => match held {
+                Some(id) => meaning.test(id),
                 None => Err(Cause::NoSuchName),
             },
         }
@@ -89,10 +89,10 @@ impl Expected {
 }
 
 /// Tests that the words read: an unknown one is told before HEAD without a commit.
-fn test_words(expected: Expected, parents: &[WordReading]) -> Result<(), Cause>
+fn test_words(expected: Expected, parents: &[WordMeaning]) -> Result<(), Cause>
     ensures { MatchResult result
-        (λ _. words_cause (expected_readings expected ++ map reading_of parents.now) ≡ None)
-        (λ cause. words_cause (expected_readings expected ++ map reading_of parents.now)
+        (λ _. words_cause (expected_meanings expected ++ map meaning_of parents.now) ≡ None)
+        (λ cause. words_cause (expected_meanings expected ++ map meaning_of parents.now)
         ≡ Some cause) }
 {
     if expected.is_unknown() || have_unknown(parents) {
@@ -104,23 +104,23 @@ fn test_words(expected: Expected, parents: &[WordReading]) -> Result<(), Cause>
     Ok(())
 }
 
-fn have_unknown(readings: &[WordReading]) -> bool
-    ensures { result ≡ list_any is_unknown (map reading_of readings.now) }
+fn have_unknown(meanings: &[WordMeaning]) -> bool
+    ensures { result ≡ list_any is_unknown (map meaning_of meanings.now) }
 {
-    readings.iter().any(|reading| reading.is_unknown())
+    meanings.iter().any(|meaning| meaning.is_unknown())
 }
 
-fn have_unborn(readings: &[WordReading]) -> bool
-    ensures { result ≡ list_any is_unborn (map reading_of readings.now) }
+fn have_unborn(meanings: &[WordMeaning]) -> bool
+    ensures { result ≡ list_any is_unborn (map meaning_of meanings.now) }
 {
-    readings.iter().any(|reading| reading.is_unborn())
+    meanings.iter().any(|meaning| meaning.is_unborn())
 }
 
 /// The parents of a commit: what its name holds, and then what its words read as.
 fn parents_of(
     alloc: Global,
     held: Option<ObjectId>,
-    words: &[WordReading],
+    words: &[WordMeaning],
 ) -> Result<Vec<ObjectId>, AllocError>
     ensures { IfOk result
         (λ parents. parents.items ≡ option_to_list held ++ filter_map commit_in words.now) }
@@ -171,16 +171,16 @@ impl<F: Files> Repository<F> {
     }
 
     /// What words read as.
-    fn read_words(&self, alloc: Global, words: &[Vec<u8>]) -> Result<Vec<WordReading>, Stopped>
+    fn read_words(&self, alloc: Global, words: &[Vec<u8>]) -> Result<Vec<WordMeaning>, Stopped>
         ensures { (r : plain.Repository) → Serves F.is_honest F.history self.now r
-            → Gives F.reading_may_fail (λ readings. map reading_of readings.items
-            ≡ map (λ word. word_reading r word.items) words.now) result }
+            → Gives F.reading_may_fail (λ meanings. map meaning_of meanings.items
+            ≡ map (λ word. word_meaning r word.items) words.now) result }
     {
-        let mut readings = Vec::new(alloc);
+        let mut meanings = Vec::new(alloc);
         for word in words {
-            readings.push(self.read_word(alloc, word)?)?;
+            meanings.push(self.read_word(alloc, word)?)?;
         }
-        Ok(readings)
+        Ok(meanings)
     }
 
     /// Tests that the name stands, or may come to stand beside the others.

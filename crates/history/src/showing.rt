@@ -140,7 +140,7 @@ fn content_text(
 impl<F: Files> Repository<F> {
     ghost use Rattle.std.specs.Prelude.{Option, Some, None};
     ghost use Rattle.history_model.specs.Repository as plain;
-    ghost use Rattle.history_model.specs.Words.{ReadsAs, word_reading};
+    ghost use Rattle.history_model.specs.Words.{ReadsAs, word_meaning};
     ghost use Rattle.history_model.specs.Commands as model;
     ghost use Rattle.history_model.specs.Forms.{max_path};
     ghost use Rattle.history_word.specs.Commands.{IsPath};
@@ -154,7 +154,7 @@ impl<F: Files> Repository<F> {
     /// The reply to `show` of a commit.
     fn show_commit(&self, alloc: Global, id: &ObjectId) -> Result<Vec<u8>, Stopped>
         ensures { (r : plain.Repository) (word : Bytes) → Serves F.is_honest F.history self.now r
-            → word_reading r word ≡ ReadsAs (id_of id.now)
+            → word_meaning r word ≡ ReadsAs (id_of id.now)
             → AnswersReading F.reading_may_fail r (model.Show word None) result }
     {
         let commit = self.read_commit(alloc, id)?;
@@ -176,7 +176,7 @@ impl<F: Files> Repository<F> {
     fn show_content(&self, alloc: Global, id: &ObjectId, path: &Field) -> Result<Vec<u8>, Stopped>
         ensures { (r : plain.Repository) (word bytes : Bytes)
             → Serves F.is_honest F.history self.now r
-            → word_reading r word ≡ ReadsAs (id_of id.now) → Keeps max_path path.now bytes
+            → word_meaning r word ≡ ReadsAs (id_of id.now) → Keeps max_path path.now bytes
             → AnswersReading F.reading_may_fail r (model.Show word (Some bytes)) result }
     {
         if is_bad_path(path) {

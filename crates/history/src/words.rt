@@ -4,10 +4,10 @@ ghost use Rattle.std.specs.Prelude.{◌≡◌, ◌++◌, ◌&&◌, not, Some, No
 ghost use Rattle.history_model.specs.Bytes.{begins};
 ghost use Rattle.history_model.specs.Causes.{is_unborn, is_unknown};
 ghost use Rattle.history_model.specs.Forms.{is_private, refs_front};
-ghost use Rattle.history_model.specs.Words.{word_reading, ReadsAs};
+ghost use Rattle.history_model.specs.Words.{word_meaning, ReadsAs};
 ghost use Rattle.history.specs.Acts.{word_cause};
 ghost use Rattle.history.specs.Bases.{reads_as};
-ghost use Rattle.history.specs.Readings.{commit_in, reading_of};
+ghost use Rattle.history.specs.Meanings.{commit_in, meaning_of};
 ghost use Rattle.gix_hash_id.specs.Id.{id_of};
 
 use crate::naming::is_private;
@@ -21,7 +21,7 @@ use std::alloc::{AllocError, Global};
 
 /// What a word reads as.
 #[derive(Clone, Copy, Debug, PartialEq, Eq)]
-pub(crate) enum WordReading {
+pub(crate) enum WordMeaning {
     /// The id of a commit.
     Commit(ObjectId),
     /// HEAD, whose branch doesn't stand.
@@ -57,22 +57,22 @@ fn is_candidate(name: &[u8]) -> bool
     name.starts_with(REFS) && !is_private(name)
 }
 
-impl WordReading {
+impl WordMeaning {
     /// Tests that the word reads as what its name holds.
     pub(crate) fn test(self, held: ObjectId) -> Result<(), Cause>
-        ensures { MatchResult result (λ _. reads_as (id_of held) (reading_of self) ≡ None)
-            (λ cause. reads_as (id_of held) (reading_of self) ≡ Some cause) }
+        ensures { MatchResult result (λ _. reads_as (id_of held) (meaning_of self) ≡ None)
+            (λ cause. reads_as (id_of held) (meaning_of self) ≡ Some cause) }
     {
         match self {
-            WordReading::Commit(id) => {
+            WordMeaning::Commit(id) => {
                 if held == id {
                     Ok(())
                 } else {
                     Err(Cause::NotExpected)
                 }
             }
-            WordReading::Unborn => Err(Cause::NotExpected),
-            WordReading::Unknown => Err(Cause::NotExpected),
+            WordMeaning::Unborn => Err(Cause::NotExpected),
+            WordMeaning::Unknown => Err(Cause::NotExpected),
         }
     }
 
@@ -81,43 +81,43 @@ impl WordReading {
         ensures { result ≡ commit_in self }
     {
         match self {
-            WordReading::Commit(id) => Some(id),
-            WordReading::Unborn => None,
-            WordReading::Unknown => None,
+            WordMeaning::Commit(id) => Some(id),
+            WordMeaning::Unborn => None,
+            WordMeaning::Unknown => None,
         }
     }
 
     /// Whether the word reads as nothing.
     pub(crate) fn is_unknown(self) -> bool
-        ensures { result ≡ is_unknown (reading_of self) }
+        ensures { result ≡ is_unknown (meaning_of self) }
     {
         match self {
-            WordReading::Commit(_) => false,
-            WordReading::Unborn => false,
-            WordReading::Unknown => true,
+            WordMeaning::Commit(_) => false,
+            WordMeaning::Unborn => false,
+            WordMeaning::Unknown => true,
         }
     }
 
     /// Whether the word is HEAD, whose branch doesn't stand.
     pub(crate) fn is_unborn(self) -> bool
-        ensures { result ≡ is_unborn (reading_of self) }
+        ensures { result ≡ is_unborn (meaning_of self) }
     {
         match self {
-            WordReading::Commit(_) => false,
-            WordReading::Unborn => true,
-            WordReading::Unknown => false,
+            WordMeaning::Commit(_) => false,
+            WordMeaning::Unborn => true,
+            WordMeaning::Unknown => false,
         }
     }
 
     /// The commit, where there is one; else why there is none.
     pub(crate) fn commit(self) -> Result<ObjectId, Cause>
-        ensures { MatchResult result (λ id. reading_of self ≡ ReadsAs (id_of id))
-            (λ cause. word_cause (reading_of self) ≡ Some cause) }
+        ensures { MatchResult result (λ id. meaning_of self ≡ ReadsAs (id_of id))
+            (λ cause. word_cause (meaning_of self) ≡ Some cause) }
     {
         match self {
-            WordReading::Commit(id) => Ok(id),
-            WordReading::Unborn => Err(Cause::UnbornHead),
-            WordReading::Unknown => Err(Cause::UnknownWord),
+            WordMeaning::Commit(id) => Ok(id),
+            WordMeaning::Unborn => Err(Cause::UnbornHead),
+            WordMeaning::Unknown => Err(Cause::UnknownWord),
         }
     }
 }
@@ -128,26 +128,26 @@ impl<F: Files> Repository<F> {
     ghost use Rattle.history.specs.Acts.{Gives, ReadsWord};
 
     /// What a word stands for: HEAD for its branch, else the first candidate that stands.
-    pub(crate) fn read_word(&self, alloc: Global, word: &[u8]) -> Result<WordReading, Stopped>
+    pub(crate) fn read_word(&self, alloc: Global, word: &[u8]) -> Result<WordMeaning, Stopped>
         ensures { (r : plain.Repository) → Serves F.is_honest F.history self.now r
-            → Gives F.reading_may_fail (λ reading.
-            reading_of reading ≡ word_reading r word.now) result }
+            → Gives F.reading_may_fail (λ meaning.
+            meaning_of meaning ≡ word_meaning r word.now) result }
     {
         if word == HEAD {
             return Ok(match self.names.read(alloc, &self.branch)? {
-                Some(id) => WordReading::Commit(id),
-                None => WordReading::Unborn,
+                Some(id) => WordMeaning::Commit(id),
+                None => WordMeaning::Unborn,
             });
         }
         for (front, back) in CANDIDATES {
             let name = joined(alloc, front, word, back)?;
             if is_candidate(&name) {
                 if let Some(id) = self.names.read(alloc, &name)? {
-                    return Ok(WordReading::Commit(id));
+                    return Ok(WordMeaning::Commit(id));
                 }
             }
         }
-        Ok(WordReading::Unknown)
+        Ok(WordMeaning::Unknown)
     }
 
     /// The commit that a word stands for.

@@ -10,7 +10,7 @@ use Rattle.gix_hash_id.specs.Id.{Id, null_id}
 use Rattle.gix_hash_id.specs.Order.{id_eq}
 use Rattle.history_model.specs.Repository.{Repository, Reference, fresh, id_at, stands, commit_at, peeled, peeled_value, as_commit}
 use Rattle.history_model.specs.Commands.{Commit, Files, Show, CommitCommand, EditLine}
-use Rattle.history_model.specs.Words.{ReadsAs, word_reading, commit_of, commit_read, candidates, name_reading, id_reading}
+use Rattle.history_model.specs.Words.{ReadsAs, word_meaning, commit_of, commit_read, candidates, name_meaning, id_meaning}
 use Rattle.history_model.specs.Meaning.{after, new_commit, stored_by, store_all, store_one, some_taken, is_taken, is_other, moved_reference, first_files}
 use Rattle.history_model.specs.Causes.{first_cause, word_files, is_unknown, is_ambiguous, is_unborn, is_no_commit}
 use Rattle.history_model.specs.Answers.{StandsForCommit, files_shown, commit_shown, content_shown}
@@ -136,9 +136,9 @@ module _ (edits : List EditLine) (files : FileMap) (id : Id) (es : List (Id × V
         go true = refl
         go false = ap is_some (get-empty by_bytes q)
 
-    reads : word_reading state (codes "main") ≡ ReadsAs id
-    reads = ap (λ o. unwrap_or (option_map (λ name. name_reading (id_at state name)) o) (id_reading state (codes "main"))) found
-        ∙ ap (λ o. name_reading o) (look main)
+    reads : word_meaning state (codes "main") ≡ ReadsAs id
+    reads = ap (λ o. unwrap_or (option_map (λ name. name_meaning (id_at state name)) o) (id_meaning state (codes "main"))) found
+        ∙ ap (λ o. name_meaning o) (look main)
       where
         at : (a b c : Bool) → a ≡ false → b ≡ false → c ≡ true → (rest : Option Bytes) → cond a (Some (codes "refs/main")) (cond b (Some (codes "refs/tags/main")) (cond c (Some main) rest)) ≡ Some main
         at true b c e f g rest = cc

@@ -4,7 +4,7 @@ use Rattle.std.specs.FinMap.{get}
 use Rattle.gix_ref_file.specs.Tree.{Tree, Node, file, folder, bytes_of}
 use Rattle.gix_hash_id.specs.Id.{Id}
 use Rattle.history_model.specs.Bytes.{Bytes}
-use Rattle.history_model.specs.Readings.{Holds, reading}
+use Rattle.history_model.specs.NameStates.{Holds, name_state}
 use Rattle.history_model.specs.Places.{file_at, unfinished_place}
 use Rattle.history_model.specs.Recovery.{recovered_objects, recovered_names}
 use Rattle.history_model.specs.Repository.{peeled}
@@ -48,8 +48,8 @@ stops_are_closed old command pair (x, left, stands) = record {
   names = λ name id holds. held name id (((stands.stands).names name id).0 (reads name id holds));
 }
   where
-    reads : (name : Bytes) (id : Id) → reading old.kind pair.names name ≡ Holds id → reading x.kind (recovered_names old.kind pair.names) name ≡ Holds id
-    reads name id holds = ap (λ kind. reading kind (recovered_names old.kind pair.names) name) (stands.stands).of_kind ∙ recovery_reads old.kind pair.names name ∙ holds
+    reads : (name : Bytes) (id : Id) → name_state old.kind pair.names name ≡ Holds id → name_state x.kind (recovered_names old.kind pair.names) name ≡ Holds id
+    reads name id holds = ap (λ kind. name_state kind (recovered_names old.kind pair.names) name) (stands.stands).of_kind ∙ recovery_reads old.kind pair.names name ∙ holds
 
     held : (name : Bytes) (id : Id) → Rattle.history_model.specs.Repository.id_at x name ≡ Some id → IsSome (peeled x id)
     held = ((stands.whole).names).held

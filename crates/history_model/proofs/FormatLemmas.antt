@@ -18,7 +18,7 @@ use Rattle.history_model.specs.Forms.{is_name, is_private, max_name}
 use Rattle.history_model.specs.Formats.{LooseReadsAlike, RecordsAlike, CandidatesAlike, LinesAlike}
 use Rattle.history_model.specs.Objects.{hex, actor_text}
 use Rattle.history_model.specs.PackedNames.{id_from_hex}
-use Rattle.history_model.specs.Readings.{Reading, Holds, Symbolic, Faulty, loose_line}
+use Rattle.history_model.specs.NameStates.{NameState, Holds, Symbolic, Faulty, loose_line}
 use Rattle.history_model.proofs.IdLemmas.{id_from_hex-tells}
 use Rattle.history_model.proofs.WholeLists.{same_text}
 use Rattle.history_model.proofs.WholePaths.{begins_parts}
@@ -133,7 +133,7 @@ module _ (kind : Kind) (text : Bytes) where
   is_symbol = begins (codes "ref: ") text && is_name (drop 5 text)
 
   -- what a line reads as
-  abbrev read_as : Bool → Option Id → Reading
+  abbrev read_as : Bool → Option Id → NameState
   read_as symbol found = cond symbol (Symbolic (drop 5 text)) (unwrap_or (option_map Holds found) Faulty)
 
   object_told : (id : Id) → loose_line kind text ≡ Holds id → loose_target kind (line text) ≡ Some (ToObject id)
@@ -157,7 +157,7 @@ module _ (kind : Kind) (text : Bytes) where
       go false (Some other) e h = absurd cc
 
 -- what a text with its line feed reads as
-abbrev line_read : Kind → Bytes → Bool → Reading
+abbrev line_read : Kind → Bytes → Bool → NameState
 line_read kind text ended = unwrap_or (option_map (loose_line kind) (cond ended (Some (take (length text - 1) text)) None)) Faulty
 
 pub loose_reads_alike : LooseReadsAlike

@@ -14,7 +14,7 @@ use Rattle.history_model.specs.Repository.{Reference, IsWhole, Reaches, named, b
 use Rattle.history_model.specs.Forms.{is_name}
 use Rattle.history_model.specs.Logs.{log_text}
 use Rattle.history_model.specs.Places.{Pair, file_at, head_place, packed_place, object_place, log_place, is_name_place}
-use Rattle.history_model.specs.Readings.{Reading, Holds, Absent, reading, packed_text_reading, loose_reading}
+use Rattle.history_model.specs.NameStates.{NameState, Holds, Absent, name_state, packed_text_state, loose_state}
 use Rattle.history_model.specs.StandsFor.{StandsFor, head_text, object_files}
 use Rattle.history_model.specs.Laws.{FreshStands, IsFresh, fresh_pair}
 use Rattle.history_model.proofs.RowLemmas.{no_entries_by}
@@ -91,15 +91,15 @@ fresh_is_fresh = record {
 
 module _ (kind : Kind) (pair : Pair) (h : IsFresh pair) where
   -- HEAD is no name, and nothing else stands
-  reads_absent : (name : Bytes) → reading kind (pair.names) name ≡ Absent
+  reads_absent : (name : Bytes) → name_state kind (pair.names) name ≡ Absent
   unfolding main_text
   reads_absent name = ap (λ packed. choose (is_name name) (file_at (pair.names) name) packed) no_packed ∙ alone (is_name name) refl
     where
-      choose : Bool → Option Bytes → Reading → Reading
-      choose known found packed = cond known (unwrap_or (option_map (loose_reading kind) found) packed) Absent
+      choose : Bool → Option Bytes → NameState → NameState
+      choose known found packed = cond known (unwrap_or (option_map (loose_state kind) found) packed) Absent
 
-      no_packed : unwrap_or (option_map (packed_text_reading kind name) (file_at (pair.names) packed_place)) Absent ≡ Absent
-      no_packed = ap (λ found. unwrap_or (option_map (packed_text_reading kind name) found) Absent) (h.names packed_place)
+      no_packed : unwrap_or (option_map (packed_text_state kind name) (file_at (pair.names) packed_place)) Absent ≡ Absent
+      no_packed = ap (λ found. unwrap_or (option_map (packed_text_state kind name) found) Absent) (h.names packed_place)
 
       is_other : (b : Bool) → bytes_eq name head_place ≡ b → is_name name ≡ true → cond b (Some (head_text (codes "refs/heads/main"))) None ≡ None
       is_other false e known = refl
@@ -107,7 +107,7 @@ module _ (kind : Kind) (pair : Pair) (h : IsFresh pair) where
 
       alone : (b : Bool) → is_name name ≡ b → choose b (file_at (pair.names) name) Absent ≡ Absent
       alone false e = refl
-      alone true e = ap (λ found. unwrap_or (option_map (loose_reading kind) found) Absent) (h.names name ∙ is_other (bytes_eq name head_place) refl e)
+      alone true e = ap (λ found. unwrap_or (option_map (loose_state kind) found) Absent) (h.names name ∙ is_other (bytes_eq name head_place) refl e)
 
   no_objects : (path : Bytes) → file_at (pair.objects) path ≡ get (object_files (fresh kind)) path
   no_objects path = h.objects path

@@ -15,7 +15,7 @@ pub mod RecoveryLemmas
 pub mod FreshLemmas
 pub mod RecoveredLemmas
 mod RoundLemmas
-mod ReadingLemmas
+mod StateLemmas
 mod FormatLemmas
 mod AfterFirstLemmas
 mod OneFileLemmas

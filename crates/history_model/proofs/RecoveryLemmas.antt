@@ -14,7 +14,7 @@ use Rattle.history_model.specs.FileMap.{is_below}
 use Rattle.history_model.specs.Forms.{is_name}
 use Rattle.history_model.specs.Logs.{whole_lines}
 use Rattle.history_model.specs.Places.{file_at, is_log_place, log_name, is_lock_file, packed_place, unfinished_place}
-use Rattle.history_model.specs.Readings.{Absent, Reading, is_absent, loose_reading, packed_text_reading, reading}
+use Rattle.history_model.specs.NameStates.{Absent, NameState, is_absent, loose_state, packed_text_state, name_state}
 use Rattle.history_model.specs.Recovery.{is_leftover, is_deserted, recovered_files, recovered_names, recovered_node, recovered_objects}
 use Rattle.history_model.specs.Laws.{RecoveryKeeps, RecoveryReads, RecoveryEnds}
 use Rattle.gix_hash_id.specs.declared.kind.Kind.{Kind}
@@ -83,7 +83,7 @@ pub recovery_keeps : RecoveryKeeps
 recovery_keeps kind tree [] = refl
 recovery_keeps kind tree (b ∷ path) = get_left kind tree (b ∷ path)
 
--- ---- readings
+-- ---- states of names
 
 plain_file : (log leftover : Bool) (o : Option Bytes) → log ≡ false → leftover ≡ false → cond leftover None (option_map (λ text. cond log (whole_lines text) text) o) ≡ o
 plain_file log leftover o e f = rw (e, f) (same o)
@@ -95,16 +95,16 @@ plain_file log leftover o e f = rw (e, f) (same o)
 -- a file that is no lock file and no log stays
 pub file_kept : (kind : Kind) (tree : Tree) (path : Bytes) → is_lock_file path ≡ false → is_log_place path ≡ false → file_at (recovered_names kind tree) path ≡ file_at tree path
 file_kept kind tree path lock log = recovery_keeps kind tree path ∙ plain_file (is_log_place path) (is_leftover kind tree path) (file_at tree path) log
-    (and_right (is_some (file_at tree path)) _ (ap (λ b. b || (is_log_place path && is_absent (reading kind tree (log_name path)))) lock ∙ ap (λ b. b && is_absent (reading kind tree (log_name path))) log))
+    (and_right (is_some (file_at tree path)) _ (ap (λ b. b || (is_log_place path && is_absent (name_state kind tree (log_name path)))) lock ∙ ap (λ b. b && is_absent (name_state kind tree (log_name path))) log))
 
 pub recovery_reads : RecoveryReads
 recovery_reads kind tree name = ap (λ packed. choose (is_name name) (file_at (recovered_names kind tree) name) (packed_of packed)) (file_kept kind tree packed_place refl refl) ∙ go (is_name name) refl
   where
-    packed_of : Option Bytes → Reading
-    packed_of found = unwrap_or (option_map (packed_text_reading kind name) found) Absent
+    packed_of : Option Bytes → NameState
+    packed_of found = unwrap_or (option_map (packed_text_state kind name) found) Absent
 
-    choose : Bool → Option Bytes → Reading → Reading
-    choose known found packed = cond known (unwrap_or (option_map (loose_reading kind) found) packed) Absent
+    choose : Bool → Option Bytes → NameState → NameState
+    choose known found packed = cond known (unwrap_or (option_map (loose_state kind) found) packed) Absent
 
     go : (b : Bool) → is_name name ≡ b → choose b (file_at (recovered_names kind tree) name) (packed_of (file_at tree packed_place)) ≡ choose b (file_at tree name) (packed_of (file_at tree packed_place))
     go false e = refl
@@ -144,7 +144,7 @@ module _ (kind : Kind) (tree : Tree) where
   names = recovered_names kind tree
 
   is_kept : Bytes → Bool
-  is_kept path = is_lock_file path || (is_log_place path && is_absent (reading kind tree (log_name path)))
+  is_kept path = is_lock_file path || (is_log_place path && is_absent (name_state kind tree (log_name path)))
 
   -- what stands in the recovered tree stands as recovery leaves it, and was no leftover
   stood : (leftover deserted : Bool) (path : Bytes) (o : Option Node) (node : Node) → cond (not deserted) (option_map (recovered_node path) (cond (not leftover) o None)) None ≡ Some node
@@ -167,9 +167,9 @@ module _ (kind : Kind) (tree : Tree) where
   unfolding names
   leftover_then path e =
       ap (λ r. is_some (file_at (recovered_names kind tree) path) && (is_lock_file path || (is_log_place path && is_absent r))) (recovery_reads kind tree (log_name path))
-      ∙ ap (λ o. is_some o && (is_lock_file path || (is_log_place path && is_absent (reading kind tree (log_name path))))) (recovery_keeps kind tree path)
-      ∙ ap (λ b. is_some (cond b None (option_map (λ text. cond (is_log_place path) (whole_lines text) text) (file_at tree path))) && (is_lock_file path || (is_log_place path && is_absent (reading kind tree (log_name path))))) e
-      ∙ ap (λ b. b && (is_lock_file path || (is_log_place path && is_absent (reading kind tree (log_name path))))) (some_mapped (file_at tree path)) ∙ e
+      ∙ ap (λ o. is_some o && (is_lock_file path || (is_log_place path && is_absent (name_state kind tree (log_name path))))) (recovery_keeps kind tree path)
+      ∙ ap (λ b. is_some (cond b None (option_map (λ text. cond (is_log_place path) (whole_lines text) text) (file_at tree path))) && (is_lock_file path || (is_log_place path && is_absent (name_state kind tree (log_name path))))) e
+      ∙ ap (λ b. b && (is_lock_file path || (is_log_place path && is_absent (name_state kind tree (log_name path))))) (some_mapped (file_at tree path)) ∙ e
     where
       some_mapped : (o : Option Bytes) → is_some (option_map (λ text. cond (is_log_place path) (whole_lines text) text) o) ≡ is_some o
       some_mapped None = refl

@@ -355,9 +355,9 @@ runs_written old new commands replies input output end failed h = (
   },
 )
 
-reading_written : (old new : Repository) (commands : List Command) (replies : List Reply) (input output : Bytes) (failed : Bool)
+state_written : (old new : Repository) (commands : List Command) (replies : List Reply) (input output : Bytes) (failed : Bool)
     → EndsReading (Unit {0}) (Unit {0}) old commands replies input output failed new → WritesReplies input commands replies output
-reading_written old new commands replies input output failed h = (
+state_written old new commands replies input output failed h = (
   h.rest,
   h.ran.splits,
   record {
@@ -444,4 +444,4 @@ runs_end objects names old new begin finish commands replies input output end ru
     }
 
 pub runs_have_written : RunsHaveWritten
-runs_have_written = (runs_written, reading_written, writing_written)
+runs_have_written = (runs_written, state_written, writing_written)

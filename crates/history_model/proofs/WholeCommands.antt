@@ -8,7 +8,7 @@ use Rattle.history_model.specs.Objects.{Value, StoredCommit, StoredBytes, Stored
 use Rattle.gix_hash_id.specs.Id.{Id, null_id}
 use Rattle.history_model.specs.Repository.{Repository, HoldsCommit, peeled, IsWholeStore}
 use Rattle.history_model.specs.Forms.{IsWrittenFiles, IsWritten}
-use Rattle.history_model.specs.Words.{WordReading, ReadsAs, Unborn, Unknown, Ambiguous, commit_read, commit_of, word_reading}
+use Rattle.history_model.specs.Words.{WordMeaning, ReadsAs, Unborn, Unknown, Ambiguous, commit_read, commit_of, word_meaning}
 use Rattle.history_model.specs.Commands.{Command, Commit, Tag, Move, Rename, Delete, Switch, Pack, Index, Names, Files, Past, Log, Show, CommitCommand, TagCommand}
 use Rattle.history_model.specs.Meaning.{parents_of, first_files, edits_of, new_commit, put_bytes, stored_by, takes_id, names_after, branch_after, after}
 use Rattle.history_model.specs.CommandParts.{words_in, at_word}
@@ -24,17 +24,17 @@ use Rattle.history_model.proofs.WholeReads.{no_cause, tests_ambiguous_word, test
 
 -- each word of the command stands for a commit
 pub word_commit : (r : Repository) (command : Command) → first_cause r command ≡ None → (word : Bytes) → In word (words_in command) → (t : Id) × (commit_of r word ≡ Some t)
-word_commit r command none word i = go (word_reading r word)
-    (none_passes (λ w. is_unknown (word_reading r w)) (words_in command) (no_cause r command none UnknownWord tests_unknown_word) word i)
-    (none_passes (λ w. is_ambiguous (word_reading r w)) (words_in command) (no_cause r command none AmbiguousWord tests_ambiguous_word) word i)
-    (none_passes (λ w. is_unborn (word_reading r w)) (words_in command) (no_cause r command none UnbornHead tests_unborn_head) word i)
-    (none_passes (λ w. is_no_commit r (word_reading r w)) (words_in command) (no_cause r command none NotACommit tests_not_a_commit) word i)
+word_commit r command none word i = go (word_meaning r word)
+    (none_passes (λ w. is_unknown (word_meaning r w)) (words_in command) (no_cause r command none UnknownWord tests_unknown_word) word i)
+    (none_passes (λ w. is_ambiguous (word_meaning r w)) (words_in command) (no_cause r command none AmbiguousWord tests_ambiguous_word) word i)
+    (none_passes (λ w. is_unborn (word_meaning r w)) (words_in command) (no_cause r command none UnbornHead tests_unborn_head) word i)
+    (none_passes (λ w. is_no_commit r (word_meaning r w)) (words_in command) (no_cause r command none NotACommit tests_not_a_commit) word i)
   where
     some : (o : Option Id) → is_none o ≡ false → (t : Id) × (o ≡ Some t)
     some None h = cc
     some (Some t) h = (t, refl)
 
-    go : (reading : WordReading) → is_unknown reading ≡ false → is_ambiguous reading ≡ false → is_unborn reading ≡ false → is_no_commit r reading ≡ false → (t : Id) × (commit_read r reading ≡ Some t)
+    go : (meaning : WordMeaning) → is_unknown meaning ≡ false → is_ambiguous meaning ≡ false → is_unborn meaning ≡ false → is_no_commit r meaning ≡ false → (t : Id) × (commit_read r meaning ≡ Some t)
     go Unknown a b c d = cc
     go Ambiguous a b c d = cc
     go Unborn a b c d = cc
@@ -104,7 +104,7 @@ module _ (r : Repository) (whole : IsWholeStore r) (written : IsWritten r) where
   tag_fits : (c : TagCommand) → first_cause r (Tag c) ≡ None → (v : Value) → In v (stored_by r (Tag c)) → Fits r (stored_by r (Tag c)) v
   tag_fits c none v (inl e) =
       let word = word_commit r (Tag c) none c.word (in_right c.word (at_word c.expect) (c.word ∷ []) (inl refl)) in
-      subst (Fits r (stored_by r (Tag c))) (sym e) (subst (HoldsCommit r) (sym (ap (λ o. unwrap_or o (null_id r.kind)) word.1)) (read_holds r whole (word_reading r c.word) word.0 word.1))
+      subst (Fits r (stored_by r (Tag c))) (sym e) (subst (HoldsCommit r) (sym (ap (λ o. unwrap_or o (null_id r.kind)) word.1)) (read_holds r whole (word_meaning r c.word) word.0 word.1))
   tag_fits c none v (inr i) = absurd i
 
   pub all_fits : (command : Command) → first_cause r command ≡ None → (v : Value) → In v (stored_by r command) → Fits r (stored_by r command) v

@@ -9,7 +9,7 @@ use Rattle.gix_hash_id.specs.Id.{Id, null_id}
 use Rattle.gix_hash_id.specs.Order.{id_eq}
 use Rattle.history_model.specs.Repository.{Repository, Reference, LogEntry, HoldsCommit, id_at, moves_at, stands, IsWholeStore, IsWhole}
 use Rattle.history_model.specs.Forms.{IsWritten, IsWrittenFiles, IsWrittenValue, HasForm, is_id, is_actor, is_actor_part, is_seconds, is_offset, is_name, is_private, is_branch, is_tag_name, is_commit_form, is_tag_form, is_log_entry, is_reference, title, max_title, max_content, max_parents, max_seconds}
-use Rattle.history_model.specs.Words.{commit_of, word_reading, head_word}
+use Rattle.history_model.specs.Words.{commit_of, word_meaning, head_word}
 use Rattle.history_model.specs.Commands.{Command, Commit, Tag, Move, Rename, Delete, Switch, Pack, Index, Names, Files, Past, Log, Show, To, ActorLine, CommitCommand, TagCommand}
 use Rattle.history_model.specs.Meaning.{References, branch_or_name, read_actor, history_actor, parents_of, edits_of, new_commit, new_tag, tag_rest, put_bytes, stored_by, with_name, with_lines, moved_reference, names_after, branch_after, after}
 use Rattle.history_model.specs.CommandParts.{words_in, at_word, targets, names_in, actors_in, contents_in}
@@ -199,7 +199,7 @@ module _ (r : Repository) (whole : IsWhole r) (written : IsWritten r) where
       (and_from (is_id r.kind target && is_tag_name (tag_rest c.name) && is_actor tagger) (not (is_empty c.message))
       (and_from (is_id r.kind target && is_tag_name (tag_rest c.name)) (is_actor tagger)
       (and_from (is_id r.kind target) (is_tag_name (tag_rest c.name))
-      (subst (λ o. is_id r.kind (unwrap_or o (null_id r.kind)) ≡ true) (sym word.1) (id_held r whole.store word.0 (read_holds r whole.store (word_reading r c.word) word.0 word.1)))
+      (subst (λ o. is_id r.kind (unwrap_or o (null_id r.kind)) ≡ true) (sym word.1) (id_held r whole.store word.0 (read_holds r whole.store (word_meaning r c.word) word.0 word.1)))
       (and_parts (begins (codes "refs/tags/") c.name) (is_tag_name (tag_rest c.name)) (not-false (begins (codes "refs/tags/") c.name && is_tag_name (tag_rest c.name)) place)).1)
       (actor_formed r (Tag c) none c.tagger (inl refl) times))
       (not_from_false (is_empty c.message) (message_there c.message (title_parts (title c.message) bad_message).0)))
@@ -389,7 +389,7 @@ title_message message h = (title_line message, fits_test max_title (length (titl
 word_id : (r : Repository) → IsWhole r → (command : Command) → first_cause r command ≡ None → (word : Bytes) → In word (words_in command) → is_id r.kind (unwrap_or (commit_of r word) (null_id r.kind)) ≡ true
 word_id r whole command none word i =
     let at = word_commit r command none word i in
-    subst (λ o. is_id r.kind (unwrap_or o (null_id r.kind)) ≡ true) (sym at.1) (id_held r whole.store at.0 (read_holds r whole.store (word_reading r word) at.0 at.1))
+    subst (λ o. is_id r.kind (unwrap_or o (null_id r.kind)) ≡ true) (sym at.1) (id_held r whole.store at.0 (read_holds r whole.store (word_meaning r word) at.0 at.1))
 
 history_actor_formed : is_actor history_actor ≡ true
 history_actor_formed = refl

@@ -8,7 +8,7 @@ use Rattle.history_model.specs.Objects.{by_id, Actor, Value, StoredCommit, Store
 use Rattle.gix_hash_id.specs.Id.{Id, null_id}
 use Rattle.history_model.specs.Repository.{Repository, Reference, HoldsCommit, peeled_value, id_at, stands, HasWholeNames, IsWhole}
 use Rattle.history_model.specs.Forms.{IsWritten, title}
-use Rattle.history_model.specs.Words.{commit_of, word_reading}
+use Rattle.history_model.specs.Words.{commit_of, word_meaning}
 use Rattle.history_model.specs.Commands.{Command, Commit, Tag, Move, Rename, Delete, Switch, Pack, Index, Names, Files, Past, Log, Show, To}
 use Rattle.history_model.specs.Meaning.{References, branch_or_name, read_actor, history_actor, edits_of, new_commit, new_tag, put_bytes, stored_by, takes_id, with_name, with_lines, moved_reference, names_after, after}
 use Rattle.history_model.specs.CommandParts.{words_in, at_word, targets}
@@ -79,7 +79,7 @@ module _ (r : Repository) (whole : IsWhole r) (written : IsWritten r) (command :
   word_held : (word : Bytes) → In word (words_in command) → IsHeld objects (unwrap_or (commit_of r word) (null_id r.kind))
   word_held word i =
       let at = word_commit r command none word i in
-      subst (IsHeld objects) (sym (ap (λ o. unwrap_or o (null_id r.kind)) at.1)) (held_more r.objects objects keep at.0 (held_commit r at.0 (read_holds r whole.store (word_reading r word) at.0 at.1)))
+      subst (IsHeld objects) (sym (ap (λ o. unwrap_or o (null_id r.kind)) at.1)) (held_more r.objects objects keep at.0 (held_commit r at.0 (read_holds r whole.store (word_meaning r word) at.0 at.1)))
 
   -- a commit or a tag that is stored is held
   stored_held : (v : Value) → In v (stored_by r command) → is_some (peeled_value (id_of r.kind v) v) ≡ true → IsHeld objects (id_of r.kind v)

@@ -8,7 +8,7 @@ use Rattle.history_model.specs.Objects.{Value, CommitValue, StoredCommit, Stored
 use Rattle.gix_hash_id.specs.Id.{Id}
 use Rattle.history_model.specs.Repository.{Repository, IsStored, HoldsCommit, as_commit, peeled, peeled_value, id_at, IsWholeStore}
 use Rattle.history_model.specs.Forms.{IsWrittenFiles, IsWritten, max_path}
-use Rattle.history_model.specs.Words.{WordReading, ReadsAs, Unborn, Unknown, Ambiguous, commit_read, commit_of, word_reading}
+use Rattle.history_model.specs.Words.{WordMeaning, ReadsAs, Unborn, Unknown, Ambiguous, commit_read, commit_of, word_meaning}
 use Rattle.history_model.specs.Commands.{Command, Commit, CommitCommand, EditLine, PutLine, RemoveLine, RemoveFileLine}
 use Rattle.history_model.specs.Meaning.{parents_of, name_commit, branch_or_name, first_files, read_edit, edits_of, new_commit, put_bytes}
 use Rattle.history_model.specs.CommandParts.{edit_paths, paths_in}
@@ -98,7 +98,7 @@ module _ (r : Repository) (whole : IsWholeStore r) where
       go (Some (StoredBytes b)) f k = none_is_some t k
       go (Some (StoredFolder m)) f k = none_is_some t k
 
-  pub read_holds : (reading : WordReading) (t : Id) → commit_read r reading ≡ Some t → HoldsCommit r t
+  pub read_holds : (meaning : WordMeaning) (t : Id) → commit_read r meaning ≡ Some t → HoldsCommit r t
   read_holds (ReadsAs id) t e = peeled_holds id t e
   read_holds Unborn t e = none_is_some t e
   read_holds Unknown t e = none_is_some t e
@@ -128,7 +128,7 @@ module _ (r : Repository) (whole : IsWholeStore r) where
   pub parents_hold : (c : CommitCommand) (id : Id) → In id (parents_of r c) → HoldsCommit r id
   parents_hold c id i = elim (in_either id (option_to_list (name_commit r (branch_or_name r c.name))) (filter_map (commit_of r) c.parents) i) [
     | inl a ↦ name_holds (branch_or_name r c.name) id (of_option id (name_commit r (branch_or_name r c.name)) a)
-    | inr b ↦ let from = of_filter (commit_of r) id c.parents b in read_holds (word_reading r from.0) id from.2
+    | inr b ↦ let from = of_filter (commit_of r) id c.parents b in read_holds (word_meaning r from.0) id from.2
   ]
 
 -- ---- files

@@ -9,7 +9,7 @@ use Rattle.gix_hash_id.specs.Id.{Id}
 use Rattle.gix_hash_id.specs.Order.{id_eq}
 use Rattle.history_model.specs.Repository.{Repository, id_at, stands, is_tag, peeled}
 use Rattle.history_model.specs.Forms.{heads_front, tags_front, is_name, is_private, is_tag_name, is_actor_part, is_seconds, is_offset, title, max_title, max_path, max_content, max_parents}
-use Rattle.history_model.specs.Words.{WordReading, ReadsAs, Unborn, Unknown, Ambiguous, word_reading, commit_of}
+use Rattle.history_model.specs.Words.{WordMeaning, ReadsAs, Unborn, Unknown, Ambiguous, word_meaning, commit_of}
 use Rattle.history_model.specs.Commands.{Command, Commit, Tag, Move, Rename, Delete, Switch, Past, Log, Show, Expect, New, At, ActorLine, Order, Breadth, Date, Topological, LogItem, Tip, Hidden}
 use Rattle.history_model.specs.CommandParts.{names_in, words_in, expected, targets, paths_in, actors_in, since_words, contents_in}
 use Rattle.history_model.specs.Meaning.{branch_or_name, past_name, name_commit, parents_of, first_files, edits_of, stored_by, new_tag, tag_rest}
@@ -26,26 +26,26 @@ is_name_twice (Move c) = has_twice bytes_eq (map (λ to. to.name) c.to)
 is_name_twice (Rename from to) = bytes_eq from to
 is_name_twice _ = false
 
-abbrev pub is_unknown : WordReading → Bool
+abbrev pub is_unknown : WordMeaning → Bool
 is_unknown Unknown = true
 is_unknown _ = false
 
-abbrev pub is_ambiguous : WordReading → Bool
+abbrev pub is_ambiguous : WordMeaning → Bool
 is_ambiguous Ambiguous = true
 is_ambiguous _ = false
 
-abbrev pub is_unborn : WordReading → Bool
+abbrev pub is_unborn : WordMeaning → Bool
 is_unborn Unborn = true
 is_unborn _ = false
 
 -- an id of a blob or a tree
-abbrev pub is_no_commit : Repository → WordReading → Bool
+abbrev pub is_no_commit : Repository → WordMeaning → Bool
 is_no_commit r (ReadsAs id) = is_none (peeled r id)
 is_no_commit r _ = false
 
 -- whether a word of the command reads so
-abbrev pub some_word : (WordReading → Bool) → Repository → Command → Bool
-some_word test r command = list_any (λ word. test (word_reading r word)) (words_in command)
+abbrev pub some_word : (WordMeaning → Bool) → Repository → Command → Bool
+some_word test r command = list_any (λ word. test (word_meaning r word)) (words_in command)
 
 abbrev pub is_at : Expect → Bool
 is_at (At word) = true

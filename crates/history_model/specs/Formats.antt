@@ -10,15 +10,15 @@ use Rattle.history_model.specs.Bytes.{Bytes, begins, line}
 use Rattle.history_model.specs.Forms.{refs_front, is_name, is_private}
 use Rattle.history_model.specs.Logs.{log_line}
 use Rattle.history_model.specs.Objects.{hex, actor_text}
-use Rattle.history_model.specs.Readings.{Holds, Symbolic, loose_reading}
+use Rattle.history_model.specs.NameStates.{Holds, Symbolic, loose_state}
 use Rattle.history_model.specs.Repository.{LogEntry}
 use Rattle.history_model.specs.Words.{candidates}
 
 -- A loose file that reads as an id, or as a name, tells that id, or that name.
 abbrev pub LooseReadsAlike : Type 0
 LooseReadsAlike = (kind : Kind) (text : Bytes)
-    → ((id : Id) → loose_reading kind text ≡ Holds id → loose_target kind text ≡ Some (ToObject id))
-    × ((name : Bytes) → loose_reading kind text ≡ Symbolic name
+    → ((id : Id) → loose_state kind text ≡ Holds id → loose_target kind text ≡ Some (ToObject id))
+    × ((name : Bytes) → loose_state kind text ≡ Symbolic name
     → loose_target kind text ≡ Some (ToName name))
 
 -- Of the names that a repository may hold the private ones alone have no record.

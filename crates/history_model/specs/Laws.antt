@@ -17,7 +17,7 @@ use Rattle.history_model.specs.Replies.{Reply, FileLine, FilesAre, LogIs, reply_
 use Rattle.history_model.specs.Causes.{first_cause}
 use Rattle.history_model.specs.Places.{Pair, file_at, head_place, is_log_place, unfinished_place, is_object_folder, is_name_folder}
 use Rattle.history_model.specs.StandsFor.{StandsFor, StandsWhole, object_files, head_text}
-use Rattle.history_model.specs.Readings.{Holds, reading}
+use Rattle.history_model.specs.NameStates.{Holds, name_state}
 use Rattle.history_model.specs.Recovery.{recovered, recovered_names, is_leftover}
 use Rattle.history_model.specs.Logs.{whole_lines}
 use Rattle.history_model.specs.Stops.{LeftByStop}
@@ -191,7 +191,7 @@ pub record IsClosed (kind : Kind) (pair : Pair) : Type 0 where
   pub whole : IsWhole repository
   pub objects : (path : Bytes) → path ≢ unfinished_place
       → file_at pair.objects path ≡ get (object_files repository) path
-  pub names : (name : Bytes) (id : Id) → reading kind pair.names name ≡ Holds id
+  pub names : (name : Bytes) (id : Id) → name_state kind pair.names name ≡ Holds id
       → IsSome (peeled repository id)
 
 -- What a stop in a command leaves is so, before any recovery.
@@ -299,11 +299,11 @@ RecoveryKeeps =
     else option_map (λ text. if is_log_place path then whole_lines text else text)
     (file_at tree path))
 
--- Recovery changes no name's reading.
+-- Recovery changes no name's state.
 abbrev pub RecoveryReads : Type 0
 RecoveryReads =
     (kind : Kind) (tree : Tree) (name : Bytes)
-    → reading kind (recovered_names kind tree) name ≡ reading kind tree name
+    → name_state kind (recovered_names kind tree) name ≡ name_state kind tree name
 
 -- To recover twice is to recover once.
 abbrev pub RecoveryEnds : Type 0

@@ -7,7 +7,7 @@ use Rattle.history_model.specs.Bytes.{Bytes}
 use Rattle.history_model.specs.FileMap.{is_below}
 use Rattle.history_model.specs.Logs.{whole_lines}
 use Rattle.history_model.specs.Places.{Pair, file_at, unfinished_place, is_log_place, log_name, is_lock_file}
-use Rattle.history_model.specs.Readings.{reading, is_absent}
+use Rattle.history_model.specs.NameStates.{name_state, is_absent}
 use Rattle.gix_hash_id.specs.declared.kind.Kind.{Kind}
 
 -- without an object's file that was not renamed to its place
@@ -19,7 +19,7 @@ recovered_objects tree =
 abbrev pub is_leftover : Kind → Tree → Bytes → Bool
 is_leftover kind tree path =
     is_some (file_at tree path)
-    && (is_lock_file path || (is_log_place path && is_absent (reading kind tree (log_name path))))
+    && (is_lock_file path || (is_log_place path && is_absent (name_state kind tree (log_name path))))
 
 -- of a log its whole lines
 abbrev pub recovered_node : Bytes → Node → Node

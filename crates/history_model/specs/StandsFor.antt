@@ -10,7 +10,7 @@ use Rattle.history_model.specs.Forms.{IsWritten}
 use Rattle.history_model.specs.Places.{Pair, file_at, object_place, is_object_folder, head_place, packed_place, log_place, is_name_place, is_name_folder}
 use Rattle.history_model.specs.PackedNames.{packed_file, PackedAgrees}
 use Rattle.history_model.specs.Logs.{log_text}
-use Rattle.history_model.specs.Readings.{Holds, reading}
+use Rattle.history_model.specs.NameStates.{Holds, name_state}
 use Rattle.gix_hash_id.specs.declared.kind.Kind.{Kind}
 
 -- each value's text at its place
@@ -34,7 +34,7 @@ pub record StandsFor (kind : Kind) (pair : Pair) (r : Repository) : Type 0 where
   pub head : file_at pair.names head_place ≡ Some (head_text r.branch)
   -- the names that read as an id, and their ids
   pub names : (name : Bytes) (id : Id)
-      → (reading r.kind pair.names name ≡ Holds id) ↔ (id_at r name ≡ Some id)
+      → (name_state r.kind pair.names name ≡ Holds id) ↔ (id_at r name ≡ Some id)
   -- a name without a log has no moves
   pub logs : (name : Bytes)
       → unwrap_or (file_at pair.names (log_place name)) [] ≡ log_text (moves_at r name)

@@ -21,11 +21,11 @@ candidates word = filter (λ name. begins refs_front name && not (is_private nam
     ∷ (codes "refs/remotes/" ++ word) ∷ (codes "refs/remotes/" ++ word ++ codes "/HEAD") ∷ [])
 
 -- what a word reads as, before a tag stands for its commit
-pub data WordReading : Type 0 where
-  ReadsAs : Id → WordReading
-  Unborn : WordReading
-  Unknown : WordReading
-  Ambiguous : WordReading
+pub data WordMeaning : Type 0 where
+  ReadsAs : Id → WordMeaning
+  Unborn : WordMeaning
+  Unknown : WordMeaning
+  Ambiguous : WordMeaning
 
 -- 4 digits to the kind's length
 abbrev pub is_short_id : Repository → Bytes → Bool
@@ -36,28 +36,28 @@ is_short_id r word =
 abbrev pub matches : Repository → Bytes → List Id
 matches r word = filter (λ id. begins (lower word) (hex id)) (keys r.objects)
 
-abbrev pub only_one : List Id → WordReading
+abbrev pub only_one : List Id → WordMeaning
 only_one [] = Unknown
 only_one (id ∷ []) = ReadsAs id
 only_one (id ∷ other ∷ ids) = Ambiguous
 
-abbrev pub id_reading : Repository → Bytes → WordReading
-id_reading r word =
+abbrev pub id_meaning : Repository → Bytes → WordMeaning
+id_meaning r word =
     if offers_short_ids && is_short_id r word then only_one (matches r word) else Unknown
 
-abbrev pub name_reading : Option Id → WordReading
-name_reading None = Unborn
-name_reading (Some id) = ReadsAs id
+abbrev pub name_meaning : Option Id → WordMeaning
+name_meaning None = Unborn
+name_meaning (Some id) = ReadsAs id
 
 -- HEAD always stands, and reads as its branch. Of other words the first candidate that stands wins, also over an id.
-abbrev pub word_reading : Repository → Bytes → WordReading
-word_reading r word =
-    if bytes_eq word head_word then name_reading (id_at r r.branch)
+abbrev pub word_meaning : Repository → Bytes → WordMeaning
+word_meaning r word =
+    if bytes_eq word head_word then name_meaning (id_at r r.branch)
     else unwrap_or
-    (option_map (λ name. name_reading (id_at r name)) (find (stands r) (candidates word)))
-    (id_reading r word)
+    (option_map (λ name. name_meaning (id_at r name)) (find (stands r) (candidates word)))
+    (id_meaning r word)
 
-abbrev pub commit_read : Repository → WordReading → Option Id
+abbrev pub commit_read : Repository → WordMeaning → Option Id
 commit_read r (ReadsAs id) = peeled r id
 commit_read r Unborn = None
 commit_read r Unknown = None
@@ -65,4 +65,4 @@ commit_read r Ambiguous = None
 
 -- the commit that a word stands for
 abbrev pub commit_of : Repository → Bytes → Option Id
-commit_of r word = commit_read r (word_reading r word)
+commit_of r word = commit_read r (word_meaning r word)

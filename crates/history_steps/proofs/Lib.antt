@@ -11,5 +11,5 @@ pub mod PassedObjects
 pub mod PassedStops
 pub mod PassedMoves
 pub mod PassedNames
-pub mod PassedReadings
+pub mod PassedStates
 pub mod PassedMoments

@@ -6,7 +6,7 @@ use Rattle.history_model.specs.Bytes.{Bytes}
 use Rattle.history_model.specs.Objects.{Value, StoredCommit, StoredTag, StoredBytes, StoredFolder}
 use Rattle.gix_hash_id.specs.Id.{Id}
 use Rattle.history_model.specs.Repository.{Repository, HasWholeNames, id_at, peeled, is_tag, is_tag_value}
-use Rattle.history_model.specs.Words.{WordReading, ReadsAs, Unborn, Unknown, Ambiguous, word_reading}
+use Rattle.history_model.specs.Words.{WordMeaning, ReadsAs, Unborn, Unknown, Ambiguous, word_meaning}
 use Rattle.history_model.specs.Commands.{Commit, Tag, Move, Rename, Delete, Switch, Pack, Index, Names, Files, Past, Log, Show, CommitCommand}
 use Rattle.history_model.specs.CommandParts.{at_word}
 use Rattle.history_model.specs.Meaning.{branch_or_name}
@@ -54,10 +54,10 @@ none_passes p (x ∷ xs) h = or_from (p x) (list_any p xs) (h x) (none_passes p 
 module _ (r : Repository) (o : IsOffered r) (w : HasWholeNames r) where
   -- ---- words
 
-  not_ambiguous : (word : Bytes) → is_ambiguous (word_reading r word) ≡ false
-  not_ambiguous word = go (word_reading r word) refl
+  not_ambiguous : (word : Bytes) → is_ambiguous (word_meaning r word) ≡ false
+  not_ambiguous word = go (word_meaning r word) refl
     where
-      go : (x : WordReading) → word_reading r word ≡ x → is_ambiguous x ≡ false
+      go : (x : WordMeaning) → word_meaning r word ≡ x → is_ambiguous x ≡ false
       go (ReadsAs id) e = refl
       go Unborn e = refl
       go Unknown e = refl
@@ -67,10 +67,10 @@ module _ (r : Repository) (o : IsOffered r) (w : HasWholeNames r) where
   some_there None h = cc
   some_there (Some id) h = refl
 
-  is_commit : (word : Bytes) → is_no_commit r (word_reading r word) ≡ false
-  is_commit word = go (word_reading r word) refl
+  is_commit : (word : Bytes) → is_no_commit r (word_meaning r word) ≡ false
+  is_commit word = go (word_meaning r word) refl
     where
-      go : (x : WordReading) → word_reading r word ≡ x → is_no_commit r x ≡ false
+      go : (x : WordMeaning) → word_meaning r word ≡ x → is_no_commit r x ≡ false
       go (ReadsAs id) e = let held = words_read_names r word id e in some_there (peeled r id) (w.held held.0 id held.1)
       go Unborn e = refl
       go Unknown e = refl
@@ -95,8 +95,8 @@ module _ (r : Repository) (o : IsOffered r) (w : HasWholeNames r) where
   commit_out : (c : CommitCommand) → RuledOut (λ cause. holds cause r (Commit c))
   commit_out c = record {
     name_twice = refl;
-    ambiguous = none_passes (λ word. is_ambiguous (word_reading r word)) (at_word c.expect ++ c.parents) not_ambiguous;
-    no_commit = none_passes (λ word. is_no_commit r (word_reading r word)) (at_word c.expect ++ c.parents) is_commit;
+    ambiguous = none_passes (λ word. is_ambiguous (word_meaning r word)) (at_word c.expect ++ c.parents) not_ambiguous;
+    no_commit = none_passes (λ word. is_no_commit r (word_meaning r word)) (at_word c.expect ++ c.parents) is_commit;
     holds_tag = no_tag (branch_or_name r c.name);
     moves_nothing = refl;
     wrong_order = refl;

@@ -6,7 +6,7 @@ use Rattle.history_model.specs.Bytes.{Bytes}
 use Rattle.history_model.specs.Objects.{CommitValue, Value, StoredCommit, StoredTag, StoredBytes, StoredFolder}
 use Rattle.gix_hash_id.specs.Id.{Id}
 use Rattle.history_model.specs.Repository.{Repository, HasWholeNames, HoldsCommit, id_at, stands, peeled, peeled_value}
-use Rattle.history_model.specs.Words.{WordReading, ReadsAs, Unborn, Unknown, Ambiguous, word_reading, name_reading, candidates, head_word, commit_read}
+use Rattle.history_model.specs.Words.{WordMeaning, ReadsAs, Unborn, Unknown, Ambiguous, word_meaning, name_meaning, candidates, head_word, commit_read}
 use Rattle.history_model.specs.Meaning.{parents_of}
 use Rattle.history_steps.specs.Offered.{IsOffered}
 use Rattle.history_steps.specs.OfferedWords.{read_id, WordsReadNames, NoneIsAmbiguous, NamesHoldCommits, NamesStandForTheirs, WordsStandForTheirs, ParentsAreCommits}
@@ -16,8 +16,8 @@ use Rattle.history_model.proofs.WholeReads.{parents_hold}
 -- ---- words
 
 -- a word reads as a name that stands, as HEAD's branch, or as nothing
-abbrev read_as : Repository → Bool → Option Bytes → WordReading
-read_as r b found = cond b (name_reading (id_at r r.branch)) (unwrap_or (option_map (λ name. name_reading (id_at r name)) found) Unknown)
+abbrev read_as : Repository → Bool → Option Bytes → WordMeaning
+read_as r b found = cond b (name_meaning (id_at r r.branch)) (unwrap_or (option_map (λ name. name_meaning (id_at r name)) found) Unknown)
 
 pub words_read_names : WordsReadNames
 words_read_names r word id e = go (bytes_eq word head_word) (find (stands r) (candidates word)) e
@@ -25,10 +25,10 @@ words_read_names r word id e = go (bytes_eq word head_word) (find (stands r) (ca
     same : {a b : Id} → ReadsAs a ≡ ReadsAs b → a ≡ b
     same e = cc
 
-    from_name : (name : Bytes) → name_reading (id_at r name) ≡ ReadsAs id → (name : Bytes) × (id_at r name ≡ Some id)
+    from_name : (name : Bytes) → name_meaning (id_at r name) ≡ ReadsAs id → (name : Bytes) × (id_at r name ≡ Some id)
     from_name name e = by_held (id_at r name) refl e
       where
-        by_held : (held : Option Id) → id_at r name ≡ held → name_reading held ≡ ReadsAs id → (name : Bytes) × (id_at r name ≡ Some id)
+        by_held : (held : Option Id) → id_at r name ≡ held → name_meaning held ≡ ReadsAs id → (name : Bytes) × (id_at r name ≡ Some id)
         by_held None at e = cc
         by_held (Some found) at e = (name, at ∙ ap Some (same e))
 
@@ -40,7 +40,7 @@ words_read_names r word id e = go (bytes_eq word head_word) (find (stands r) (ca
 pub none_is_ambiguous : NoneIsAmbiguous
 none_is_ambiguous r word e = go (bytes_eq word head_word) (find (stands r) (candidates word)) e
   where
-    of_name : (held : Option Id) → name_reading held ≡ Ambiguous → ⊥
+    of_name : (held : Option Id) → name_meaning held ≡ Ambiguous → ⊥
     of_name None e = absurd cc
     of_name (Some id) e = absurd cc
 
@@ -73,10 +73,10 @@ module _ (r : Repository) (o : IsOffered r) (w : HasWholeNames r) where
       go None e = refl
       go (Some id) e = peels name id e
 
-  word_stands : (word : Bytes) → commit_read r (word_reading r word) ≡ read_id (word_reading r word)
-  word_stands word = go (word_reading r word) refl
+  word_stands : (word : Bytes) → commit_read r (word_meaning r word) ≡ read_id (word_meaning r word)
+  word_stands word = go (word_meaning r word) refl
     where
-      go : (x : WordReading) → word_reading r word ≡ x → commit_read r x ≡ read_id x
+      go : (x : WordMeaning) → word_meaning r word ≡ x → commit_read r x ≡ read_id x
       go (ReadsAs id) e = let held = words_read_names r word id e in peels held.0 id held.1
       go Unborn e = refl
       go Unknown e = refl

@@ -12,7 +12,7 @@ use Rattle.history_model.specs.Forms.{is_id, is_name, is_log_entry}
 use Rattle.history_model.specs.Meaning.{References, with_name}
 use Rattle.history_model.specs.Logs.{log_line, log_text, whole_lines}
 use Rattle.history_model.specs.Places.{Pair, file_at, head_place, packed_place, log_place, is_log_place, log_name, is_lock_file, is_name_place}
-use Rattle.history_model.specs.Readings.{Reading, Holds, Absent, is_absent, reading, loose_reading, packed_text_reading}
+use Rattle.history_model.specs.NameStates.{NameState, Holds, Absent, is_absent, name_state, loose_state, packed_text_state}
 use Rattle.history_model.specs.Recovery.{is_leftover, is_deserted, recovered, recovered_files, recovered_names, recovered_node}
 use Rattle.history_model.specs.StandsFor.{StandsFor}
 use Rattle.history_steps.specs.TreeHalves.{HoldsNames}
@@ -105,8 +105,8 @@ stays f (Some x) false true e g = cc
 stays f (Some x) false false e g = refl
 
 -- what the files say of a name
-abbrev read_so : Kind → Bytes → Bool → Option Bytes → Option Bytes → Reading
-read_so kind name named own packed = cond named (unwrap_or (option_map (loose_reading kind) own) (unwrap_or (option_map (packed_text_reading kind name) packed) Absent)) Absent
+abbrev read_so : Kind → Bytes → Bool → Option Bytes → Option Bytes → NameState
+read_so kind name named own packed = cond named (unwrap_or (option_map (loose_state kind) own) (unwrap_or (option_map (packed_text_state kind name) packed) Absent)) Absent
 
 -- ---- a move
 
@@ -151,31 +151,31 @@ module _ (r : Repository) (name : Bytes) (id : Id) (actor : Actor) (message : By
   no_log : (q : Bytes) → is_name q ≡ true → q ≢ log
   no_log q named same = absurd (cc (sym (name-log q named) ∙ ap (λ t. is_log_place t) same))
 
-  reading_same : (q : Bytes) → (is_name q ≡ true → file_at tree q ≡ file_at old q) → reading r.kind tree q ≡ reading r.kind old q
-  reading_same q same = go (is_name q) refl
+  state_same : (q : Bytes) → (is_name q ≡ true → file_at tree q ≡ file_at old q) → name_state r.kind tree q ≡ name_state r.kind old q
+  state_same q same = go (is_name q) refl
     where
-      go : (b : Bool) → is_name q ≡ b → reading r.kind tree q ≡ reading r.kind old q
+      go : (b : Bool) → is_name q ≡ b → name_state r.kind tree q ≡ name_state r.kind old q
       go true e = λ i. read_so r.kind q (is_name q) (same e i) (packed_same i)
       go false e = ap (λ b. read_so r.kind q b (file_at tree q) (file_at tree packed_place)) e ∙ sym (ap (λ b. read_so r.kind q b (file_at old q) (file_at old packed_place)) e)
 
-  other_reads : (q : Bytes) → q ≢ name → reading r.kind tree q ≡ reading r.kind old q
-  other_reads q apart = reading_same q (λ named. may.others q apart (no_log q named) (name-lock q named))
+  other_reads : (q : Bytes) → q ≢ name → name_state r.kind tree q ≡ name_state r.kind old q
+  other_reads q apart = state_same q (λ named. may.others q apart (no_log q named) (name-lock q named))
 
   -- at each path but the name's and its log's
   same_at : (path : Bytes) → path ≢ name → path ≢ log → file_at now path ≡ file_at was path
   same_at path apart not_log = go (is_lock_file path) refl
     where
-      absent_same : (is_log_place path && is_absent (reading r.kind tree (log_name path))) ≡ (is_log_place path && is_absent (reading r.kind old (log_name path)))
+      absent_same : (is_log_place path && is_absent (name_state r.kind tree (log_name path))) ≡ (is_log_place path && is_absent (name_state r.kind old (log_name path)))
       absent_same = by_place (is_log_place path) refl
         where
-          by_place : (b : Bool) → is_log_place path ≡ b → (is_log_place path && is_absent (reading r.kind tree (log_name path))) ≡ (is_log_place path && is_absent (reading r.kind old (log_name path)))
+          by_place : (b : Bool) → is_log_place path ≡ b → (is_log_place path && is_absent (name_state r.kind tree (log_name path))) ≡ (is_log_place path && is_absent (name_state r.kind old (log_name path)))
           by_place true e = ap (λ x. is_log_place path && is_absent x) (other_reads (log_name path) (λ same. not_log (log_parts path e ∙ ap log_place same)))
-          by_place false e = ap (λ b. b && is_absent (reading r.kind tree (log_name path))) e ∙ sym (ap (λ b. b && is_absent (reading r.kind old (log_name path))) e)
+          by_place false e = ap (λ b. b && is_absent (name_state r.kind tree (log_name path))) e ∙ sym (ap (λ b. b && is_absent (name_state r.kind old (log_name path))) e)
 
       go : (b : Bool) → is_lock_file path ≡ b → file_at now path ≡ file_at was path
       go true e =
-          recovery_keeps r.kind tree path ∙ gone (λ text. cond (is_log_place path) (whole_lines text) text) (file_at tree path) (is_lock_file path) (is_log_place path && is_absent (reading r.kind tree (log_name path))) e
-          ∙ sym (recovery_keeps r.kind old path ∙ gone (λ text. cond (is_log_place path) (whole_lines text) text) (file_at old path) (is_lock_file path) (is_log_place path && is_absent (reading r.kind old (log_name path))) e)
+          recovery_keeps r.kind tree path ∙ gone (λ text. cond (is_log_place path) (whole_lines text) text) (file_at tree path) (is_lock_file path) (is_log_place path && is_absent (name_state r.kind tree (log_name path))) e
+          ∙ sym (recovery_keeps r.kind old path ∙ gone (λ text. cond (is_log_place path) (whole_lines text) text) (file_at old path) (is_lock_file path) (is_log_place path && is_absent (name_state r.kind old (log_name path))) e)
       go false e =
           recovery_keeps r.kind tree path
           ∙ (λ i. cond (is_some (may.others path apart not_log e i) && (is_lock_file path || absent_same i)) None (option_map (λ text. cond (is_log_place path) (whole_lines text) text) (may.others path apart not_log e i)))
@@ -194,22 +194,22 @@ module _ (r : Repository) (name : Bytes) (id : Id) (actor : Actor) (message : By
       go false false (Some folder) e = refl
 
   -- where the name doesn't read as absent its log stays, cut to whole lines
-  log_now : is_absent (reading r.kind tree name) ≡ false → (o : Option Bytes) → file_at tree log ≡ o → file_at now log ≡ option_map whole_lines o
+  log_now : is_absent (name_state r.kind tree name) ≡ false → (o : Option Bytes) → file_at tree log ≡ o → file_at now log ≡ option_map whole_lines o
   log_now held o e =
-      recovery_keeps r.kind tree log ∙ stays whole_lines (file_at tree log) (is_lock_file log) (is_absent (reading r.kind tree name)) (log-lock name is_one) held ∙ ap (option_map whole_lines) e
+      recovery_keeps r.kind tree log ∙ stays whole_lines (file_at tree log) (is_lock_file log) (is_absent (name_state r.kind tree name)) (log-lock name is_one) held ∙ ap (option_map whole_lines) e
 
-  log_gone : is_absent (reading r.kind tree name) ≡ true → file_at now log ≡ None
-  log_gone absent = recovery_keeps r.kind tree log ∙ gone_too whole_lines (file_at tree log) (is_lock_file log) (is_absent (reading r.kind tree name)) absent
+  log_gone : is_absent (name_state r.kind tree name) ≡ true → file_at now log ≡ None
+  log_gone absent = recovery_keeps r.kind tree log ∙ gone_too whole_lines (file_at tree log) (is_lock_file log) (is_absent (name_state r.kind tree name)) absent
 
   grown_whole : (more : Bytes) → whole_lines (bytes_at old log ++ more) ≡ log_text (moves_at r name) ++ whole_lines more
   grown_whole more = ap (λ t. whole_lines (t ++ more)) (s.logs name) ∙ lines_then (reverse (moves_at r name)) more
 
   -- ---- the name has moved
   module _ (here : file_at tree name ≡ Some (line (hex id))) (full : entry.before ≢ id → file_at tree log ≡ Some (bytes_at old log ++ log_line entry)) where
-    reads_here : reading r.kind tree name ≡ Holds id
+    reads_here : name_state r.kind tree name ≡ Holds id
     reads_here = ap (λ b. read_so r.kind name b (file_at tree name) (file_at tree packed_place)) is_one ∙ ap (λ o. read_so r.kind name true o (file_at tree packed_place)) here ∙ id_reads r.kind id formed
 
-    held_here : is_absent (reading r.kind tree name) ≡ false
+    held_here : is_absent (name_state r.kind tree name) ≡ false
     held_here = ap is_absent reads_here
 
     unmoved : entry.before ≡ id → file_at now log ≡ file_at was log
@@ -244,9 +244,9 @@ module _ (r : Repository) (name : Bytes) (id : Id) (actor : Actor) (message : By
 
   -- ---- the name is as before
   module _ (as_before : file_at tree name ≡ file_at old name) where
-    all_reads : (q : Bytes) → reading r.kind tree q ≡ reading r.kind old q
+    all_reads : (q : Bytes) → name_state r.kind tree q ≡ name_state r.kind old q
     all_reads q = elim (either (bytes_eq q name)) [
-      | inl e ↦ let one = one_text q name e in reading_same q (λ named. ap (file_at tree) one ∙ as_before ∙ ap (file_at old) (sym one))
+      | inl e ↦ let one = one_text q name e in state_same q (λ named. ap (file_at tree) one ∙ as_before ∙ ap (file_at old) (sym one))
       | inr e ↦ other_reads q (λ one. absurd (cc (sym e ∙ ap (λ t. bytes_eq t name) one ∙ text_itself name)))
     ]
 
@@ -259,7 +259,7 @@ module _ (r : Repository) (name : Bytes) (id : Id) (actor : Actor) (message : By
       abbrev x : Repository
       x = record r { names = names }
 
-      reads_so : (q : Bytes) → reading r.kind now q ≡ reading r.kind was q
+      reads_so : (q : Bytes) → name_state r.kind now q ≡ name_state r.kind was q
       reads_so q = recovery_reads r.kind tree q ∙ all_reads q ∙ sym (recovery_reads r.kind old q)
 
       logs_told : (q : Bytes) → unwrap_or (file_at now (log_place q)) [] ≡ log_text (moves_at x q)
@@ -320,7 +320,7 @@ module _ (r : Repository) (name : Bytes) (id : Id) (actor : Actor) (message : By
       abbrev i : Id
       i = (holds pair r s name stands_there).0
 
-      reads_old : reading r.kind old name ≡ Holds i
+      reads_old : name_state r.kind old name ≡ Holds i
       reads_old = (holds pair r s name stands_there).1
 
       id_there : id_at r name ≡ Some i
@@ -398,7 +398,7 @@ module _ (r : Repository) (name : Bytes) (id : Id) (actor : Actor) (message : By
           only false true c d e f g h = cc
           only true b c d e f g h = cc
 
-      reads_absent : reading r.kind tree name ≡ Absent
+      reads_absent : name_state r.kind tree name ≡ Absent
       reads_absent = all_reads name ∙ ap (λ b. read_so r.kind name b (file_at old name) (file_at old packed_place)) is_one
           ∙ (λ i. read_so r.kind name true (no_file (file_at old name) refl i) (none i))
 

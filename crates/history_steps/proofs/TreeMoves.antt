@@ -18,7 +18,7 @@ use Rattle.history_model.specs.Meaning.{moved_reference, with_name}
 use Rattle.history_model.specs.Logs.{log_line, log_text}
 use Rattle.history_model.specs.PackedNames.{id_from_hex, line_text}
 use Rattle.history_model.specs.Places.{file_at, head_place, packed_place, log_place, is_log_place, is_name_place}
-use Rattle.history_model.specs.Readings.{Reading, Holds, Symbolic, Absent, Faulty, reading, loose_reading, loose_line, packed_text_reading}
+use Rattle.history_model.specs.NameStates.{NameState, Holds, Symbolic, Absent, Faulty, name_state, loose_state, loose_line, packed_text_state}
 use Rattle.history_steps.specs.TreeHalves.{HoldsNames}
 use Rattle.history_steps.specs.TreeSteps.{MovesName, MovesMove, move_entry}
 use Rattle.gix_hash_id.specs.declared.kind.Kind.{Kind}
@@ -58,7 +58,7 @@ line_read text = ap (λ b. cond b (Some (take (length (line text) - 1) (line tex
     ends_so : ends (10 ∷ []) (line text) ≡ true
     ends_so = ap (λ n. bytes_eq (10 ∷ []) (drop n (line text))) shorter ∙ ap (bytes_eq (10 ∷ [])) (drop-append_seam text (10 ∷ []))
 
-pub id_reads : (kind : Kind) (id : Id) → is_id kind id ≡ true → loose_reading kind (line (hex id)) ≡ Holds id
+pub id_reads : (kind : Kind) (id : Id) → is_id kind id ≡ true → loose_state kind (line (hex id)) ≡ Holds id
 id_reads kind id h =
     ap (λ o. unwrap_or (option_map (loose_line kind) o) Faulty) (line_read (hex id))
     ∙ no_symbol (begins (codes "ref: ") (hex id)) _ (no_ref id.digits (id_digits kind id h))
@@ -69,13 +69,13 @@ id_reads kind id h =
     no_symbol false b e = refl
 
 -- where no names are packed
-loose : Kind → Bytes → Option Bytes → Reading
-loose kind name found = cond (is_name name) (unwrap_or (option_map (loose_reading kind) found) Absent) Absent
+loose : Kind → Bytes → Option Bytes → NameState
+loose kind name found = cond (is_name name) (unwrap_or (option_map (loose_state kind) found) Absent) Absent
 
-reading_loose : (kind : Kind) (tree : Tree) (name : Bytes) → file_at tree packed_place ≡ None → reading kind tree name ≡ loose kind name (file_at tree name)
+state_loose : (kind : Kind) (tree : Tree) (name : Bytes) → file_at tree packed_place ≡ None → name_state kind tree name ≡ loose kind name (file_at tree name)
 unfolding loose
-reading_loose kind tree name none =
-    ap (λ found. cond (is_name name) (unwrap_or (option_map (loose_reading kind) (file_at tree name)) (unwrap_or (option_map (packed_text_reading kind name) found) Absent)) Absent) none
+state_loose kind tree name none =
+    ap (λ found. cond (is_name name) (unwrap_or (option_map (loose_state kind) (file_at tree name)) (unwrap_or (option_map (packed_text_state kind name) found) Absent)) Absent) none
 
 -- ---- places
 
@@ -142,20 +142,20 @@ module _ (r : Repository) (name : Bytes) (id : Id) (actor : Actor) (message : By
     still_none : file_at new packed_place ≡ None
     still_none = m.others packed_place (packed_apart name is_one) (packed_no_log name) ∙ none
 
-    reads_here : reading r.kind new name ≡ Holds id
+    reads_here : name_state r.kind new name ≡ Holds id
     unfolding loose
-    reads_here = reading_loose r.kind new name still_none ∙ ap (λ b. cond b (unwrap_or (option_map (loose_reading r.kind) (file_at new name)) Absent) Absent) is_one
-        ∙ ap (λ o. unwrap_or (option_map (loose_reading r.kind) o) Absent) m.here ∙ id_reads r.kind id formed
+    reads_here = state_loose r.kind new name still_none ∙ ap (λ b. cond b (unwrap_or (option_map (loose_state r.kind) (file_at new name)) Absent) Absent) is_one
+        ∙ ap (λ o. unwrap_or (option_map (loose_state r.kind) o) Absent) m.here ∙ id_reads r.kind id formed
 
-    reads_there : (q : Bytes) → q ≢ name → reading r.kind new q ≡ reading r.kind old q
+    reads_there : (q : Bytes) → q ≢ name → name_state r.kind new q ≡ name_state r.kind old q
     unfolding loose
-    reads_there q differ = reading_loose r.kind new q still_none ∙ go (is_name q) refl ∙ sym (reading_loose r.kind old q none)
+    reads_there q differ = state_loose r.kind new q still_none ∙ go (is_name q) refl ∙ sym (state_loose r.kind old q none)
       where
-        go : (b : Bool) → is_name q ≡ b → cond (is_name q) (unwrap_or (option_map (loose_reading r.kind) (file_at new q)) Absent) Absent
-            ≡ cond (is_name q) (unwrap_or (option_map (loose_reading r.kind) (file_at old q)) Absent) Absent
-        go false e = ap (λ b. cond b (unwrap_or (option_map (loose_reading r.kind) (file_at new q)) Absent) Absent) e
-            ∙ sym (ap (λ b. cond b (unwrap_or (option_map (loose_reading r.kind) (file_at old q)) Absent) Absent) e)
-        go true e = ap (λ o. cond (is_name q) (unwrap_or (option_map (loose_reading r.kind) o) Absent) Absent) (m.others q differ (λ same. log_no_name q name e (sym same)))
+        go : (b : Bool) → is_name q ≡ b → cond (is_name q) (unwrap_or (option_map (loose_state r.kind) (file_at new q)) Absent) Absent
+            ≡ cond (is_name q) (unwrap_or (option_map (loose_state r.kind) (file_at old q)) Absent) Absent
+        go false e = ap (λ b. cond b (unwrap_or (option_map (loose_state r.kind) (file_at new q)) Absent) Absent) e
+            ∙ sym (ap (λ b. cond b (unwrap_or (option_map (loose_state r.kind) (file_at old q)) Absent) Absent) e)
+        go true e = ap (λ o. cond (is_name q) (unwrap_or (option_map (loose_state r.kind) o) Absent) Absent) (m.others q differ (λ same. log_no_name q name e (sym same)))
 
     holds_same : {a b : Id} → Holds a ≡ Holds b → a ≡ b
     holds_same e = cc
@@ -163,16 +163,16 @@ module _ (r : Repository) (name : Bytes) (id : Id) (actor : Actor) (message : By
     some_same : {a b : Id} → Some a ≡ Some b → a ≡ b
     some_same e = cc
 
-    names_told : (q : Bytes) (x : Id) → (reading r.kind new q ≡ Holds x → id_at moved q ≡ Some x) × (id_at moved q ≡ Some x → reading r.kind new q ≡ Holds x)
+    names_told : (q : Bytes) (x : Id) → (name_state r.kind new q ≡ Holds x → id_at moved q ≡ Some x) × (id_at moved q ≡ Some x → name_state r.kind new q ≡ Holds x)
     names_told q x = go (bytes_eq q name) refl
       where
-        go : (b : Bool) → bytes_eq q name ≡ b → (reading r.kind new q ≡ Holds x → id_at moved q ≡ Some x) × (id_at moved q ≡ Some x → reading r.kind new q ≡ Holds x)
+        go : (b : Bool) → bytes_eq q name ≡ b → (name_state r.kind new q ≡ Holds x → id_at moved q ≡ Some x) × (id_at moved q ≡ Some x → name_state r.kind new q ≡ Holds x)
         go true e =
-            let here : reading r.kind new q ≡ Holds id = ap (reading r.kind new) (one_text q name e) ∙ reads_here in
+            let here : name_state r.kind new q ≡ Holds id = ap (name_state r.kind new) (one_text q name e) ∙ reads_here in
             let at : id_at moved q ≡ Some id = id_moved q ∙ ap (λ b. cond b (Some id) (id_at r q)) e in
             (λ k. at ∙ ap Some (holds_same (sym here ∙ k)), λ k. here ∙ ap Holds (some_same (sym at ∙ k)))
         go false e =
-            let there : reading r.kind new q ≡ reading r.kind old q = reads_there q (λ same. absurd (cc (sym e ∙ ap (λ t. bytes_eq t name) same ∙ text_itself name))) in
+            let there : name_state r.kind new q ≡ name_state r.kind old q = reads_there q (λ same. absurd (cc (sym e ∙ ap (λ t. bytes_eq t name) same ∙ text_itself name))) in
             let at : id_at moved q ≡ id_at r q = id_moved q ∙ ap (λ b. cond b (Some id) (id_at r q)) e in
             (λ k. at ∙ (h.names q x).0 (sym there ∙ k), λ k. there ∙ (h.names q x).1 (sym at ∙ k))
 

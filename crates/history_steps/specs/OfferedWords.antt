@@ -6,13 +6,13 @@ use Rattle.history_model.specs.Bytes.{Bytes}
 use Rattle.history_model.specs.Objects.{CommitValue, StoredCommit}
 use Rattle.gix_hash_id.specs.Id.{Id}
 use Rattle.history_model.specs.Repository.{Repository, IsWholeStore, HasWholeNames, HoldsCommit, id_at}
-use Rattle.history_model.specs.Words.{WordReading, ReadsAs, Unborn, Unknown, Ambiguous, word_reading, commit_of}
+use Rattle.history_model.specs.Words.{WordMeaning, ReadsAs, Unborn, Unknown, Ambiguous, word_meaning, commit_of}
 use Rattle.history_model.specs.Commands.{CommitCommand}
 use Rattle.history_model.specs.Meaning.{name_commit, parents_of}
 use Rattle.history_steps.specs.Offered.{IsOffered}
 
 -- the id that a word reads as
-abbrev pub read_id : WordReading → Option Id
+abbrev pub read_id : WordMeaning → Option Id
 read_id (ReadsAs id) = Some id
 read_id Unborn = None
 read_id Unknown = None
@@ -21,12 +21,12 @@ read_id Ambiguous = None
 -- A word that reads as an id reads as one that a name holds: short ids aren't read.
 abbrev pub WordsReadNames : Type 0
 WordsReadNames =
-    (r : Repository) (word : Bytes) (id : Id) → word_reading r word ≡ ReadsAs id
+    (r : Repository) (word : Bytes) (id : Id) → word_meaning r word ≡ ReadsAs id
     → (name : Bytes) × (id_at r name ≡ Some id)
 
 -- So none is ambiguous.
 abbrev pub NoneIsAmbiguous : Type 0
-NoneIsAmbiguous = (r : Repository) (word : Bytes) → word_reading r word ≢ Ambiguous
+NoneIsAmbiguous = (r : Repository) (word : Bytes) → word_meaning r word ≢ Ambiguous
 
 -- Each name holds a stored commit, since no tag is stored.
 abbrev pub NamesHoldCommits : Type 0
@@ -45,7 +45,7 @@ NamesStandForTheirs =
 abbrev pub WordsStandForTheirs : Type 0
 WordsStandForTheirs =
     (r : Repository) (word : Bytes) → IsOffered r → HasWholeNames r
-    → commit_of r word ≡ read_id (word_reading r word)
+    → commit_of r word ≡ read_id (word_meaning r word)
 
 -- Each parent of a commit is a stored commit.
 abbrev pub ParentsAreCommits : Type 0

@@ -8,7 +8,7 @@ use Rattle.history_model.specs.FileMap.{FileMap, folders_of, is_below}
 use Rattle.history_model.specs.Objects.{Value, StoredCommit, StoredFolder, hex, value_text, id_of}
 use Rattle.history_model.specs.Repository.{Repository, LogEntry, IsWholeStore, id_at, moves_at, stands, Values, HaveOwnIds}
 use Rattle.gix_hash_id.specs.Id.{Id}
-use Rattle.history_model.specs.Readings.{Reading, Holds, Absent, is_absent, reading}
+use Rattle.history_model.specs.NameStates.{NameState, Holds, Absent, is_absent, name_state}
 use Rattle.history_model.specs.PackedNames.{packed_file, PackedAgrees}
 use Rattle.history_model.specs.Forms.{is_name, title}
 use Rattle.history_model.specs.Commands.{Command, CommitCommand, Commit, Rename}
@@ -214,7 +214,7 @@ FirstAreSome =
 -- ---- several names
 
 -- what a name that holds this id reads as, or one that doesn't stand
-abbrev pub reads_as : Option Id → Reading
+abbrev pub reads_as : Option Id → NameState
 reads_as (Some id) = Holds id
 reads_as None = Absent
 
@@ -225,32 +225,32 @@ log_in tree name = whole_lines (unwrap_or (file_at tree (log_place name)) [])
 -- the old name of a rename or the new one reads as the id
 abbrev pub ReadsKept : Repository → Command → Tree → Type 0
 ReadsKept old (Rename from to) tree =
-    (reading old.kind tree from ≡ reads_as (id_at old from))
-    ⊎ (reading old.kind tree to ≡ reads_as (id_at old from))
+    (name_state old.kind tree from ≡ reads_as (id_at old from))
+    ⊎ (name_state old.kind tree to ≡ reads_as (id_at old from))
 ReadsKept old _ tree = Unit {0}
 
--- What the files of the names say on the way of a command, by readings: each name is as before or as after, and of one that
+-- What the files of the names say on the way of a command, by their states: each name is as before or as after, and of one that
 -- stands the log too; besides stand logs and lock files alone. Of a name that reads as absent the log may be anything.
 pub record NamesOnTheWay (old : Repository) (command : Command) (tree : Tree) : Type 0 where
   pub head : (file_at tree head_place ≡ Some (head_text old.branch))
       ⊎ (file_at tree head_place ≡ Some (head_text (after old command).branch))
   pub reads : (name : Bytes)
-      → (reading old.kind tree name ≡ reads_as (id_at old name))
-      ⊎ (reading old.kind tree name ≡ reads_as (id_at (after old command) name))
-  pub logs : (name : Bytes) → IsFalse (is_absent (reading old.kind tree name))
+      → (name_state old.kind tree name ≡ reads_as (id_at old name))
+      ⊎ (name_state old.kind tree name ≡ reads_as (id_at (after old command) name))
+  pub logs : (name : Bytes) → IsFalse (is_absent (name_state old.kind tree name))
       → (log_in tree name ≡ log_text (moves_at old name))
       ⊎ (log_in tree name ≡ log_text (moves_at (after old command) name))
       ⊎ (IsTrue (deletes command name) × (log_in tree name ≡ []))
   -- where a name that stands has moved, its log says so
-  pub log_first : (name : Bytes) → IsFalse (is_absent (reading old.kind tree name))
-      → (reading old.kind tree name ≡ reads_as (id_at old name))
+  pub log_first : (name : Bytes) → IsFalse (is_absent (name_state old.kind tree name))
+      → (name_state old.kind tree name ≡ reads_as (id_at old name))
       ⊎ (log_in tree name ≡ log_text (moves_at (after old command) name))
   pub packed : (text : Bytes) → file_at tree packed_place ≡ Some text
       → MatchOption (packed_file old.kind text) ⊥ (PackedAgrees (after old command))
   pub places : (path text : Bytes) → file_at tree path ≡ Some text
       → IsTrue
       (bytes_eq path head_place || bytes_eq path packed_place || is_lock_file path
-      || is_log_place path || not (is_absent (reading old.kind tree path)))
+      || is_log_place path || not (is_absent (name_state old.kind tree path)))
   pub folders : (path : Bytes) → get tree path ≡ Some folder → IsTrue (is_name_folder path)
   pub not_lost : ReadsKept old command tree
 

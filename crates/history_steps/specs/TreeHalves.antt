@@ -10,7 +10,7 @@ use Rattle.history_model.specs.Forms.{is_id}
 use Rattle.history_model.specs.Places.{Pair, file_at, object_place, is_object_folder, head_place, packed_place, log_place, is_name_place, is_name_folder}
 use Rattle.history_model.specs.PackedNames.{packed_file, PackedAgrees}
 use Rattle.history_model.specs.Logs.{log_text}
-use Rattle.history_model.specs.Readings.{Holds, reading}
+use Rattle.history_model.specs.NameStates.{Holds, name_state}
 use Rattle.history_model.specs.StandsFor.{StandsFor, value_files, head_text}
 use Rattle.gix_hash_id.specs.declared.kind.Kind.{Kind}
 
@@ -23,7 +23,7 @@ pub record HoldsValues (kind : Kind) (tree : Tree) (values : Values) : Type 0 wh
 pub record HoldsNames (tree : Tree) (r : Repository) : Type 0 where
   pub head : file_at tree head_place ≡ Some (head_text r.branch)
   pub names : (name : Bytes) (id : Id)
-      → (reading r.kind tree name ≡ Holds id) ↔ (id_at r name ≡ Some id)
+      → (name_state r.kind tree name ≡ Holds id) ↔ (id_at r name ≡ Some id)
   pub logs : (name : Bytes)
       → unwrap_or (file_at tree (log_place name)) [] ≡ log_text (moves_at r name)
   pub packed : (text : Bytes) → file_at tree packed_place ≡ Some text

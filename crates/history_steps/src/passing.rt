@@ -48,7 +48,7 @@ pub fn first_are_some()
     ensures { FirstAreSome }
 {}
 
-/// While names move, each reading as before the command or as after it, recovery leaves each name and HEAD as before or after.
+/// While names move, each name's state as before the command or as after it, recovery leaves each name and HEAD as before or after.
 pub fn names_pass()
     ensures { NamesPass }
 {}

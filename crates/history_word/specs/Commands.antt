@@ -15,8 +15,8 @@ use Rattle.history_word.specs.declared.command.ActorLine.{ActorLine}
 use Rattle.history_word.specs.declared.command.CommitCommand.{CommitCommand}
 use Rattle.history_word.specs.declared.command.Command.{Command}
 use Rattle.history_word.specs.declared.command.Command.TheVariants as command
-use Rattle.history_word.specs.declared.reader.Reading.{Reading}
-use Rattle.history_word.specs.declared.reader.Reading.TheVariants as reading
+use Rattle.history_word.specs.declared.reader.Received.{Received}
+use Rattle.history_word.specs.declared.reader.Received.TheVariants as received
 
 abbrev pub IsExpect : Expect → model.Expect → Type 0
 IsExpect Any model.Any = ⊤
@@ -63,6 +63,6 @@ StandsFor (command.Show show) (model.Show word path) =
 StandsFor _ _ = ⊥
 
 -- a command was read, or read past for want of memory
-abbrev pub IsReading : Reading → model.Command → Type 0
-IsReading (reading.Command command) order = StandsFor command order
-IsReading (reading.NoMemory changing) order = changing ≡ is_changing order
+abbrev pub IsReceived : Received → model.Command → Type 0
+IsReceived (received.Command command) order = StandsFor command order
+IsReceived (received.NoMemory changing) order = changing ≡ is_changing order

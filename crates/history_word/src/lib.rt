@@ -16,6 +16,6 @@ mod words;
 pub use buffer::Buffer;
 pub use command::{ActorLine, Command, CommitCommand, Edit, Expect, Field, Put, Show};
 pub use memory::{Bytes, Collected};
-pub use reader::{Reading, Stop, read_command};
+pub use reader::{Received, Stop, read_command};
 pub use stream::Stream;
 pub use streams::{Broken, Sink, Source, write_all};

@@ -10,7 +10,7 @@ ghost use Rattle.history_word.specs.TableRuns.{StopsAt};
 ghost use Rattle.history_word.specs.Held.{IsLineOf};
 ghost use Rattle.history_word.specs.Buffer.{unread};
 ghost use Rattle.history_word.specs.Fields.{KeepsFront, Keeps};
-ghost use Rattle.history_word.specs.Commands.{IsReading};
+ghost use Rattle.history_word.specs.Commands.{IsReceived};
 ghost use Rattle.history_word.specs.Drafts.{place_of, edit_sizes, TakesLine, TakesEdit, TakesParts};
 ghost use Rattle.history_word.specs.Progress.{IsEndless, IsNoField, StopsFrom, IsCauseOf};
 ghost use Rattle.history_word.specs.Reading.{Reads};
@@ -46,7 +46,7 @@ impl From<Broken> for Stop {
 
 /// A whole command that was read.
 #[derive(Debug, Drop)]
-pub enum Reading {
+pub enum Received {
     Command(Command),
     /// Some part of it found no memory; it was read past all the same.
     NoMemory { is_changing: bool },
@@ -231,9 +231,9 @@ pub fn read_command<R: Source>(
     alloc: Global,
     buffer: &mut Buffer,
     source: &mut R,
-) -> Result<Reading, Stop>
+) -> Result<Received, Stop>
     ensures { Reads R.left R.has_failed R.readings source.old buffer.old source.new buffer.new
-        (λ reading taken. (order : model.Command) × Spells taken order × IsReading reading order
+        (λ received taken. (order : model.Command) × Spells taken order × IsReceived received order
         × AsksForMore source.old buffer.old source.new taken) IsCauseOf result }
 {
     let mut draft = Draft::Empty;
@@ -243,7 +243,7 @@ pub fn read_command<R: Source>(
     }
     let is_changing = draft.is_changing();
     match draft.finish() {
-        Some(command) => Ok(Reading::Command(command)),
-        None => Ok(Reading::NoMemory { is_changing }),
+        Some(command) => Ok(Received::Command(command)),
+        None => Ok(Received::NoMemory { is_changing }),
     }
 }

@@ -1,7 +1,7 @@
 //! Following symbolic references.
 
 ghost use Rattle.std.specs.Prelude.{◌≡◌, IfErr, MatchResult, unwrap_or};
-ghost use Rattle.gix_ref_store.specs.Finds.{reading_of, OnExisting};
+ghost use Rattle.gix_ref_store.specs.Finds.{state_of, OnExisting};
 ghost use Rattle.gix_ref_store.specs.Finds as finds;
 ghost use Rattle.gix_ref_store.specs.Follows.{EndsBy, FollowFault, TellsExisting, IsGiven, CantOpen, MayTell, follow, follow_from};
 ghost use Rattle.gix_ref_store.specs.Lookups.{reads_now};
@@ -132,7 +132,7 @@ fn end_of<F: Files>(
 ) -> Result<(ObjectId, Option<Reference>), Error>
     ensures followed { F.is_honest search.now.store.now.files
         → let read = reads_in (F.history search.now.store.now.files).tree search.now in
-        let end = follow read left seen.items from.now.name (reading_of from.now) in
+        let end = follow read left seen.items from.now.name (state_of from.now) in
         MatchResult result (λ found. EndsBy (unwrap_or found.1 from.now) found.0 end)
         (FollowFault IsGiven end) }
     ensures failed { IfErr result (MayTell F.reading_may_fail) }

@@ -22,8 +22,8 @@ returns-in-Some-clause-refused g c =
     let nodes : List Node = c.walk.new.self.nodes.items in
     let (high, full, walking) = c.in_ok-walk.ensures.walking in
     let w : Walking honest may_fail rows table All c.args.ends.now [] [] high keys nodes = subst (λ (ks : List ObjectId). Walking honest may_fail rows table All c.args.ends.now ks [] high keys nodes) c.new-known.ensures.ids (subst (λ (ns : List Node). Walking honest may_fail rows table All c.args.ends.now c.new-known.result.ids.keys ns high keys nodes) c.new-known.ensures.nodes walking) in
-    let (n, reading, a, e) = c.in-Some.ensures.fault in
-    inr (stops honest may_fail rows table c.args.ends.now keys nodes high w full n reading c.in-Some.error a e)
+    let (n, facts, a, e) = c.in-Some.ensures.fault in
+    inr (stops honest may_fail rows table c.args.ends.now keys nodes high w full n facts c.in-Some.error a e)
 
 pub returns-in-None-clause-painted : goal.returns-in-None-clause-painted
 returns-in-None-clause-painted g c =

@@ -1,5 +1,5 @@
 use Rattle.std.proofs.Common.{◌≡◌, ◌+◌, ◌≤◌, length, drop, arith}
-use Rattle.gix_traverse_topo.specs.Nodes.{readings, counts}
+use Rattle.gix_traverse_topo.specs.Nodes.{all_facts, counts}
 use Rattle.gix_traverse_topo.specs.Turns.{total}
 use Rattle.gix_traverse_topo.specs.Waiting.{waiting}
 use Rattle.gix_traverse_topo.proofs.Updates.{off_freed, off_counted, off_falls, joined_length}
@@ -8,8 +8,8 @@ use Rattle.gix_traverse_topo.proofs.iter.count_off.Goals as goal
 pub returns-in_ok-push-clause-counted : goal.returns-in_ok-push-clause-counted
 returns-in_ok-push-clause-counted c =
     let (count, at, set_is, last) = c.in_ok-take_name.ensures.taken in
-    off_freed c.args.known.now.hidden c.args.known.now.ids.keys (readings c.args.known.now.nodes.items) (readings c.take_name.new.nodes.items) (counts c.args.known.now.nodes.items) (counts c.take_name.new.nodes.items) c.args.ready.now c.push.new.self c.args.id.now c.in-Some.number count c.in_ok-take_name.field-0 c.pending.result c.in_ok-pending.pending
-    c.if-branch.true c.in-Some.ensures.found.0 c.in-Some.ensures.found.1 at set_is last c.in_ok-take_name.ensures.readings c.in_ok-pending.ensures.ok_part c.pending.ensures.pending c.in_ok-push.ensures
+    off_freed c.args.known.now.hidden c.args.known.now.ids.keys (all_facts c.args.known.now.nodes.items) (all_facts c.take_name.new.nodes.items) (counts c.args.known.now.nodes.items) (counts c.take_name.new.nodes.items) c.args.ready.now c.push.new.self c.args.id.now c.in-Some.number count c.in_ok-take_name.field-0 c.pending.result c.in_ok-pending.pending
+    c.if-branch.true c.in-Some.ensures.found.0 c.in-Some.ensures.found.1 at set_is last c.in_ok-take_name.ensures.all_facts c.in_ok-pending.ensures.ok_part c.pending.ensures.pending c.in_ok-push.ensures
 
 pub returns-in_ok-push-clause-falls : goal.returns-in_ok-push-clause-falls
 returns-in_ok-push-clause-falls c =
@@ -22,7 +22,7 @@ returns-in_ok-push-clause-falls c =
 pub returns-else-branch-clause-counted : goal.returns-else-branch-clause-counted
 returns-else-branch-clause-counted c =
     let (count, at, set_is, last) = c.in_ok-take_name.ensures.taken in
-    off_counted c.args.known.now.hidden c.args.known.now.ids.keys (readings c.args.known.now.nodes.items) (counts c.args.known.now.nodes.items) (counts c.take_name.new.nodes.items) c.args.ready.now c.args.id.now c.in-Some.number count c.in_ok-take_name.field-0
+    off_counted c.args.known.now.hidden c.args.known.now.ids.keys (all_facts c.args.known.now.nodes.items) (counts c.args.known.now.nodes.items) (counts c.take_name.new.nodes.items) c.args.ready.now c.args.id.now c.in-Some.number count c.in_ok-take_name.field-0
     c.if-branch.false c.in-Some.ensures.found.0 c.in-Some.ensures.found.1 at set_is last
 
 pub returns-else-branch-clause-falls : goal.returns-else-branch-clause-falls

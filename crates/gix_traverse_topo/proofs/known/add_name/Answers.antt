@@ -1,10 +1,10 @@
 use Rattle.std.proofs.Common.{◌+◌, ◌^◌, ◌<◌, ◌∙◌, ap, set}
 use Rattle.gix_traverse_topo.specs.Nodes.{counts}
-use Rattle.gix_traverse_topo.proofs.Updates.{set_readings, set_counts, count_at, got, some_value}
+use Rattle.gix_traverse_topo.proofs.Updates.{set_facts, set_counts, count_at, got, some_value}
 use Rattle.gix_traverse_topo.proofs.known.add_name.Goals as goal
 
-pub returns-clause-readings : goal.returns-clause-readings
-returns-clause-readings c = set_readings c.args.nodes.now.items c.args.number.0 c.in_ok-nodes.field-0 c.index_mut.result.now c.index_mut.ensures.value
+pub returns-clause-all_facts : goal.returns-clause-all_facts
+returns-clause-all_facts c = set_facts c.args.nodes.now.items c.args.number.0 c.in_ok-nodes.field-0 c.index_mut.result.now c.index_mut.ensures.value
 
 pub returns-clause-added : goal.returns-clause-added
 returns-clause-added c =
@@ -12,5 +12,5 @@ returns-clause-added c =
     let more = some_value c.checked_add.result c.in_ok-nodes.field-0 (c.in_ok-names.field-0.now.names + 1) (c.in_ok-names.field-0.now.names + 1 < 2 ^ 64) c.in_ok-nodes.ensures.ok_part c.checked_add.ensures in (
       c.in_ok-names.field-0.now.names,
       count_at c.args.nodes.now.items c.args.number.0 c.in_ok-names.field-0.now found.0 found.1,
-      set_counts c.args.nodes.now.items c.args.number.0 c.in_ok-nodes.field-0 c.index_mut.result.now.reading ∙ ap (set (counts c.args.nodes.now.items) c.args.number.0) more.1,
+      set_counts c.args.nodes.now.items c.args.number.0 c.in_ok-nodes.field-0 c.index_mut.result.now.facts ∙ ap (set (counts c.args.nodes.now.items) c.args.number.0) more.1,
     )

@@ -1,11 +1,11 @@
 use Rattle.std.proofs.Common.{◌≡◌, ℕ, ◌+◌, ◌-◌, ◌≤◌, refl, subst, arith}
 use Rattle.gix_traverse_commit.specs.Order.{At}
 use Rattle.gix_traverse_topo.specs.Nodes.{counts}
-use Rattle.gix_traverse_topo.proofs.Updates.{set_readings, set_counts, count_at, got, some_value}
+use Rattle.gix_traverse_topo.proofs.Updates.{set_facts, set_counts, count_at, got, some_value}
 use Rattle.gix_traverse_topo.proofs.known.take_name.Goals as goal
 
-pub returns-clause-readings : goal.returns-clause-readings
-returns-clause-readings c = set_readings c.args.nodes.now.items c.args.number.0 c.in_ok-left.left c.index_mut.result.now c.index_mut.ensures.value
+pub returns-clause-all_facts : goal.returns-clause-all_facts
+returns-clause-all_facts c = set_facts c.args.nodes.now.items c.args.number.0 c.in_ok-left.left c.index_mut.result.now c.index_mut.ensures.value
 
 pub returns-clause-taken : goal.returns-clause-taken
 returns-clause-taken c =
@@ -15,6 +15,6 @@ returns-clause-taken c =
     let same : c.in_ok-names.field-0.now.names ≡ c.in_ok-left.left + 1 = omega (arith, less.0, less.1) in (
       c.in_ok-left.left,
       subst (λ (k : ℕ). At (counts c.args.nodes.now.items) c.args.number.0 k) same at,
-      set_counts c.args.nodes.now.items c.args.number.0 c.in_ok-left.left c.index_mut.result.now.reading,
+      set_counts c.args.nodes.now.items c.args.number.0 c.in_ok-left.left c.index_mut.result.now.facts,
       refl,
     )

@@ -2,11 +2,11 @@ use Rattle.std.proofs.Common.{◌∙◌, sym, rules, tests}
 use Rattle.std.proofs.lemmas.Iterator.{YieldsList-from_slice}
 use Rattle.std.proofs.lemmas.Iterator.Search.{any_from_yields_List}
 use Rattle.history_model.specs.Causes.{is_unborn}
-use Rattle.history.specs.Readings.{reading_of}
+use Rattle.history.specs.Meanings.{meaning_of}
 use Rattle.history.proofs.BaseLemmas.{any_map}
 use Rattle.history.proofs.base.have_unborn.Goals as goal
 
 pub returns : goal.returns
 returns c =
-    any_from_yields_List (λ reading. is_unborn (reading_of reading)) _ _ c.any.result c.any.ensures.ran (YieldsList-from_slice c.args.readings.now cc) (λ x b q k. search (rules, tests))
-    ∙ sym (any_map is_unborn reading_of c.args.readings.now)
+    any_from_yields_List (λ meaning. is_unborn (meaning_of meaning)) _ _ c.any.result c.any.ensures.ran (YieldsList-from_slice c.args.meanings.now cc) (λ x b q k. search (rules, tests))
+    ∙ sym (any_map is_unborn meaning_of c.args.meanings.now)

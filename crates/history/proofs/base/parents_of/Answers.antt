@@ -3,7 +3,7 @@ use Rattle.std.specs.List.{filter_map}
 use Rattle.std.proofs.lemmas.Iterator.{YieldsList-from_slice}
 use Rattle.std.proofs.lemmas.Iterator.Adapters.{YieldsList-from_once, fact_from_extend, items_from_extend}
 use Rattle.std.proofs.lemmas.Iterator.Consumers.{YieldsList-from_filter_map}
-use Rattle.history.specs.Readings.{commit_in}
+use Rattle.history.specs.Meanings.{commit_in}
 use Rattle.history.proofs.Extended.{at_ok}
 use Rattle.history.proofs.base.parents_of.Goals as goal
 

@@ -1,4 +1,4 @@
-use Rattle.history_steps.proofs.PassedReadings.{names_pass as lemma}
+use Rattle.history_steps.proofs.PassedStates.{names_pass as lemma}
 use Rattle.history_steps.proofs.passing.names_pass.Goals as goal
 
 pub returns : goal.returns

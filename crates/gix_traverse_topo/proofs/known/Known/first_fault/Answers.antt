@@ -1,31 +1,31 @@
 use Rattle.std.proofs.Common.{◌≡◌, ℕ, inl, inr, List, sym, ◌∙◌, ap, subst, arith}
 use Rattle.std.proofs.lemmas.Option.{slice_get_within}
 use Rattle.gix_traverse_commit.specs.Order.{At}
-use Rattle.gix_traverse_topo.specs.Nodes.{readings}
+use Rattle.gix_traverse_topo.specs.Nodes.{all_facts}
 use Rattle.gix_traverse_topo.specs.declared.known.Node.{Node}
-use Rattle.gix_traverse_topo.specs.declared.known.Reading.{Reading}
+use Rattle.gix_traverse_topo.specs.declared.known.Facts.{Facts}
 use Rattle.gix_traverse_commit.proofs.Lists.{at_one, three}
 use Rattle.gix_traverse_topo.proofs.Meeting.{length_map}
-use Rattle.gix_traverse_topo.proofs.Updates.{reading_at}
+use Rattle.gix_traverse_topo.proofs.Updates.{facts_at}
 use Rattle.gix_traverse_topo.proofs.known.Known.first_fault.Goals as goal
 
 pub nodes-init : goal.nodes-init
-nodes-init c = λ n reading lt a. absurd (omega arith)
+nodes-init c = λ n facts lt a. absurd (omega arith)
 
 pub nodes-preserved : goal.nodes-preserved
-nodes-preserved c = λ n reading lt a. elim (three n c.nodes.node-index) [
-  | inl below ↦ c.nodes.invariant n reading below a
+nodes-preserved c = λ n facts lt a. elim (three n c.nodes.node-index) [
+  | inl below ↦ c.nodes.invariant n facts below a
   | inr (inl e) ↦ (
-      let here : At (readings c.as_slice-node-items.result.now) c.nodes.node-index c.node-item.result.reading = reading_at c.as_slice-node-items.result.now c.nodes.node-index c.node-item.result c.nodes-test.true c.node-item.is in
-      let same : reading ≡ c.node-item.result.reading = at_one (readings c.as_slice-node-items.result.now) c.nodes.node-index reading c.node-item.result.reading (subst (λ (k : ℕ). At (readings c.as_slice-node-items.result.now) k reading) e a) here in
-      ap (λ (r : Reading). r.fault) same ∙ c.in_default.is)
+      let here : At (all_facts c.as_slice-node-items.result.now) c.nodes.node-index c.node-item.result.facts = facts_at c.as_slice-node-items.result.now c.nodes.node-index c.node-item.result c.nodes-test.true c.node-item.is in
+      let same : facts ≡ c.node-item.result.facts = at_one (all_facts c.as_slice-node-items.result.now) c.nodes.node-index facts c.node-item.result.facts (subst (λ (k : ℕ). At (all_facts c.as_slice-node-items.result.now) k facts) e a) here in
+      ap (λ (r : Facts). r.fault) same ∙ c.in_default.is)
   | inr (inr above) ↦ absurd (omega arith)
 ]
 
 pub returns-clause-none : goal.returns-clause-none
-returns-clause-none c = λ n reading a.
-    let a' : At (readings c.as_slice-node-items.result.now) n reading = subst (λ (zs : List Node). At (readings zs) n reading) (sym c.as_slice-node-items.ensures.value) a in
-    let within = slice_get_within (readings c.as_slice-node-items.result.now) n reading a' in
-    let long = length_map (λ (v : Node). v.reading) c.as_slice-node-items.result.now in
+returns-clause-none c = λ n facts a.
+    let a' : At (all_facts c.as_slice-node-items.result.now) n facts = subst (λ (zs : List Node). At (all_facts zs) n facts) (sym c.as_slice-node-items.ensures.value) a in
+    let within = slice_get_within (all_facts c.as_slice-node-items.result.now) n facts a' in
+    let long = length_map (λ (v : Node). v.facts) c.as_slice-node-items.result.now in
     let end = c.nodes-test.false in
-    c.nodes.invariant n reading (omega arith) a'
+    c.nodes.invariant n facts (omega arith) a'

@@ -31,7 +31,7 @@ row-preserved c =
     let (count, at, set_is) = c.in_ok-add_name.ensures.added in
     record {
       hidden = c.number.ensures.hidden ∙ inv.hidden;
-      meets = so_named ids keys nodes keys' middle c.add_name.new.nodes.items (c.row.id-index + 1) meets c.add_name.ensures.readings;
+      meets = so_named ids keys nodes keys' middle c.add_name.new.nodes.items (c.row.id-index + 1) meets c.add_name.ensures.all_facts;
       names = names_row_more ids c.row.id-index y keys nodes keys' middle c.add_name.new.nodes.items c.in_ok-number.number.0 count here meets.once c.in_ok-number.ensures.number at set_is names;
     }
 

@@ -2,15 +2,15 @@ use Rattle.std.proofs.Common.{◌≡◌, ℕ, List, refl, sym, ◌∙◌, ap, ar
 use Rattle.std.proofs.lemmas.Int.{ints}
 use Rattle.gix_traverse_topo.specs.declared.known.Node.{Node}
 use Rattle.gix_traverse_commit.proofs.Lists.{at_one}
-use Rattle.gix_traverse_topo.proofs.Updates.{same_counts, other_readings, reading_at, node_at, got, copied}
+use Rattle.gix_traverse_topo.proofs.Updates.{same_counts, other_facts, facts_at, node_at, got, copied}
 use Rattle.gix_traverse_topo.proofs.known.Known.take.Goals as goal
 
 pub returns-clause-counts : goal.returns-clause-counts
-returns-clause-counts c = same_counts c.args.self.now.nodes.items c.args.number.0 c.take_parents-parent_ids.new.reading c.index_mut.result.now c.index_mut.ensures.value
+returns-clause-counts c = same_counts c.args.self.now.nodes.items c.args.number.0 c.take_parents-parent_ids.new.facts c.index_mut.result.now c.index_mut.ensures.value
 
 pub returns-clause-others : goal.returns-clause-others
-returns-clause-others c = λ k reading apart a.
-    other_readings c.args.self.now.nodes.items c.args.number.0 (record { reading = c.take_parents-parent_ids.new.reading; names = c.index_mut.result.now.names }) k reading apart a
+returns-clause-others c = λ k facts apart a.
+    other_facts c.args.self.now.nodes.items c.args.number.0 (record { facts = c.take_parents-parent_ids.new.facts; names = c.index_mut.result.now.names }) k facts apart a
 
 pub returns-clause-taken : goal.returns-clause-taken
 returns-clause-taken c =
@@ -21,9 +21,9 @@ returns-clause-taken c =
     let same : node ≡ c.index_mut.result.now = at_one items n node c.index_mut.result.now (node_at items n node found.0 found.1) (node_at items n c.index_mut.result.now found.0 c.index_mut.ensures.value) in (
       copied c.get_index.result c.in_ok-id.field-0 (slice_get c.args.self.now.ids.keys n) c.in_ok-id.ensures.ok_part c.get_index.ensures.key,
       (
-        node.reading,
-        reading_at items n node found.0 found.1,
-        c.take_parents-parent_ids.ensures ∙ ap (λ (v : Node). v.reading.parents.items) (sym same),
+        node.facts,
+        facts_at items n node found.0 found.1,
+        c.take_parents-parent_ids.ensures ∙ ap (λ (v : Node). v.facts.parents.items) (sym same),
         refl,
         ap Some (omega (arith, ints)),
       ),

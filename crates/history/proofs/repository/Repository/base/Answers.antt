@@ -4,15 +4,15 @@ use Rattle.std.specs.List.{filter_map}
 use Rattle.std.specs.declared.alloc.Global.{Global}
 use Rattle.std.proofs.lemmas.Result.{err_from_is_err_and}
 use Rattle.history_model.specs.Forms.{is_name}
-use Rattle.history_model.specs.Words.{word_reading}
+use Rattle.history_model.specs.Words.{word_meaning}
 use Rattle.history_model.specs.declared.Fault.TheVariants.{Memory}
 use Rattle.gix_hash_id.specs.Id.{id_of}
-use Rattle.history.specs.Bases.{IsBase, IsExpected, expected_readings, words_cause, parents_cause}
+use Rattle.history.specs.Bases.{IsBase, IsExpected, expected_meanings, words_cause, parents_cause}
 use Rattle.history.specs.CommitCauses.{IsNamed, name_causes, name_form_causes, word_causes, held_causes, place_causes, parent_causes}
-use Rattle.history.specs.Readings.{reading_of, commit_in}
-use Rattle.history.specs.declared.words.WordReading.{WordReading}
+use Rattle.history.specs.Meanings.{meaning_of, commit_in}
+use Rattle.history.specs.declared.words.WordMeaning.{WordMeaning}
 use Rattle.history.specs.declared.stopped.Stopped.TheVariants.{Refused, Fault}
-use Rattle.history.proofs.BaseLemmas.{gives_told, parent_readings, words_so, name_held, held_told, file_told, parents_told, parents_so}
+use Rattle.history.proofs.BaseLemmas.{gives_told, parent_meanings, words_so, name_held, held_told, file_told, parents_told, parents_so}
 use Rattle.history.proofs.Tested.{told_in_front, told_behind, none_joined, stopped_by, ends_told}
 use Rattle.history.proofs.repository.Repository.base.Goals as goal
 
@@ -41,7 +41,7 @@ returns-in_err-words g c = λ r order asked.
     let MayFail = g.F.Files.reading_may_fail in
     let stopped = err_from_is_err_and c.from_residual-in_err-words.result c.from_residual-in_err-words.ensures.1 in
     ends_told MayFail r order name_causes (IsBase r order) c.from_residual-in_err-words.result c.in_err-words.field-0.0 (stopped.1 ∙ ap Err stopped.2)
-    (gives_told MayFail (λ (readings : Vec WordReading Global). map reading_of readings.items ≡ map (λ (word : Vec ℕ Global). word_reading r word.items) c.deref-2.result.now) name_causes r order c.read_words.result c.in_err-words.field-0.0 c.in_err-words.was
+    (gives_told MayFail (λ (meanings : Vec WordMeaning Global). map meaning_of meanings.items ≡ map (λ (word : Vec ℕ Global). word_meaning r word.items) c.deref-2.result.now) name_causes r order c.read_words.result c.in_err-words.field-0.0 c.in_err-words.was
     (c.read_words.ensures r h))
 
 pub returns-in_err-test_words : goal.returns-in_err-test_words
@@ -51,9 +51,9 @@ returns-in_err-test_words g c = λ r order asked.
     let MayFail = g.F.Files.reading_may_fail in
     let named = c.in_ok-name.ensures r order h.stands (c.deref.ensures.value ∙ is.name) in
     let expects = c.in_ok-expected.ensures r order.expect h is.expect in
-    let readings = parent_readings r order c.args.command.now.parents.items c.in_ok-words.words.items is.parents
-    (c.in_ok-words.ensures r h ∙ ap (map (λ (word : Vec ℕ Global). word_reading r word.items)) c.deref-2.ensures.value) in
-    let words_are = words_so r order c.in_ok-expected.expected c.in_ok-words.words.items expects readings ∙ ap (λ words. words_cause (expected_readings c.in_ok-expected.expected ++ map reading_of words)) (sym c.deref-3.ensures.value) in
+    let meanings = parent_meanings r order c.args.command.now.parents.items c.in_ok-words.words.items is.parents
+    (c.in_ok-words.ensures r h ∙ ap (map (λ (word : Vec ℕ Global). word_meaning r word.items)) c.deref-2.ensures.value) in
+    let words_are = words_so r order c.in_ok-expected.expected c.in_ok-words.words.items expects meanings ∙ ap (λ words. words_cause (expected_meanings c.in_ok-expected.expected ++ map meaning_of words)) (sym c.deref-3.ensures.value) in
     let stopped = err_from_is_err_and c.from_residual-in_err-test_words.result c.from_residual-in_err-test_words.ensures.1 in
     let cause = c.in_err-test_words.field-0.0 in
     ends_told MayFail r order name_causes (IsBase r order) c.from_residual-in_err-test_words.result (Refused cause) (stopped.1 ∙ ap Err stopped.2)
@@ -76,9 +76,9 @@ returns-in_err-test g c = λ r order asked.
     let w = ((h.stands.whole).whole).names in
     let named = c.in_ok-name.ensures r order h.stands (c.deref.ensures.value ∙ is.name) in
     let expects = c.in_ok-expected.ensures r order.expect h is.expect in
-    let readings = parent_readings r order c.args.command.now.parents.items c.in_ok-words.words.items is.parents
-    (c.in_ok-words.ensures r h ∙ ap (map (λ (word : Vec ℕ Global). word_reading r word.items)) c.deref-2.ensures.value) in
-    let words_are = words_so r order c.in_ok-expected.expected c.in_ok-words.words.items expects readings ∙ ap (λ words. words_cause (expected_readings c.in_ok-expected.expected ++ map reading_of words)) (sym c.deref-3.ensures.value) in
+    let meanings = parent_meanings r order c.args.command.now.parents.items c.in_ok-words.words.items is.parents
+    (c.in_ok-words.ensures r h ∙ ap (map (λ (word : Vec ℕ Global). word_meaning r word.items)) c.deref-2.ensures.value) in
+    let words_are = words_so r order c.in_ok-expected.expected c.in_ok-words.words.items expects meanings ∙ ap (λ words. words_cause (expected_meanings c.in_ok-expected.expected ++ map meaning_of words)) (sym c.deref-3.ensures.value) in
     let held_at = name_held g.F.Files.is_honest g.F.Files.history c.args.self.now r order h c.deref-4.result.now (c.deref-4.ensures.value ∙ named.1.named) (ap is_name c.deref-4.ensures.value ∙ named.1.formed)
     c.in_ok-held.held (c.in_ok-held.ensures.found h.stands.honest_names) in
     let held_is = held_told r order h.stage.offered w c.in_ok-expected.expected (option_map id_of c.in_ok-held.held) expects held_at in
@@ -97,9 +97,9 @@ returns-in_err-test_place g c = λ r order asked.
     let w = ((h.stands.whole).whole).names in
     let named = c.in_ok-name.ensures r order h.stands (c.deref.ensures.value ∙ is.name) in
     let expects = c.in_ok-expected.ensures r order.expect h is.expect in
-    let readings = parent_readings r order c.args.command.now.parents.items c.in_ok-words.words.items is.parents
-    (c.in_ok-words.ensures r h ∙ ap (map (λ (word : Vec ℕ Global). word_reading r word.items)) c.deref-2.ensures.value) in
-    let words_are = words_so r order c.in_ok-expected.expected c.in_ok-words.words.items expects readings ∙ ap (λ words. words_cause (expected_readings c.in_ok-expected.expected ++ map reading_of words)) (sym c.deref-3.ensures.value) in
+    let meanings = parent_meanings r order c.args.command.now.parents.items c.in_ok-words.words.items is.parents
+    (c.in_ok-words.ensures r h ∙ ap (map (λ (word : Vec ℕ Global). word_meaning r word.items)) c.deref-2.ensures.value) in
+    let words_are = words_so r order c.in_ok-expected.expected c.in_ok-words.words.items expects meanings ∙ ap (λ words. words_cause (expected_meanings c.in_ok-expected.expected ++ map meaning_of words)) (sym c.deref-3.ensures.value) in
     let held_at = name_held g.F.Files.is_honest g.F.Files.history c.args.self.now r order h c.deref-4.result.now (c.deref-4.ensures.value ∙ named.1.named) (ap is_name c.deref-4.ensures.value ∙ named.1.formed)
     c.in_ok-held.held (c.in_ok-held.ensures.found h.stands.honest_names) in
     let held_is = held_told r order h.stage.offered w c.in_ok-expected.expected (option_map id_of c.in_ok-held.held) expects held_at in
@@ -128,14 +128,14 @@ returns-in_err-test_parents g c = λ r order asked.
     let w = ((h.stands.whole).whole).names in
     let named = c.in_ok-name.ensures r order h.stands (c.deref.ensures.value ∙ is.name) in
     let expects = c.in_ok-expected.ensures r order.expect h is.expect in
-    let readings = parent_readings r order c.args.command.now.parents.items c.in_ok-words.words.items is.parents
-    (c.in_ok-words.ensures r h ∙ ap (map (λ (word : Vec ℕ Global). word_reading r word.items)) c.deref-2.ensures.value) in
-    let words_are = words_so r order c.in_ok-expected.expected c.in_ok-words.words.items expects readings ∙ ap (λ words. words_cause (expected_readings c.in_ok-expected.expected ++ map reading_of words)) (sym c.deref-3.ensures.value) in
+    let meanings = parent_meanings r order c.args.command.now.parents.items c.in_ok-words.words.items is.parents
+    (c.in_ok-words.ensures r h ∙ ap (map (λ (word : Vec ℕ Global). word_meaning r word.items)) c.deref-2.ensures.value) in
+    let words_are = words_so r order c.in_ok-expected.expected c.in_ok-words.words.items expects meanings ∙ ap (λ words. words_cause (expected_meanings c.in_ok-expected.expected ++ map meaning_of words)) (sym c.deref-3.ensures.value) in
     let held_at = name_held g.F.Files.is_honest g.F.Files.history c.args.self.now r order h c.deref-4.result.now (c.deref-4.ensures.value ∙ named.1.named) (ap is_name c.deref-4.ensures.value ∙ named.1.formed)
     c.in_ok-held.held (c.in_ok-held.ensures.found h.stands.honest_names) in
     let held_is = held_told r order h.stage.offered w c.in_ok-expected.expected (option_map id_of c.in_ok-held.held) expects held_at in
     let placed = c.in_ok-test_place.ensures r order h (c.deref-5.ensures.value ∙ named.1.named) (ap is_name c.deref-5.ensures.value ∙ named.1.formed) held_at in
-    let parents_are = parents_told r order h.stage.offered w c.in_ok-held.held c.in_ok-words.words.items c.in_ok-parents.parents.items held_at readings
+    let parents_are = parents_told r order h.stage.offered w c.in_ok-held.held c.in_ok-words.words.items c.in_ok-parents.parents.items held_at meanings
     (c.in_ok-parents.ensures ∙ ap (λ words. option_to_list c.in_ok-held.held ++ filter_map commit_in words) c.deref-6.ensures.value) in
     let parents_is = parents_so r order h.stage.offered w c.in_ok-parents.parents.items parents_are ∙ ap (λ ids. parents_cause (map id_of ids)) (sym c.deref-7.ensures.value) in
     let stopped = err_from_is_err_and c.from_residual-in_err-test_parents.result c.from_residual-in_err-test_parents.ensures.1 in
@@ -154,14 +154,14 @@ returns g c = λ r order asked.
     let w = ((h.stands.whole).whole).names in
     let named = c.in_ok-name.ensures r order h.stands (c.deref.ensures.value ∙ is.name) in
     let expects = c.in_ok-expected.ensures r order.expect h is.expect in
-    let readings = parent_readings r order c.args.command.now.parents.items c.in_ok-words.words.items is.parents
-    (c.in_ok-words.ensures r h ∙ ap (map (λ (word : Vec ℕ Global). word_reading r word.items)) c.deref-2.ensures.value) in
-    let words_are = words_so r order c.in_ok-expected.expected c.in_ok-words.words.items expects readings ∙ ap (λ words. words_cause (expected_readings c.in_ok-expected.expected ++ map reading_of words)) (sym c.deref-3.ensures.value) in
+    let meanings = parent_meanings r order c.args.command.now.parents.items c.in_ok-words.words.items is.parents
+    (c.in_ok-words.ensures r h ∙ ap (map (λ (word : Vec ℕ Global). word_meaning r word.items)) c.deref-2.ensures.value) in
+    let words_are = words_so r order c.in_ok-expected.expected c.in_ok-words.words.items expects meanings ∙ ap (λ words. words_cause (expected_meanings c.in_ok-expected.expected ++ map meaning_of words)) (sym c.deref-3.ensures.value) in
     let held_at = name_held g.F.Files.is_honest g.F.Files.history c.args.self.now r order h c.deref-4.result.now (c.deref-4.ensures.value ∙ named.1.named) (ap is_name c.deref-4.ensures.value ∙ named.1.formed)
     c.in_ok-held.held (c.in_ok-held.ensures.found h.stands.honest_names) in
     let held_is = held_told r order h.stage.offered w c.in_ok-expected.expected (option_map id_of c.in_ok-held.held) expects held_at in
     let placed = c.in_ok-test_place.ensures r order h (c.deref-5.ensures.value ∙ named.1.named) (ap is_name c.deref-5.ensures.value ∙ named.1.formed) held_at in
-    let parents_are = parents_told r order h.stage.offered w c.in_ok-held.held c.in_ok-words.words.items c.in_ok-parents.parents.items held_at readings
+    let parents_are = parents_told r order h.stage.offered w c.in_ok-held.held c.in_ok-words.words.items c.in_ok-parents.parents.items held_at meanings
     (c.in_ok-parents.ensures ∙ ap (λ words. option_to_list c.in_ok-held.held ++ filter_map commit_in words) c.deref-6.ensures.value) in
     let parents_is = parents_so r order h.stage.offered w c.in_ok-parents.parents.items parents_are ∙ ap (λ ids. parents_cause (map id_of ids)) (sym c.deref-7.ensures.value) in (
       none_joined MayFail r order name_form_causes (word_causes ++ (held_causes ++ (place_causes ++ parent_causes))) named.0

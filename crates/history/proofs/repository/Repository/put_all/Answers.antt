@@ -1,6 +1,6 @@
 use Rattle.std.proofs.Common.{◌∙◌, ap, Err}
 use Rattle.std.proofs.lemmas.Result.{err_from_is_err_and}
-use Rattle.history.specs.Acts.{HasFailedCall}
+use Rattle.history.specs.Acts.{CountsFailure}
 use Rattle.history.proofs.Counts.{counts_joined, failed_before}
 use Rattle.history.proofs.Puts.{kept_then_kept, none_put, object_put, object_passes, object_stopped, all_put}
 use Rattle.history.proofs.repository.Repository.put_all.Goals as goal
@@ -34,7 +34,7 @@ returns-in_err-put-clause-stores g c =
     let stopped = err_from_is_err_and c.from_residual.result c.from_residual.ensures.1 in
     object_stopped g.F.Files.is_honest g.F.Files.history g.F.Files.failures c.args.objects.now c.loop-object.object-index c.object-item.result c.loop-object-test.true c.object-item.is
     c.args.self.now c.loop-object.self c.put.new.self
-    (HasFailedCall g.F.Files.failures g.F.Files.reading_may_fail c.loop-object.self c.put.new.self) (HasFailedCall g.F.Files.failures g.F.Files.reading_may_fail c.args.self.now c.put.new.self)
+    (CountsFailure g.F.Files.failures g.F.Files.reading_may_fail c.loop-object.self c.put.new.self) (CountsFailure g.F.Files.failures g.F.Files.reading_may_fail c.args.self.now c.put.new.self)
     c.put.result c.from_residual.result c.in_err-put.field-0.0 c.in_err-put.was (stopped.1 ∙ ap Err stopped.2)
     (failed_before g.F.Files.failures g.F.Files.reading_may_fail c.args.self.now c.loop-object.self c.put.new.self c.loop-object.invariant.counts)
     c.loop-object.invariant c.put.ensures.stores

@@ -1,7 +1,7 @@
 use Rattle.std.proofs.Common.{◌∙◌, sym, ap, refl, bytes_eq, option_map, is_some}
 use Rattle.std.proofs.lemmas.Bool.Decides.{Decides-eqb}
 use Rattle.std.proofs.lemmas.Slice.Eq.{slice_eq-Decides}
-use Rattle.history_model.specs.Words.{head_word, name_reading}
+use Rattle.history_model.specs.Words.{head_word, name_meaning}
 use Rattle.history_model.proofs.PlaceLemmas.{text_itself, texts_apart}
 use Rattle.history.proofs.WordReads.{may_mean, all_left, next_passed, next_absent, next_found, found_reads, none_reads, stands_so, candidate_held, branch_reads}
 use Rattle.history.proofs.repository.Repository.read_word.Goals as goal
@@ -11,14 +11,14 @@ use Rattle.gix_hash_id.specs.Id.{id_of}
 pub returns-in-Some : goal.returns-in-Some
 returns-in-Some g c = λ r stand.
     let is = (slice_eq-Decides Decides-eqb c.args.word.now head_word c.eq.result c.eq.ensures).0 c.if-eq.true in
-    ap (λ o. name_reading (option_map id_of o)) (sym c.in-Some.is)
+    ap (λ o. name_meaning (option_map id_of o)) (sym c.in-Some.is)
     ∙ branch_reads g.F.Files.is_honest g.F.Files.history c.args.self.now r stand c.args.word.now c.deref.result.now (ap (λ w. bytes_eq w head_word) is ∙ text_itself head_word) c.deref.ensures.value
     _ (c.in_ok-id.ensures.found stand.stands.honest_names)
 
 pub returns-in-None : goal.returns-in-None
 returns-in-None g c = λ r stand.
     let is = (slice_eq-Decides Decides-eqb c.args.word.now head_word c.eq.result c.eq.ensures).0 c.if-eq.true in
-    ap (λ o. name_reading (option_map id_of o)) (sym c.in-None.is)
+    ap (λ o. name_meaning (option_map id_of o)) (sym c.in-None.is)
     ∙ branch_reads g.F.Files.is_honest g.F.Files.history c.args.self.now r stand c.args.word.now c.deref.result.now (ap (λ w. bytes_eq w head_word) is ∙ text_itself head_word) c.deref.ensures.value
     _ (c.in_ok-id.ensures.found stand.stands.honest_names)
 

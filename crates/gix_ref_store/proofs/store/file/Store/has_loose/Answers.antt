@@ -1,7 +1,7 @@
 use Rattle.std.proofs.Common.{◌∙◌, ap, subst, [], Some, None, refl}
 use Rattle.gix_ref_store.specs.Items.{left_in, GivesNext}
 use Rattle.gix_ref_store.specs.Listings.{all_names}
-use Rattle.gix_ref_store.specs.Readings.{reading_among}
+use Rattle.gix_ref_store.specs.NameStates.{state_among}
 use Rattle.gix_ref_store.specs.Searches.{reads_in}
 use Rattle.gix_ref_store.specs.Stores.{base_of}
 use Rattle.gix_ref_store.proofs.PristineLemmas.{passed_on, one_stands, none_stands}
@@ -11,7 +11,7 @@ pub returns-in-Ok-clause-told : goal.returns-in-Ok-clause-told
 returns-in-Ok-clause-told g c = λ honest.
     let self = c.args.self.now in
     let tree = (g.F.Files.history self.files).tree in
-    let read = reading_among (base_of self) tree [] in
+    let read = state_among (base_of self) tree [] in
     let out = left_in tree c.in_ok-references.references in
     let at = c.loop-item.references in
     let same = ap (λ s. s.store.now) c.loop-item.invariant.2 ∙ c.in_ok-references.ensures.store in
@@ -22,7 +22,7 @@ pub loop-item-preserved-in-Err-ReferenceCreation : goal.loop-item-preserved-in-E
 loop-item-preserved-in-Err-ReferenceCreation g c =
     let self = c.args.self.now in
     let tree = (g.F.Files.history self.files).tree in
-    let read = reading_among (base_of self) tree [] in
+    let read = state_among (base_of self) tree [] in
     let out = left_in tree c.in_ok-references.references in
     let at = c.loop-item.references in
     let same = ap (λ s. s.store.now) c.loop-item.invariant.2 ∙ c.in_ok-references.ensures.store in (
@@ -38,7 +38,7 @@ pub returns-clause-told : goal.returns-clause-told
 returns-clause-told g c = λ honest.
     let self = c.args.self.now in
     let tree = (g.F.Files.history self.files).tree in
-    let read = reading_among (base_of self) tree [] in
+    let read = state_among (base_of self) tree [] in
     let out = left_in tree c.in_ok-references.references in
     let at = c.loop-item.references in
     let same = ap (λ s. s.store.now) c.loop-item.invariant.2 ∙ c.in_ok-references.ensures.store in

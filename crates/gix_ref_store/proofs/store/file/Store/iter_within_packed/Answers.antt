@@ -4,7 +4,7 @@ use Rattle.gix_ref_store.specs.Known.{known_as}
 use Rattle.gix_ref_store.specs.Finds.{records_in}
 use Rattle.gix_ref_store.specs.Items.{left_in}
 use Rattle.gix_ref_store.specs.Listings.{IsListing}
-use Rattle.gix_ref_store.specs.Readings.{reading_among}
+use Rattle.gix_ref_store.specs.NameStates.{state_among}
 use Rattle.gix_ref_store.specs.Stores.{base_of}
 use Rattle.gix_ref_store.proofs.AskLemmas.{asks_whole}
 use Rattle.gix_ref_store.proofs.store.file.Store.iter_within_packed.Goals as goal
@@ -14,4 +14,4 @@ returns-clause-listed g c = λ honest.
     let tree = (g.F.Files.history c.args.self.now.files).tree in
     let composes = c.args.self.now.options.precompose_unicode in
     let is = asks_whole (record { front = c.as_bytes.result; is_whole = true; composes = composes }) (known_as composes c.args.folder.now) composes (c.as_bytes.ensures ∙ c.in_ok-front.ensures) refl refl in
-    subst (λ (asked : List ℕ → Bool). IfOk c.listed.result (λ items. IsListing (reading_among (base_of c.args.self.now) tree (records_in c.args.packed)) asked (left_in tree items))) is (c.listed.ensures.listed honest)
+    subst (λ (asked : List ℕ → Bool). IfOk c.listed.result (λ items. IsListing (state_among (base_of c.args.self.now) tree (records_in c.args.packed)) asked (left_in tree items))) is (c.listed.ensures.listed honest)

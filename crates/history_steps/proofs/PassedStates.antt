@@ -16,7 +16,7 @@ use Rattle.history_model.specs.Logs.{log_text, whole_lines}
 use Rattle.history_model.specs.PackedNames.{PackedFile, PackedAgrees, packed_file}
 use Rattle.gix_ref_format.specs.Packed.{Record}
 use Rattle.history_model.specs.Places.{Pair, file_at, head_place, packed_place, log_place, is_log_place, log_name, is_lock_file, is_name_place}
-use Rattle.history_model.specs.Readings.{Reading, Holds, Symbolic, Absent, Faulty, is_absent, loose_reading, packed_reading, packed_text_reading, reading}
+use Rattle.history_model.specs.NameStates.{NameState, Holds, Symbolic, Absent, Faulty, is_absent, loose_state, packed_state, packed_text_state, name_state}
 use Rattle.history_model.specs.Forms.{is_private}
 use Rattle.history_model.specs.Recovery.{is_leftover, is_deserted, recovered_files, recovered_names, recovered_node}
 use Rattle.history_model.specs.StandsFor.{StandsFor, head_text}
@@ -62,10 +62,10 @@ get_built choose (k ∷ ks) q = go (choose k) refl (bytes_eq q k) refl (get_buil
     go (Some ref) e true f rest = get-with (built choose ks) k ref q ∙ ap (λ b. cond b (Some ref) (get (built choose ks) q)) f ∙ sym (ap choose (same_text q k f) ∙ e)
     go (Some ref) e false f rest = get-with (built choose ks) k ref q ∙ ap (λ b. cond b (Some ref) (get (built choose ks) q)) f ∙ rest
 
--- ---- readings
+-- ---- states of names
 
--- the id that a reading tells
-abbrev id_in : Reading → Option Id
+-- the id that a state tells
+abbrev id_in : NameState → Option Id
 id_in (Holds id) = Some id
 id_in (Symbolic name) = None
 id_in Absent = None
@@ -75,14 +75,14 @@ id_read_as : (o : Option Id) → id_in (reads_as o) ≡ o
 id_read_as None = refl
 id_read_as (Some id) = refl
 
-id_in_holds : (r : Reading) (id : Id) → id_in r ≡ Some id → r ≡ Holds id
+id_in_holds : (r : NameState) (id : Id) → id_in r ≡ Some id → r ≡ Holds id
 id_in_holds (Holds i) id e = ap Holds (same_Some i id e)
 id_in_holds (Symbolic name) id e = cc
 id_in_holds Absent id e = cc
 id_in_holds Faulty id e = cc
 
 -- what reads as an id is a name
-named : (b : Bool) (x : Reading) (id : Id) → cond b x Absent ≡ Holds id → b ≡ true
+named : (b : Bool) (x : NameState) (id : Id) → cond b x Absent ≡ Holds id → b ≡ true
 named true x id e = refl
 named false x id e = cc
 
@@ -147,7 +147,7 @@ place_so false false false false false there h k = refl
 in_keys : (m : References) (q : Bytes) → is_some (get m q) ≡ true → In q (keys m)
 in_keys m q h = let ref = some_is (get m q) h in in_map (λ (e : Bytes × Reference). e.0) (q, ref.0) (entries m) (get_in m q ref.0 ref.1)
 
-kept : (old : Repository) (command : Command) (tree : Tree) (x : Repository) → ((name : Bytes) → (o : Option Id) → reading old.kind tree name ≡ reads_as o → id_at x name ≡ o) → ReadsKept old command tree → IsNotLost old command x
+kept : (old : Repository) (command : Command) (tree : Tree) (x : Repository) → ((name : Bytes) → (o : Option Id) → name_state old.kind tree name ≡ reads_as o → id_at x name ≡ o) → ReadsKept old command tree → IsNotLost old command x
 kept old (Rename from to) tree x told h = elim h [
   | inl e ↦ inl (told from (id_at old from) e)
   | inr e ↦ inr (told to (id_at old from) e)
@@ -164,13 +164,13 @@ module _ (old : Repository) (command : Command) (tree : Tree) (sound : IsSound o
   now = recovered_names old.kind tree
 
   -- each name that stands holds an id
-  plain : (name : Bytes) → ((id : Id) × (reading old.kind tree name ≡ Holds id)) ⊎ (reading old.kind tree name ≡ Absent)
+  plain : (name : Bytes) → ((id : Id) × (name_state old.kind tree name ≡ Holds id)) ⊎ (name_state old.kind tree name ≡ Absent)
   plain name = elim (way.reads name) [
     | inl e ↦ from (id_at old name) e
     | inr e ↦ from (id_at new name) e
   ]
     where
-      from : (o : Option Id) → reading old.kind tree name ≡ reads_as o → ((id : Id) × (reading old.kind tree name ≡ Holds id)) ⊎ (reading old.kind tree name ≡ Absent)
+      from : (o : Option Id) → name_state old.kind tree name ≡ reads_as o → ((id : Id) × (name_state old.kind tree name ≡ Holds id)) ⊎ (name_state old.kind tree name ≡ Absent)
       from None e = inr e
       from (Some id) e = inl (id, e)
 
@@ -178,14 +178,14 @@ module _ (old : Repository) (command : Command) (tree : Tree) (sound : IsSound o
   moves_told name = pick (log_in tree name) (moves_at new name) (moves_at old name)
 
   -- what a name holds that reads so
-  abbrev chosen_by : Bytes → Reading → Option Reference
+  abbrev chosen_by : Bytes → NameState → Option Reference
   chosen_by name (Holds id) = Some (record { id = id; moves = moves_told name })
   chosen_by name (Symbolic to) = None
   chosen_by name Absent = None
   chosen_by name Faulty = None
 
   abbrev chosen : Bytes → Option Reference
-  chosen name = chosen_by name (reading old.kind tree name)
+  chosen name = chosen_by name (name_state old.kind tree name)
 
   abbrev known : List Bytes
   known = keys old.names ++ keys new.names
@@ -194,13 +194,13 @@ module _ (old : Repository) (command : Command) (tree : Tree) (sound : IsSound o
   names = built chosen known
 
   -- a name that holds an id stood before or stands after
-  held_known : (name : Bytes) (id : Id) → reading old.kind tree name ≡ Holds id → In name known
+  held_known : (name : Bytes) (id : Id) → name_state old.kind tree name ≡ Holds id → In name known
   held_known name id e = elim (way.reads name) [
     | inl h ↦ in_left name (keys old.names) (keys new.names) (in_keys old.names name (there old h))
     | inr h ↦ in_right name (keys old.names) (keys new.names) (in_keys new.names name (there new h))
   ]
     where
-      there : (r : Repository) → reading old.kind tree name ≡ reads_as (id_at r name) → is_some (get r.names name) ≡ true
+      there : (r : Repository) → name_state old.kind tree name ≡ reads_as (id_at r name) → is_some (get r.names name) ≡ true
       there r h = sym (some_id (get r.names name)) ∙ ap is_some (sym (id_read_as (id_at r name)) ∙ ap id_in (sym h ∙ e))
 
   got : (name : Bytes) → get names name ≡ chosen name
@@ -218,28 +218,28 @@ module _ (old : Repository) (command : Command) (tree : Tree) (sound : IsSound o
   abbrev x : Repository
   x = passing old command names branch_now.0
 
-  id_now : (name : Bytes) → id_at x name ≡ id_in (reading old.kind tree name)
-  id_now name = ap (option_map (λ (ref : Reference). ref.id)) (got name) ∙ go (reading old.kind tree name)
+  id_now : (name : Bytes) → id_at x name ≡ id_in (name_state old.kind tree name)
+  id_now name = ap (option_map (λ (ref : Reference). ref.id)) (got name) ∙ go (name_state old.kind tree name)
     where
-      go : (r : Reading) → option_map (λ (ref : Reference). ref.id) (chosen_by name r) ≡ id_in r
+      go : (r : NameState) → option_map (λ (ref : Reference). ref.id) (chosen_by name r) ≡ id_in r
       go (Holds id) = refl
       go (Symbolic to) = refl
       go Absent = refl
       go Faulty = refl
 
-  id_told : (name : Bytes) (o : Option Id) → reading old.kind tree name ≡ reads_as o → id_at x name ≡ o
+  id_told : (name : Bytes) (o : Option Id) → name_state old.kind tree name ≡ reads_as o → id_at x name ≡ o
   id_told name o e = id_now name ∙ ap id_in e ∙ id_read_as o
 
-  stands_now : (name : Bytes) → stands x name ≡ not (is_absent (reading old.kind tree name))
+  stands_now : (name : Bytes) → stands x name ≡ not (is_absent (name_state old.kind tree name))
   stands_now name = ap is_some (got name) ∙ elim (plain name) [
     | inl (id, e) ↦ ap (λ r. is_some (chosen_by name r)) e ∙ sym (ap (λ r. not (is_absent r)) e)
     | inr e ↦ ap (λ r. is_some (chosen_by name r)) e ∙ sym (ap (λ r. not (is_absent r)) e)
   ]
 
-  moves_held : (name : Bytes) (id : Id) → reading old.kind tree name ≡ Holds id → moves_at x name ≡ moves_told name
+  moves_held : (name : Bytes) (id : Id) → name_state old.kind tree name ≡ Holds id → moves_at x name ≡ moves_told name
   moves_held name id e = ap (λ o. unwrap_or (option_map (λ (ref : Reference). ref.moves) o) []) (got name ∙ ap (chosen_by name) e)
 
-  moves_gone : (name : Bytes) → reading old.kind tree name ≡ Absent → moves_at x name ≡ []
+  moves_gone : (name : Bytes) → name_state old.kind tree name ≡ Absent → moves_at x name ≡ []
   moves_gone name e = ap (λ o. unwrap_or (option_map (λ (ref : Reference). ref.moves) o) []) (got name ∙ ap (chosen_by name) e)
 
   -- ---- the files
@@ -248,22 +248,22 @@ module _ (old : Repository) (command : Command) (tree : Tree) (sound : IsSound o
   logs_now name = elim (plain name) [
     | inl (id, e) ↦
         ap (λ o. unwrap_or o []) (recovery_keeps old.kind tree (log_place name)
-        ∙ stays whole_lines (file_at tree (log_place name)) (is_lock_file (log_place name)) (is_absent (reading old.kind tree name)) (log-lock name (named (is_name name) _ id e)) (ap is_absent e))
+        ∙ stays whole_lines (file_at tree (log_place name)) (is_lock_file (log_place name)) (is_absent (name_state old.kind tree name)) (log-lock name (named (is_name name) _ id e)) (ap is_absent e))
         ∙ whole_or_none (file_at tree (log_place name))
         ∙ (picked (log_in tree name) (moves_at new name) (moves_at old name) (deletes command name) (way.logs name (ap is_absent e))).0
         ∙ ap log_text (sym (moves_held name id e))
     | inr e ↦
         ap (λ o. unwrap_or o []) (recovery_keeps old.kind tree (log_place name)
-        ∙ gone_too whole_lines (file_at tree (log_place name)) (is_lock_file (log_place name)) (is_absent (reading old.kind tree name)) (ap is_absent e))
+        ∙ gone_too whole_lines (file_at tree (log_place name)) (is_lock_file (log_place name)) (is_absent (name_state old.kind tree name)) (ap is_absent e))
         ∙ ap log_text (sym (moves_gone name e))
   ]
 
   places_now : (path text : Bytes) → file_at now path ≡ Some text → is_name_place x path ≡ true
   places_now path text at =
-      let left = stood_so (λ t. cond (is_log_place path) (whole_lines t) t) (file_at tree path) (is_lock_file path || (is_log_place path && is_absent (reading old.kind tree (log_name path)))) text
+      let left = stood_so (λ t. cond (is_log_place path) (whole_lines t) t) (file_at tree path) (is_lock_file path || (is_log_place path && is_absent (name_state old.kind tree (log_name path)))) text
       (sym (recovery_keeps old.kind tree path) ∙ at) in
       (λ i. bytes_eq path head_place || bytes_eq path packed_place || stands_now path i || (is_log_place path && stands_now (log_name path) i))
-      ∙ place_so (bytes_eq path head_place) (bytes_eq path packed_place) (is_lock_file path) (is_log_place path) (is_absent (reading old.kind tree path)) (is_absent (reading old.kind tree (log_name path)))
+      ∙ place_so (bytes_eq path head_place) (bytes_eq path packed_place) (is_lock_file path) (is_log_place path) (is_absent (name_state old.kind tree path)) (is_absent (name_state old.kind tree (log_name path)))
       left.0 (way.places path left.1.0 left.1.1)
 
   folder_stood : (path : Bytes) → get now path ≡ Some folder → get tree path ≡ Some folder
@@ -283,7 +283,7 @@ module _ (old : Repository) (command : Command) (tree : Tree) (sound : IsSound o
     head = branch_now.1;
     names = λ name id. (
       λ h. id_told name (Some id) (sym (recovery_reads old.kind tree name) ∙ h),
-      λ h. recovery_reads old.kind tree name ∙ id_in_holds (reading old.kind tree name) id (sym (id_now name) ∙ h),
+      λ h. recovery_reads old.kind tree name ∙ id_in_holds (name_state old.kind tree name) id (sym (id_now name) ∙ h),
     );
     logs = logs_now;
     packed = λ text at. packed_more new x (λ q v h. h) (packed_file old.kind text) (way.packed text (sym (file_kept old.kind tree packed_place refl refl) ∙ at));
@@ -322,7 +322,7 @@ module _ (old : Repository) (command : Command) (tree : Tree) (sound : IsSound o
     ];
   }
     where
-      none_there : (r : Repository) → reading old.kind tree name ≡ Absent → reading old.kind tree name ≡ reads_as (id_at r name) → id_at r name ≡ None
+      none_there : (r : Repository) → name_state old.kind tree name ≡ Absent → name_state old.kind tree name ≡ reads_as (id_at r name) → id_at r name ≡ None
       none_there r e h = sym (id_read_as (id_at r name)) ∙ ap id_in (sym h ∙ e)
 
   -- ---- no name is a folder of another
@@ -356,7 +356,7 @@ names_pass old command tree sound none way = between old command tree sound none
 -- ---- at the beginning
 
 -- an id or nothing
-abbrev IsPlain : Reading → Type 0
+abbrev IsPlain : NameState → Type 0
 IsPlain r = ((id : Id) × (r ≡ Holds id)) ⊎ (r ≡ Absent)
 
 plain_record : (b : Bool) (o : Option Record) → IsPlain (cond b Absent (unwrap_or (option_map (λ found. Holds found.target) o) Absent))
@@ -380,7 +380,7 @@ name_file false false true log there e f g k = refl
 name_file false false false true there e f g k = cc
 name_file false false false false there e f g k = cc
 
-reads_kept : (old : Repository) (command : Command) (tree : Tree) → ((name : Bytes) → reading old.kind tree name ≡ reads_as (id_at old name)) → ReadsKept old command tree
+reads_kept : (old : Repository) (command : Command) (tree : Tree) → ((name : Bytes) → name_state old.kind tree name ≡ reads_as (id_at old name)) → ReadsKept old command tree
 reads_kept old (Rename from to) tree h = inl (h from)
 reads_kept old command tree h = tt
 
@@ -388,25 +388,25 @@ module _ (old : Repository) (command : Command) (pair : Pair) (s : StandsFor old
   abbrev tree : Tree
   tree = pair.names
 
-  held : (name : Bytes) → stands old name ≡ true → (id : Id) × (reading old.kind tree name ≡ Holds id)
+  held : (name : Bytes) → stands old name ≡ true → (id : Id) × (name_state old.kind tree name ≡ Holds id)
   held name e = let found = some_is (get old.names name) e in (found.0.id, (s.names name found.0.id).1 (ap (option_map (λ (ref : Reference). ref.id)) found.1))
 
-  plain_packed : (name : Bytes) (o : Option Bytes) → file_at tree packed_place ≡ o → IsPlain (unwrap_or (option_map (packed_text_reading old.kind name) o) Absent)
+  plain_packed : (name : Bytes) (o : Option Bytes) → file_at tree packed_place ≡ o → IsPlain (unwrap_or (option_map (packed_text_state old.kind name) o) Absent)
   plain_packed name None e = inr refl
   plain_packed name (Some text) e = go (packed_file old.kind text) (s.packed text e)
     where
-      go : (o : Option PackedFile) → MatchOption o ⊥ (PackedAgrees old) → IsPlain (unwrap_or (option_map (packed_reading name) o) Faulty)
+      go : (o : Option PackedFile) → MatchOption o ⊥ (PackedAgrees old) → IsPlain (unwrap_or (option_map (packed_state name) o) Faulty)
       go None h = absurd h
       go (Some packed) h = plain_record (is_private name) (find (λ found. bytes_eq found.name name) packed.records)
 
-  plain_begin : (name : Bytes) → IsPlain (reading old.kind tree name)
+  plain_begin : (name : Bytes) → IsPlain (name_state old.kind tree name)
   plain_begin name = go (is_name name) refl (file_at tree name) refl
     where
-      go : (b : Bool) → is_name name ≡ b → (o : Option Bytes) → file_at tree name ≡ o → IsPlain (reading old.kind tree name)
-      go false e o f = inr (ap (λ b. cond b (unwrap_or (option_map (loose_reading old.kind) (file_at tree name)) (unwrap_or (option_map (packed_text_reading old.kind name) (file_at tree packed_place)) Absent)) Absent) e)
+      go : (b : Bool) → is_name name ≡ b → (o : Option Bytes) → file_at tree name ≡ o → IsPlain (name_state old.kind tree name)
+      go false e o f = inr (ap (λ b. cond b (unwrap_or (option_map (loose_state old.kind) (file_at tree name)) (unwrap_or (option_map (packed_text_state old.kind name) (file_at tree packed_place)) Absent)) Absent) e)
       go true e None f =
-          subst IsPlain (sym (ap (λ b. cond b (unwrap_or (option_map (loose_reading old.kind) (file_at tree name)) (unwrap_or (option_map (packed_text_reading old.kind name) (file_at tree packed_place)) Absent)) Absent) e
-          ∙ ap (λ o. unwrap_or (option_map (loose_reading old.kind) o) (unwrap_or (option_map (packed_text_reading old.kind name) (file_at tree packed_place)) Absent)) f))
+          subst IsPlain (sym (ap (λ b. cond b (unwrap_or (option_map (loose_state old.kind) (file_at tree name)) (unwrap_or (option_map (packed_text_state old.kind name) (file_at tree packed_place)) Absent)) Absent) e
+          ∙ ap (λ o. unwrap_or (option_map (loose_state old.kind) o) (unwrap_or (option_map (packed_text_state old.kind name) (file_at tree packed_place)) Absent)) f))
           (plain_packed name (file_at tree packed_place) refl)
       go true e (Some text) f = inl (held name (name_file (bytes_eq name head_place) (bytes_eq name packed_place) (stands old name) (is_log_place name) (stands old (log_name name))
           (apart head_place (head_apart name e)) (apart packed_place (packed_apart name e)) (name-log name e) (s.places name text f)))
@@ -417,13 +417,13 @@ module _ (old : Repository) (command : Command) (pair : Pair) (s : StandsFor old
             | inr k ↦ k
           ]
 
-  reads_begin : (name : Bytes) → reading old.kind tree name ≡ reads_as (id_at old name)
+  reads_begin : (name : Bytes) → name_state old.kind tree name ≡ reads_as (id_at old name)
   reads_begin name = elim (plain_begin name) [
     | inl (id, e) ↦ e ∙ ap reads_as (sym ((s.names name id).0 e))
     | inr e ↦ go (id_at old name) refl e
   ]
     where
-      go : (o : Option Id) → id_at old name ≡ o → reading old.kind tree name ≡ Absent → reading old.kind tree name ≡ reads_as (id_at old name)
+      go : (o : Option Id) → id_at old name ≡ o → name_state old.kind tree name ≡ Absent → name_state old.kind tree name ≡ reads_as (id_at old name)
       go None k e = e ∙ ap reads_as (sym k)
       go (Some id) k e = (s.names name id).1 k ∙ ap reads_as (sym k)
 
@@ -434,7 +434,7 @@ module _ (old : Repository) (command : Command) (pair : Pair) (s : StandsFor old
     logs = λ name here. inl (ap whole_lines (s.logs name) ∙ all_whole (reverse (moves_at old name)));
     log_first = λ name here. inl (reads_begin name);
     packed = λ text at. packed_more old (after old command) (λ q v h. all_keep old.kind old.objects (stored_by old command) q v h) (packed_file old.kind text) (s.packed text at);
-    places = λ path text at. begin_place (bytes_eq path head_place) (bytes_eq path packed_place) (is_lock_file path) (is_log_place path) (stands old path) (stands old (log_name path)) (is_absent (reading old.kind tree path))
+    places = λ path text at. begin_place (bytes_eq path head_place) (bytes_eq path packed_place) (is_lock_file path) (is_log_place path) (stands old path) (stands old (log_name path)) (is_absent (name_state old.kind tree path))
         (λ e. ap is_absent (held path e).1) (s.places path text at);
     folders = s.folders;
     not_lost = reads_kept old command tree reads_begin;

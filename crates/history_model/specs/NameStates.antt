@@ -8,42 +8,42 @@ use Rattle.history_model.specs.Places.{file_at, packed_place}
 use Rattle.history_model.specs.PackedNames.{PackedFile, packed_file, id_from_hex, line_text}
 use Rattle.gix_hash_id.specs.declared.kind.Kind.{Kind}
 
-pub data Reading : Type 0 where
-  Holds : Id → Reading
-  Symbolic : Bytes → Reading
-  Absent : Reading
-  Faulty : Reading
+pub data NameState : Type 0 where
+  Holds : Id → NameState
+  Symbolic : Bytes → NameState
+  Absent : NameState
+  Faulty : NameState
 
 -- `<hex>` or `ref: <name>`
-abbrev pub loose_line : Kind → Bytes → Reading
+abbrev pub loose_line : Kind → Bytes → NameState
 loose_line kind text =
     if begins (codes "ref: ") text && is_name (drop 5 text) then Symbolic (drop 5 text)
     else unwrap_or (option_map Holds (id_from_hex kind text)) Faulty
 
 -- a loose file is one line, with its line feed
-abbrev pub loose_reading : Kind → Bytes → Reading
-loose_reading kind text = unwrap_or (option_map (loose_line kind) (line_text text)) Faulty
+abbrev pub loose_state : Kind → Bytes → NameState
+loose_state kind text = unwrap_or (option_map (loose_line kind) (line_text text)) Faulty
 
--- what the records say of a name: private names have no packed reading
-abbrev pub packed_reading : Bytes → PackedFile → Reading
-packed_reading name packed =
+-- what the records say of a name: private names are in no record
+abbrev pub packed_state : Bytes → PackedFile → NameState
+packed_state name packed =
     if is_private name then Absent
     else unwrap_or
     (option_map (λ found. Holds found.target)
     (find (λ found. bytes_eq found.name name) packed.records)) Absent
 
-abbrev pub packed_text_reading : Kind → Bytes → Bytes → Reading
-packed_text_reading kind name text =
-    unwrap_or (option_map (packed_reading name) (packed_file kind text)) Faulty
+abbrev pub packed_text_state : Kind → Bytes → Bytes → NameState
+packed_text_state kind name text =
+    unwrap_or (option_map (packed_state name) (packed_file kind text)) Faulty
 
 -- A loose file wins over a record. What is no name reads as absent.
-abbrev pub reading : Kind → Tree → Bytes → Reading
-reading kind tree name =
+abbrev pub name_state : Kind → Tree → Bytes → NameState
+name_state kind tree name =
     let packed =
-    unwrap_or (option_map (packed_text_reading kind name) (file_at tree packed_place)) Absent in
-    if is_name name then unwrap_or (option_map (loose_reading kind) (file_at tree name)) packed
+    unwrap_or (option_map (packed_text_state kind name) (file_at tree packed_place)) Absent in
+    if is_name name then unwrap_or (option_map (loose_state kind) (file_at tree name)) packed
     else Absent
 
-abbrev pub is_absent : Reading → Bool
+abbrev pub is_absent : NameState → Bool
 is_absent Absent = true
 is_absent _ = false
