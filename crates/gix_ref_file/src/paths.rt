@@ -3,8 +3,8 @@ ghost use Rattle.std.specs.Prelude.{◌≡◌, ◌-◌, ◌≤◌, not, length};
 ghost use Rattle.std.specs.List.{suffix_len, after_last};
 ghost use Rattle.gix_ref_file.specs.Tree.{is_slash, is_component, is_path, parent};
 
-// The most bytes that a path has.
-const MAX_PATH: usize = 4096;
+/// The most bytes that a path has.
+pub const MAX_PATH: usize = 4096;
 
 /// Whether these bytes are a path: at most 4,096, components with slashes between.
 pub fn is_path(path: &[u8]) -> bool

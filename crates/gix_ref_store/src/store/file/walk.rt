@@ -12,13 +12,11 @@ use crate::store::file::iter::Error;
 use crate::store::file::place::joined;
 use gix_object_lines::ByteString;
 use gix_object_lines::lines::is_capitals;
+use gix_ref_file::paths::MAX_PATH;
 use gix_ref_file::{Files, Place};
 use gix_ref_name::FullName;
 use std::alloc::Global;
 use std::collections::BTreeSet;
-
-// The most bytes that a path has.
-const MAX_PATH: usize = 4096;
 
 // Files, a folder of theirs in which names stand as paths, and which names are asked for.
 #[derive(Drop)]
