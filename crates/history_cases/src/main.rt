@@ -1,7 +1,6 @@
 //! Answers cases of `history`, a line each: a hash function, and words that make, open and run a repository.
 #![tactic(auto)]
 
-mod drops;
 mod face;
 mod files;
 mod runs;

@@ -1,6 +1,6 @@
 //! Runs of commands, and what they write.
 
-use crate::drops::Drops;
+use case_drops::Drops;
 use case_words::{Page, Trial, read_bytes, sound};
 use gix_ref_file::MemoryFiles;
 use history::{Bytes, Collected, End, Kind, Repository, RunError, create};

@@ -1,7 +1,7 @@
 //! One case to one line.
 
-use crate::drops::Drops;
 use crate::shown::show_reading;
+use case_drops::Drops;
 use case_words::{Page, read_bytes};
 use history_word::{Broken, Buffer, Bytes, Collected, Source, Stream, read_command, write_all};
 use std::alloc::{AllocError, Global};

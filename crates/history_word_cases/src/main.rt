@@ -2,7 +2,6 @@
 #![tactic(auto)]
 
 mod case;
-mod drops;
 mod shown;
 
 use std::io::{self, BufRead, BufReader, BufWriter, Write};
