@@ -8,12 +8,7 @@ use Rattle.gix_ref_file.specs.History.{History, Adds, HasRisen}
 abbrev pub Finds : {F : Type 0} → (F → Type 0) → (F → History) → F → (Tree → Type 0) → Type 0
 Finds IsHonest history files What = IsHonest files → What (history files).tree
 
--- this holds of the tree before the call and of the one after it
-abbrev pub Leaves : {F : Type 0} → (F → Type 0) → (F → History) → F → F → (Tree → Tree → Type 0)
-    → Type 0
-Leaves IsHonest history old new What = IsHonest old → What (history old).tree (history new).tree
-
--- and so it does where the call succeeds
+-- this holds of the tree before the call and of the one after it, where the call succeeds
 abbrev pub Achieves : {F T E : Type 0} → (F → Type 0) → (F → History) → F → F → Result T E
     → (Tree → Tree → Type 0) → Type 0
 Achieves IsHonest history old new result What =

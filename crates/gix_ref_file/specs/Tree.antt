@@ -37,9 +37,13 @@ is_component part =
     nat_lt 0 (length part) && not (bytes_eq part (46 ∷ [])) && not (bytes_eq part (46 ∷ 46 ∷ []))
     && not (list_any (λ byte. byte == 0) part)
 
--- a path: at most 4096 bytes, components with slashes between
+-- the most bytes of a path
+abbrev pub max_path : ℕ
+max_path = 4096
+
+-- a path: at most so many bytes, components with slashes between
 abbrev pub is_path : List ℕ → Bool
-is_path path = nat_le (length path) 4096 && list_all is_component (slice_split is_slash path)
+is_path path = nat_le (length path) max_path && list_all is_component (slice_split is_slash path)
 
 -- the folder that a path stands in
 abbrev pub parent : List ℕ → List ℕ

@@ -1,7 +1,7 @@
 //! Laws of the definitions, each the contract of a function that does nothing.
 ghost use Rattle.std.specs.Prelude.{◌≡◌, ◌≤◌, ◌++◌, ◌∷◌, ℕ, List, None, length, IsTrue, IsFalse, IsSome};
 ghost use Rattle.std.specs.List.{list_any};
-ghost use Rattle.gix_ref_file.specs.Tree.{Tree, same_path, node_at, bytes_at, names_at, IsRooted, IsAscending};
+ghost use Rattle.gix_ref_file.specs.Tree.{Tree, same_path, node_at, bytes_at, names_at, IsRooted, IsAscending, max_path};
 ghost use Rattle.gix_ref_file.specs.Changes.{Change, to_write, to_append, to_rename, allows, after, paths_of};
 ghost use Rattle.gix_ref_file.specs.History.{History, trees, moment, stood_between};
 
@@ -13,7 +13,7 @@ pub fn names_ascend()
 /// What stands has a path of at most 4,096 bytes.
 pub fn paths_are_short()
     ensures { (tree : Tree) (path : List ℕ) → IsRooted tree → IsSome (node_at tree path)
-        → length path ≤ 4096 }
+        → length path ≤ max_path }
 {}
 
 /// A change leaves what stands at paths that it doesn't name.

@@ -1,7 +1,9 @@
 //! The parts of a path.
-ghost use Rattle.std.specs.Prelude.{◌≡◌, ◌-◌, ◌≤◌, not, length};
+ghost use Rattle.std.specs.Prelude.{◌≡◌, ◌-◌, ◌≤◌, ◌&&◌, not, length, nat_lt, nat_le, IfOk};
 ghost use Rattle.std.specs.List.{suffix_len, after_last};
-ghost use Rattle.gix_ref_file.specs.Tree.{is_slash, is_component, is_path, parent};
+ghost use Rattle.gix_ref_file.specs.Tree.{is_slash, is_component, is_path, max_path, parent, under};
+
+use std::alloc::{AllocError, Global};
 
 /// The most bytes that a path has.
 pub const MAX_PATH: usize = 4096;
@@ -21,6 +23,26 @@ pub fn is_component(part: &[u8]) -> bool
     ensures { result ≡ is_component part.now }
 {
     !part.is_empty() && part != b".".as_slice() && part != b"..".as_slice() && !part.contains(&0)
+}
+
+/// Whether the path is longer than the folder's, and no longer than a path may be.
+pub fn is_deeper(path: &[u8], folder: &[u8]) -> bool
+    ensures { result
+        ≡ (nat_lt (length folder.now) (length path.now) && nat_le (length path.now) max_path) }
+{
+    folder.len() < path.len() && path.len() <= MAX_PATH
+}
+
+/// The path of what stands at this path in a folder.
+pub fn joined(alloc: Global, folder: &[u8], path: &[u8]) -> Result<Vec<u8>, AllocError>
+    ensures { IfOk result (λ joined. joined.items ≡ under folder.now path.now) }
+{
+    let mut joined = Vec::from_slice(alloc, folder)?;
+    if !folder.is_empty() {
+        joined.push(b'/')?;
+    }
+    joined.extend_from_slice(path)?;
+    Ok(joined)
 }
 
 // Where the last part begins.

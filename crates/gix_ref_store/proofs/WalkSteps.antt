@@ -10,7 +10,7 @@ use Rattle.std.proofs.Math.ListN.{get_or}
 use Rattle.gix_object_lines.specs.NameTest.{begins, ends, is_full_name, is_capital, is_capitals}
 use Rattle.gix_ref_file.specs.declared.files.Place.{Place}
 use Rattle.gix_ref_file.specs.declared.files.Place.TheVariants as places
-use Rattle.gix_ref_file.specs.Tree.{Tree, Node, file, folder, is_slash, is_component, is_path, parent, node_at, place_of, is_folder, bytes_of, names_at, IsRooted, under}
+use Rattle.gix_ref_file.specs.Tree.{Tree, Node, file, folder, is_slash, is_component, is_path, parent, node_at, place_of, is_folder, bytes_of, names_at, IsRooted, max_path, under}
 use Rattle.gix_ref_file.specs.Changes.{is_file_at}
 use Rattle.gix_ref_file.proofs.Below.{path_in_folder}
 use Rattle.gix_ref_file.proofs.Listings.{listed_stands, item_is, map_length}
@@ -149,12 +149,12 @@ module _ (tree : Tree) (rooted : IsRooted tree) (base : List ℕ) (lead asked : 
 pub record IsStep (base within place path : List ℕ) (listed : List (List ℕ)) (i : ℕ) : Type 0 where
   pub at : under base path ≡ under place (get_or listed i [])
   pub some : 0 < length path
-  pub deep : (IsTrue (is_path (under base path))) → (nat_lt (length within) (length path) && nat_le (length path) 4096) ≡ true
+  pub deep : (IsTrue (is_path (under base path))) → (nat_lt (length within) (length path) && nat_le (length path) max_path) ≡ true
 
-path_short : (path : List ℕ) → IsTrue (is_path path) → length path ≤ 4096
-path_short path is = by_case (nat_le (length path) 4096) refl is
+path_short : (path : List ℕ) → IsTrue (is_path path) → length path ≤ max_path
+path_short path is = by_case (nat_le (length path) max_path) refl is
   where
-    by_case : (b : Bool) → nat_le (length path) 4096 ≡ b → IsTrue (b && list_all is_component (slice_split is_slash path)) → length path ≤ 4096
+    by_case : (b : Bool) → nat_le (length path) max_path ≡ b → IsTrue (b && list_all is_component (slice_split is_slash path)) → length path ≤ max_path
     by_case true e h = leb-true _ _ e
     by_case false e h = cc
 
@@ -166,7 +166,7 @@ longer_in : (within name : List ℕ) → 0 < length within → length within < l
 longer_in [] name some = absurd (omega (arith, some))
 longer_in (f ∷ within) name some = omega (arith, length-append (f ∷ within) (47 ∷ name))
 
-is_deep : (within path : List ℕ) → length within < length path → length path ≤ 4096 → (nat_lt (length within) (length path) && nat_le (length path) 4096) ≡ true
+is_deep : (within path : List ℕ) → length within < length path → length path ≤ max_path → (nat_lt (length within) (length path) && nat_le (length path) max_path) ≡ true
 is_deep within path longer short = grind (arith, nat_tests)
 
 pub step_of : (base within place path name : List ℕ) (xs : List (Vec ℕ Global)) (i : ℕ) (v : Vec ℕ Global) → 0 < length within → place ≡ under base within → i < length xs → v ≡ get_or xs i v → name ≡ v.items → path ≡ under within name
@@ -178,7 +178,7 @@ step_of base within place path name xs i v some place_is below is name_is path_i
 }
 
 pub step_stands : (tree : Tree) (base within place path : List ℕ) (xs : List (Vec ℕ Global)) (i : ℕ) → IsRooted tree → map (λ (name : Vec ℕ Global). name.items) xs ≡ names_at tree place → i < length xs
-    → IsStep base within place path (map (λ (name : Vec ℕ Global). name.items) xs) i → (nat_lt (length within) (length path) && nat_le (length path) 4096) ≡ true
+    → IsStep base within place path (map (λ (name : Vec ℕ Global). name.items) xs) i → (nat_lt (length within) (length path) && nat_le (length path) max_path) ≡ true
 step_stands tree base within place path xs i rooted names below step =
     let r = listed_stands tree place (map (λ (name : Vec ℕ Global). name.items) xs) i rooted names (omega (arith, below, map_length xs)) in
     step.deep (subst (λ p. IsTrue (is_path p)) (sym step.at) r.1)

@@ -2,8 +2,9 @@
 //! files, a log without its name, and of a log what isn't a whole line.
 
 use case_words::{Page, Trial, sound};
+use gix_ref_file::paths::joined;
 use gix_ref_file::{FileError, Files, MemoryFiles, Place};
-use std::alloc::{AllocError, Global};
+use std::alloc::Global;
 use std::mem;
 
 // A file: where it stands, and its bytes.
@@ -110,13 +111,4 @@ fn add_files(
         }
     }
     Ok(())
-}
-
-fn joined(alloc: Global, folder: &[u8], name: &[u8]) -> Result<Vec<u8>, AllocError> {
-    let mut path = Vec::from_slice(alloc, folder)?;
-    if !folder.is_empty() {
-        path.push(b'/')?;
-    }
-    path.extend_from_slice(name)?;
-    Ok(path)
 }

@@ -1,17 +1,15 @@
 //! What stands in a part of the folder.
-ghost use Rattle.std.specs.Prelude.{◌≡◌, ◌&&◌, nat_lt, nat_le, length, IfOk, OnOk, IsErrOf, MatchOption, codes};
+ghost use Rattle.std.specs.Prelude.{◌≡◌, IfOk, IsErrOf, MatchOption, codes};
 ghost use Rattle.std.specs.List.{list_all};
 ghost use Rattle.gix_ref_file.specs.Calls.{Finds};
 ghost use Rattle.gix_ref_file.specs.declared.files.FileError.TheVariants.{Failed};
-ghost use Rattle.gix_ref_file.specs.Tree.{under};
 ghost use Rattle.history_model.specs.FileMap.{is_within};
-ghost use Rattle.history_model.specs.Forms.{max_path};
 ghost use Rattle.history_model.specs.Places.{is_lower_hex, is_object_folder, is_name_folder};
 ghost use Rattle.history_store.specs.Parts.{may_hold_folder, IsClear, IsClearBelow, IsStray};
 
+use gix_ref_file::paths::{is_deeper, joined};
 use gix_ref_file::{FileError, Files, Place};
-use history_model::limits::MAX_PATH;
-use std::alloc::{AllocError, Global};
+use std::alloc::Global;
 
 /// One of the two parts that a repository is kept in.
 #[derive(Clone, Copy, PartialEq, Eq, Debug)]
@@ -86,26 +84,6 @@ fn survey_folder<F: Files>(
         }
     }
     Ok(None)
-}
-
-/// Whether the path is longer than the folder's, and within the limit.
-pub fn is_deeper(path: &[u8], folder: &[u8]) -> bool
-    ensures { result ≡ nat_lt (length folder.now) (length path.now)
-        && nat_le (length path.now) max_path }
-{
-    folder.len() < path.len() && path.len() <= MAX_PATH
-}
-
-/// The path of what stands in a folder under this name.
-pub fn joined(alloc: Global, folder: &[u8], name: &[u8]) -> Result<Vec<u8>, AllocError>
-    ensures { IfOk result (λ path. path.items ≡ under folder.now name.now) }
-{
-    let mut path = Vec::from_slice(alloc, folder)?;
-    if !folder.is_empty() {
-        path.push(b'/')?;
-    }
-    path.extend_from_slice(name)?;
-    Ok(path)
 }
 
 fn is_object_folder(path: &[u8]) -> bool

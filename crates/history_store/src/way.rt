@@ -9,7 +9,7 @@ ghost use Rattle.history_store.specs.Stores.{SameFiles, FoldersAbove};
 ghost use Rattle.history_store.specs.References.{ClearsWay, KeepsOtherFolders, HasWay, NoFileBelow, TellsAbove, TellsBelow};
 
 use crate::folders::make_folders;
-use crate::parts::{is_deeper, joined};
+use gix_ref_file::paths::{is_deeper, joined};
 use gix_ref_file::{FileError, Files, Place};
 use std::alloc::Global;
 

@@ -130,12 +130,3 @@ pub(crate) fn push_under(folder: &mut Vec<u8>, path: &[u8]) -> Result<(), AllocE
     folder.extend_from_slice(path)?;
     Ok(())
 }
-
-// The path of what stands at this path in a folder.
-pub(crate) fn joined(alloc: Global, folder: &[u8], path: &[u8]) -> Result<Vec<u8>, AllocError>
-    ensures { IfOk result (λ place. place.items ≡ under folder.now path.now) }
-{
-    let mut place = folder.to_vec(alloc)?;
-    push_under(&mut place, path)?;
-    Ok(place)
-}

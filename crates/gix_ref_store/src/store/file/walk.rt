@@ -1,6 +1,6 @@
 //! The names of the files below a folder.
 
-ghost use Rattle.std.specs.Prelude.{◌≡◌, ◌<◌, ◌⊎◌, ◌&&◌, ℕ, List, IsTrue, IfOk, IfErr, OnOk, nat_lt, nat_le, length};
+ghost use Rattle.std.specs.Prelude.{◌≡◌, ◌<◌, ◌⊎◌, ℕ, List, IsTrue, IfOk, IfErr, OnOk, length};
 ghost use Rattle.gix_object_lines.specs.NameTest.{is_full_name};
 ghost use Rattle.gix_ref_file.specs.Tree.{node_at, place_of, under};
 ghost use Rattle.gix_ref_store.specs.Asks.{is_asked, leads};
@@ -9,10 +9,9 @@ ghost use Rattle.gix_ref_store.specs.Walks.{Keeps, BringsAsked, GathersBelow, Ga
 
 use crate::store::file::asked::Asked;
 use crate::store::file::iter::Error;
-use crate::store::file::place::joined;
 use gix_object_lines::ByteString;
 use gix_object_lines::lines::is_capitals;
-use gix_ref_file::paths::MAX_PATH;
+use gix_ref_file::paths::{is_deeper, joined};
 use gix_ref_file::{Files, Place};
 use gix_ref_name::FullName;
 use std::alloc::Global;
@@ -82,14 +81,6 @@ impl<F: Files> Walk<'_, F> {
         }
         Ok(())
     }
-}
-
-// Whether the path is longer than the folder's, and within the limit.
-fn is_deeper(path: &[u8], folder: &[u8]) -> bool
-    ensures { result
-        ≡ (nat_lt (length folder.now) (length path.now) && nat_le (length path.now) 4096) }
-{
-    folder.len() < path.len() && path.len() <= MAX_PATH
 }
 
 // Puts a copy of the path in, where it is the name of a pseudo reference.

@@ -1,7 +1,7 @@
 use Rattle.std.proofs.Common.{◌≡◌, ◌∙◌, sym, ap, subst, ℕ, ◌&&◌, map, length, Vec, arith, rules}
 use Rattle.std.specs.Prelude.{IsTrue, nat_lt, nat_le}
 use Rattle.std.specs.declared.alloc.Global.{Global}
-use Rattle.gix_ref_file.specs.Tree.{node_at, place_of, names_at, under}
+use Rattle.gix_ref_file.specs.Tree.{max_path, node_at, place_of, names_at, under}
 use Rattle.gix_ref_file.proofs.Listings.{map_length}
 use Rattle.gix_ref_store.specs.Asks.{is_asked, leads}
 use Rattle.gix_ref_store.specs.Walks.{GathersBelow}
@@ -48,7 +48,7 @@ loop-name-preserved g t c =
               one_more (IsGathered tree base asked before) place (under base path) _ i (c.loop-name.invariant.2 honest)
               step.at (absurd (
               let deep = step_stands tree base c.args.folder.now place path xs i rooted names c.loop-name-test.true step in
-              let e : w.is_deeper.result ≡ (nat_lt (length c.args.folder.now) (length path) && nat_le (length path) 4096) = search rules in
+              let e : w.is_deeper.result ≡ (nat_lt (length c.args.folder.now) (length path) && nat_le (length path) max_path) = search rules in
               cc (sym w'.if-is_deeper.false ∙ e ∙ deep))),
         )
       ])

@@ -1,7 +1,7 @@
 use Rattle.std.proofs.Common.{◌-◌, ◌<◌, ℕ, [], length, map, Vec}
 use Rattle.std.proofs.Math.ListN.{get_or}
 use Rattle.std.specs.declared.alloc.Global.{Global}
-use Rattle.gix_ref_file.specs.Tree.{under}
+use Rattle.gix_ref_file.specs.Tree.{max_path, under}
 use Rattle.gix_ref_store.specs.Asks.{is_asked}
 use Rattle.gix_ref_store.specs.Walks.{Keeps, BringsAsked}
 use Rattle.gix_ref_store.proofs.WalkSteps.{IsGathered}
@@ -9,7 +9,7 @@ use Rattle.gix_ref_store.proofs.store.file.walk.Walk.+below.Given as goal
 
 -- a folder within the one walked over has a longer path
 abbrev pub decreases-below : goal.decreases-below
-decreases-below g l = 4096 - length l.folder.now
+decreases-below g l = max_path - length l.folder.now
 
 -- what is listed so far is gathered
 abbrev pub invariant-loop-name : goal.invariant-loop-name
