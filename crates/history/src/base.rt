@@ -3,7 +3,6 @@
 ghost use Rattle.std.specs.Prelude.{◌≡◌, ◌++◌, ⊤, Some, None, IfOk, IsTrue, MatchResult, map, length, option_map, option_to_list};
 ghost use Rattle.std.specs.List.{filter_map, list_any};
 ghost use Rattle.history_model.specs.Causes.{is_unborn, is_unknown};
-ghost use Rattle.history_model.specs.Bytes.{has_twice};
 ghost use Rattle.history_model.specs.Forms.{is_name};
 ghost use Rattle.history_model.specs.Commands as orders;
 ghost use Rattle.history_model.specs.Repository as plain;
@@ -18,7 +17,6 @@ ghost use Rattle.history.specs.CommitCauses.{Tests, name_causes, place_causes};
 ghost use Rattle.history.specs.Meanings.{commit_in, meaning_of};
 ghost use Rattle.history.specs.Serving.{Serves};
 ghost use Rattle.gix_hash_id.specs.Id.{id_of};
-ghost use Rattle.gix_hash_id.specs.Order.{id_eq};
 
 use crate::repository::Repository;
 use crate::stopped::Stopped;
@@ -27,6 +25,7 @@ use gix_hash::ObjectId;
 use gix_ref_file::Files;
 use history_model::Cause;
 use history_model::limits::MAX_PARENTS;
+use history_store::has_twice;
 use history_word::{CommitCommand, Expect};
 use std::alloc::{AllocError, Global};
 
@@ -143,17 +142,6 @@ fn test_parents(parents: &[ObjectId]) -> Result<(), Cause>
         return Err(Cause::DuplicateParent);
     }
     Ok(())
-}
-
-fn has_twice(ids: &[ObjectId]) -> bool
-    ensures { result ≡ has_twice id_eq (map id_of ids.now) }
-{
-    if ids.is_empty() {
-        return false;
-    }
-    let first = ids[0];
-    let rest = &ids[1..];
-    rest.iter().any(|id| first == *id) || has_twice(rest)
 }
 
 impl<F: Files> Repository<F> {

@@ -2,7 +2,7 @@
 
 ghost use Rattle.std.specs.Prelude.{◌≡◌, IsFalse, IsTrue, List, MatchResult, None};
 ghost use Rattle.std.specs.List.{list_any, flat_map};
-ghost use Rattle.history_model.specs.Forms.{max_content, title};
+ghost use Rattle.history_model.specs.Forms.{max_content};
 ghost use Rattle.history_model.specs.Causes.{is_bad_title, is_bad_path};
 ghost use Rattle.history_model.specs.CommandParts.{contents_in, edit_paths, put_contents};
 ghost use Rattle.history_model.specs.declared.Cause.TheVariants.{BadPath};
@@ -18,6 +18,7 @@ use crate::fields::{is_bad_path, is_too_long, kept};
 use gix_object::lines::Time;
 use history_model::Cause;
 use history_model::limits::MAX_TITLE;
+use history_store::title;
 use history_word::{ActorLine, Edit, Field};
 
 /// When the two actors of a commit acted.
@@ -25,16 +26,6 @@ use history_word::{ActorLine, Edit, Field};
 pub(crate) struct Times {
     pub(crate) author: Time,
     pub(crate) committer: Time,
-}
-
-/// The message up to its first LF.
-pub(crate) fn title(message: &[u8]) -> &[u8]
-    ensures { result.now ≡ title message.now }
-{
-    match message.iter().position(|byte| *byte == b'\n') {
-        Some(end) => &message[..end],
-        None => message,
-    }
 }
 
 /// Whether a title is empty, over its limit, or holds a byte that can't stand in a log's line.

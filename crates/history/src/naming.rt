@@ -1,7 +1,7 @@
 //! Which names a command may move.
 
 ghost use Rattle.std.specs.Prelude.{◌≡◌, MatchResult, None, Some};
-ghost use Rattle.history_model.specs.Forms.{is_name, is_private};
+ghost use Rattle.history_model.specs.Forms.{is_private};
 ghost use Rattle.history_model.specs.Commands as model;
 ghost use Rattle.history_model.specs.Repository as plain;
 ghost use Rattle.history.specs.CommitCauses.{form_cause, IsNamed, Tests, name_form_causes};
@@ -9,22 +9,11 @@ ghost use Rattle.history.specs.Stands.{Stands};
 
 use crate::repository::Repository;
 use crate::stopped::Stopped;
-use gix_object::lines::is_full_name;
 use gix_ref_file::Files;
 use history_model::Cause;
-use history_model::limits::MAX_NAME;
-use history_model::names::{HEAD, REFS};
+use history_model::names::HEAD;
+use history_store::is_name;
 use std::alloc::Global;
-
-/// Whether a repository may hold the name, or one working tree may: a full name below `refs/`, in UTF-8.
-fn is_name(name: &[u8]) -> bool
-    ensures { result ≡ is_name name.now }
-{
-    is_full_name(name)
-        && name.starts_with(REFS)
-        && str::from_utf8(name).is_ok()
-        && name.len() <= MAX_NAME
-}
 
 /// Whether the name belongs to one working tree.
 pub(crate) fn is_private(name: &[u8]) -> bool

@@ -24,7 +24,7 @@ ghost use Rattle.history.specs.declared.stopped.Stopped.TheVariants as why;
 
 use crate::actors::actor_at;
 use crate::base::Base;
-use crate::causes::{have_long_content, read_times, test_paths, title};
+use crate::causes::{have_long_content, read_times, test_paths};
 use crate::editing::read_edits;
 use crate::fields::into_kept;
 use crate::repository::Repository;
@@ -34,7 +34,7 @@ use gix_ref_file::Files;
 use history_files::{EditedFiles, EditedTree};
 use history_model::limits::MAX_CONTENT;
 use history_model::{Cause, Fault};
-use history_store::{Actor, LogEntry, NewObject, commit_bytes, plain_commit};
+use history_store::{Actor, LogEntry, NewObject, commit_bytes, plain_commit, title};
 use history_word::{ActorLine, CommitCommand, Edit, Field};
 use std::alloc::{AllocError, Global};
 

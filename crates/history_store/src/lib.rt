@@ -30,3 +30,4 @@ pub use objects::{Object, Objects, PutMadeError};
 pub use opening::{ObjectsRefusal, OpenError, new_branch};
 pub use parts::{Part, Stray, survey};
 pub use put::PutError;
+pub use written::{has_twice, is_name, title};

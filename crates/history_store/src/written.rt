@@ -7,11 +7,13 @@ mod commits;
 mod tags;
 mod trees;
 
+pub use commits::has_twice;
 use commits::named_by_commit;
 use gix_hash::{Kind, ObjectId};
 use gix_object::Kind as ObjectKind;
 use gix_object_lines::cut::split_once;
 use std::alloc::{AllocError, Global};
+pub use tags::is_name;
 use tags::named_by_tag;
 use trees::named_by_tree;
 
@@ -40,8 +42,8 @@ pub(crate) fn named_by(
     }
 }
 
-// The message up to its first line feed.
-fn title(message: &[u8]) -> &[u8]
+/// The title of a message: what stands before its first line feed, or all.
+pub fn title(message: &[u8]) -> &[u8]
     ensures { result.now ≡ title message.now }
 {
     match split_once(message, b'\n') {

@@ -66,8 +66,8 @@ fn is_within_limits(commit: &Commit) -> bool
         && title(commit.message.as_bytes()).len() <= MAX_TITLE
 }
 
-// Whether one of the ids stands twice.
-fn has_twice(ids: &[ObjectId]) -> bool
+/// Whether one of the ids stands twice.
+pub fn has_twice(ids: &[ObjectId]) -> bool
     ensures { result ≡ has_twice id_eq (map id_of ids.now) }
 {
     let mut rest = ids;

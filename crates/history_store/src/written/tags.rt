@@ -115,7 +115,8 @@ fn is_tag_name(alloc: Global, name: &[u8]) -> Result<bool, AllocError>
     Ok(is_name(&full))
 }
 
-fn is_name(name: &[u8]) -> bool
+/// Whether a repository may hold the name, or one working tree may: a full name below `refs/`, in UTF-8, of at most 1,024 bytes.
+pub fn is_name(name: &[u8]) -> bool
     ensures { result ≡ is_name name.now }
 {
     if !is_partial_name(name) {
