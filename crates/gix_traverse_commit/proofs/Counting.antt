@@ -5,7 +5,8 @@ use Rattle.gix_hash_id.specs.Id.{Id}
 use Rattle.gix_hash_id.specs.declared.object_id.ObjectId.{ObjectId}
 use Rattle.gix_object_find.specs.Table.{Table}
 use Rattle.gix_traverse_commit.specs.Commits.{Commits, Reached, tip, parent}
-use Rattle.gix_traverse_commit.specs.Fetching.{FetchFault, one_more}
+use Rattle.gix_object_lines.specs.Counts.{one_more}
+use Rattle.gix_traverse_commit.specs.Fetching.{FetchFault}
 use Rattle.gix_traverse_commit.specs.Keeping.{KeptAll}
 use Rattle.gix_traverse_commit.specs.Nodes.{is_hidden}
 use Rattle.gix_traverse_commit.specs.Order.{At, IsListOf}

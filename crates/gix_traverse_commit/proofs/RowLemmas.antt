@@ -6,7 +6,7 @@ use Rattle.std.proofs.lemmas.Option.{slice_get_within, slice_get-get_or}
 use Rattle.gix_hash_id.specs.declared.object_id.ObjectId.{ObjectId}
 use Rattle.gix_traverse_commit.specs.declared.rows.Row.{Row}
 use Rattle.gix_traverse_commit.specs.Order.{At}
-use Rattle.gix_traverse_commit.specs.Rows.{IsOnce, IsGreatest, HasGeneration, AreRows}
+use Rattle.gix_traverse_commit.specs.Rows.{IsOnce, IsGreatest, HasGeneration, AreRows, generation_limit}
 use Rattle.gix_traverse_commit.specs.Numbered.{NumberMap, same_id, NumbersBelow, Numbers}
 use Rattle.gix_traverse_commit.specs.RowCommits.{commit_of, commits_of}
 use Rattle.gix_traverse_commit.proofs.Ids.{same_from_test, test_from_same, same_id_apart}
@@ -134,7 +134,7 @@ greatest_once rows ids m n h k = go h.attained k.attained
     go (inr (s, c, d, f)) (inr (t, c', d', f')) = let x = k.none_above s c d in let y = h.none_above t c' d' in omega arith
 
 -- no other generation is by the rule
-pub generation_once : (rows : List Row) (row : Row) (n : ℕ) → IsGreatest rows row.parents.items n → HasGeneration rows row → (row.generation ≡ n + 1) × (row.generation ≤ 1073741823)
+pub generation_once : (rows : List Row) (row : Row) (n : ℕ) → IsGreatest rows row.parents.items n → HasGeneration rows row → (row.generation ≡ n + 1) × (row.generation ≤ generation_limit)
 generation_once rows row n g h = let e = greatest_once rows row.parents.items n h.greatest g h.is_greatest in (let x = h.one_more in omega arith, h.within)
 
 -- ---- places

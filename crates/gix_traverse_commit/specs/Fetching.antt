@@ -94,7 +94,3 @@ TimeIsTold rows table id =
     Holds rows id
     ⊎ ((content : List ℕ) × (seconds : ℤ) × Stands table (id_of id) kinds.Commit content
     × TellsSeconds (start (id_of id).kind content) seconds)
-
--- the count of lookups after one more, which stays at its greatest value
-abbrev pub one_more : ℕ → ℕ
-one_more count = min (count + 1) (2 ^ 64 - 1)

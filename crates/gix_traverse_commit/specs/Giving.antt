@@ -6,7 +6,8 @@ use Rattle.gix_object_find.specs.Existing as object
 use Rattle.gix_object_find.specs.Table.{Table}
 use Rattle.gix_object_lines.specs.declared.kind.Kind.TheVariants as kinds
 use Rattle.gix_traverse_commit.specs.Commits.{Commit, Commits, asked_parents}
-use Rattle.gix_traverse_commit.specs.Fetching.{ReadFault, TimeFault, TimeIsTold, HasRowsGeneration, one_more}
+use Rattle.gix_object_lines.specs.Counts.{one_more}
+use Rattle.gix_traverse_commit.specs.Fetching.{ReadFault, TimeFault, TimeIsTold, HasRowsGeneration}
 use Rattle.gix_traverse_commit.specs.Known.{KnownCommits, turns_of}
 use Rattle.gix_traverse_commit.specs.Meeting.{Asks, CountsAll, CountsOne, CountsTimes, IsFresh, MarksAll, MarksMet, accepted}
 use Rattle.gix_traverse_commit.specs.Nodes.{is_met}

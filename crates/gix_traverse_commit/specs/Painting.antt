@@ -3,7 +3,8 @@ use Rattle.std.specs.Prelude.{◌≡◌, ◌≤◌, ◌↔◌, ℕ, Bool, true, 
 use Rattle.gix_hash_id.specs.declared.object_id.ObjectId.{ObjectId}
 use Rattle.gix_object_find.specs.Table.{Table}
 use Rattle.gix_traverse_commit.specs.Commits.{Commits, Reached}
-use Rattle.gix_traverse_commit.specs.Fetching.{FetchFault, one_more}
+use Rattle.gix_object_lines.specs.Counts.{one_more}
+use Rattle.gix_traverse_commit.specs.Fetching.{FetchFault}
 use Rattle.gix_traverse_commit.specs.Meeting.{CountsAll}
 use Rattle.gix_traverse_commit.specs.Nodes.{is_hidden}
 use Rattle.gix_traverse_commit.specs.Order.{At}

@@ -32,12 +32,16 @@ pub record IsGreatest (rows : List Row) (ids : List ObjectId) (n : ℕ) : Type 0
   pub attained : ((ids ≡ []) × (n ≡ 0))
       ⊎ ((s : Row) × Contains rows s × Contains ids s.id × (s.generation ≡ n))
 
+-- the greatest generation of a row
+abbrev pub generation_limit : ℕ
+generation_limit = 1_073_741_823
+
 -- the generation of a row: 1 without parents, else one more than the parents' greatest, up to the limit
 pub record HasGeneration (rows : List Row) (row : Row) : Type 0 where
   pub greatest : ℕ
   pub is_greatest : IsGreatest rows row.parents.items greatest
   pub one_more : row.generation ≡ greatest + 1
-  pub within : row.generation ≤ 1073741823
+  pub within : row.generation ≤ generation_limit
 
 -- rows that make a graph
 pub record AreRows (rows : List Row) : Type 0 where

@@ -4,7 +4,7 @@ ghost use Rattle.std.specs.Prelude.{◌≡◌, ◌+◌, ◌^◌, ◌<◌, ◌≤
 ghost use Rattle.indexmap.specs.IndexSet.{insert_key};
 ghost use Rattle.gix_hash_id.specs.declared.object_id.ObjectId.{ObjectId};
 ghost use Rattle.gix_traverse_commit.specs.Commits.{asked};
-ghost use Rattle.gix_traverse_commit.specs.Fetching.{one_more};
+ghost use Rattle.gix_object_lines.specs.Counts.{one_more};
 ghost use Rattle.gix_traverse_commit.specs.Meeting.{CountsAll};
 ghost use Rattle.gix_traverse_commit.specs.Numbered.{same_id};
 ghost use Rattle.gix_traverse_commit.specs.Order.{At};

@@ -17,7 +17,8 @@ use Rattle.history_model.specs.Causes.{is_unknown, is_unborn, is_bad_path, word_
 use Rattle.history_steps.specs.Offered.{IsOffered}
 use Rattle.history_model.specs.declared.FileKind.{FileKind}
 use Rattle.history_model.specs.declared.FileKind.TheVariants.{File, Exec, Link}
-use Rattle.history_files.specs.Reading.{entry_of, file_line, line_of}
+use Rattle.history_model.specs.Answers.{file_line}
+use Rattle.history_files.specs.Reading.{entry_of, line_of}
 use Rattle.history_files.specs.declared.found.Found.{Found}
 use Rattle.history_files.specs.declared.found.Found.TheVariants as found
 use Rattle.history_files.specs.declared.listing.File.{File as FoundFile}

@@ -2,7 +2,8 @@
 
 ghost use Rattle.std.specs.Prelude.{◌≡◌, Some, map, option_map};
 ghost use Rattle.std.specs.FinMap.{entries, get};
-ghost use Rattle.history_files.specs.Reading.{entry_of, file_line, line_of};
+ghost use Rattle.history_model.specs.Answers.{file_line};
+ghost use Rattle.history_files.specs.Reading.{entry_of, line_of};
 ghost use Rattle.history_model.specs.FileMap.{FileMap};
 ghost use Rattle.history_model.specs.Objects as model;
 ghost use Rattle.history_model.specs.Objects.{CommitValue, Value, StoredCommit, StoredFolder, content_of, folder_id, object_kind};

@@ -37,7 +37,8 @@ use Rattle.history_model.proofs.WholeItems.{Entry, files_of, items_files}
 use Rattle.history_model.proofs.WholeRoots.{has_all}
 use Rattle.history_model.proofs.WholeStores.{in_get}
 use Rattle.history_files.specs.Unfolding.{IsInTable, entry_kind}
-use Rattle.history_files.specs.Reading.{IsRootOf, OwnFault, as_walked, line_named, line_recorded, file_line}
+use Rattle.history_model.specs.Answers.{file_line}
+use Rattle.history_files.specs.Reading.{IsRootOf, OwnFault, as_walked, line_named, line_recorded}
 use Rattle.history_files.proofs.Items.{items, item_of, folder_of}
 use Rattle.history_files.proofs.Walk.{tree_of, some_items, no_items, is_next, leaf_isnt_tree, IsThere, id_kind, stands_as, there_below, some_name, along, EndsWell}
 use Rattle.history_files.proofs.GivenTrees.{map_both}

@@ -122,10 +122,6 @@ StepsBelow table (Folder id) name next =
 abbrev pub line_of : listing.File → FileLine
 line_of file = record { kind = file.kind; id = id_of file.id; path = file.path.items }
 
-abbrev pub file_line : Kind → Bytes × Content → FileLine
-file_line kind file =
-    record { kind = (file.1).kind; id = blob_id kind (file.1).bytes; path = file.0 }
-
 -- what is told of the file that an entry names, and of no other entry
 abbrev pub line_named : EntryKind → Id → Bytes → Option FileLine
 line_named entries.Tree id path = None

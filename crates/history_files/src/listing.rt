@@ -6,7 +6,8 @@ ghost use Rattle.gix_hash_id.specs.Id.{Id, id_of};
 ghost use Rattle.history_model.specs.Bytes.{Bytes};
 ghost use Rattle.gix_object_entries.specs.Mode.{kind_of};
 ghost use Rattle.gix_traverse_tree.specs.Recorder.{recorded_of};
-ghost use Rattle.history_files.specs.Reading.{OfFiles, OwnFault, StopsBelow, line_of, file_line, line_named, line_recorded, as_walked};
+ghost use Rattle.history_model.specs.Answers.{file_line};
+ghost use Rattle.history_files.specs.Reading.{OfFiles, OwnFault, StopsBelow, line_of, line_named, line_recorded, as_walked};
 ghost use Rattle.history_files.specs.declared.error.ReadError.TheVariants.{Failed};
 
 use crate::error::ReadError;

@@ -30,7 +30,7 @@ and_right false b h = absurd h
 
 module _ (r : Repository) where
   paths : List (Bytes × Content) → List Bytes
-  paths es = map (λ (line : FileLine). line.path) (map (file_line r) es)
+  paths es = map (λ (line : FileLine). line.path) (map (file_line r.kind) es)
 
   below : (path : Bytes) (es : List (Bytes × Content)) → T (below_all by_bytes path es) → AllByRecursion (λ other. by_bytes path other ≡ Less) (paths es)
   unfolding paths

@@ -123,7 +123,7 @@ first_gives = (
         ),
       );
       fails = refl;
-      written = none_written ∙ ap (λ es. flat_map reply_text (none_replies (map (file_line none_state) es) none_tree) ++ []) (sym (entries-empty {X = Content}))
+      written = none_written ∙ ap (λ es. flat_map reply_text (none_replies (map (file_line none_state.kind) es) none_tree) ++ []) (sym (entries-empty {X = Content}))
           ∙ ap (λ t. flat_map reply_text (none_replies (files_shown none_state empty) t) ++ []) (sym none_folder_is);
       file_faults = none_faulted (none_replies (files_shown none_state empty) (folder_id Sha1 empty)) refl;
     };
@@ -196,7 +196,7 @@ empty_line = record { kind = File; id = empty_blob; path = codes "a" }
 
 empty_shown : files_shown empty_state (one_file []) ≡ empty_line ∷ []
 unfolding empty_state state empty_line
-empty_shown = ap (λ es. map (file_line empty_state) es) (entry_is []) ∙ ap (λ i. record { kind = File; id = i; path = codes "a" } ∷ []) empty_blob_is
+empty_shown = ap (λ es. map (file_line empty_state.kind) es) (entry_is []) ∙ ap (λ i. record { kind = File; id = i; path = codes "a" } ∷ []) empty_blob_is
 
 empty_written : empty_file_output ≡ flat_map reply_text (empty_replies (empty_line ∷ [])) ++ []
 unfolding empty_replies empty_line digits
@@ -292,7 +292,7 @@ hello_line = record { kind = File; id = hello_blob; path = codes "a" }
 
 hello_shown : files_shown hello_state (one_file (codes "hello")) ≡ hello_line ∷ []
 unfolding hello_state state hello_line
-hello_shown = ap (λ es. map (file_line hello_state) es) (entry_is (codes "hello")) ∙ ap (λ i. record { kind = File; id = i; path = codes "a" } ∷ []) hello_blob_is
+hello_shown = ap (λ es. map (file_line hello_state.kind) es) (entry_is (codes "hello")) ∙ ap (λ i. record { kind = File; id = i; path = codes "a" } ∷ []) hello_blob_is
 
 hello_written : hello_output ≡ flat_map reply_text (hello_replies (hello_line ∷ []) hello_blob) ++ []
 unfolding hello_replies hello_line digits

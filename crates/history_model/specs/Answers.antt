@@ -5,6 +5,7 @@ use Rattle.std.specs.FinMap.{entries, keys, get, len}
 use Rattle.history_model.specs.Bytes.{Bytes, begins, digits_value}
 use Rattle.history_model.specs.FileMap.{FileMap, Content, cut_to}
 use Rattle.history_model.specs.Objects.{CommitValue, StoredCommit, StoredTag, id_of, blob_id, folder_id}
+use Rattle.gix_hash_id.specs.declared.kind.Kind.{Kind}
 use Rattle.gix_hash_id.specs.Id.{Id, null_id}
 use Rattle.history_model.specs.Repository.{Repository, Reference, moves_at, commit_at, peeled}
 use Rattle.history_model.specs.Words.{commit_of}
@@ -12,6 +13,7 @@ use Rattle.history_model.specs.Commands.{Command, Commit, Tag, Move, Rename, Del
 use Rattle.history_model.specs.Replies.{Reply, Committed, Tagged, Moved, Renamed, Deleted, Switched, Packed, Indexed, NamesAre, LogIs, FilesAre, ShowsCommit, ShowsContent, PastIs, NameLine, FileLine, CommitShown, ContentShown}
 use Rattle.history_model.specs.Meaning.{past_name, files_at, first_files, new_commit, new_tag}
 use Rattle.gix_traverse_commit.specs.Commits.{Commits, WalkRequest}
+use Rattle.gix_traverse_commit.specs.Rows.{generation_limit}
 use Rattle.gix_traverse_commit.specs.Walks.{InBreadth, ByNewest, ByOldest, InDate, InTopological}
 use Rattle.gix_traverse_commit.specs.declared.parents.Parents.TheVariants.{All as AllParents, First as FirstParent}
 use Rattle.history_model.specs.declared.FileKind.{FileKind}
@@ -35,12 +37,9 @@ generation_within (suc steps) r id =
 abbrev pub generation : Repository → Id → ℕ
 generation r id = generation_within (len r.objects) r id
 
-abbrev pub max_generation : ℕ
-max_generation = 1_073_741_823
-
 abbrev pub is_counted : Repository → Id → Bool
 is_counted r id =
-    list_any (λ commit. nat_le (generation r id) max_generation) (option_to_list (commit_at r id))
+    list_any (λ commit. nat_le (generation r id) generation_limit) (option_to_list (commit_at r id))
 
 abbrev pub counted : Repository → List Id
 counted r = filter (is_counted r) (keys r.objects)
@@ -78,11 +77,11 @@ name_line r e =
 abbrev pub names_shown : Repository → Option Bytes → List NameLine
 names_shown r folder = map (name_line r) (filter (λ e. is_in_folder folder e.0) (entries r.names))
 
-abbrev pub file_line : Repository → Bytes × Content → FileLine
-file_line r e = record { kind = (e.1).kind; id = blob_id r.kind (e.1).bytes; path = e.0 }
+abbrev pub file_line : Kind → Bytes × Content → FileLine
+file_line kind e = record { kind = (e.1).kind; id = blob_id kind (e.1).bytes; path = e.0 }
 
 abbrev pub files_shown : Repository → FileMap → List FileLine
-files_shown r files = map (file_line r) (entries files)
+files_shown r files = map (file_line r.kind) (entries files)
 
 -- the word stands for this commit
 pub record StandsForCommit (r : Repository) (word : Bytes) (id : Id)

@@ -56,11 +56,6 @@ FoldersAbove path old new =
     (place : Bytes) → get new place ≡ Some folder
     → (get old place ≡ Some folder) ⊎ IsAbove place path
 
--- These bytes stand at the path, and each other file as before.
-pub record PutsFile (path bytes : Bytes) (old new : Tree) : Type 0 where
-  pub here : file_at new path ≡ Some bytes
-  pub others : (other : Bytes) → other ≢ path → file_at new other ≡ file_at old other
-
 -- The text stands at the place, and each other file as before, but for `objects/unfinished`.
 pub record HoldsFile (place text : Bytes) (old new : Tree) : Type 0 where
   pub here : file_at new place ≡ Some text

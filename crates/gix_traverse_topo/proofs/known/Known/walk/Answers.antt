@@ -8,7 +8,7 @@ use Rattle.gix_traverse_commit.specs.Rows.{AllHeld, Holds}
 use Rattle.gix_traverse_commit.specs.Told.{rows_of}
 use Rattle.gix_traverse_commit.specs.declared.rows.Row.{Row}
 use Rattle.gix_traverse_commit.proofs.Lists.{contains_from_at}
-use Rattle.gix_traverse_commit.specs.Fetching.{one_more}
+use Rattle.gix_object_lines.specs.Counts.{one_more}
 use Rattle.gix_traverse_topo.specs.Walking.{Visits, Walking}
 use Rattle.gix_traverse_topo.proofs.Lookups.{IsCountedFrom, counted_all, counted_more, counted_none, counts_next, counts_start}
 use Rattle.gix_traverse_topo.proofs.Meeting.{row_met, met_held}

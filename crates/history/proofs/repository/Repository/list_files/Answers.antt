@@ -1,6 +1,7 @@
 use Rattle.std.proofs.Common.{◌≡◌, ◌∙◌, ap, map}
 use Rattle.std.specs.FinMap.{entries}
-use Rattle.history_files.specs.Reading.{file_line, line_of}
+use Rattle.history_model.specs.Answers.{file_line}
+use Rattle.history_files.specs.Reading.{line_of}
 use Rattle.history_model.specs.Commands.{Files}
 use Rattle.history_model.specs.Replies.{FilesAre, reply_text}
 use Rattle.history.proofs.Answered.{reading_fault, unread, handed_on, files_refused, reads_commit, files_answered, folder_at}
