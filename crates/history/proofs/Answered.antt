@@ -29,10 +29,10 @@ use Rattle.history_steps.proofs.OfferedReads.{words_read_names, none_is_ambiguou
 use Rattle.history_steps.proofs.OfferedCauses.{first_offered_cause}
 use Rattle.history_steps.proofs.OfferedFiles.{files_are_stored}
 use Rattle.history_model.proofs.WholeLists.{texts_differ}
-use Rattle.history_store.specs.Commits.{IsCommitOf}
+use Rattle.history_store.specs.Commits.{SaysCommit}
 use Rattle.gix_object_commit.specs.declared.commit.owned.Commit as commits
 use Rattle.gix_hash_id.specs.declared.object_id.ObjectId.{ObjectId}
-use Rattle.history.specs.Acts.{AnswersReading, Gives, ReadsWord, IsReadingFault, word_cause}
+use Rattle.history.specs.Acts.{AnswersReading, GivesMeant, ReadsWord, IsReadingFault, word_cause}
 use Rattle.history.specs.Shown.{shown_commit, shown_content}
 use Rattle.history.specs.declared.stopped.Stopped.{Stopped}
 use Rattle.history.specs.declared.stopped.Stopped.TheVariants.{Refused, Fault}
@@ -55,7 +55,7 @@ handed_on MayFail r order (Ok text) stopped same h = absurd same
 handed_on MayFail r order (Err other) stopped same h = subst (λ (x : Stopped). AnswersReading MayFail r order (Err x)) (sym same) h
 
 -- what is given answers the command
-pub given : (MayFail : Type 0) (P : Vec ℕ Global → Type 0) (r : Repository) (order : Command) (result : Result (Vec ℕ Global) Stopped) → Gives MayFail P result → ((text : Vec ℕ Global) → P text → AnswersReading MayFail r order (Ok text)) → AnswersReading MayFail r order result
+pub given : (MayFail : Type 0) (P : Vec ℕ Global → Type 0) (r : Repository) (order : Command) (result : Result (Vec ℕ Global) Stopped) → GivesMeant MayFail P result → ((text : Vec ℕ Global) → P text → AnswersReading MayFail r order (Ok text)) → AnswersReading MayFail r order result
 given MayFail P r order (Ok text) h answers = answers text h
 given MayFail P r order (Err stopped) h answers = reading_fault MayFail r order stopped h
 
@@ -115,7 +115,7 @@ module _ (r : Repository) (o : IsOffered r) (w : HasWholeNames r) where
   )
 
   pub commit_answered : (MayFail : Type 0) (word : Bytes) (id : ObjectId) (value : CommitValue) (commit : commits.Commit) (text : Vec ℕ Global) → word_meaning r word ≡ ReadsAs (id_of id) → get r.objects (id_of id) ≡ Some (StoredCommit value)
-      → IsCommitOf r.kind commit value → text.items ≡ reply_text (ShowsCommit (shown_commit id commit)) → AnswersReading MayFail r (Show word None) (Ok text)
+      → SaysCommit r.kind commit value → text.items ≡ reply_text (ShowsCommit (shown_commit id commit)) → AnswersReading MayFail r (Show word None) (Ok text)
   commit_answered MayFail word id value commit text reads at is written =
       let shown : shown_commit id commit ≡ commit_shown r (id_of id) value = λ i. record { id = id_of id; tree = is.tree i; parents = is.parents i; author = is.author i; committer = is.committer i; message = is.message i } in (
         ShowsCommit (commit_shown r (id_of id) value),
@@ -168,7 +168,7 @@ module _ (r : Repository) (o : IsOffered r) (w : HasWholeNames r) where
 -- ---- what is read on the way
 
 -- the folder of a stored commit
-pub folder_at : (r : Repository) → IsWholeStore r → (id : Id) (value : CommitValue) (commit : commits.Commit) → get r.objects id ≡ Some (StoredCommit value) → IsCommitOf r.kind commit value
+pub folder_at : (r : Repository) → IsWholeStore r → (id : Id) (value : CommitValue) (commit : commits.Commit) → get r.objects id ≡ Some (StoredCommit value) → SaysCommit r.kind commit value
     → get r.objects (id_of commit.tree) ≡ Some (StoredFolder value.files)
 folder_at r store id value commit at is = ap (get r.objects) is.tree ∙ (store.closed id (StoredCommit value) at).1
 

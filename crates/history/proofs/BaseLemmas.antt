@@ -21,7 +21,7 @@ use Rattle.history_steps.proofs.OfferedReads.{names_stand_for_theirs, words_stan
 use Rattle.history_word.specs.Commands.{IsExpect}
 use Rattle.history_word.specs.declared.command.Expect.TheVariants as sent
 use Rattle.gix_hash_id.specs.declared.object_id.ObjectId.{ObjectId}
-use Rattle.history.specs.Acts.{IsReadingFault, Gives}
+use Rattle.history.specs.Acts.{IsReadingFault, GivesMeant}
 use Rattle.history.specs.Bases.{IsExpected, expected_meanings, words_cause, held_cause, reads_as, parents_cause}
 use Rattle.history.specs.CommitCauses.{first_among, word_causes, held_causes, parent_causes, IsToldBy, Tests}
 use Rattle.history.specs.Meanings.{meaning_of, commit_in}
@@ -66,8 +66,8 @@ pub fault_told : (MayFail : Type 0) (causes : List Cause) (r : Repository) (orde
 fault_told MayFail causes r order (Refused cause) h = absurd h
 fault_told MayFail causes r order (Fault fault) h = h
 
-pub gives_told : {A : Type 0} (MayFail : Type 0) (P : A → Type 0) (causes : List Cause) (r : Repository) (order : CommitCommand) (result : Result A Stopped) (stopped : Stopped) → result ≡ Err stopped → Gives MayFail P result → IsToldBy MayFail causes r order stopped
-gives_told {A} MayFail P causes r order result stopped was gives = fault_told MayFail causes r order stopped (subst (λ (x : Result A Stopped). Gives MayFail P x) was gives)
+pub gives_told : {A : Type 0} (MayFail : Type 0) (P : A → Type 0) (causes : List Cause) (r : Repository) (order : CommitCommand) (result : Result A Stopped) (stopped : Stopped) → result ≡ Err stopped → GivesMeant MayFail P result → IsToldBy MayFail causes r order stopped
+gives_told {A} MayFail P causes r order result stopped was gives = fault_told MayFail causes r order stopped (subst (λ (x : Result A Stopped). GivesMeant MayFail P x) was gives)
 
 -- ---- words
 

@@ -10,7 +10,7 @@ use Rattle.history_model.specs.Repository as plain
 use Rattle.history_model.specs.Meaning.{files_at}
 use Rattle.history_model.specs.Repository.{HoldsCommit, IsWholeStore, as_commit}
 use Rattle.gix_hash_id.specs.declared.object_id.ObjectId.{ObjectId}
-use Rattle.history.specs.Acts.{IsReadingFault, Gives}
+use Rattle.history.specs.Acts.{IsReadingFault, GivesMeant}
 use Rattle.history.specs.declared.stopped.Stopped.{Stopped}
 
 -- no files have no entries
@@ -23,10 +23,10 @@ entries-empty = no_entries (entries (empty {X = Content} {R = by_bytes})) (sym (
 
 -- what gives nothing is told as it is
 pub gives_stopped : {A B : Type 0} (MayFail : Type 0) (P : A → Type 0) (Q : B → Type 0) (result : Result A Stopped) (ends : Result B Stopped) (stopped : Stopped) → result ≡ Err stopped → ends ≡ Err stopped
-    → Gives MayFail P result → Gives MayFail Q ends
+    → GivesMeant MayFail P result → GivesMeant MayFail Q ends
 gives_stopped {A} {B} MayFail P Q result ends stopped was is_end gives =
-    let fault : IsReadingFault MayFail stopped = subst (λ (r : Result A Stopped). Gives MayFail P r) was gives in
-    subst (λ (r : Result B Stopped). Gives MayFail Q r) (sym is_end) fault
+    let fault : IsReadingFault MayFail stopped = subst (λ (r : Result A Stopped). GivesMeant MayFail P r) was gives in
+    subst (λ (r : Result B Stopped). GivesMeant MayFail Q r) (sym is_end) fault
 
 -- what the call for a list's first element answers
 pub first_of : {X : Type 0} (xs : List X) (found : Option (Bor X)) (x : Bor X) → found ≡ Some x → option_copied found ≡ slice_get xs 0 → (rest : List X) × (xs ≡ x.now ∷ rest)

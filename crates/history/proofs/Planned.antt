@@ -38,7 +38,7 @@ use Rattle.history_files.specs.Editing.{AreEdited, AreTreesOf, HaveNull}
 use Rattle.history_files.specs.declared.trees.EditedTree.{EditedTree}
 use Rattle.history_files.specs.declared.trees.EditedFiles.{EditedFiles}
 use Rattle.history_store.specs.Formats.{actor_of, entry_of, own_actor}
-use Rattle.history_store.specs.Commits.{IsCommitOf, IsPlainCommit, has_ids_of}
+use Rattle.history_store.specs.Commits.{SaysCommit, IsPlainCommit, has_ids_of}
 use Rattle.history_store.specs.Stores.{AreObjectsOf}
 use Rattle.history_store.specs.declared.object.NewObject.{NewObject}
 use Rattle.gix_object_commit.specs.declared.commit.owned.Commit.{Commit as OwnCommit}
@@ -48,10 +48,10 @@ use Rattle.history_word.specs.Commands.{AreEdits}
 use Rattle.history_word.specs.declared.command.Edit.{Edit}
 use Rattle.history.specs.Acts.{IsReadingFault}
 use Rattle.history.specs.CommitCauses.{first_among, form_causes, name_causes, path_causes, is_long, IsToldBy, Tests}
-use Rattle.history.specs.Bases.{IsBase}
-use Rattle.history.specs.Files.{EditsFiles, kept_edit}
+use Rattle.history.specs.Bases.{IsCommitBase}
+use Rattle.history.specs.Files.{TellsEdited, kept_edit}
 use Rattle.history.specs.declared.base.Base.{Base}
-use Rattle.history.specs.Plans.{Commits, GivesObjects, HasActors, IfItFits, IsMadeOf, IsMove, IsNotAdded, IsPlan, IsUnplanned, MakesCommit, Plans, Says}
+use Rattle.history.specs.Plans.{GivesCommitted, GivesObjects, HasActors, IfItFits, IsMadeOf, IsMove, IsNotAdded, IsPlan, IsUnplanned, MakesCommit, Plans, Says}
 use Rattle.history.specs.declared.planning.Actors.{Actors}
 use Rattle.history.specs.declared.planning.Below.{Below}
 use Rattle.history.specs.declared.planning.Plan.{Plan}
@@ -108,7 +108,7 @@ commits_have_ids r store (id ∷ ids) hold = and_from (is_id r.kind id) (list_al
 -- the commit with these parts is the one that says this value
 pub commit_is : (kind : Kind) (tree : ObjectId) (parents : List ObjectId) (actors : Actors) (message : Bytes) (value : CommitValue) → Says kind tree parents actors message value
     → (commit : OwnCommit) → commit.tree ≡ tree → commit.parents.items ≡ parents → own_actor commit.author ≡ actor_of actors.author → own_actor commit.committer ≡ actor_of actors.committer
-    → commit.message ≡ message → (IsTrue (has_ids_of kind commit) → IsPlainCommit kind commit) → IsCommitOf kind commit value
+    → commit.message ≡ message → (IsTrue (has_ids_of kind commit) → IsPlainCommit kind commit) → SaysCommit kind commit value
 commit_is kind tree parents actors message value said commit same_tree same_parents author committer text plain =
     let tree_told = ap id_of same_tree ∙ said.tree_is in
     let parents_told = ap (map id_of) same_parents ∙ said.parents_are in
@@ -117,7 +117,7 @@ commit_is kind tree parents actors message value said commit same_tree same_pare
     record { plain = plain has; tree = tree_told; parents = parents_told; author = author ∙ said.author_is; committer = committer ∙ said.committer_is; message = text ∙ said.message_is }
 
 -- so the parts of a command's commit say what it says
-pub commit_said : (r : plain.Repository) (order : CommitCommand) → IsWholeStore r → (base : Base) → IsBase r order base → (root : ObjectId) → id_of root ≡ folder_id r.kind (new_commit r order).files
+pub commit_said : (r : plain.Repository) (order : CommitCommand) → IsWholeStore r → (base : Base) → IsCommitBase r order base → (root : ObjectId) → id_of root ≡ folder_id r.kind (new_commit r order).files
     → (actors : Actors) → HasActors r order actors → (message : Bytes) → message ≡ order.message → Says r.kind root base.parents.items actors message (new_commit r order)
 commit_said r order store base on root root_is actors are message same = record {
   tree_is = root_is;
@@ -136,7 +136,7 @@ commit_told kind r order same base root actors message result told said =
     subst (λ (k : Kind). Says k root base.parents.items actors message (new_commit r order) → MakesCommit k (new_commit r order) result) same told said
 
 -- where the object isn't made, nothing is to move
-pub not_made : (r : plain.Repository) (order : CommitCommand) (stopped : Stopped) → MakesCommit r.kind (new_commit r order) (Err stopped) → Commits r order (Err stopped)
+pub not_made : (r : plain.Repository) (order : CommitCommand) (stopped : Stopped) → MakesCommit r.kind (new_commit r order) (Err stopped) → GivesCommitted r order (Err stopped)
 not_made r order (Refused cause) h = h
 not_made r order (why.Fault Memory) h = h
 not_made r order (why.Fault File) h = h
@@ -162,9 +162,9 @@ module _ (r : plain.Repository) (order : CommitCommand) where
 
 module _ (r : plain.Repository) (order : CommitCommand) (o : IsOffered r) (w : HasWholeNames r) (offered : is_spoken (Commit order) ≡ true) where
   pub base_planned : (MayFail : Type 0) (result : Result Base Stopped) (ends : Result Plan Stopped) (stopped : Stopped) → result ≡ Err stopped → ends ≡ Err stopped
-      → Tests MayFail name_causes r order (IsBase r order) result → Plans MayFail r order ends
+      → Tests MayFail name_causes r order (IsCommitBase r order) result → Plans MayFail r order ends
   base_planned MayFail result ends stopped was is_end tests =
-      subst (Plans MayFail r order) (sym is_end) (by_case stopped (subst (λ (x : Result Base Stopped). Tests MayFail name_causes r order (IsBase r order) x) was tests))
+      subst (Plans MayFail r order) (sym is_end) (by_case stopped (subst (λ (x : Result Base Stopped). Tests MayFail name_causes r order (IsCommitBase r order) x) was tests))
     where
       by_case : (stopped : Stopped) → IsToldBy MayFail name_causes r order stopped → Plans MayFail r order (Err stopped)
       by_case (Refused cause) h = refused_by_name r order o w offered cause h
@@ -184,7 +184,7 @@ module _ (r : plain.Repository) (order : CommitCommand) (o : IsOffered r) (w : H
 
     -- what the edits come to, or a folder or a fault that they met
     pub edits_planned : (MayFail : Type 0) (edits : List Edit) → AreEdits edits order.edits → list_any is_bad_path (paths_in (Commit order)) ≡ false
-        → (ids : List Id) → ids ≡ parents_of r order → (stopped : Stopped) → EditsFiles MayFail r ids (map kept_edit edits) (Err stopped) → Plans MayFail r order (Err stopped)
+        → (ids : List Id) → ids ≡ parents_of r order → (stopped : Stopped) → TellsEdited MayFail r ids (map kept_edit edits) (Err stopped) → Plans MayFail r order (Err stopped)
     edits_planned MayFail edits are good ids same (Refused reason) h =
         subst (λ (cause : Cause). first_cause r (Commit order) ≡ Some cause) (sym h.0)
         (folder_refused good (sym (refused_alike (first_files r (parents_of r order)) (map kept_edit edits) (edits_of r order) (edits_alike r edits order.edits are good))
@@ -193,12 +193,12 @@ module _ (r : plain.Repository) (order : CommitCommand) (o : IsOffered r) (w : H
 
     -- none is refused
     pub edits_pass : (MayFail : Type 0) (edits : List Edit) → AreEdits edits order.edits → list_any is_bad_path (paths_in (Commit order)) ≡ false
-        → (ids : List Id) → ids ≡ parents_of r order → (edited : Option EditedFiles) → EditsFiles MayFail r ids (map kept_edit edits) (Ok edited) → first_among path_causes r (Commit order) ≡ None
+        → (ids : List Id) → ids ≡ parents_of r order → (edited : Option EditedFiles) → TellsEdited MayFail r ids (map kept_edit edits) (Ok edited) → first_among path_causes r (Commit order) ≡ None
     edits_pass MayFail edits are good ids same edited h =
         no_paths_refused good (sym (refused_alike (first_files r (parents_of r order)) (map kept_edit edits) (edits_of r order) (edits_alike r edits order.edits are good))
         ∙ ap (λ ids. some_refused (first_files r ids) (map kept_edit edits)) (sym same) ∙ accepted edited h)
       where
-        accepted : (edited : Option EditedFiles) → EditsFiles MayFail r ids (map kept_edit edits) (Ok edited) → some_refused (first_files r ids) (map kept_edit edits) ≡ false
+        accepted : (edited : Option EditedFiles) → TellsEdited MayFail r ids (map kept_edit edits) (Ok edited) → some_refused (first_files r ids) (map kept_edit edits) ≡ false
         accepted (Some edited) h = h.accepted
         accepted None h = h.accepted
 
@@ -300,13 +300,13 @@ module _ (r : plain.Repository) (order : CommitCommand) (o : IsOffered r) (w : H
   -- what the edits come to, where no content is over its limit
   pub edits_meant : (MayFail : Type 0) (edits : List Edit) → AreEdits edits order.edits → list_any is_bad_path (paths_in (Commit order)) ≡ false
       → list_any is_long (contents_in (Commit order)) ≡ false → (ids : List Id) → ids ≡ parents_of r order
-      → (edited : Option EditedFiles) → EditsFiles MayFail r ids (map kept_edit edits) (Ok edited)
+      → (edited : Option EditedFiles) → TellsEdited MayFail r ids (map kept_edit edits) (Ok edited)
       → MatchOption edited (HaveNull r.kind (first_files r (parents_of r order)) (edits_of r order)) (AreEdited r.kind (first_files r (parents_of r order)) (edits_of r order))
   edits_meant MayFail edits are good short ids same edited h =
-      by_case edited (subst (λ made. EditsFiles MayFail r (parents_of r order) made (Ok edited)) (edits_same r edits order.edits are good short)
-      (subst (λ (ids : List Id). EditsFiles MayFail r ids (map kept_edit edits) (Ok edited)) same h))
+      by_case edited (subst (λ made. TellsEdited MayFail r (parents_of r order) made (Ok edited)) (edits_same r edits order.edits are good short)
+      (subst (λ (ids : List Id). TellsEdited MayFail r ids (map kept_edit edits) (Ok edited)) same h))
     where
-      by_case : (edited : Option EditedFiles) → EditsFiles MayFail r (parents_of r order) (edits_of r order) (Ok edited)
+      by_case : (edited : Option EditedFiles) → TellsEdited MayFail r (parents_of r order) (edits_of r order) (Ok edited)
           → MatchOption edited (HaveNull r.kind (first_files r (parents_of r order)) (edits_of r order)) (AreEdited r.kind (first_files r (parents_of r order)) (edits_of r order))
       by_case None h = h
       by_case (Some edited) h = h

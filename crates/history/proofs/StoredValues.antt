@@ -21,7 +21,7 @@ use Rattle.history_model.proofs.WholeTexts.{object_same}
 use Rattle.history_store.specs.ObjectTexts.{IsNoObject}
 use Rattle.gix_object_lines.specs.declared.kind.Kind.{Kind as ObjectKind}
 use Rattle.history_store.specs.declared.objects.Object.{Object}
-use Rattle.history.specs.Acts.{Gives, IsReadingFault}
+use Rattle.history.specs.Acts.{GivesMeant, IsReadingFault}
 use Rattle.history.specs.Face.{objects_part}
 use Rattle.history.specs.Faults.{file_fault}
 use Rattle.history.specs.Stands.{Stands, pair_of}
@@ -72,7 +72,7 @@ module _ (kind : Kind) (value : Value) (object : ObjectKind) (same_kind : object
   ]
 
 -- a call of the files that failed is a fault of reading
-pub error_told : {T : Type 0} (MayFail : Type 0) (IsMeant : T → Type 0) (result : Result T Stopped) (error : FileError) → IsErrAnd result (λ stopped. stopped ≡ Fault (file_fault error)) → (error ≡ Failed → MayFail) → Gives MayFail IsMeant result
+pub error_told : {T : Type 0} (MayFail : Type 0) (IsMeant : T → Type 0) (result : Result T Stopped) (error : FileError) → IsErrAnd result (λ stopped. stopped ≡ Fault (file_fault error)) → (error ≡ Failed → MayFail) → GivesMeant MayFail IsMeant result
 error_told MayFail IsMeant (Ok value) error is fails = absurd is
 error_told MayFail IsMeant (Err stopped) Failed is fails = subst (IsReadingFault MayFail) (sym is) (fails refl)
 error_told MayFail IsMeant (Err stopped) Memory is fails = subst (IsReadingFault MayFail) (sym is) tt

@@ -27,10 +27,10 @@ use Rattle.history_files.proofs.Stores.{has_trees}
 use Rattle.history_store.specs.KnownObjects.{object_at, table_of, HoldsKnown}
 use Rattle.history_store.specs.ObjectTexts.{object_in}
 use Rattle.history_store.proofs.TextObjects.{object_in-text}
-use Rattle.history.specs.Acts.{Gives, IsReadingFault}
+use Rattle.history.specs.Acts.{GivesMeant, IsReadingFault}
 use Rattle.history.specs.Face.{objects_part, known_ids}
 use Rattle.history.specs.Faults.{read_fault}
-use Rattle.history.specs.Files.{EditsFiles, IsTreeBefore, unmade}
+use Rattle.history.specs.Files.{TellsEdited, IsTreeBefore, unmade}
 use Rattle.history.specs.Stands.{Stands}
 use Rattle.history.specs.declared.repository.Repository.{Repository}
 use Rattle.history.specs.declared.stopped.Stopped.{Stopped}
@@ -83,7 +83,7 @@ module _ {F : Type 0} (IsHonest : F → Type 0) (history : F → History) (repos
   }
 
 -- why trees of a whole store aren't read is a fault of reading
-pub read_told : {T : Type 0} (MayFail : Type 0) (IsMeant : T → Type 0) (result : Result T Stopped) (error : ReadError) → IsErrAnd result (λ stopped. stopped ≡ Fault (read_fault error)) → OwnFault MayFail error → Gives MayFail IsMeant result
+pub read_told : {T : Type 0} (MayFail : Type 0) (IsMeant : T → Type 0) (result : Result T Stopped) (error : ReadError) → IsErrAnd result (λ stopped. stopped ≡ Fault (read_fault error)) → OwnFault MayFail error → GivesMeant MayFail IsMeant result
 read_told MayFail IsMeant (Ok value) error is fails = absurd is
 read_told MayFail IsMeant (Err stopped) Failed is fails = subst (IsReadingFault MayFail) (sym is) fails
 read_told MayFail IsMeant (Err stopped) (Broken oid) is fails = absurd fails
@@ -123,7 +123,7 @@ module _ {F : Type 0} (IsHonest : F → Type 0) (history : F → History) (repos
 
 -- such an error, where all paths are paths, is told so
 pub unmade_told : (r : plain.Repository) (MayFail : Type 0) (ids : List Id) (made : List model.Edit) → HavePaths made → (error : EditError) → EditsFault MayFail r.kind (first_files r ids) made error
-    → EditsFiles MayFail r ids made (unmade error)
+    → TellsEdited MayFail r ids made (unmade error)
 unmade_told r MayFail ids made paths refused.BadPath h = absurd (cc (sym paths ∙ h))
 unmade_told r MayFail ids made paths refused.IsFolder h = (refl, h.1)
 unmade_told r MayFail ids made paths refused.NullId h = h

@@ -21,10 +21,10 @@ read_fault read.Failed = File
 read_fault (read.Broken oid) = File
 read_fault read.Memory = Memory
 
-abbrev pub put_fault : PutMadeError → Fault
-put_fault (put.IdTaken id) = IdTaken
-put_fault put.File = File
-put_fault put.Memory = Memory
+abbrev pub fault_of_put : PutMadeError → Fault
+fault_of_put (put.IdTaken id) = IdTaken
+fault_of_put put.File = File
+fault_of_put put.Memory = Memory
 
 abbrev pub IsFault : Stopped → Type 0
 IsFault (stopped.Fault fault) = ⊤

@@ -76,10 +76,10 @@ unmade refused.Memory = Err (Fault fault.Memory)
 
 -- The trees of what the edits make of the first commit's files; or what is put or one of these would have the null id; or a folder
 -- is met where a file is to be removed; or a fault was met.
-abbrev pub EditsFiles : Type 0 → plain.Repository → List Id → List model.Edit
+abbrev pub TellsEdited : Type 0 → plain.Repository → List Id → List model.Edit
     → Result (Option EditedFiles) Stopped → Type 0
-EditsFiles MayFail r ids made (Ok (Some edited)) = AreEdited r.kind (first_files r ids) made edited
-EditsFiles MayFail r ids made (Ok None) = HaveNull r.kind (first_files r ids) made
-EditsFiles MayFail r ids made (Err (Refused reason)) =
+TellsEdited MayFail r ids made (Ok (Some edited)) = AreEdited r.kind (first_files r ids) made edited
+TellsEdited MayFail r ids made (Ok None) = HaveNull r.kind (first_files r ids) made
+TellsEdited MayFail r ids made (Err (Refused reason)) =
     (reason ≡ cause.IsFolder) × IsTrue (some_refused (first_files r ids) made)
-EditsFiles MayFail r ids made (Err (Fault reason)) = IsReadingFault MayFail (Fault reason)
+TellsEdited MayFail r ids made (Err (Fault reason)) = IsReadingFault MayFail (Fault reason)

@@ -140,8 +140,8 @@ abbrev pub MakesCommit : Kind → CommitValue → Result NewObject Stopped → T
 MakesCommit kind value = IfItFits (commit_content kind value) (IsMadeOf kind value)
 
 -- the command's commit is made, and its name is to move to it
-abbrev pub Commits : plain.Repository → CommitCommand → Result Committed Stopped → Type 0
-Commits r order =
+abbrev pub GivesCommitted : plain.Repository → CommitCommand → Result Committed Stopped → Type 0
+GivesCommitted r order =
     IfItFits (commit_content r.kind (new_commit r order)) (λ (made : Committed).
     IsMadeOf r.kind (new_commit r order) made.object × IsMove r order made.moves)
 

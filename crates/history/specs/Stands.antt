@@ -34,5 +34,5 @@ pub record Stands {F : Type 0} (IsHonest : F → Type 0) (history : F → Histor
   pub known : (id : Id) → contains_key (known_ids repository) id ≡ contains_key r.objects id
 
 -- What recovery makes of the two trees that stand is the pair of this plain repository, which is whole and in its written form.
-abbrev pub Recovers : {F : Type 0} → (F → History) → Repository F → plain.Repository → Type 0
-Recovers history repository r = StandsWhole r.kind (recovered r.kind (pair_of history repository)) r
+abbrev pub RecoversTo : {F : Type 0} → (F → History) → Repository F → plain.Repository → Type 0
+RecoversTo history repository r = StandsWhole r.kind (recovered r.kind (pair_of history repository)) r

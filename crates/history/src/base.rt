@@ -10,9 +10,9 @@ ghost use Rattle.history_model.specs.Repository.{id_at};
 ghost use Rattle.history_model.specs.Words.{word_meaning};
 ghost use Rattle.history_model.specs.Meaning.{branch_or_name};
 ghost use Rattle.history_word.specs.Commands.{IsExpect};
-ghost use Rattle.history.specs.Acts.{Gives};
+ghost use Rattle.history.specs.Acts.{GivesMeant};
 ghost use Rattle.history.specs.Asked.{AskedCommit};
-ghost use Rattle.history.specs.Bases.{IsBase, IsExpected, expected_meanings, held_cause, parents_cause, words_cause};
+ghost use Rattle.history.specs.Bases.{IsCommitBase, IsExpected, expected_meanings, held_cause, parents_cause, words_cause};
 ghost use Rattle.history.specs.CommitCauses.{Tests, name_causes, place_causes};
 ghost use Rattle.history.specs.Meanings.{commit_in, meaning_of};
 ghost use Rattle.history.specs.Serving.{Serves};
@@ -149,7 +149,7 @@ impl<F: Files> Repository<F> {
     fn read_expected(&self, alloc: Global, expect: &Expect) -> Result<Expected, Stopped>
         ensures { (r : plain.Repository) (order : orders.Expect)
             → Serves F.is_honest F.history self.now r → IsExpect expect.now order
-            → Gives F.reading_may_fail (IsExpected r order) result }
+            → GivesMeant F.reading_may_fail (IsExpected r order) result }
     {
         Ok(match expect {
             Expect::Any => Expected::Any,
@@ -161,7 +161,7 @@ impl<F: Files> Repository<F> {
     /// What words read as.
     fn read_words(&self, alloc: Global, words: &[Vec<u8>]) -> Result<Vec<WordMeaning>, Stopped>
         ensures { (r : plain.Repository) → Serves F.is_honest F.history self.now r
-            → Gives F.reading_may_fail (λ meanings. map meaning_of meanings.items
+            → GivesMeant F.reading_may_fail (λ meanings. map meaning_of meanings.items
             ≡ map (λ word. word_meaning r word.items) words.now) result }
     {
         let mut meanings = Vec::new(alloc);
@@ -192,7 +192,7 @@ impl<F: Files> Repository<F> {
     pub(crate) fn base(&self, alloc: Global, command: &CommitCommand) -> Result<Base, Stopped>
         ensures { (r : plain.Repository) (order : orders.CommitCommand)
             → AskedCommit F.is_honest F.history self.now command.now r order
-            → Tests F.reading_may_fail name_causes r order (IsBase r order) result }
+            → Tests F.reading_may_fail name_causes r order (IsCommitBase r order) result }
     {
         let name = self.name_of(alloc, &command.name)?;
         let expected = self.read_expected(alloc, &command.expect)?;

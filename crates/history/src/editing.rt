@@ -9,8 +9,8 @@ ghost use Rattle.history_model.specs.Repository as plain;
 ghost use Rattle.history_model.specs.Repository.{HoldsCommit};
 ghost use Rattle.history_files.specs.Editing.{HavePaths};
 ghost use Rattle.history_store.specs.Stores.{AreObjectsOf};
-ghost use Rattle.history.specs.Acts.{Gives};
-ghost use Rattle.history.specs.Files.{AreChangesOf, AreReadAs, EditsFiles, IsChangeOf, IsTreeBefore, change_parts, edit_parts, kept_edit, unmade};
+ghost use Rattle.history.specs.Acts.{GivesMeant};
+ghost use Rattle.history.specs.Files.{AreChangesOf, AreReadAs, TellsEdited, IsChangeOf, IsTreeBefore, change_parts, edit_parts, kept_edit, unmade};
 ghost use Rattle.history.specs.Serving.{Serves};
 
 use crate::fields::into_kept;
@@ -115,7 +115,7 @@ impl<F: Files> Repository<F> {
     fn tree_before(&self, alloc: Global, parents: &[ObjectId]) -> Result<Option<ObjectId>, Stopped>
         ensures { (r : plain.Repository) → Serves F.is_honest F.history self.now r
             → AllByRecursion (HoldsCommit r) (map id_of parents.now)
-            → Gives F.reading_may_fail (IsTreeBefore r (map id_of parents.now)) result }
+            → GivesMeant F.reading_may_fail (IsTreeBefore r (map id_of parents.now)) result }
     {
         match parents.first() {
             Some(id) => Ok(Some(self.root_of(alloc, id)?)),
@@ -134,7 +134,7 @@ impl<F: Files> Repository<F> {
             → Serves F.is_honest F.history self.now r
             → AllByRecursion (HoldsCommit r) (map id_of parents.now)
             → AreChangesOf r.kind changes.now made → HavePaths made
-            → EditsFiles F.reading_may_fail r (map id_of parents.now) made result }
+            → TellsEdited F.reading_may_fail r (map id_of parents.now) made result }
     {
         let tree = self.tree_before(alloc, parents)?;
         let edits = edits_of(alloc, changes)?;

@@ -16,9 +16,9 @@ ghost use Rattle.history_store.specs.Face.{kind_of_objects};
 ghost use Rattle.history_word.specs.Commands.{IsActor};
 ghost use Rattle.history_word.specs.Fields.{Keeps};
 ghost use Rattle.history.specs.Asked.{AskedCommit, AskedFiles};
-ghost use Rattle.history.specs.Bases.{IsBase};
+ghost use Rattle.history.specs.Bases.{IsCommitBase};
 ghost use Rattle.history.specs.CommitCauses.{first_among, is_long, path_causes};
-ghost use Rattle.history.specs.Plans.{AreActors, AreAdded, AreNewFiles, Commits, GivesObjects, HasActors, IsMade, IsNotAdded, IsUnplanned, MakesCommit, Plans, Says, is_long_tree, object_parts, tree_parts};
+ghost use Rattle.history.specs.Plans.{AreActors, AreAdded, AreNewFiles, GivesCommitted, GivesObjects, HasActors, IsMade, IsNotAdded, IsUnplanned, MakesCommit, Plans, Says, is_long_tree, object_parts, tree_parts};
 ghost use Rattle.history.specs.Serving.{Serves};
 ghost use Rattle.history.specs.declared.stopped.Stopped.TheVariants as why;
 
@@ -227,10 +227,10 @@ impl<F: Files> Repository<F> {
         message: Vec<u8>,
     ) -> Result<Committed, Stopped>
         ensures { (r : plain.Repository) (order : orders.CommitCommand)
-            → Serves F.is_honest F.history self.now r → IsBase r order base
+            → Serves F.is_honest F.history self.now r → IsCommitBase r order base
             → id_of root ≡ folder_id r.kind (new_commit r order).files
             → HasActors r order actors → message.items ≡ order.message
-            → Commits r order result }
+            → GivesCommitted r order result }
     {
         let title = Vec::from_slice(alloc, title(&message))?;
         let log_actor = actors.committer.try_clone()?;

@@ -5,7 +5,7 @@ ghost use Rattle.history_model.specs.Bytes.{Bytes};
 ghost use Rattle.history_model.specs.Objects.{hex};
 ghost use Rattle.history_model.specs.Spelling.{parts_text, parent_part, actor_parts};
 ghost use Rattle.history_model.specs.Replies.{reply_text, spelled_actor, ShowsCommit, ShowsContent};
-ghost use Rattle.history_store.specs.Actors.{HasForm};
+ghost use Rattle.history_store.specs.Actors.{HasActorForm};
 ghost use Rattle.history_store.specs.Commits.{IsPlainCommit};
 ghost use Rattle.history_store.specs.Formats.{own_actor};
 ghost use Rattle.history.specs.Shown.{shown_commit, shown_content};
@@ -43,7 +43,7 @@ fn parent_lines(text: &mut Vec<u8>, parents: &[ObjectId]) -> Result<(), AllocErr
 
 /// Appends an actor as a command spells it.
 fn actor(alloc: Global, text: &mut Vec<u8>, role: &[u8], actor: &Actor) -> Result<(), AllocError>
-    ensures { HasForm actor.now → OnOk result (text.new.items ≡ text.old.items
+    ensures { HasActorForm actor.now → OnOk result (text.new.items ≡ text.old.items
         ++ parts_text (actor_parts role.now (spelled_actor (own_actor actor.now)))) }
 {
     let name = actor.name.as_bytes();
@@ -149,7 +149,7 @@ impl<F: Files> Repository<F> {
     ghost use Rattle.history_model.specs.Objects.{StoredBytes};
     ghost use Rattle.history.specs.Stands.{Stands};
     ghost use Rattle.history.specs.Serving.{Serves};
-    ghost use Rattle.history.specs.Acts.{AnswersReading, Gives};
+    ghost use Rattle.history.specs.Acts.{AnswersReading, GivesMeant};
 
     /// The reply to `show` of a commit.
     fn show_commit(&self, alloc: Global, id: &ObjectId) -> Result<Vec<u8>, Stopped>
@@ -165,7 +165,7 @@ impl<F: Files> Repository<F> {
     fn show_file(&self, alloc: Global, kind: FileKind, id: &ObjectId) -> Result<Vec<u8>, Stopped>
         ensures { (r : plain.Repository) (bytes : Bytes) → Stands F.is_honest F.history self.now r
             → get r.objects (id_of id.now) ≡ Some (StoredBytes bytes)
-            → Gives F.reading_may_fail (λ text. text.items
+            → GivesMeant F.reading_may_fail (λ text. text.items
             ≡ reply_text (ShowsContent (shown_content kind id.now bytes))) result }
     {
         let content = self.content(alloc, gix_object::Kind::Blob, id)?;

@@ -3,7 +3,7 @@
 ghost use Rattle.std.specs.Prelude.{◌≡◌};
 ghost use Rattle.history_model.specs.declared.Fault.TheVariants.{Memory};
 ghost use Rattle.history.specs.declared.stopped.Stopped.TheVariants as why;
-ghost use Rattle.history.specs.Faults.{file_fault, put_fault, read_fault};
+ghost use Rattle.history.specs.Faults.{file_fault, fault_of_put, read_fault};
 
 use gix_ref_file::FileError;
 use history_files::ReadError;
@@ -73,7 +73,7 @@ impl From<ReadError> for Stopped {
 }
 
 impl From<PutMadeError> for Stopped {
-    ghost from_gives = { λ error stopped. stopped ≡ why.Fault (put_fault error) };
+    ghost from_gives = { λ error stopped. stopped ≡ why.Fault (fault_of_put error) };
 
     fn from(error: PutMadeError) -> Stopped {
         Stopped::Fault(match error {

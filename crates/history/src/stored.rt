@@ -7,7 +7,7 @@ ghost use Rattle.history_files.specs.Reading.{entry_of, line_of};
 ghost use Rattle.history_model.specs.FileMap.{FileMap};
 ghost use Rattle.history_model.specs.Objects as model;
 ghost use Rattle.history_model.specs.Objects.{CommitValue, Value, StoredCommit, StoredFolder, content_of, folder_id, object_kind};
-ghost use Rattle.history_store.specs.Commits.{IsCommitOf};
+ghost use Rattle.history_store.specs.Commits.{SaysCommit};
 ghost use Rattle.gix_hash_id.specs.Id.{id_of};
 
 use crate::repository::Repository;
@@ -24,7 +24,7 @@ use std::alloc::Global;
 impl<F: Files> Repository<F> {
     ghost use Rattle.history_model.specs.Repository as plain;
     ghost use Rattle.history.specs.Stands.{Stands};
-    ghost use Rattle.history.specs.Acts.{Gives};
+    ghost use Rattle.history.specs.Acts.{GivesMeant};
 
     /// The content of a stored object.
     pub(crate) fn content(
@@ -35,7 +35,7 @@ impl<F: Files> Repository<F> {
     ) -> Result<Vec<u8>, Stopped>
         ensures { (r : plain.Repository) (value : Value) → Stands F.is_honest F.history self.now r
             → get r.objects (id_of id.now) ≡ Some value → object_kind value ≡ kind
-            → Gives F.reading_may_fail (λ content. content.items ≡ content_of r.kind value) result }
+            → GivesMeant F.reading_may_fail (λ content. content.items ≡ content_of r.kind value) result }
     {
         match self.objects.read(alloc, id)? {
             Some(object) if object.kind == kind => Ok(object.content),
@@ -48,7 +48,7 @@ impl<F: Files> Repository<F> {
         ensures { (r : plain.Repository) (value : CommitValue)
             → Stands F.is_honest F.history self.now r
             → get r.objects (id_of id.now) ≡ Some (StoredCommit value)
-            → Gives F.reading_may_fail (λ commit. IsCommitOf r.kind commit value) result }
+            → GivesMeant F.reading_may_fail (λ commit. SaysCommit r.kind commit value) result }
     {
         let content = self.content(alloc, gix_object::Kind::Commit, id)?;
         Ok(parse_commit(alloc, self.objects.kind(), &content)?.ok_or(Fault::File)?)
@@ -59,7 +59,7 @@ impl<F: Files> Repository<F> {
         ensures { (r : plain.Repository) (value : CommitValue)
             → Stands F.is_honest F.history self.now r
             → get r.objects (id_of id.now) ≡ Some (StoredCommit value)
-            → Gives F.reading_may_fail (λ root. id_of root ≡ folder_id r.kind value.files) result }
+            → GivesMeant F.reading_may_fail (λ root. id_of root ≡ folder_id r.kind value.files) result }
     {
         let content = self.content(alloc, gix_object::Kind::Commit, id)?;
         Ok(commit_tree(self.objects.kind(), &content).ok_or(Fault::File)?)
@@ -69,7 +69,7 @@ impl<F: Files> Repository<F> {
     pub(crate) fn files_below(&self, alloc: Global, tree: &ObjectId) -> Result<Vec<File>, Stopped>
         ensures { (r : plain.Repository) (below : FileMap) → Stands F.is_honest F.history self.now r
             → get r.objects (id_of tree.now) ≡ Some (StoredFolder below)
-            → Gives F.reading_may_fail (λ found. map line_of found.items
+            → GivesMeant F.reading_may_fail (λ found. map line_of found.items
             ≡ map (file_line r.kind) (entries below)) result }
     {
         Ok(files(alloc, &self.objects, tree)?)
@@ -84,7 +84,7 @@ impl<F: Files> Repository<F> {
     ) -> Result<Option<Found>, Stopped>
         ensures { (r : plain.Repository) (below : FileMap) → Stands F.is_honest F.history self.now r
             → get r.objects (id_of tree.now) ≡ Some (StoredFolder below)
-            → Gives F.reading_may_fail (λ found.
+            → GivesMeant F.reading_may_fail (λ found.
             option_map entry_of found ≡ model.entry_at r.kind below path.now) result }
     {
         Ok(entry_at(alloc, &self.objects, tree, path)?)

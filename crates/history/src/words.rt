@@ -125,12 +125,12 @@ impl WordMeaning {
 impl<F: Files> Repository<F> {
     ghost use Rattle.history_model.specs.Repository as plain;
     ghost use Rattle.history.specs.Serving.{Serves};
-    ghost use Rattle.history.specs.Acts.{Gives, ReadsWord};
+    ghost use Rattle.history.specs.Acts.{GivesMeant, ReadsWord};
 
     /// What a word stands for: HEAD for its branch, else the first candidate that stands.
     pub(crate) fn read_word(&self, alloc: Global, word: &[u8]) -> Result<WordMeaning, Stopped>
         ensures { (r : plain.Repository) → Serves F.is_honest F.history self.now r
-            → Gives F.reading_may_fail (λ meaning.
+            → GivesMeant F.reading_may_fail (λ meaning.
             meaning_of meaning ≡ word_meaning r word.now) result }
     {
         if word == HEAD {

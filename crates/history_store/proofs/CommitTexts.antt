@@ -15,7 +15,7 @@ use Rattle.history_model.specs.Bytes.{Bytes, has_twice, line}
 use Rattle.history_model.specs.Forms.{is_id, is_actor, is_commit_form, title, max_parents, max_title}
 use Rattle.history_model.specs.Objects.{Actor, CommitValue, hex, actor_text, commit_content, folder_id, tree_text, root}
 use Rattle.history_model.proofs.IdLemmas.{digest_is_id, has_kind, id_digits, length-hex, low_digit, hex_tells}
-use Rattle.history_store.specs.Commits.{IsCommitOf, IsPlain, IsPlainCommit}
+use Rattle.history_store.specs.Commits.{SaysCommit, IsPlain, IsPlainCommit}
 use Rattle.history_store.specs.Formats.{parts_of, plain_parts}
 use Rattle.gix_object_commit.specs.declared.commit.owned.Commit.{Commit}
 use Rattle.history_store.proofs.ActorTexts.{line_of_person, person_formed, person_tells}
@@ -94,7 +94,7 @@ content_of_parts kind value =
     lines_of_parents (parent ∷ parents) = ap (λ text. line (codes "parent " ++ hex parent) ++ text) (lines_of_parents parents)
 
 -- what is written of such a commit is the value's content
-pub text_of_commit : (kind : Kind) (commit : Commit) (value : CommitValue) → IsCommitOf kind commit value → commit_text (parts_of commit) ≡ commit_content kind value
+pub text_of_commit : (kind : Kind) (commit : Commit) (value : CommitValue) → SaysCommit kind commit value → commit_text (parts_of commit) ≡ commit_content kind value
 text_of_commit kind commit value is =
     (λ i. commit_text (plain_parts (is.tree i) (is.parents i) (is.author i) (is.committer i) (is.message i))) ∙ sym (content_of_parts kind value)
 
@@ -138,7 +138,7 @@ value_plain kind value parts formed is =
     })
 
 -- a commit of these parts says what the value says
-pub value_told : (kind : Kind) (value : CommitValue) (commit : Commit) → IsTrue (is_commit_form kind value) → parts_of commit ≡ value_parts kind value → IsPlainCommit kind commit → IsCommitOf kind commit value
+pub value_told : (kind : Kind) (value : CommitValue) (commit : Commit) → IsTrue (is_commit_form kind value) → parts_of commit ≡ value_parts kind value → IsPlainCommit kind commit → SaysCommit kind commit value
 value_told kind value commit formed is plain =
     let forms = value_forms kind value formed in
     let has = both (is_id kind (id_of commit.tree)) (list_all (is_id kind) (map id_of commit.parents.items)) plain.ids in
@@ -153,7 +153,7 @@ value_told kind value commit formed is plain =
 
 -- so a text of the value is answered with it
 pub value_answered : (kind : Kind) (value : CommitValue) (parts : Parts) (found : Option Commit) → IsTrue (is_commit_form kind value) → parts ≡ value_parts kind value
-    → MatchOption found (¬ IsPlain kind parts) (λ commit. (parts ≡ parts_of commit) × IsPlainCommit kind commit) → MatchOption found ⊥ (λ commit. IsCommitOf kind commit value)
+    → MatchOption found (¬ IsPlain kind parts) (λ commit. (parts ≡ parts_of commit) × IsPlainCommit kind commit) → MatchOption found ⊥ (λ commit. SaysCommit kind commit value)
 value_answered kind value parts None formed is none = none (value_plain kind value parts formed is)
 value_answered kind value parts (Some commit) formed is told = value_told kind value commit formed (sym told.0 ∙ is) told.1
 

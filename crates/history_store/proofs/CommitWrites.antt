@@ -25,8 +25,8 @@ use Rattle.history_model.specs.Bytes.{Bytes}
 use Rattle.history_model.specs.Forms.{is_actor_part, is_id}
 use Rattle.history_model.specs.Objects.{CommitValue, commit_content, hex}
 use Rattle.history_model.proofs.OnePairTexts.{part_plain}
-use Rattle.history_store.specs.Actors.{HasForm}
-use Rattle.history_store.specs.Commits.{IsCommitOf, IsPlainCommit}
+use Rattle.history_store.specs.Actors.{HasActorForm}
+use Rattle.history_store.specs.Commits.{SaysCommit, IsPlainCommit}
 use Rattle.history_store.specs.Formats.{own_actor, parts_of, person_of}
 use Rattle.history_store.proofs.ActorTexts.{actor_parts}
 use Rattle.history_store.proofs.CommitTexts.{plain_spelled, text_of_commit}
@@ -39,7 +39,7 @@ digits_same : (ids : List ObjectId) → map own_digits ids ≡ map hex (map id_o
 digits_same [] = refl
 digits_same (id ∷ ids) = ap (λ rest. own_digits id ∷ rest) (digits_same ids)
 
-person_same : (actor : lines.Actor) → HasForm actor → own_person actor ≡ person_of (own_actor actor)
+person_same : (actor : lines.Actor) → HasActorForm actor → own_person actor ≡ person_of (own_actor actor)
 person_same actor formed = λ i. record { name = actor.name; email = actor.email; time = signed_decimal (formed.plain_time.since i) ++ 32 ∷ offset_text actor.time.offset }
 
 pub parts_same : (kind : Kind) (commit : Commit) → IsPlainCommit kind commit → own_parts commit ≡ parts_of commit
@@ -61,7 +61,7 @@ part_fits part is =
     and_from (not (holds 60 part)) (not (holds 62 part) && not (holds 10 part)) (ap not (part_plain 60 refl part is))
     (and_from (not (holds 62 part)) (not (holds 10 part)) (ap not (part_plain 62 refl part is)) (ap not (part_plain 10 refl part is)))
 
-actor_fits : (actor : lines.Actor) → HasForm actor → is_own_person actor ≡ true
+actor_fits : (actor : lines.Actor) → HasActorForm actor → is_own_person actor ≡ true
 actor_fits actor formed =
     let parts = actor_parts (own_actor actor) formed.actor in
     let amount = unsigned_abs actor.time.offset in
@@ -70,7 +70,7 @@ actor_fits actor formed =
     (and_from (is_plain actor.email) (is_whole_offset actor.time.offset) (part_fits actor.email parts.email)
     (and_from (amount % 60 == 0) (nat_lt amount 360_000) ((Decides-eqb (amount % 60) 0).1 whole.0) ((Decides-ltb amount 360_000).1 whole.1)))
 
-plain_person : (actor : lines.Actor) → HasForm actor → IsPlainPerson (own_person actor)
+plain_person : (actor : lines.Actor) → HasActorForm actor → IsPlainPerson (own_person actor)
 plain_person actor formed =
     let parts = actor_parts (own_actor actor) formed.actor in
     record {
@@ -116,7 +116,7 @@ none_refused kind commit plain =
 
 -- ---- so the value's content is written
 
-pub value_written : (kind : Kind) (commit : Commit) (value : CommitValue) (found : Option (Vec ℕ Global)) → IsCommitOf kind commit value
+pub value_written : (kind : Kind) (commit : Commit) (value : CommitValue) (found : Option (Vec ℕ Global)) → SaysCommit kind commit value
     → MatchOption found (own_refusal commit ≢ None) (λ text. (own_refusal commit ≡ None) × (text.items ≡ commit_text (own_parts commit)))
     → MatchOption found ⊥ (λ text. text.items ≡ commit_content kind value)
 value_written kind commit value None is refused = refused (none_refused kind commit is.plain)

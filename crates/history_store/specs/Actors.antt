@@ -28,8 +28,8 @@ pub record IsFormed (name email : Bytes) (time : Time) : Type 0 where
   pub actor : IsTrue (is_actor (plain_actor name email time))
 
 -- an actor that a commit holds has the written form
-abbrev pub HasForm : lines.Actor → Type 0
-HasForm actor = IsFormed actor.name actor.email actor.time
+abbrev pub HasActorForm : lines.Actor → Type 0
+HasActorForm actor = IsFormed actor.name actor.email actor.time
 
 -- ---- the words of a time
 

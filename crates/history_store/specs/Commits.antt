@@ -6,7 +6,7 @@ use Rattle.history_model.specs.Objects.{Actor, CommitValue, folder_id}
 use Rattle.gix_hash_id.specs.declared.kind.Kind.{Kind}
 use Rattle.gix_object_commit_lines.specs.Commit.{Parts}
 use Rattle.gix_object_commit.specs.declared.commit.owned.Commit.{Commit}
-use Rattle.history_store.specs.Actors.{HasForm}
+use Rattle.history_store.specs.Actors.{HasActorForm}
 use Rattle.history_store.specs.Formats.{own_actor, plain_parts}
 use Rattle.gix_hash_id.specs.Id.{Id, id_of}
 
@@ -18,13 +18,13 @@ has_ids_of kind commit =
 -- a commit as the store holds it: of this kind, its actors in their written form, with no encoding and no further headers
 pub record IsPlainCommit (kind : Kind) (commit : Commit) : Type 0 where
   pub ids : IsTrue (has_ids_of kind commit)
-  pub author : HasForm commit.author
-  pub committer : HasForm commit.committer
+  pub author : HasActorForm commit.author
+  pub committer : HasActorForm commit.committer
   pub encoding : commit.encoding ≡ None
   pub headers : commit.extra_headers.items ≡ []
 
 -- the commit says what this value says and nothing else, its tree being the id of the value's files
-pub record IsCommitOf (kind : Kind) (commit : Commit) (value : CommitValue) : Type 0 where
+pub record SaysCommit (kind : Kind) (commit : Commit) (value : CommitValue) : Type 0 where
   pub plain : IsPlainCommit kind commit
   pub tree : id_of commit.tree ≡ folder_id kind value.files
   pub parents : map id_of commit.parents.items ≡ value.parents

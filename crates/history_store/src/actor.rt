@@ -28,7 +28,7 @@ impl Actor {
     ghost use Rattle.history_model.specs.Forms.{is_actor};
     ghost use Rattle.history_model.specs.Objects.{actor_text};
     ghost use Rattle.history_model.specs.Objects as model;
-    ghost use Rattle.history_store.specs.Actors.{HasForm, plain_actor};
+    ghost use Rattle.history_store.specs.Actors.{HasActorForm, plain_actor};
     ghost use Rattle.history_store.specs.Formats.{actor_of, own_actor, person_of};
     ghost use Rattle.gix_object_lines.specs.Person as lines;
 
@@ -65,7 +65,7 @@ impl Actor {
     /// The actor as a commit holds it. It takes no memory.
     pub(crate) fn into_own(self) -> lines::Actor
         ensures told { own_actor result ≡ actor_of self }
-        ensures formed { HasForm result }
+        ensures formed { HasActorForm result }
     {
         lines::Actor {
             name: ByteString::new(self.name),

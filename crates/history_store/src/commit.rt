@@ -11,7 +11,7 @@ ghost use Rattle.gix_object_commit.specs.OwnedText.{own_parts, own_refusal};
 ghost use Rattle.gix_object_commit.specs.Views as views;
 ghost use Rattle.history_model.specs.Forms.{is_id, is_commit_form};
 ghost use Rattle.history_model.specs.Objects.{CommitValue, hex, commit_content, folder_id};
-ghost use Rattle.history_store.specs.Commits.{IsCommitOf, IsPlain, IsPlainCommit, TellsNoMore, has_ids_of};
+ghost use Rattle.history_store.specs.Commits.{SaysCommit, IsPlain, IsPlainCommit, TellsNoMore, has_ids_of};
 ghost use Rattle.history_store.specs.Formats.{actor_of, own_actor, parts_of};
 
 use crate::actor::Actor;
@@ -79,7 +79,7 @@ pub fn parse_commit(alloc: Global, kind: Kind, content: &[u8]) -> Result<Option<
         → ¬ IsPlain kind parts)) }
     ensures read { IfOk result (λ found. (value : CommitValue)
         → IsTrue (is_commit_form kind value) → content.now ≡ commit_content kind value
-        → MatchOption found ⊥ (λ commit. IsCommitOf kind commit value)) }
+        → MatchOption found ⊥ (λ commit. SaysCommit kind commit value)) }
 {
     match CommitRef::from_bytes(alloc, content, kind) {
         Ok(parts) => commit_of(alloc, kind, &parts),

@@ -55,14 +55,14 @@ IsPath None None = ⊤
 IsPath _ _ = ⊥
 
 -- the command that was read is this one, but for the bytes of fields over their limits
-abbrev pub StandsFor : Command → model.Command → Type 0
-StandsFor (command.Commit commit) (model.Commit order) = IsCommit commit order
-StandsFor (command.Files word) (model.Files bytes) = word.items ≡ bytes
-StandsFor (command.Show show) (model.Show word path) =
+abbrev pub IsCommandOf : Command → model.Command → Type 0
+IsCommandOf (command.Commit commit) (model.Commit order) = IsCommit commit order
+IsCommandOf (command.Files word) (model.Files bytes) = word.items ≡ bytes
+IsCommandOf (command.Show show) (model.Show word path) =
     (show.word.items ≡ word) × IsPath show.path path
-StandsFor _ _ = ⊥
+IsCommandOf _ _ = ⊥
 
 -- a command was read, or read past for want of memory
 abbrev pub IsReceived : Received → model.Command → Type 0
-IsReceived (received.Command command) order = StandsFor command order
+IsReceived (received.Command command) order = IsCommandOf command order
 IsReceived (received.NoMemory changing) order = changing ≡ is_changing order

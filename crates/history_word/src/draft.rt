@@ -6,7 +6,7 @@ ghost use Rattle.history_model.specs.Commands as model;
 ghost use Rattle.history_model.specs.Forms.{max_path, max_actor_part, max_content};
 ghost use Rattle.history_model.specs.Stops.{is_changing};
 ghost use Rattle.history_word.specs.Fields.{Keeps};
-ghost use Rattle.history_word.specs.Commands.{IsExpect, IsEdit, IsActor, IsCommit, StandsFor};
+ghost use Rattle.history_word.specs.Commands.{IsExpect, IsEdit, IsActor, IsCommit, IsCommandOf};
 ghost use Rattle.history_word.specs.Drafts.{IsCommitDraft, IsDraft, with_parent, with_actor, with_edit, with_message};
 
 use crate::command::{ActorLine, Command, CommitCommand, Edit, Expect, Field, Put, Show};
@@ -168,7 +168,7 @@ impl Draft {
     /// The command, if each of its parts found memory.
     pub(crate) fn finish(self) -> Option<Command>
         ensures { (order : model.Command) → IsDraft self order
-            → IfSome result (λ command. StandsFor command order) }
+            → IfSome result (λ command. IsCommandOf command order) }
     {
         match self {
             Draft::Empty => None,

@@ -7,7 +7,7 @@ use Rattle.history_model.specs.Forms.{is_name}
 use Rattle.history_model.specs.Words.{word_meaning}
 use Rattle.history_model.specs.declared.Fault.TheVariants.{Memory}
 use Rattle.gix_hash_id.specs.Id.{id_of}
-use Rattle.history.specs.Bases.{IsBase, IsExpected, expected_meanings, words_cause, parents_cause}
+use Rattle.history.specs.Bases.{IsCommitBase, IsExpected, expected_meanings, words_cause, parents_cause}
 use Rattle.history.specs.CommitCauses.{IsNamed, name_causes, name_form_causes, word_causes, held_causes, place_causes, parent_causes}
 use Rattle.history.specs.Meanings.{meaning_of, commit_in}
 use Rattle.history.specs.declared.words.WordMeaning.{WordMeaning}
@@ -22,7 +22,7 @@ returns-in_err-name g c = λ r order asked.
     let is = asked.reads in
     let MayFail = g.F.Files.reading_may_fail in
     let stopped = err_from_is_err_and c.from_residual.result c.from_residual.ensures.1 in
-    stopped_by MayFail r order name_form_causes name_causes (IsNamed r order) (IsBase r order) c.name_of.result c.from_residual.result c.in_err-name.field-0.0 c.in_err-name.was (stopped.1 ∙ ap Err stopped.2)
+    stopped_by MayFail r order name_form_causes name_causes (IsNamed r order) (IsCommitBase r order) c.name_of.result c.from_residual.result c.in_err-name.field-0.0 c.in_err-name.was (stopped.1 ∙ ap Err stopped.2)
     (told_in_front MayFail r order name_form_causes (word_causes ++ (held_causes ++ (place_causes ++ parent_causes))) c.in_err-name.field-0.0) (c.name_of.ensures r order h.stands (c.deref.ensures.value ∙ is.name))
 
 pub returns-in_err-expected : goal.returns-in_err-expected
@@ -31,7 +31,7 @@ returns-in_err-expected g c = λ r order asked.
     let is = asked.reads in
     let MayFail = g.F.Files.reading_may_fail in
     let stopped = err_from_is_err_and c.from_residual-in_err-expected.result c.from_residual-in_err-expected.ensures.1 in
-    ends_told MayFail r order name_causes (IsBase r order) c.from_residual-in_err-expected.result c.in_err-expected.field-0.0 (stopped.1 ∙ ap Err stopped.2)
+    ends_told MayFail r order name_causes (IsCommitBase r order) c.from_residual-in_err-expected.result c.in_err-expected.field-0.0 (stopped.1 ∙ ap Err stopped.2)
     (gives_told MayFail (IsExpected r order.expect) name_causes r order c.read_expected.result c.in_err-expected.field-0.0 c.in_err-expected.was (c.read_expected.ensures r order.expect h is.expect))
 
 pub returns-in_err-words : goal.returns-in_err-words
@@ -40,7 +40,7 @@ returns-in_err-words g c = λ r order asked.
     let is = asked.reads in
     let MayFail = g.F.Files.reading_may_fail in
     let stopped = err_from_is_err_and c.from_residual-in_err-words.result c.from_residual-in_err-words.ensures.1 in
-    ends_told MayFail r order name_causes (IsBase r order) c.from_residual-in_err-words.result c.in_err-words.field-0.0 (stopped.1 ∙ ap Err stopped.2)
+    ends_told MayFail r order name_causes (IsCommitBase r order) c.from_residual-in_err-words.result c.in_err-words.field-0.0 (stopped.1 ∙ ap Err stopped.2)
     (gives_told MayFail (λ (meanings : Vec WordMeaning Global). map meaning_of meanings.items ≡ map (λ (word : Vec ℕ Global). word_meaning r word.items) c.deref-2.result.now) name_causes r order c.read_words.result c.in_err-words.field-0.0 c.in_err-words.was
     (c.read_words.ensures r h))
 
@@ -56,7 +56,7 @@ returns-in_err-test_words g c = λ r order asked.
     let words_are = words_so r order c.in_ok-expected.expected c.in_ok-words.words.items expects meanings ∙ ap (λ words. words_cause (expected_meanings c.in_ok-expected.expected ++ map meaning_of words)) (sym c.deref-3.ensures.value) in
     let stopped = err_from_is_err_and c.from_residual-in_err-test_words.result c.from_residual-in_err-test_words.ensures.1 in
     let cause = c.in_err-test_words.field-0.0 in
-    ends_told MayFail r order name_causes (IsBase r order) c.from_residual-in_err-test_words.result (Refused cause) (stopped.1 ∙ ap Err stopped.2)
+    ends_told MayFail r order name_causes (IsCommitBase r order) c.from_residual-in_err-test_words.result (Refused cause) (stopped.1 ∙ ap Err stopped.2)
     (told_behind MayFail r order name_form_causes (word_causes ++ (held_causes ++ (place_causes ++ parent_causes))) (Refused cause) named.0
     (told_in_front MayFail r order word_causes (held_causes ++ (place_causes ++ parent_causes)) (Refused cause) (words_are ∙ c.in_err-test_words.ensures)))
 
@@ -66,7 +66,7 @@ returns-in_err-held g c = λ r order asked.
     let is = asked.reads in
     let MayFail = g.F.Files.reading_may_fail in
     let stopped = err_from_is_err_and c.from_residual-in_err-held.result c.from_residual-in_err-held.ensures.1 in
-    file_told MayFail name_causes r order (IsBase r order) c.read.result c.from_residual-in_err-held.result c.in_err-held.field-0.0 c.in_err-held.was (stopped.1 ∙ ap Err stopped.2) c.read.ensures.failed
+    file_told MayFail name_causes r order (IsCommitBase r order) c.read.result c.from_residual-in_err-held.result c.in_err-held.field-0.0 c.in_err-held.was (stopped.1 ∙ ap Err stopped.2) c.read.ensures.failed
 
 pub returns-in_err-test : goal.returns-in_err-test
 returns-in_err-test g c = λ r order asked.
@@ -84,7 +84,7 @@ returns-in_err-test g c = λ r order asked.
     let held_is = held_told r order h.stage.offered w c.in_ok-expected.expected (option_map id_of c.in_ok-held.held) expects held_at in
     let stopped = err_from_is_err_and c.from_residual-in_err-test.result c.from_residual-in_err-test.ensures.1 in
     let cause = c.in_err-test.field-0.0 in
-    ends_told MayFail r order name_causes (IsBase r order) c.from_residual-in_err-test.result (Refused cause) (stopped.1 ∙ ap Err stopped.2)
+    ends_told MayFail r order name_causes (IsCommitBase r order) c.from_residual-in_err-test.result (Refused cause) (stopped.1 ∙ ap Err stopped.2)
     (told_behind MayFail r order name_form_causes (word_causes ++ (held_causes ++ (place_causes ++ parent_causes))) (Refused cause) named.0
     (told_behind MayFail r order word_causes (held_causes ++ (place_causes ++ parent_causes)) (Refused cause) (words_are ∙ c.in_ok-test_words.ensures)
     (told_in_front MayFail r order held_causes (place_causes ++ parent_causes) (Refused cause) (held_is ∙ c.in_err-test.ensures))))
@@ -105,7 +105,7 @@ returns-in_err-test_place g c = λ r order asked.
     let held_is = held_told r order h.stage.offered w c.in_ok-expected.expected (option_map id_of c.in_ok-held.held) expects held_at in
     let stopped = err_from_is_err_and c.from_residual-in_err-test_place.result c.from_residual-in_err-test_place.ensures.1 in
     let told = c.in_err-test_place.field-0.0 in
-    stopped_by MayFail r order place_causes name_causes (λ done. ⊤) (IsBase r order) c.test_place.result c.from_residual-in_err-test_place.result told c.in_err-test_place.was (stopped.1 ∙ ap Err stopped.2)
+    stopped_by MayFail r order place_causes name_causes (λ done. ⊤) (IsCommitBase r order) c.test_place.result c.from_residual-in_err-test_place.result told c.in_err-test_place.was (stopped.1 ∙ ap Err stopped.2)
     (λ by. told_behind MayFail r order name_form_causes (word_causes ++ (held_causes ++ (place_causes ++ parent_causes))) told named.0
     (told_behind MayFail r order word_causes (held_causes ++ (place_causes ++ parent_causes)) told (words_are ∙ c.in_ok-test_words.ensures)
     (told_behind MayFail r order held_causes (place_causes ++ parent_causes) told (held_is ∙ c.in_ok-test.ensures)
@@ -118,7 +118,7 @@ returns-in_err-parents g c = λ r order asked.
     let is = asked.reads in
     let MayFail = g.F.Files.reading_may_fail in
     let stopped = err_from_is_err_and c.from_residual-in_err-parents.result c.from_residual-in_err-parents.ensures.1 in
-    ends_told MayFail r order name_causes (IsBase r order) c.from_residual-in_err-parents.result (Fault Memory) (stopped.1 ∙ ap Err stopped.2) tt
+    ends_told MayFail r order name_causes (IsCommitBase r order) c.from_residual-in_err-parents.result (Fault Memory) (stopped.1 ∙ ap Err stopped.2) tt
 
 pub returns-in_err-test_parents : goal.returns-in_err-test_parents
 returns-in_err-test_parents g c = λ r order asked.
@@ -140,7 +140,7 @@ returns-in_err-test_parents g c = λ r order asked.
     let parents_is = parents_so r order h.stage.offered w c.in_ok-parents.parents.items parents_are ∙ ap (λ ids. parents_cause (map id_of ids)) (sym c.deref-7.ensures.value) in
     let stopped = err_from_is_err_and c.from_residual-in_err-test_parents.result c.from_residual-in_err-test_parents.ensures.1 in
     let cause = c.in_err-test_parents.field-0.0 in
-    ends_told MayFail r order name_causes (IsBase r order) c.from_residual-in_err-test_parents.result (Refused cause) (stopped.1 ∙ ap Err stopped.2)
+    ends_told MayFail r order name_causes (IsCommitBase r order) c.from_residual-in_err-test_parents.result (Refused cause) (stopped.1 ∙ ap Err stopped.2)
     (told_behind MayFail r order name_form_causes (word_causes ++ (held_causes ++ (place_causes ++ parent_causes))) (Refused cause) named.0
     (told_behind MayFail r order word_causes (held_causes ++ (place_causes ++ parent_causes)) (Refused cause) (words_are ∙ c.in_ok-test_words.ensures)
     (told_behind MayFail r order held_causes (place_causes ++ parent_causes) (Refused cause) (held_is ∙ c.in_ok-test.ensures)

@@ -6,26 +6,26 @@ use Rattle.gix_hash_id.specs.Id.{null_id, id_of}
 use Rattle.history_model.specs.Forms.{title}
 use Rattle.history_model.specs.Meaning.{new_commit}
 use Rattle.history_store.specs.Formats.{actor_of}
-use Rattle.history.specs.Plans.{Commits}
+use Rattle.history.specs.Plans.{GivesCommitted}
 use Rattle.history.proofs.Planned.{before_is, commit_said, commit_told, entry_is, not_made}
 use Rattle.history.proofs.repository.Repository.committed.Goals as goal
 
 pub returns-in_err-title : goal.returns-in_err-title
 returns-in_err-title g c = λ r order serves base root actors message.
     let stopped = err_from_is_err_and c.from_residual.result c.from_residual.ensures.1 in
-    subst (Commits r order) (sym (stopped.1 ∙ ap Err stopped.2)) tt
+    subst (GivesCommitted r order) (sym (stopped.1 ∙ ap Err stopped.2)) tt
 
 pub returns-in_err-log_actor : goal.returns-in_err-log_actor
 returns-in_err-log_actor g c = λ r order serves base root actors message.
     let stopped = err_from_is_err_and c.from_residual-in_err-log_actor.result c.from_residual-in_err-log_actor.ensures.1 in
-    subst (Commits r order) (sym (stopped.1 ∙ ap Err stopped.2)) tt
+    subst (GivesCommitted r order) (sym (stopped.1 ∙ ap Err stopped.2)) tt
 
 pub returns-in_err-object : goal.returns-in_err-object
 returns-in_err-object g c = λ r order serves base root actors message.
     let said = commit_said r order serves.stands.whole.whole.store c.args.base base c.args.root root c.args.actors actors c.args.message.items message in
     let told = commit_told c.args.self.now.objects.kind r order serves.stands.objects_kind c.args.base c.args.root c.args.actors c.args.message.items (Err c.in_err-object.field-0.0) (c.in_err-object.ensures (new_commit r order)) said in
     let stopped = err_from_is_err_and c.from_residual-in_err-object.result c.from_residual-in_err-object.ensures.1 in
-    subst (Commits r order) (sym (stopped.1 ∙ ap Err stopped.2)) (not_made r order c.in_err-object.field-0.0 told)
+    subst (GivesCommitted r order) (sym (stopped.1 ∙ ap Err stopped.2)) (not_made r order c.in_err-object.field-0.0 told)
 
 pub returns : goal.returns
 returns g c = λ r order serves base root actors message.

@@ -15,7 +15,7 @@ use Rattle.history_steps.proofs.OfferedReads.{parents_are_commits}
 use Rattle.history_store.specs.Stores.{AreObjectsOf}
 use Rattle.history_word.specs.Commands.{AreEdits}
 use Rattle.history_word.specs.declared.command.Edit.{Edit}
-use Rattle.history.specs.Files.{AreChangesOf, AreReadAs, EditsFiles, kept_edit}
+use Rattle.history.specs.Files.{AreChangesOf, AreReadAs, TellsEdited, kept_edit}
 use Rattle.history.specs.Plans.{AreNewFiles, IsUnplanned}
 use Rattle.history.specs.declared.editing.PathChange.{PathChange}
 use Rattle.history.specs.declared.planning.NewFiles.{NewFiles}
@@ -53,7 +53,7 @@ returns-in_err-edited g c = λ r order asked.
     let ids = map id_of c.args.parents.now in
     let hold : AllByRecursion (HoldsCommit r) ids = subst (AllByRecursion (HoldsCommit r)) (sym asked.parents_are) (parents_are_commits r order h.stands.whole.whole.store) in
     let are : AreChangesOf r.kind c.deref-3.result.now made = subst (λ (cs : List PathChange). AreChangesOf r.kind cs made) (sym c.deref-3.ensures.value) changes.changes_are in
-    let told : EditsFiles g.F.Files.reading_may_fail r ids made (Err c.in_err-edited.field-0.0) = c.in_err-edited.ensures r made h hold are (have_paths edits order.edits asked.edits_are good) in
+    let told : TellsEdited g.F.Files.reading_may_fail r ids made (Err c.in_err-edited.field-0.0) = c.in_err-edited.ensures r made h hold are (have_paths edits order.edits asked.edits_are good) in
     let stopped = err_from_is_err_and c.from_residual-in_err-edited.result c.from_residual-in_err-edited.ensures.1 in
     subst (Gives g.F.Files.reading_may_fail r order) (sym (stopped.1 ∙ ap Err stopped.2))
     (edits_planned r order h.stage.offered h.stands.whole.whole.names asked.offered asked.unrefused g.F.Files.reading_may_fail edits asked.edits_are good ids asked.parents_are c.in_err-edited.field-0.0 told)
@@ -70,7 +70,7 @@ returns g c = λ r order asked.
     let ids = map id_of c.args.parents.now in
     let hold : AllByRecursion (HoldsCommit r) ids = subst (AllByRecursion (HoldsCommit r)) (sym asked.parents_are) (parents_are_commits r order h.stands.whole.whole.store) in
     let are : AreChangesOf r.kind c.deref-3.result.now made = subst (λ (cs : List PathChange). AreChangesOf r.kind cs made) (sym c.deref-3.ensures.value) changes.changes_are in
-    let given : EditsFiles g.F.Files.reading_may_fail r ids made (Ok c.in_ok-edited.edited) = c.in_ok-edited.ensures r made h hold are (have_paths edits order.edits asked.edits_are good) in
+    let given : TellsEdited g.F.Files.reading_may_fail r ids made (Ok c.in_ok-edited.edited) = c.in_ok-edited.ensures r made h hold are (have_paths edits order.edits asked.edits_are good) in
     record {
       paths = edits_pass r order h.stage.offered w asked.offered asked.unrefused g.F.Files.reading_may_fail edits asked.edits_are good ids asked.parents_are c.in_ok-edited.edited given;
       long = c.have_long_content-has_long_content.ensures order.edits (subst (λ (es : List Edit). AreEdits es order.edits) (sym c.deref-2.ensures.value) asked.edits_are);
