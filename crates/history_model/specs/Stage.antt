@@ -4,7 +4,7 @@ use Rattle.std.specs.Prelude.{Bool, true, false}
 use Rattle.history_model.specs.Commands.{Command}
 use Rattle.history_model.specs.Lines.{Heading, CommitHeading, FilesHeading, ShowHeading, first_line}
 
--- The lines that may begin a command: those of commits, and of the readings `files` and `show`. In a stream the grammar allows
+-- The lines that may begin a command: those of `commit`, and of `files` and `show`, which only read. In a stream the grammar allows
 -- no other there.
 abbrev pub opens : Heading → Bool
 opens (CommitHeading name expect) = true
