@@ -17,6 +17,7 @@ use Rattle.gix_traverse_commit.specs.RowCommits.{commit_of}
 use Rattle.gix_traverse_commit.specs.Rows.{Holds}
 use Rattle.gix_traverse_commit.specs.declared.either.Either.{Either}
 use Rattle.gix_traverse_commit.specs.declared.either.Either.TheVariants as either
+use Rattle.gix_traverse_commit.specs.declared.fetch.Source.{Source}
 use Rattle.gix_traverse_commit.specs.declared.rows.Row.{Row}
 
 -- the rows, where there are any
@@ -82,6 +83,21 @@ pub record AreTold (rows : List Row) (table : Table) (commits : Commits ObjectId
       → TellsCommit (id_of id).kind content (commits id)
   pub missing : (id : ObjectId) → ¬ Holds rows id → IsNoCommit table (id_of id)
       → (commits id).time ≡ pos 0
+
+-- ---- what a clause says over rows and objects
+
+-- this holds of each commits that they tell, where the objects answer by their table
+abbrev pub OverTold : {F : Type 0} → (F → Type 0) → (F → Table) → Source F
+    → (Commits ObjectId → Type 0) → Type 0
+OverTold IsHonest table source What = IsHonest source.objects → (g : Commits ObjectId)
+    → AreTold (rows_of source.rows) (table source.objects) g → What g
+
+-- and so it does where no lookup fails besides
+abbrev pub OverSure : {F : Type 0} → (F → Type 0) → (F → Type 0) → (F → Table) → Source F
+    → (Commits ObjectId → Type 0) → Type 0
+OverSure IsHonest MayFail table source What =
+    IsHonest source.objects → ¬ MayFail source.objects → (g : Commits ObjectId)
+    → AreTold (rows_of source.rows) (table source.objects) g → What g
 
 -- ---- a commit that was found
 

@@ -6,12 +6,12 @@ ghost use Rattle.gix_hash_id.specs.declared.object_id.ObjectId.{ObjectId};
 ghost use Rattle.gix_object_commit_tokens.specs.Tokens.{place_of};
 ghost use Rattle.gix_object_find.specs.Existing.{KindFault, Stands};
 ghost use Rattle.gix_object_lines.specs.declared.kind.Kind.TheVariants as kinds;
-ghost use Rattle.gix_traverse_commit.specs.Commits.{Commits, asked_parents, asked};
+ghost use Rattle.gix_traverse_commit.specs.Commits.{asked_parents, asked};
 ghost use Rattle.gix_object_lines.specs.Counts.{one_more};
 ghost use Rattle.gix_traverse_commit.specs.Fetching.{ReadsParents, HasRowsGeneration, ParentsFault, FetchFault, ReadFault, TimeFault, TimeIsTold, find_error};
 ghost use Rattle.gix_traverse_commit.specs.Rows.{AllHeld, Holds};
 ghost use Rattle.gix_traverse_commit.specs.Timely.{CountsAs};
-ghost use Rattle.gix_traverse_commit.specs.Told.{AreTold, rows_of};
+ghost use Rattle.gix_traverse_commit.specs.Told.{OverSure, OverTold, rows_of};
 ghost use Rattle.gix_traverse_commit.specs.declared.fetch.FetchError.TheVariants.{ObjectDecode, Memory};
 
 use crate::either::{row_in, seconds};
@@ -165,12 +165,10 @@ impl<F: Find> Source<F> {
     pub fn fetch(&mut self, id: &ObjectId, along: Parents) -> Result<Fetched, FetchError>
         ensures objects { self.new.objects ≡ self.old.objects }
         ensures rows { self.new.rows ≡ self.old.rows }
-        ensures parents { F.is_honest self.old.objects → (g : Commits ObjectId)
-            → AreTold (rows_of self.old.rows) (F.table self.old.objects) g
-            → IfOk result (λ commit. commit.parents.items ≡ asked_parents along g id.now) }
-        ensures time { F.is_honest self.old.objects → (g : Commits ObjectId)
-            → AreTold (rows_of self.old.rows) (F.table self.old.objects) g
-            → IfOk result (λ commit. unwrap_or commit.time (pos 0) ≡ (g id.now).time) }
+        ensures parents { OverTold F.is_honest F.table self.old
+            (λ g. IfOk result (λ commit. commit.parents.items ≡ asked_parents along g id.now)) }
+        ensures time { OverTold F.is_honest F.table self.old
+            (λ g. IfOk result (λ commit. unwrap_or commit.time (pos 0) ≡ (g id.now).time)) }
         ensures generation { IfOk result (λ commit. HasRowsGeneration (rows_of self.old.rows) id.now
             commit.generation) }
         ensures listed { IfOk result (λ _. Holds (rows_of self.old.rows) id.now
@@ -216,19 +214,16 @@ impl<F: Find> Source<F> {
     pub fn seconds(&mut self, id: &ObjectId) -> Result<i64, FetchError>
         ensures objects { self.new.objects ≡ self.old.objects }
         ensures rows { self.new.rows ≡ self.old.rows }
-        ensures time { F.is_honest self.old.objects → (g : Commits ObjectId)
-            → AreTold (rows_of self.old.rows) (F.table self.old.objects) g
-            → IfOk result (λ seconds. seconds ≡ (g id.now).time) }
+        ensures time { OverTold F.is_honest F.table self.old
+            (λ g. IfOk result (λ seconds. seconds ≡ (g id.now).time)) }
         ensures told { F.is_honest self.old.objects
             → IfOk result (λ _. TimeIsTold (rows_of self.old.rows) (F.table self.old.objects)
             id.now) }
-        ensures none { F.is_honest self.old.objects → ¬ F.may_fail self.old.objects
-            → (g : Commits ObjectId) → AreTold (rows_of self.old.rows) (F.table self.old.objects) g
-            → IfErr result (λ error. error ≢ Memory → (g id.now).time ≡ pos 0) }
-        ensures unread { F.is_honest self.old.objects → (g : Commits ObjectId)
-            → AreTold (rows_of self.old.rows) (F.table self.old.objects) g
-            → IfErr result (λ error. error ≢ Memory
-            → CountsAs (F.may_fail self.old.objects) g id.now (pos 0)) }
+        ensures none { OverSure F.is_honest F.may_fail F.table self.old
+            (λ g. IfErr result (λ error. error ≢ Memory → (g id.now).time ≡ pos 0)) }
+        ensures unread { OverTold F.is_honest F.table self.old
+            (λ g. IfErr result (λ error. error ≢ Memory
+            → CountsAs (F.may_fail self.old.objects) g id.now (pos 0))) }
         ensures rowed { Holds (rows_of self.old.rows) id.now → IsOk result
             × (self.new.lookups ≡ self.old.lookups) }
         ensures asked { (¬ Holds (rows_of self.old.rows) id.now)

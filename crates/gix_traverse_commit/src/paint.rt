@@ -2,7 +2,7 @@
 
 ghost use Rattle.std.specs.Prelude.{◌≡◌, ◌↔◌, ℕ, List, true, false, ◌∷◌, ◌++◌, [], length, if◌then◌else◌, Contains, IfErr, OnOk};
 ghost use Rattle.gix_hash_id.specs.declared.object_id.ObjectId.{ObjectId};
-ghost use Rattle.gix_traverse_commit.specs.Commits.{Commits, Reached};
+ghost use Rattle.gix_traverse_commit.specs.Commits.{Reached};
 ghost use Rattle.gix_traverse_commit.specs.Keeping.{Kept, KeptAll};
 ghost use Rattle.gix_traverse_commit.specs.Known.{turns_of};
 ghost use Rattle.gix_traverse_commit.specs.Nodes.{is_met, is_hidden};
@@ -12,7 +12,7 @@ ghost use Rattle.gix_traverse_commit.specs.Painting.{CountsUnpainted, IsPainted,
 ghost use Rattle.gix_traverse_commit.specs.Rows.{AllHeld};
 ghost use Rattle.gix_traverse_commit.specs.Meeting.{CountsAll};
 ghost use Rattle.gix_traverse_commit.specs.Standing.{Reads};
-ghost use Rattle.gix_traverse_commit.specs.Told.{AreTold, rows_of};
+ghost use Rattle.gix_traverse_commit.specs.Told.{OverTold, rows_of};
 ghost use Rattle.gix_traverse_commit.specs.declared.rows.Row.{Row};
 
 use crate::Parents;
@@ -115,16 +115,14 @@ pub fn paint<F: Find>(
         ≡ is_met known.old.nodes q) }
     ensures queue { OnOk result (known.new.queue ≡ known.old.queue) }
     ensures turns { OnOk result (turns_of known.new ≡ turns_of known.old) }
-    ensures painted { OnOk result (IsUnpainted known.old.nodes → F.is_honest source.old.objects
-        → (g : Commits ObjectId) → AreTold (rows_of source.old.rows) (F.table source.old.objects) g
-        → Paints g hidden.now known.new.nodes) }
+    ensures painted { OnOk result (IsUnpainted known.old.nodes → OverTold F.is_honest F.table source.old
+        (λ g. Paints g hidden.now known.new.nodes)) }
     ensures rowed { OnOk result (AllHeld (rows_of source.old.rows) hidden.now
         → source.new.lookups ≡ source.old.lookups) }
     ensures counted { OnOk result ((asked : List ObjectId)
         × CountsAll (rows_of source.old.rows) asked source.old.lookups source.new.lookups
-        × (IsUnpainted known.old.nodes → F.is_honest source.old.objects → (g : Commits ObjectId)
-        → AreTold (rows_of source.old.rows) (F.table source.old.objects) g
-        → IsListOf (ReachedFrom g hidden.now) asked)) }
+        × (IsUnpainted known.old.nodes → OverTold F.is_honest F.table source.old
+        (λ g. IsListOf (ReachedFrom g hidden.now) asked))) }
     ensures counted_fault { IsUnpainted known.old.nodes → IfErr result (CountsUnpainted
         (F.is_honest source.old.objects) (rows_of source.old.rows) (F.table source.old.objects)
         hidden.now source.old.lookups source.new.lookups) }

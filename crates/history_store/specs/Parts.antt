@@ -10,6 +10,10 @@ use Rattle.history_store.specs.declared.parts.Part.TheVariants.{Objects, Names}
 use Rattle.history_store.specs.declared.parts.Stray.{Stray}
 use Rattle.history_store.specs.declared.parts.Stray.TheVariants as strays
 
+-- this holds where both parts are honest
+abbrev pub OverBoth : {F : Type 0} → (F → Type 0) → F → F → Type 0 → Type 0
+OverBoth IsHonest objects names What = IsHonest objects → IsHonest names → What
+
 -- whether a folder of the part may have this path
 abbrev pub may_hold_folder : Part → Bytes → Bool
 may_hold_folder Objects path = is_object_folder path

@@ -7,7 +7,7 @@ ghost use Rattle.history_model.specs.Forms.{heads_front};
 ghost use Rattle.history_model.specs.Repository.{first_branch};
 ghost use Rattle.history_model.specs.Places.{head_place};
 ghost use Rattle.history_store.specs.Creation.{IsNew};
-ghost use Rattle.history_store.specs.Parts.{IsClear};
+ghost use Rattle.history_store.specs.Parts.{IsClear, OverBoth};
 ghost use Rattle.history_store.specs.Opening.{open_fault, stray_error, HeadIs, IsWrongPart, IsWrongHead, IsNotNew};
 ghost use Rattle.history_store.specs.declared.opening.OpenError.TheVariants.{Memory};
 ghost use Rattle.history_store.specs.declared.parts.Part.TheVariants as parts;
@@ -124,12 +124,12 @@ pub fn new_branch<F: Files>(
     objects: &F,
     names: &Names<F>,
 ) -> Result<Vec<u8>, OpenError>
-    ensures first { F.is_honest objects.now → F.is_honest names.now.files
-        → IfOk result (λ branch. (branch.items ≡ first_branch)
-        × IsNew (F.history objects.now).tree (F.history names.now.files).tree) }
-    ensures wrong { F.is_honest objects.now → F.is_honest names.now.files
-        → IfErr result (IsNotNew F.reading_may_fail (F.history objects.now).tree
-        (F.history names.now.files).tree) }
+    ensures first { OverBoth F.is_honest objects.now names.now.files
+        (IfOk result (λ branch. (branch.items ≡ first_branch)
+        × IsNew (F.history objects.now).tree (F.history names.now.files).tree)) }
+    ensures wrong { OverBoth F.is_honest objects.now names.now.files
+        (IfErr result (IsNotNew F.reading_may_fail (F.history objects.now).tree
+        (F.history names.now.files).tree)) }
 {
     refuse_stray(alloc, objects, Part::Objects, b"")?;
     refuse_stray(alloc, names.files(), Part::Names, HEAD)?;

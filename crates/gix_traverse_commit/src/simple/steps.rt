@@ -17,7 +17,7 @@ ghost use Rattle.gix_traverse_commit.specs.Simply.{Answers, Asked, HasAhead, IsM
 ghost use Rattle.gix_traverse_commit.specs.Giving.{CountsBeginning, CountsFault, CountsUnbegun, CountsUpTo, IsInfo, IsMetWith, IsTurn, IsContentOf, IsUnmet, IsWanted, InRows, Meets, StopsFetch, TipFault, SimpleFault};
 ghost use Rattle.gix_traverse_commit.specs.Sorting.{IsByTime, timing_of};
 ghost use Rattle.gix_traverse_commit.specs.Timely.{LetsWaitIn, TakesTurn};
-ghost use Rattle.gix_traverse_commit.specs.Told.{AreTold, rows_of};
+ghost use Rattle.gix_traverse_commit.specs.Told.{OverTold, rows_of};
 ghost use Rattle.gix_traverse_commit.specs.declared.parents.Parents.TheVariants.{All as AllParents};
 ghost use Rattle.gix_traverse_commit.specs.declared.simple.faults.Error.TheVariants.{Memory};
 
@@ -129,17 +129,15 @@ impl<F: Find + Drop, P: Accept + Drop> Simple<F, P> {
         ensures predicate { self.new.predicate ≡ self.old.predicate }
         ensures objects { self.new.source.objects ≡ self.old.source.objects }
         ensures rows { self.new.source.rows ≡ self.old.source.rows }
-        ensures going { F.is_honest self.old.source.objects → (g : Commits ObjectId)
-            → AreTold (rows_of self.old.source.rows) (F.table self.old.source.objects) g
-            → (ids : List Id) (a : Asked) → IsSure (F.may_fail self.old.source.objects) a
+        ensures going { OverTold F.is_honest F.table self.old.source
+            (λ g. (ids : List Id) (a : Asked) → IsSure (F.may_fail self.old.source.objects) a
             → IsPaintedFor P.accepts g a self.old
-            → OnOk result (IsUnderWay P.accepts ids g a [] self.new) }
-        ensures awaits { OnOk result (F.is_honest self.old.source.objects → (g : Commits ObjectId)
-            → AreTold (rows_of self.old.source.rows) (F.table self.old.source.objects) g
-            → LetsWaitIn (timing_of self.old.parents self.old.sorting)
+            → OnOk result (IsUnderWay P.accepts ids g a [] self.new)) }
+        ensures awaits { OnOk result (OverTold F.is_honest F.table self.old.source
+            (λ g. LetsWaitIn (timing_of self.old.parents self.old.sorting)
             (F.may_fail self.old.source.objects) g
             (IsFresh self.old.known.nodes self.old.tips.items)
-            (turns_of self.old.known) (turns_of self.new.known)) }
+            (turns_of self.old.known) (turns_of self.new.known))) }
         ensures left { OnOk result (GainsNone self.old self.new) }
         ensures rowed { InRows self.old → OnOk result (InRows self.new
             × (self.new.source.lookups ≡ self.old.source.lookups)) }
@@ -181,15 +179,13 @@ impl<F: Find + Drop, P: Accept + Drop> Simple<F, P> {
         ensures predicate { self.new.predicate ≡ self.old.predicate }
         ensures objects { self.new.source.objects ≡ self.old.source.objects }
         ensures rows { self.new.source.rows ≡ self.old.source.rows }
-        ensures going { F.is_honest self.old.source.objects → (g : Commits ObjectId)
-            → AreTold (rows_of self.old.source.rows) (F.table self.old.source.objects) g
-            → (ids : List Id) (a : Asked) → IsSure (F.may_fail self.old.source.objects) a
-            → IsMade P.accepts a self.old → OnOk result (IsUnderWay P.accepts ids g a [] self.new) }
+        ensures going { OverTold F.is_honest F.table self.old.source
+            (λ g. (ids : List Id) (a : Asked) → IsSure (F.may_fail self.old.source.objects) a
+            → IsMade P.accepts a self.old → OnOk result (IsUnderWay P.accepts ids g a [] self.new)) }
         ensures awaits { OnOk result ((a : Asked) → IsMade P.accepts a self.old
-            → F.is_honest self.old.source.objects → (g : Commits ObjectId)
-            → AreTold (rows_of self.old.source.rows) (F.table self.old.source.objects) g
-            → LetsWaitIn (timing a) (F.may_fail self.old.source.objects) g (IsWanted g a) []
-            (turns_of self.new.known)) }
+            → OverTold F.is_honest F.table self.old.source
+            (λ g. LetsWaitIn (timing a) (F.may_fail self.old.source.objects) g (IsWanted g a) []
+            (turns_of self.new.known))) }
         ensures left { OnOk result (GainsNone self.old self.new) }
         ensures content { OnOk result (content_of self.new ≡ content_of self.old) }
         ensures rowed { OnOk result (InRows self.old → InRows self.new
@@ -210,9 +206,8 @@ impl<F: Find + Drop, P: Accept + Drop> Simple<F, P> {
         ensures stays { OnOk result (StaysAsked self.old self.new) }
         ensures kind { OnOk result (self.new.kind ≡ self.old.kind) }
         ensures painted { OnOk result ((a : Asked) → IsMade P.accepts a self.old
-            → F.is_honest self.old.source.objects → (g : Commits ObjectId)
-            → AreTold (rows_of self.old.source.rows) (F.table self.old.source.objects) g
-            → Paints g a.hidden self.new.known.nodes) }
+            → OverTold F.is_honest F.table self.old.source
+            (λ g. Paints g a.hidden self.new.known.nodes)) }
         ensures met { OnOk result ((a : Asked) → IsMade P.accepts a self.old
             → MarksAll self.old.known.nodes a.tips self.new.known.nodes) }
     {
@@ -232,17 +227,15 @@ impl<F: Find + Drop, P: Accept + Drop> Simple<F, P> {
         ensures predicate { self.new.predicate ≡ self.old.predicate }
         ensures objects { self.new.source.objects ≡ self.old.source.objects }
         ensures rows { self.new.source.rows ≡ self.old.source.rows }
-        ensures going { F.is_honest self.old.source.objects → (g : Commits ObjectId)
-            → AreTold (rows_of self.old.source.rows) (F.table self.old.source.objects) g
-            → (ids : List Id) (a : Asked) (listed : List ObjectId)
+        ensures going { OverTold F.is_honest F.table self.old.source
+            (λ g. (ids : List Id) (a : Asked) (listed : List ObjectId)
             → IsSure (F.may_fail self.old.source.objects) a
             → Stands P.accepts ids g a listed self.old
-            → OnOk result (IsUnderWay P.accepts ids g a listed self.new) }
+            → OnOk result (IsUnderWay P.accepts ids g a listed self.new)) }
         ensures awaits { OnOk result ((a : Asked) → IsMade P.accepts a self.old
-            → F.is_honest self.old.source.objects → (g : Commits ObjectId)
-            → AreTold (rows_of self.old.source.rows) (F.table self.old.source.objects) g
-            → LetsWaitIn (timing a) (F.may_fail self.old.source.objects) g (IsWanted g a) []
-            (turns_of self.new.known)) }
+            → OverTold F.is_honest F.table self.old.source
+            (λ g. LetsWaitIn (timing a) (F.may_fail self.old.source.objects) g (IsWanted g a) []
+            (turns_of self.new.known))) }
         ensures left { OnOk result (GainsNone self.old self.new) }
         ensures same { self.old.begun ≡ true → OnOk result (self.new ≡ self.old) }
         ensures begun { self.old.begun ≡ true → IsOk result }
@@ -266,9 +259,8 @@ impl<F: Find + Drop, P: Accept + Drop> Simple<F, P> {
         ensures stays { OnOk result (StaysAsked self.old self.new) }
         ensures kind { OnOk result (self.new.kind ≡ self.old.kind) }
         ensures painted { OnOk result ((a : Asked) → IsMade P.accepts a self.old
-            → F.is_honest self.old.source.objects → (g : Commits ObjectId)
-            → AreTold (rows_of self.old.source.rows) (F.table self.old.source.objects) g
-            → Paints g a.hidden self.new.known.nodes) }
+            → OverTold F.is_honest F.table self.old.source
+            (λ g. Paints g a.hidden self.new.known.nodes)) }
         ensures met { OnOk result ((a : Asked) → IsMade P.accepts a self.old
             → MarksAll self.old.known.nodes a.tips self.new.known.nodes) }
     {
@@ -343,19 +335,17 @@ impl<F: Find + Drop, P: Accept + Drop> Simple<F, P> {
         ensures rows { self.new.source.rows ≡ self.old.source.rows }
         ensures order { (self.new.parents ≡ self.old.parents)
             × (self.new.sorting ≡ self.old.sorting) }
-        ensures going { OnOk result (F.is_honest self.old.source.objects → (g : Commits ObjectId)
-            → AreTold (rows_of self.old.source.rows) (F.table self.old.source.objects) g
-            → (ids : List Id) (a : Asked) (listed : List ObjectId) (id : ObjectId)
+        ensures going { OnOk result (OverTold F.is_honest F.table self.old.source
+            (λ g. (ids : List Id) (a : Asked) (listed : List ObjectId) (id : ObjectId)
             → IsSure (F.may_fail self.old.source.objects) a
             → parents.now ≡ asked_parents a.parents g id
             → IsKnown (rows_of self.old.source.rows) ids id
             → IsAtTurn P.accepts ids g a listed id self.old
-            → IsUnderWay P.accepts ids g a (listed ++ id ∷ []) self.new) }
-        ensures awaits { OnOk result (F.is_honest self.old.source.objects → (g : Commits ObjectId)
-            → AreTold (rows_of self.old.source.rows) (F.table self.old.source.objects) g
-            → LetsWaitIn (timing_of self.old.parents self.old.sorting)
+            → IsUnderWay P.accepts ids g a (listed ++ id ∷ []) self.new)) }
+        ensures awaits { OnOk result (OverTold F.is_honest F.table self.old.source
+            (λ g. LetsWaitIn (timing_of self.old.parents self.old.sorting)
             (F.may_fail self.old.source.objects) g (IsMetWith P.accepts self.old parents.now)
-            (turns_of self.old.known) (turns_of self.new.known)) }
+            (turns_of self.old.known) (turns_of self.new.known))) }
         ensures left { OnOk result (GainsNone self.old self.new) }
         ensures rowed { InRows self.old → AllHeld (rows_of self.old.source.rows) parents.now
             → OnOk result (InRows self.new × (self.new.source.lookups ≡ self.old.source.lookups)) }
@@ -398,24 +388,21 @@ impl<F: Find + Drop, P: Accept + Drop> Simple<F, P> {
         ensures objects { self.new.source.objects ≡ self.old.source.objects }
         ensures rows { self.new.source.rows ≡ self.old.source.rows }
         ensures id { IfOk result (λ info. info.id ≡ id) }
-        ensures told { F.is_honest self.old.source.objects → (g : Commits ObjectId)
-            → AreTold (rows_of self.old.source.rows) (F.table self.old.source.objects) g
-            → IfOk result (IsInfo g (rows_of self.old.source.rows) self.old.parents
-            self.old.sorting) }
+        ensures told { OverTold F.is_honest F.table self.old.source
+            (λ g. IfOk result (IsInfo g (rows_of self.old.source.rows) self.old.parents
+            self.old.sorting)) }
         ensures known { IfOk result (λ _. IsKnown (rows_of self.old.source.rows)
             (F.ids self.old.source.objects) id) }
-        ensures going { OnOk result (F.is_honest self.old.source.objects → (g : Commits ObjectId)
-            → AreTold (rows_of self.old.source.rows) (F.table self.old.source.objects) g
-            → (a : Asked) (listed : List ObjectId) → IsSure (F.may_fail self.old.source.objects) a
+        ensures going { OnOk result (OverTold F.is_honest F.table self.old.source
+            (λ g. (a : Asked) (listed : List ObjectId) → IsSure (F.may_fail self.old.source.objects) a
             → IsAtTurn P.accepts (F.ids self.old.source.objects) g a listed id self.old
             → IsUnderWay P.accepts (F.ids self.old.source.objects) g a (listed ++ id ∷ [])
-            self.new) }
-        ensures awaits { F.is_honest self.old.source.objects → (g : Commits ObjectId)
-            → AreTold (rows_of self.old.source.rows) (F.table self.old.source.objects) g
-            → IfOk result (λ info. LetsWaitIn (timing_of self.old.parents self.old.sorting)
+            self.new)) }
+        ensures awaits { OverTold F.is_honest F.table self.old.source
+            (λ g. IfOk result (λ info. LetsWaitIn (timing_of self.old.parents self.old.sorting)
             (F.may_fail self.old.source.objects) g
             (IsMetWith P.accepts self.old info.parent_ids.items)
-            (turns_of self.old.known) (turns_of self.new.known)) }
+            (turns_of self.old.known) (turns_of self.new.known))) }
         ensures left { OnOk result (GainsNone self.old self.new) }
         ensures content { OnOk result (IsContentOf (F.is_honest self.old.source.objects)
             (rows_of self.old.source.rows) (F.table self.old.source.objects) id

@@ -3,7 +3,6 @@
 ghost use Rattle.std.specs.Prelude.{◌≡◌, ◌⊎◌, ◌∷◌, ℕ, ℤ, ◌≤◌, ◌+◌, ◌&&◌, not, List, Bool, true, length, if◌then◌else◌, [], false, Contains, IfOk, IfErr, IsOk, OnOk};
 ghost use Rattle.gix_hash_id.specs.Id.{Id, id_of};
 ghost use Rattle.gix_hash_id.specs.declared.object_id.ObjectId.{ObjectId};
-ghost use Rattle.gix_traverse_commit.specs.Commits.{Commits};
 ghost use Rattle.gix_traverse_commit.specs.Ending.{NoneGains, times_in, times_waiting};
 ghost use Rattle.gix_object_lines.specs.Counts.{one_more};
 ghost use Rattle.gix_traverse_commit.specs.Fetching.{TimeIsTold};
@@ -17,7 +16,7 @@ ghost use Rattle.gix_traverse_commit.specs.Rows.{AllHeld, Holds};
 ghost use Rattle.gix_traverse_commit.specs.Giving.{IsReadBefore, IsUnmet, TipFault};
 ghost use Rattle.gix_traverse_commit.specs.Sorting.{in_time};
 ghost use Rattle.gix_traverse_commit.specs.Timely.{AllRowed, CountsAs, IsMetSoFar, Joins, LetsWait, keep_since, turn_of};
-ghost use Rattle.gix_traverse_commit.specs.Told.{AreTold, rows_of};
+ghost use Rattle.gix_traverse_commit.specs.Told.{OverSure, OverTold, rows_of};
 ghost use Rattle.gix_traverse_commit.specs.declared.simple.faults.Error.TheVariants.{Memory};
 
 use crate::Accept;
@@ -41,12 +40,10 @@ fn seconds_or_zero<F: Find>(source: &mut Source<F>, id: &ObjectId) -> Result<i64
         → source.new.lookups ≡ source.old.lookups }
     ensures asked { (¬ Holds (rows_of source.old.rows) id.now)
         → source.new.lookups ≡ one_more source.old.lookups }
-    ensures time { F.is_honest source.old.objects → ¬ F.may_fail source.old.objects
-        → (g : Commits ObjectId) → AreTold (rows_of source.old.rows) (F.table source.old.objects) g
-        → IfOk result (λ seconds. seconds ≡ (g id.now).time) }
-    ensures counted_as { F.is_honest source.old.objects → (g : Commits ObjectId)
-        → AreTold (rows_of source.old.rows) (F.table source.old.objects) g
-        → IfOk result (CountsAs (F.may_fail source.old.objects) g id.now) }
+    ensures time { OverSure F.is_honest F.may_fail F.table source.old
+        (λ g. IfOk result (λ seconds. seconds ≡ (g id.now).time)) }
+    ensures counted_as { OverTold F.is_honest F.table source.old
+        (λ g. IfOk result (CountsAs (F.may_fail source.old.objects) g id.now)) }
     ensures refused { IfErr result (λ error. error ≡ Memory) }
 {
     match source.seconds(id) {
@@ -129,15 +126,14 @@ fn wait<F: Find>(
     ensures rowed { Holds (rows_of source.old.rows) id → (source.new.lookups ≡ source.old.lookups)
         × OnOk result (AllRowed (rows_of source.old.rows) (turns_of known.old)
         → AllRowed (rows_of source.old.rows) (turns_of known.new)) }
-    ensures waits { OnOk result (F.is_honest source.old.objects → ¬ F.may_fail source.old.objects
-        → (g : Commits ObjectId) → AreTold (rows_of source.old.rows) (F.table source.old.objects) g
-        → Joins (in_time since (g id).time) (turns_of known.old) (turn_of g id)
-        (turns_of known.new)) }
-    ensures counted_as { OnOk result (F.is_honest source.old.objects → (g : Commits ObjectId)
-        → AreTold (rows_of source.old.rows) (F.table source.old.objects) g → (time : ℤ)
+    ensures waits { OnOk result (OverSure F.is_honest F.may_fail F.table source.old
+        (λ g. Joins (in_time since (g id).time) (turns_of known.old) (turn_of g id)
+        (turns_of known.new))) }
+    ensures counted_as { OnOk result (OverTold F.is_honest F.table source.old
+        (λ g. (time : ℤ)
         × CountsAs (F.may_fail source.old.objects) g id time
         × Joins (in_time since time) (turns_of known.old) (record { time = time; id = id })
-        (turns_of known.new)) }
+        (turns_of known.new))) }
     ensures once { OnOk result ((x : Id) → times_waiting (turns_of known.new) x
         ≤ times_waiting (turns_of known.old) x + times_in (id ∷ []) x) }
     ensures asked { (¬ Holds (rows_of source.old.rows) id)
@@ -174,15 +170,13 @@ fn await_tip<F: Find>(
         → OnOk result ((source.new.lookups ≡ source.old.lookups)
         × (AllRowed (rows_of source.old.rows) (turns_of known.old)
         → AllRowed (rows_of source.old.rows) (turns_of known.new))) }
-    ensures waits { OnOk result (F.is_honest source.old.objects → ¬ F.may_fail source.old.objects
-        → (g : Commits ObjectId) → AreTold (rows_of source.old.rows) (F.table source.old.objects) g
-        → Joins (not (is_met known.old.nodes id) && (not
+    ensures waits { OnOk result (OverSure F.is_honest F.may_fail F.table source.old
+        (λ g. Joins (not (is_met known.old.nodes id) && (not
         (is_hidden known.old.nodes id) && in_time since
-        (g id).time)) (turns_of known.old) (turn_of g id) (turns_of known.new)) }
-    ensures awaits { OnOk result (F.is_honest source.old.objects → (g : Commits ObjectId)
-        → AreTold (rows_of source.old.rows) (F.table source.old.objects) g
-        → LetsWait (F.may_fail source.old.objects) since g (Contains (fresh known.old.nodes id))
-        (turns_of known.old) (turns_of known.new)) }
+        (g id).time)) (turns_of known.old) (turn_of g id) (turns_of known.new))) }
+    ensures awaits { OnOk result (OverTold F.is_honest F.table source.old
+        (λ g. LetsWait (F.may_fail source.old.objects) since g (Contains (fresh known.old.nodes id))
+        (turns_of known.old) (turns_of known.new))) }
     ensures left { OnOk result (NoneGains known.old.nodes
         (times_waiting (turns_of known.old)) known.new.nodes (times_waiting (turns_of known.new))) }
     ensures timed { OnOk result (CountsAll (rows_of source.old.rows) (fresh known.old.nodes id)
@@ -221,20 +215,18 @@ pub fn await_tips<F: Find>(
         → OnOk result ((source.new.lookups ≡ source.old.lookups)
         × (AllRowed (rows_of source.old.rows) (turns_of known.old)
         → AllRowed (rows_of source.old.rows) (turns_of known.new))) }
-    ensures walked { OnOk result (F.is_honest source.old.objects → ¬ F.may_fail source.old.objects
-        → (g : Commits ObjectId) → AreTold (rows_of source.old.rows) (F.table source.old.objects) g
-        → (accepts : Id → Bool) → ((x : ObjectId) → Contains tips.now x
+    ensures walked { OnOk result (OverSure F.is_honest F.may_fail F.table source.old
+        (λ g. (accepts : Id → Bool) → ((x : ObjectId) → Contains tips.now x
         → is_met known.old.nodes x ≡ false → accepts (id_of x) ≡ true)
         → IsMetSoFar g (keep_since since g (is_hidden known.old.nodes) accepts)
         (is_met known.old.nodes)
         (λ _. ⊥) [] (turns_of known.old)
         → IsMetSoFar g (keep_since since g (is_hidden known.old.nodes) accepts)
         (is_met known.new.nodes)
-        (Contains tips.now) [] (turns_of known.new)) }
-    ensures awaits { OnOk result (F.is_honest source.old.objects → (g : Commits ObjectId)
-        → AreTold (rows_of source.old.rows) (F.table source.old.objects) g
-        → LetsWait (F.may_fail source.old.objects) since g (IsFresh known.old.nodes tips.now)
-        (turns_of known.old) (turns_of known.new)) }
+        (Contains tips.now) [] (turns_of known.new))) }
+    ensures awaits { OnOk result (OverTold F.is_honest F.table source.old
+        (λ g. LetsWait (F.may_fail source.old.objects) since g (IsFresh known.old.nodes tips.now)
+        (turns_of known.old) (turns_of known.new))) }
     ensures left { OnOk result (NoneGains known.old.nodes
         (times_waiting (turns_of known.old)) known.new.nodes (times_waiting (turns_of known.new))) }
     ensures timed { OnOk result ((timed : List ObjectId)
@@ -273,15 +265,13 @@ fn await_parent<F: Find, P: Accept>(
         → OnOk result ((source.new.lookups ≡ source.old.lookups)
         × (AllRowed (rows_of source.old.rows) (turns_of known.old)
         → AllRowed (rows_of source.old.rows) (turns_of known.new))) }
-    ensures waits { OnOk result (F.is_honest source.old.objects → ¬ F.may_fail source.old.objects
-        → (g : Commits ObjectId) → AreTold (rows_of source.old.rows) (F.table source.old.objects) g
-        → Joins (not (is_met known.old.nodes id) && keep_since since g (is_hidden known.old.nodes)
-        (P.accepts predicate.old) id) (turns_of known.old) (turn_of g id) (turns_of known.new)) }
-    ensures awaits { OnOk result (F.is_honest source.old.objects → (g : Commits ObjectId)
-        → AreTold (rows_of source.old.rows) (F.table source.old.objects) g
-        → LetsWait (F.may_fail source.old.objects) since g
+    ensures waits { OnOk result (OverSure F.is_honest F.may_fail F.table source.old
+        (λ g. Joins (not (is_met known.old.nodes id) && keep_since since g (is_hidden known.old.nodes)
+        (P.accepts predicate.old) id) (turns_of known.old) (turn_of g id) (turns_of known.new))) }
+    ensures awaits { OnOk result (OverTold F.is_honest F.table source.old
+        (λ g. LetsWait (F.may_fail source.old.objects) since g
         (Contains (accepted (P.accepts predicate.old) (fresh known.old.nodes id)))
-        (turns_of known.old) (turns_of known.new)) }
+        (turns_of known.old) (turns_of known.new))) }
     ensures left { OnOk result (NoneGains known.old.nodes
         (times_waiting (turns_of known.old)) known.new.nodes (times_waiting (turns_of known.new))) }
     ensures asked { OnOk result (Asks P.goes
@@ -329,9 +319,8 @@ pub fn await_parents<F: Find, P: Accept>(
         → OnOk result ((source.new.lookups ≡ source.old.lookups)
         × (AllRowed (rows_of source.old.rows) (turns_of known.old)
         → AllRowed (rows_of source.old.rows) (turns_of known.new))) }
-    ensures walked { OnOk result (F.is_honest source.old.objects → ¬ F.may_fail source.old.objects
-        → (g : Commits ObjectId) → AreTold (rows_of source.old.rows) (F.table source.old.objects) g
-        → (accepts : Id → Bool) (along : ObjectId → List ObjectId)
+    ensures walked { OnOk result (OverSure F.is_honest F.may_fail F.table source.old
+        (λ g. (accepts : Id → Bool) (along : ObjectId → List ObjectId)
         (tips front listed : List ObjectId) → ((x : ObjectId) → is_met known.old.nodes x ≡ false
         → P.accepts predicate.old (id_of x) ≡ accepts (id_of x))
         → IsMetSoFar g (keep_since since g (is_hidden known.old.nodes) accepts)
@@ -340,12 +329,11 @@ pub fn await_parents<F: Find, P: Accept>(
         → IsMetSoFar g (keep_since since g (is_hidden known.old.nodes) accepts)
         (is_met known.new.nodes)
         (λ x. IsOpen along tips front x ⊎ Contains parents.now x) listed
-        (turns_of known.new)) }
-    ensures awaits { OnOk result (F.is_honest source.old.objects → (g : Commits ObjectId)
-        → AreTold (rows_of source.old.rows) (F.table source.old.objects) g
-        → LetsWait (F.may_fail source.old.objects) since g
+        (turns_of known.new))) }
+    ensures awaits { OnOk result (OverTold F.is_honest F.table source.old
+        (λ g. LetsWait (F.may_fail source.old.objects) since g
         (λ x. IsFresh known.old.nodes parents.now x × (P.accepts predicate.old (id_of x) ≡ true))
-        (turns_of known.old) (turns_of known.new)) }
+        (turns_of known.old) (turns_of known.new))) }
     ensures left { OnOk result (NoneGains known.old.nodes
         (times_waiting (turns_of known.old)) known.new.nodes (times_waiting (turns_of known.new))) }
     ensures asked { OnOk result ((met : List ObjectId)
