@@ -12,7 +12,7 @@ without_last byte text =
     if ends_with nat_eq text (byte ∷ []) then take (length text - 1) text else text
 
 -- the text of a line that ends with a line feed, or with a carriage return and a line feed
-abbrev pub line_text : List ℕ → Option (List ℕ)
-line_text line =
+abbrev pub cut_line : List ℕ → Option (List ℕ)
+cut_line line =
     if ends_with nat_eq line (10 ∷ []) then Some (without_last 13 (take (length line - 1) line))
     else None

@@ -1,5 +1,6 @@
 -- Names as they are looked up in `packed-refs` (gitrevisions, "<refname>"; git-worktree, "Refs").
 use Rattle.std.specs.Prelude.{ℕ, ◌==◌, Bool, ◌||◌, List, [], ◌∷◌, ◌++◌, drop, codes, if◌then◌else◌, Option, Some, None, option_and_then}
+use Rattle.std.specs.Option.{option_or}
 use Rattle.gix_object_lines.specs.NameTest.{begins, is_capitals}
 use Rattle.gix_ref_format.specs.Packed.{Record}
 use Rattle.gix_ref_format.specs.PackedBuffer.{hit}
@@ -63,11 +64,7 @@ word_names word = placed (codes "refs/") word [] ∷ tag_names word
 abbrev pub lookup_names : List ℕ → List (List ℕ)
 lookup_names word = if is_complete word then word ∷ [] else word_names word
 
-abbrev pub or_else : {X : Type 0} → Option X → Option X → Option X
-or_else None other = other
-or_else (Some x) other = Some x
-
 -- the record of the first name that has one
 abbrev pub first_hit : List Record → List (List ℕ) → Option Record
 first_hit records [] = None
-first_hit records (name ∷ names) = or_else (packed_hit records name) (first_hit records names)
+first_hit records (name ∷ names) = option_or (packed_hit records name) (first_hit records names)

@@ -10,7 +10,7 @@ use Rattle.gix_object_lines.specs.Bytes.{is_among}
 use Rattle.gix_object_lines.specs.NameTest.{begins, is_full_name}
 use Rattle.gix_ref_name.specs.Names.{name_of}
 use Rattle.gix_ref_format.specs.Ids.{id_from_hex}
-use Rattle.gix_ref_format.specs.Lines.{lines, line_text}
+use Rattle.gix_ref_format.specs.Lines.{lines, cut_line}
 use Rattle.gix_ref_format.specs.declared.packed.Reference.{Reference}
 use Rattle.gix_ref_format.specs.declared.packed.Header.{Header}
 use Rattle.gix_ref_format.specs.declared.packed.Peeled.{Peeled}
@@ -36,7 +36,7 @@ header_of text =
     then Some (header_by (slice_split (λ byte. byte == 32) (drop 17 text))) else None
 
 abbrev pub header_line : List ℕ → Option Header
-header_line line = option_and_then header_of (line_text line)
+header_line line = option_and_then header_of (cut_line line)
 
 -- ---- records
 
@@ -61,10 +61,10 @@ abbrev pub peel_text : Kind → List ℕ → Option Id
 peel_text kind text = if begins (codes "^") text then id_from_hex kind (drop 1 text) else None
 
 abbrev pub record_line : Kind → List ℕ → Option Record
-record_line kind line = option_and_then (record_text kind) (line_text line)
+record_line kind line = option_and_then (record_text kind) (cut_line line)
 
 abbrev pub peel_line : Kind → List ℕ → Option Id
-peel_line kind line = option_and_then (peel_text kind) (line_text line)
+peel_line kind line = option_and_then (peel_text kind) (cut_line line)
 
 -- ---- what the lines give
 

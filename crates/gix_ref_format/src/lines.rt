@@ -2,7 +2,7 @@
 
 ghost use Rattle.std.specs.Prelude.{◌≡◌, ◌≢◌, ◌∷◌, [], ◌++◌, ◌<◌, length};
 ghost use Rattle.std.specs.Option.{option_map};
-ghost use Rattle.gix_ref_format.specs.Lines.{without_last, line_text, lines};
+ghost use Rattle.gix_ref_format.specs.Lines.{without_last, cut_line, lines};
 
 use gix_object_lines::cut::split_once;
 
@@ -32,7 +32,7 @@ pub(crate) fn strip_last(text: &[u8], byte: u8) -> &[u8]
 
 /// The text of a line without its end, a line feed or CR LF; `None` where no line feed ends it.
 pub(crate) fn text_of_line(line: &[u8]) -> Option<&[u8]>
-    ensures { option_map (λ text. text.now) result ≡ line_text line.now }
+    ensures { option_map (λ text. text.now) result ≡ cut_line line.now }
 {
     if line.ends_with(b"\n") {
         Some(strip_last(&line[..line.len() - 1], b'\r'))

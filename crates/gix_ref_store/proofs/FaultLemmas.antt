@@ -5,7 +5,7 @@ use Rattle.gix_object_lines.specs.NameTest.{is_full_name}
 use Rattle.gix_ref_name.specs.Targets.{Points, ToObject, ToName}
 use Rattle.gix_ref_format.specs.Loose.{loose_target, is_symbolic, referent, leading_id, LooseFault}
 use Rattle.gix_ref_format.specs.declared.loose.Error.TheVariants.{Parse, RefnameValidation}
-use Rattle.gix_ref_store.specs.NameStates.{NameState, Faulty, InFile, loose_state, text_fault}
+use Rattle.gix_ref_store.specs.RefStates.{RefState, Faulty, InFile, loose_state, text_fault}
 
 module _ (kind : Kind) (text : List ℕ) where
   abbrev named : Option Points

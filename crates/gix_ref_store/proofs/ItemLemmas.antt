@@ -10,7 +10,7 @@ use Rattle.gix_ref_format.specs.Packed.{Record}
 use Rattle.gix_ref_format.specs.PackedBuffer.{hit}
 use Rattle.gix_ref_format.specs.Lookup.{packed_hit, packed_key, is_own}
 use Rattle.gix_ref_format.specs.declared.packed.buffer.Buffer.{Buffer}
-use Rattle.gix_ref_store.specs.NameStates.{NameState, Stands, Absent, Faulty, Met, state_among}
+use Rattle.gix_ref_store.specs.RefStates.{RefState, Stands, Absent, Faulty, Met, state_among}
 use Rattle.gix_ref_store.specs.Finds.{records_in, TellsState}
 use Rattle.gix_ref_store.specs.Searches.{reads_in}
 use Rattle.gix_ref_store.specs.Items.{is_there, met_by, mets_of, left_in, GivesNext, TellsName}
@@ -24,12 +24,12 @@ use Rattle.gix_ref_store.specs.declared.store.file.iter.Error.{Error}
 use Rattle.gix_ref_store.specs.declared.store.file.iter.Error.TheVariants.{Traversal, ReadFileContents, ReferenceCreation, Memory}
 use Rattle.gix_ref_store.specs.declared.store.file.iter.LooseThenPacked.{LooseThenPacked}
 
-not_there : (r : NameState) → is_there r ≡ false → r ≡ Absent
+not_there : (r : RefState) → is_there r ≡ false → r ≡ Absent
 not_there Absent is = refl
 not_there (Stands points peeled) is = cc
 not_there (Faulty why) is = cc
 
-module _ (read : List ℕ → NameState) (n : List ℕ) (rest : List (List ℕ)) where
+module _ (read : List ℕ → RefState) (n : List ℕ) (rest : List (List ℕ)) where
   is_next : is_there (read n) ≡ true → mets_of read (n ∷ rest) ≡ met_by read n ∷ mets_of read rest
   is_next is = ap (λ b. map (met_by read) (cond b (n ∷ filter (λ name. is_there (read name)) rest) (filter (λ name. is_there (read name)) rest))) is
 
@@ -42,12 +42,12 @@ module _ (read : List ℕ → NameState) (n : List ℕ) (rest : List (List ℕ))
 
   -- another is given
   pub given : (item : Result Reference Error) → TellsName n (read n) (Some item) → GivesNext read (mets_of read (n ∷ rest)) (Some item) (mets_of read rest)
-  given (Ok r) (same, reads) = is_next (ap is_there reads) ∙ (λ i. record { name = same i; name_state = reads i } ∷ mets_of read rest)
-  given (Err (ReferenceCreation name reason)) (same, reads) = is_next (ap is_there reads) ∙ (λ i. record { name = same i; name_state = reads i } ∷ mets_of read rest)
+  given (Ok r) (same, reads) = is_next (ap is_there reads) ∙ (λ i. record { name = same i; ref_state = reads i } ∷ mets_of read rest)
+  given (Err (ReferenceCreation name reason)) (same, reads) = is_next (ap is_there reads) ∙ (λ i. record { name = same i; ref_state = reads i } ∷ mets_of read rest)
   given (Err (ReadFileContents name)) same = by_case (is_there (read n)) refl
     where
-      by_case : (b : Bool) → is_there (read n) ≡ b → ((read name ≡ Absent) × (mets_of read (n ∷ rest) ≡ mets_of read rest)) ⊎ ((r : NameState) × (mets_of read (n ∷ rest) ≡ record { name = name; name_state = r } ∷ mets_of read rest))
-      by_case true is = inr (read n, is_next is ∙ (λ i. record { name = same i; name_state = read n } ∷ mets_of read rest))
+      by_case : (b : Bool) → is_there (read n) ≡ b → ((read name ≡ Absent) × (mets_of read (n ∷ rest) ≡ mets_of read rest)) ⊎ ((r : RefState) × (mets_of read (n ∷ rest) ≡ record { name = name; ref_state = r } ∷ mets_of read rest))
+      by_case true is = inr (read n, is_next is ∙ (λ i. record { name = same i; ref_state = read n } ∷ mets_of read rest))
       by_case false is = inl (sym (ap read same) ∙ not_there (read n) is, is_over is)
   given (Err Memory) told = by_case (is_there (read n)) refl
     where
@@ -56,7 +56,7 @@ module _ (read : List ℕ → NameState) (n : List ℕ) (rest : List (List ℕ))
       by_case false is = inl (is_over is)
   given (Err Traversal) told = told
 
-pub gives_from : (read : List ℕ → NameState) (before left after : List Met) (item : Option (Result Reference Error)) → left ≡ before → GivesNext read left item after
+pub gives_from : (read : List ℕ → RefState) (before left after : List Met) (item : Option (Result Reference Error)) → left ≡ before → GivesNext read left item after
     → GivesNext read before item after
 gives_from read before left after item is gives = subst (λ (l : List Met). GivesNext read l item after) is gives
 
@@ -102,7 +102,7 @@ step {F} tree start now name rest item same names left told =
     (subst (λ (ns : List (List ℕ)). GivesNext (reads_in tree now.search) (mets_of (reads_in tree now.search) ns) (Some item) (mets_of (reads_in tree now.search) rest)) (sym names)
     (given (reads_in tree now.search) name rest item (subst (λ s. TellsName name (reads_in tree s name) (Some item)) (sym same) told))))
 
-pub told_found : (name : List ℕ) (r : NameState) (found : Reference) → TellsState name r (Ok (Some found)) → TellsName name r (Some (Ok found))
+pub told_found : (name : List ℕ) (r : RefState) (found : Reference) → TellsState name r (Ok (Some found)) → TellsName name r (Some (Ok found))
 told_found name r found (same, reads) = (sym same, reads)
 
 pub left_on : {F : Type 0} (tree : Tree) (now : LooseThenPacked F) (name : List ℕ) (rest : List (List ℕ)) → now.names ≡ name ∷ rest → TellsName name (reads_in tree now.search name) None

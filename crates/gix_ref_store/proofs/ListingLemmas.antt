@@ -10,18 +10,18 @@ use Rattle.gix_ref_file.proofs.Trees.{one_path, same_path_itself}
 use Rattle.gix_ref_format.specs.Packed.{Record}
 use Rattle.gix_ref_format.specs.Lookup.{packed_hit}
 use Rattle.gix_ref_store.specs.Places.{Base}
-use Rattle.gix_ref_store.specs.NameStates.{NameState, Stands, Absent, Faulty, Met, packed_state, read_by, state_among, loose_text_at}
+use Rattle.gix_ref_store.specs.RefStates.{RefState, Stands, Absent, Faulty, Met, packed_state, read_by, state_among, loose_text_at}
 use Rattle.gix_ref_store.specs.Listings.{IsListing}
 use Rattle.gix_ref_store.specs.Items.{is_there, met_by, mets_of}
 use Rattle.gix_ref_store.specs.Walks.{has, BringsAsked, GathersPlaces}
 
 -- ---- names that stand
-there_none : (r : NameState) → is_there r ≡ true → r ≢ Absent
+there_none : (r : RefState) → is_there r ≡ true → r ≢ Absent
 there_none Absent is e = cc
 there_none (Stands p q) is e = cc
 there_none (Faulty why) is e = cc
 
-none_there : (r : NameState) → (r ≡ Absent → ⊥) → is_there r ≡ true
+none_there : (r : RefState) → (r ≡ Absent → ⊥) → is_there r ≡ true
 none_there Absent h = absurd (h refl)
 none_there (Stands p q) h = refl
 none_there (Faulty why) h = refl
@@ -31,10 +31,10 @@ or_true true = refl
 or_true false = refl
 
 -- ---- the names of a listing
-module _ (read : List ℕ → NameState) where
+module _ (read : List ℕ → RefState) where
   -- what is listed is one of the names, and there
   abbrev pub IsOf : List (List ℕ) → Met → Type 0
-  IsOf names met = IsTrue (has names met.name) × (read met.name ≡ met.name_state) × (met.name_state ≢ Absent)
+  IsOf names met = IsTrue (has names met.name) × (read met.name ≡ met.ref_state) × (met.ref_state ≢ Absent)
 
   of_later : (n : List ℕ) (names : List (List ℕ)) (met : Met) → IsOf names met → IsOf (n ∷ names) met
   of_later n names met (among, reads, stands) = (ap (λ b. same_path met.name n || b) among ∙ or_true (same_path met.name n), reads, stands)
@@ -58,7 +58,7 @@ module _ (read : List ℕ → NameState) where
   of_is_listed (n ∷ names) met (among, reads, stands) = by_same (same_path met.name n) refl (is_there (read n)) refl (λ more. of_is_listed names met (more, reads, stands))
     where
       is_met : n ≡ met.name → met_by read n ≡ met
-      is_met same = ap (met_by read) same ∙ ap (λ r. record { name = met.name; name_state = r }) reads
+      is_met same = ap (met_by read) same ∙ ap (λ r. record { name = met.name; ref_state = r }) reads
 
       by_same : (s : Bool) → same_path met.name n ≡ s → (b : Bool) → is_there (read n) ≡ b → (IsTrue (has names met.name) → Contains (mets_of read names) met)
           → Contains (map (met_by read) (cond b (n ∷ filter (λ name. is_there (read name)) names) (filter (λ name. is_there (read name)) names))) met
@@ -69,7 +69,7 @@ module _ (read : List ℕ → NameState) where
       by_same false apart false gone later = later (sym (ap (λ b. b || has names met.name) apart) ∙ among)
 
 -- ---- in order
-module _ (read : List ℕ → NameState) (n : List ℕ) where
+module _ (read : List ℕ → RefState) (n : List ℕ) where
   all_later : (names : List (List ℕ)) → AllByRecursion (λ y. path_cmp n y ≡ Less) names → AllByRecursion (λ later. path_cmp n later ≡ Less) (map (λ met. met.name) (mets_of read names))
   all_later [] all = tt
   all_later (m ∷ names) (first, all) = by_case (is_there (read m)) (all_later names all)
@@ -79,7 +79,7 @@ module _ (read : List ℕ → NameState) (n : List ℕ) where
       by_case true rest = (first, rest)
       by_case false rest = rest
 
-ascends : (read : List ℕ → NameState) (names : List (List ℕ)) → IsStrictlySortedBy path_cmp names → IsAscending (map (λ met. met.name) (mets_of read names))
+ascends : (read : List ℕ → RefState) (names : List (List ℕ)) → IsStrictlySortedBy path_cmp names → IsAscending (map (λ met. met.name) (mets_of read names))
 unfolding IsStrictlySortedBy
 ascends read [] order = tt
 ascends read (n ∷ names) (first, order) = by_case (is_there (read n)) (all_later read n names first) (ascends read names order)
@@ -103,8 +103,8 @@ pub is_listing : (b : Base) (tree : Tree) (records : List Record) (asked : List 
 is_listing b tree records asked old names order none brings places packed = record {
   ascending = ascends (state_among b tree records) names order;
   each = λ name r. (
-    λ (k, below, at). let of = listed_is_of (state_among b tree records) names (record { name = name; name_state = r }) k below at in (only_asked asked old names none brings name of.0, of.1, of.2),
-    λ (so, reads, stands). of_is_listed (state_among b tree records) names (record { name = name; name_state = r }) (all name so (λ e. stands (sym reads ∙ e)), reads, stands),
+    λ (k, below, at). let of = listed_is_of (state_among b tree records) names (record { name = name; ref_state = r }) k below at in (only_asked asked old names none brings name of.0, of.1, of.2),
+    λ (so, reads, stands). of_is_listed (state_among b tree records) names (record { name = name; ref_state = r }) (all name so (λ e. stands (sym reads ∙ e)), reads, stands),
   );
 }
   where

@@ -13,7 +13,7 @@ use Rattle.gix_hash_id.specs.declared.object_id.ObjectId.{ObjectId}
 use Rattle.gix_object_find.specs.Table.{Table}
 use Rattle.gix_ref_file.specs.Tree.{Tree}
 use Rattle.gix_ref_store.specs.Places.{Base}
-use Rattle.gix_ref_store.specs.NameStates.{NameState}
+use Rattle.gix_ref_store.specs.RefStates.{RefState}
 use Rattle.gix_ref_store.specs.Follows.{EndsBy, IsGiven, CantOpen, follow_from}
 use Rattle.gix_ref_store.specs.Peels.{TagNames, LeadsOver, PeelsTo, PeelsBy, Peels, PeelFault, TagFault, MayTell}
 use Rattle.gix_ref_store.specs.declared.reference.Reference.{Reference}
@@ -86,7 +86,7 @@ pub among_test : (tags items : List ObjectId) (id : Id) (b : Bool) → items ≡
 among_test tags items id b same is = sym (is ∙ ap (list_any (λ other. id_eq id (id_of other))) same ∙ any_id (id_eq id) tags)
 
 -- ---- references
-module _ (read : List ℕ → NameState) (table : Table) (r : Reference) where
+module _ (read : List ℕ → RefState) (table : Table) (r : Reference) where
   pub peels_told : (id : ObjectId) → r.peeled ≡ Some id → Peels read table r r.name (id_of id)
   peels_told id is = subst (λ (p : Option ObjectId). PeelsBy (follow_from read r) table r.name (option_map id_of p) r.name (id_of id)) (sym is) (refl, refl)
 
@@ -122,7 +122,7 @@ tag_may H M P table id (NotFound oid) fault = tt
 tag_may H M P table id Memory fault = tt
 
 -- the same is told of packed references that were opened
-pub opened_peels : (b : Base) (tree : Tree) (one other : List ℕ → NameState) (table : Table) (r : Reference) (result : Result ObjectId Error) (P : (List ℕ → NameState) → ObjectId → Type 0) → one ≡ other
+pub opened_peels : (b : Base) (tree : Tree) (one other : List ℕ → RefState) (table : Table) (r : Reference) (result : Result ObjectId Error) (P : (List ℕ → RefState) → ObjectId → Type 0) → one ≡ other
     → MatchResult result (P one) (PeelFault IsGiven one table r) → MatchResult result (P other) (PeelFault (CantOpen b tree) other table r)
 opened_peels b tree one other table r (Ok id) P same told = subst (λ read. P read id) same told
 opened_peels b tree one other table r (Err error) P same told = opened_fault other table r b tree error (subst (λ read. PeelFault IsGiven read table r error) same told)

@@ -5,7 +5,7 @@ use Rattle.std.specs.List.{Contains}
 use Rattle.std.proofs.lemmas.List.Elements.{Contains-append_left, Contains-append_cases, Contains-append_right, Contains-push, Contains-push_cases}
 use Rattle.gix_ref_file.specs.Tree.{Tree}
 use Rattle.gix_ref_name.specs.Targets.{Points, ToName}
-use Rattle.gix_ref_store.specs.NameStates.{NameState, Fault, Faulty, Stands, Met, state_among, packed_text_in}
+use Rattle.gix_ref_store.specs.RefStates.{RefState, Fault, Faulty, Stands, Met, state_among, packed_text_in}
 use Rattle.gix_ref_store.specs.Finds.{met_of}
 use Rattle.gix_ref_store.specs.Listings.{IsListing, all_names}
 use Rattle.gix_ref_store.specs.Pristine.{SomeStands, IsPristine, head_in}
@@ -13,12 +13,12 @@ use Rattle.gix_ref_store.specs.Stores.{base_of}
 use Rattle.gix_ref_store.specs.declared.store.file.Store.{Store}
 use Rattle.gix_ref_store.specs.declared.reference.Reference.{Reference}
 
-abbrev pub CantBeRead : NameState → Type 0
+abbrev pub CantBeRead : RefState → Type 0
 CantBeRead r = (why : Fault) × (r ≡ Faulty why)
 
 -- what was passed by can't be read, and the rest is still to come
 pub record Passed (out left : List Met) : Type 0 where
-  pub gone : (met : Met) → Contains out met → Contains left met ⊎ CantBeRead met.name_state
+  pub gone : (met : Met) → Contains out met → Contains left met ⊎ CantBeRead met.ref_state
   pub here : (met : Met) → Contains left met → Contains out met
 
 pub passed_none : (out : List Met) → Passed out out
@@ -38,7 +38,7 @@ first_or first met rest is = by_case (Contains-append_cases (first ∷ []) rest 
     by_case (inl one) = at_first (Contains-push_cases [] first met one)
     by_case (inr later) = inr later
 
-pub passed_on : (out left after : List Met) (name : List ℕ) (why : Fault) → Passed out left → left ≡ record { name = name; name_state = Faulty why } ∷ after
+pub passed_on : (out left after : List Met) (name : List ℕ) (why : Fault) → Passed out left → left ≡ record { name = name; ref_state = Faulty why } ∷ after
     → Passed out after
 passed_on out left after name why passed is = record {
   gone = λ met there. by_case met (passed.gone met there);
@@ -46,30 +46,30 @@ passed_on out left after name why passed is = record {
 }
   where
     first : Met
-    first = record { name = name; name_state = Faulty why }
+    first = record { name = name; ref_state = Faulty why }
 
-    by_first : (met : Met) → (first ≡ met) ⊎ Contains after met → Contains after met ⊎ CantBeRead met.name_state
-    by_first met (inl same) = inr (why, sym (ap (λ (m : Met). m.name_state) same))
+    by_first : (met : Met) → (first ≡ met) ⊎ Contains after met → Contains after met ⊎ CantBeRead met.ref_state
+    by_first met (inl same) = inr (why, sym (ap (λ (m : Met). m.ref_state) same))
     by_first met (inr later) = inl later
 
-    by_case : (met : Met) → Contains left met ⊎ CantBeRead met.name_state → Contains after met ⊎ CantBeRead met.name_state
+    by_case : (met : Met) → Contains left met ⊎ CantBeRead met.ref_state → Contains after met ⊎ CantBeRead met.ref_state
     by_case met (inr faulty) = inr faulty
     by_case met (inl there) = by_first met (first_or first met after (subst (λ (l : List Met). Contains l met) is there))
 
 -- a reference that is given stands
-pub one_stands : (read : List ℕ → NameState) (asked : List ℕ → Bool) (out left after : List Met) (r : Reference) → IsListing read asked out → Passed out left → left ≡ met_of r ∷ after → SomeStands read asked
+pub one_stands : (read : List ℕ → RefState) (asked : List ℕ → Bool) (out left after : List Met) (r : Reference) → IsListing read asked out → Passed out left → left ≡ met_of r ∷ after → SomeStands read asked
 one_stands read asked out left after r listing passed is =
     let there = passed.here (met_of r) (subst (λ (l : List Met). Contains l (met_of r)) (sym is) (Contains-append_left (met_of r ∷ []) after (met_of r) (Contains-push [] (met_of r)))) in
-    let each = (listing.each r.name (met_of r).name_state).0 there in
+    let each = (listing.each r.name (met_of r).ref_state).0 there in
     (r.name, _, _, each.0, each.1)
 
 -- none does where nothing is left
-pub none_stands : (read : List ℕ → NameState) (asked : List ℕ → Bool) (out left : List Met) → IsListing read asked out → Passed out left → left ≡ [] → SomeStands read asked → ⊥
+pub none_stands : (read : List ℕ → RefState) (asked : List ℕ → Bool) (out left : List Met) → IsListing read asked out → Passed out left → left ≡ [] → SomeStands read asked → ⊥
 none_stands read asked out left listing passed none (name, points, peeled, so, reads) =
-    by_case (passed.gone (record { name = name; name_state = Stands points peeled }) ((listing.each name (Stands points peeled)).1 (so, reads, λ e. cc)))
+    by_case (passed.gone (record { name = name; ref_state = Stands points peeled }) ((listing.each name (Stands points peeled)).1 (so, reads, λ e. cc)))
   where
-    by_case : Contains left (record { name = name; name_state = Stands points peeled }) ⊎ CantBeRead (Stands points peeled) → ⊥
-    by_case (inl there) = none_in (record { name = name; name_state = Stands points peeled }) (subst (λ (l : List Met). Contains l (record { name = name; name_state = Stands points peeled })) none there)
+    by_case : Contains left (record { name = name; ref_state = Stands points peeled }) ⊎ CantBeRead (Stands points peeled) → ⊥
+    by_case (inl there) = none_in (record { name = name; ref_state = Stands points peeled }) (subst (λ (l : List Met). Contains l (record { name = name; ref_state = Stands points peeled })) none there)
     by_case (inr (why, same)) = cc
 
 -- ---- the whole answer

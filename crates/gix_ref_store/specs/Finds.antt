@@ -14,7 +14,7 @@ use Rattle.gix_ref_format.specs.declared.packed.buffer.Buffer.{Buffer}
 use Rattle.gix_ref_format.specs.declared.packed.buffer.Error.{Error as OpenError}
 use Rattle.gix_ref_format.specs.declared.packed.buffer.Error.TheVariants.{Io}
 use Rattle.gix_ref_store.specs.Places.{Base}
-use Rattle.gix_ref_store.specs.NameStates.{NameState, Stands, Absent, Faulty, InFile, Met, first_met, IsFaulty, read_by, name_state, state_among, packed_text_in}
+use Rattle.gix_ref_store.specs.RefStates.{RefState, Stands, Absent, Faulty, InFile, Met, first_met, IsFaulty, read_by, ref_state, state_among, packed_text_in}
 use Rattle.gix_ref_store.specs.declared.reference.Reference.{Reference}
 use Rattle.gix_ref_store.specs.declared.store.file.find.Error.{Error}
 use Rattle.gix_ref_store.specs.declared.store.file.find.Error.TheVariants.{ReadFileContents, ReferenceCreation, PackedOpen, Memory}
@@ -22,15 +22,15 @@ use Rattle.gix_ref_store.specs.declared.store.file.find.ExistingError.{ExistingE
 use Rattle.gix_ref_store.specs.declared.store.file.find.ExistingError.TheVariants as existing
 
 -- what a reference says of its name
-abbrev pub state_of : Reference → NameState
+abbrev pub state_of : Reference → RefState
 state_of r = Stands (target_view r.target) (option_map id_of r.peeled)
 
 abbrev pub met_of : Reference → Met
-met_of r = record { name = r.name; name_state = state_of r }
+met_of r = record { name = r.name; ref_state = state_of r }
 
 -- the same of one that a file of its own holds
 abbrev pub loose_met : Loose → Met
-loose_met r = record { name = r.name; name_state = Stands (target_view r.target) None }
+loose_met r = record { name = r.name; ref_state = Stands (target_view r.target) None }
 
 -- the records of a buffer, and none where there is no buffer
 abbrev pub records_in : Option (Bor Buffer) → List Record
@@ -71,7 +71,7 @@ OpenedFault b tree met Memory = Unit {0}
 abbrev pub FindsOpened : Base → Tree → List (List ℕ) → Result (Option Reference) Error → Type 0
 FindsOpened b tree names result =
     let met =
-    first_met (name_state b tree) names
+    first_met (ref_state b tree) names
     in MatchResult result (λ found. option_map met_of found ≡ met) (OpenedFault b tree met)
 
 -- a failed reading of a file is told only where a reading may fail
@@ -91,21 +91,21 @@ OnExisting absent fault (existing.Find error) = fault error
 -- ---- one name
 
 -- what is told of a name that reads so
-abbrev pub TellsState : List ℕ → NameState → Result (Option Reference) Error → Type 0
-TellsState name name_state (Ok None) = name_state ≡ Absent
-TellsState name name_state (Ok (Some r)) = (r.name ≡ name) × (name_state ≡ state_of r)
-TellsState name name_state (Err (ReferenceCreation error)) = name_state ≡ Faulty (InFile error)
-TellsState name name_state (Err (PackedOpen error)) = ⊥
-TellsState name name_state (Err ReadFileContents) = Unit {0}
-TellsState name name_state (Err Memory) = Unit {0}
+abbrev pub TellsState : List ℕ → RefState → Result (Option Reference) Error → Type 0
+TellsState name ref_state (Ok None) = ref_state ≡ Absent
+TellsState name ref_state (Ok (Some r)) = (r.name ≡ name) × (ref_state ≡ state_of r)
+TellsState name ref_state (Err (ReferenceCreation error)) = ref_state ≡ Faulty (InFile error)
+TellsState name ref_state (Err (PackedOpen error)) = ⊥
+TellsState name ref_state (Err ReadFileContents) = Unit {0}
+TellsState name ref_state (Err Memory) = Unit {0}
 
 -- what is told of a file of its own, whatever is told where none stands
 abbrev pub TellsFile : Kind → Option (List ℕ) → Result (Option Target) Error → Type 0
-TellsFile kind text (Ok None) = (other : NameState) → read_by kind text other ≡ other
+TellsFile kind text (Ok None) = (other : RefState) → read_by kind text other ≡ other
 TellsFile kind text (Ok (Some target)) =
-    (other : NameState) → read_by kind text other ≡ Stands (target_view target) None
+    (other : RefState) → read_by kind text other ≡ Stands (target_view target) None
 TellsFile kind text (Err (ReferenceCreation error)) =
-    (other : NameState) → read_by kind text other ≡ Faulty (InFile error)
+    (other : RefState) → read_by kind text other ≡ Faulty (InFile error)
 TellsFile kind text (Err (PackedOpen error)) = ⊥
 TellsFile kind text (Err ReadFileContents) = Unit {0}
 TellsFile kind text (Err Memory) = Unit {0}

@@ -10,7 +10,7 @@ use Rattle.gix_ref_format.specs.declared.packed.buffer.Error.{Error as OpenError
 use Rattle.gix_ref_store.specs.Finds as finds
 use Rattle.gix_ref_store.specs.Finds.{state_of, OnExisting}
 use Rattle.gix_ref_store.specs.Places.{Base}
-use Rattle.gix_ref_store.specs.NameStates.{NameState, Fault, InFile, Stands, Absent, Faulty, packed_text_in}
+use Rattle.gix_ref_store.specs.RefStates.{RefState, Fault, InFile, Stands, Absent, Faulty, packed_text_in}
 use Rattle.gix_ref_store.specs.declared.reference.Reference.{Reference}
 use Rattle.gix_ref_store.specs.declared.store.file.find.Error.{Error as FindError}
 use Rattle.gix_ref_store.specs.declared.store.file.find.Error.TheVariants as find
@@ -28,7 +28,7 @@ pub data Followed : Type 0 where
   Breaks : Fault → Followed
 
 -- from a name and what it reads as, over at most so many other names, of which some were met
-abbrev pub follow : (List ℕ → NameState) → ℕ → List (List ℕ) → List ℕ → NameState → Followed
+abbrev pub follow : (List ℕ → RefState) → ℕ → List (List ℕ) → List ℕ → RefState → Followed
 follow read left seen from Absent = Dangles
 follow read left seen from (Faulty why) = Breaks why
 follow read left seen from (Stands (ToObject id) peeled) = Ends from id peeled
@@ -38,7 +38,7 @@ follow read (suc left) seen from (Stands (ToName name) peeled) =
     if is_among seen name then Cycles else follow read left (seen ++ name ∷ []) name (read name)
 
 -- from a reference, over at most 5 names
-abbrev pub follow_from : (List ℕ → NameState) → Reference → Followed
+abbrev pub follow_from : (List ℕ → RefState) → Reference → Followed
 follow_from read r = follow read 5 [] r.name (state_of r)
 
 -- the chain ends at an object of this id
@@ -69,14 +69,14 @@ ReadFault Unopened Broken find.ReadFileContents = Unit {0}
 ReadFault Unopened Broken find.Memory = Unit {0}
 
 -- what is told of a name that must stand
-abbrev pub TellsExisting : (OpenError → Type 0) → (List ℕ → NameState) → List ℕ
+abbrev pub TellsExisting : (OpenError → Type 0) → (List ℕ → RefState) → List ℕ
     → Result Reference ExistingError → Type 0
 TellsExisting Unopened read name result =
     MatchResult result (λ r. (r.name ≡ name) × (read name ≡ state_of r))
     (OnExisting (read name ≡ Absent) (ReadFault Unopened (λ why. read name ≡ Faulty why)))
 
 -- the reference that a target names: none where it is an object
-abbrev pub FollowsTo : (OpenError → Type 0) → (List ℕ → NameState) → Points
+abbrev pub FollowsTo : (OpenError → Type 0) → (List ℕ → RefState) → Points
     → Option (Result Reference ExistingError) → Type 0
 FollowsTo Unopened read target None = IsObject target
 FollowsTo Unopened read target (Some (Ok r)) =

@@ -5,7 +5,7 @@ use Rattle.gix_ref_file.specs.Tree.{Tree}
 use Rattle.gix_ref_format.specs.Packed.{Record}
 use Rattle.gix_ref_format.specs.PackedKept.{kept}
 use Rattle.gix_ref_format.specs.declared.packed.buffer.Buffer.{Buffer}
-use Rattle.gix_ref_store.specs.NameStates.{NameState, Stands, Absent, Faulty, InFile, Met}
+use Rattle.gix_ref_store.specs.RefStates.{RefState, Stands, Absent, Faulty, InFile, Met}
 use Rattle.gix_ref_store.specs.Finds.{met_of, state_of}
 use Rattle.gix_ref_store.specs.Searches.{reads_in}
 use Rattle.gix_ref_store.specs.Walks.{MayTell}
@@ -14,16 +14,16 @@ use Rattle.gix_ref_store.specs.declared.store.file.iter.Error.{Error}
 use Rattle.gix_ref_store.specs.declared.store.file.iter.Error.TheVariants.{Traversal, ReadFileContents, ReferenceCreation, Memory}
 use Rattle.gix_ref_store.specs.declared.store.file.iter.LooseThenPacked.{LooseThenPacked}
 
-abbrev pub is_there : NameState → Bool
+abbrev pub is_there : RefState → Bool
 is_there Absent = false
 is_there (Stands points peeled) = true
 is_there (Faulty why) = true
 
-abbrev pub met_by : (List ℕ → NameState) → List ℕ → Met
-met_by read name = record { name = name; name_state = read name }
+abbrev pub met_by : (List ℕ → RefState) → List ℕ → Met
+met_by read name = record { name = name; ref_state = read name }
 
 -- those of the names that don't read as absent
-abbrev pub mets_of : (List ℕ → NameState) → List (List ℕ) → List Met
+abbrev pub mets_of : (List ℕ → RefState) → List (List ℕ) → List Met
 mets_of read names = map (met_by read) (filter (λ name. is_there (read name)) names)
 
 -- what is still to come, in this tree
@@ -37,21 +37,21 @@ kept_in (Some buffer) = kept buffer
 
 -- The next of what is to come, and the rest stays; nothing at the end. A failed reading or refused memory takes the next, or
 -- none, where it concerns a name that has no reference.
-abbrev pub GivesNext : (List ℕ → NameState) → List Met → Option (Result Reference Error) → List Met
+abbrev pub GivesNext : (List ℕ → RefState) → List Met → Option (Result Reference Error) → List Met
     → Type 0
 GivesNext read left None after = (left ≡ []) × (after ≡ [])
 GivesNext read left (Some (Ok r)) after = left ≡ met_of r ∷ after
 GivesNext read left (Some (Err (ReferenceCreation name reason))) after =
-    left ≡ record { name = name; name_state = Faulty (InFile reason) } ∷ after
+    left ≡ record { name = name; ref_state = Faulty (InFile reason) } ∷ after
 GivesNext read left (Some (Err (ReadFileContents name))) after =
     ((read name ≡ Absent) × (left ≡ after))
-    ⊎ ((r : NameState) × (left ≡ record { name = name; name_state = r } ∷ after))
+    ⊎ ((r : RefState) × (left ≡ record { name = name; ref_state = r } ∷ after))
 GivesNext read left (Some (Err Memory)) after =
     (left ≡ after) ⊎ ((met : Met) × (left ≡ met ∷ after))
 GivesNext read left (Some (Err Traversal)) after = ⊥
 
 -- what is told of one name: nothing where it reads as absent
-abbrev pub TellsName : List ℕ → NameState → Option (Result Reference Error) → Type 0
+abbrev pub TellsName : List ℕ → RefState → Option (Result Reference Error) → Type 0
 TellsName name r None = r ≡ Absent
 TellsName name r (Some (Ok found)) = (name ≡ found.name) × (r ≡ state_of found)
 TellsName name r (Some (Err Traversal)) = ⊥

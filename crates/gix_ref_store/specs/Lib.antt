@@ -1,5 +1,5 @@
 pub mod Places
-pub mod NameStates
+pub mod RefStates
 pub mod Stores
 pub mod Stripped
 pub mod References

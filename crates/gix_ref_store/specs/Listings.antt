@@ -5,7 +5,7 @@ use Rattle.gix_object_lines.specs.NameTest.{begins, ends, is_capitals}
 use Rattle.gix_ref_file.specs.Tree.{IsAscending}
 use Rattle.gix_ref_store.specs.Folders.{is_below}
 use Rattle.gix_ref_store.specs.Known.{known_as, is_known}
-use Rattle.gix_ref_store.specs.NameStates.{NameState, Absent, Met}
+use Rattle.gix_ref_store.specs.RefStates.{RefState, Absent, Met}
 use Rattle.gix_ref_store.specs.declared.store.file.Store.{Store}
 
 -- the name is this one, or stands below it; of one that ends with a slash, the name begins so
@@ -40,9 +40,9 @@ abbrev pub is_pseudo : List ℕ → Bool
 is_pseudo name = is_capitals name && ends (codes "HEAD") name
 
 -- each of the names asked for that doesn't read as absent, with what it reads as
-pub record IsListing (read : List ℕ → NameState) (asked : List ℕ → Bool)
+pub record IsListing (read : List ℕ → RefState) (asked : List ℕ → Bool)
     (out : List Met) : Type 0 where
   pub ascending : IsAscending (map (λ met. met.name) out)
-  pub each : (name : List ℕ) (r : NameState)
-      → Contains out (record { name = name; name_state = r })
+  pub each : (name : List ℕ) (r : RefState)
+      → Contains out (record { name = name; ref_state = r })
       ↔ (IsTrue (asked name) × (read name ≡ r) × (r ≢ Absent))

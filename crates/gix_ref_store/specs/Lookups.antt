@@ -7,7 +7,7 @@ use Rattle.gix_ref_format.specs.declared.packed.buffer.Buffer.{Buffer}
 use Rattle.gix_ref_store.specs.Finds.{met_of, loose_met, records_in, LookupFault, FindFault, OnExisting}
 use Rattle.gix_ref_store.specs.Items.{kept_in}
 use Rattle.gix_ref_store.specs.Places.{Base}
-use Rattle.gix_ref_store.specs.NameStates.{NameState, first_met, name_state, state_among}
+use Rattle.gix_ref_store.specs.RefStates.{RefState, first_met, ref_state, state_among}
 use Rattle.gix_ref_store.specs.Searches.{Finds}
 use Rattle.gix_ref_store.specs.Stores.{base_of, names_of}
 use Rattle.gix_ref_store.specs.declared.reference.Reference.{Reference}
@@ -16,22 +16,22 @@ use Rattle.gix_ref_store.specs.declared.store.file.find.Error.{Error}
 use Rattle.gix_ref_store.specs.declared.store.file.find.ExistingError.{ExistingError}
 
 -- what a name reads as in this tree
-abbrev pub reads_now : {F : Type 0} → Store F → Tree → List ℕ → NameState
-reads_now store tree = name_state (base_of store) tree
+abbrev pub reads_now : {F : Type 0} → Store F → Tree → List ℕ → RefState
+reads_now store tree = ref_state (base_of store) tree
 
 -- the same with these packed references
-abbrev pub reads_with : {F : Type 0} → Store F → Tree → Option (Bor Buffer) → List ℕ → NameState
+abbrev pub reads_with : {F : Type 0} → Store F → Tree → Option (Bor Buffer) → List ℕ → RefState
 reads_with store tree packed = state_among (base_of store) tree (records_in packed)
 
 -- the same with those that a buffer of the platform keeps
-abbrev pub reads_kept : {F : Type 0} → Store F → Tree → Option Buffer → List ℕ → NameState
+abbrev pub reads_kept : {F : Type 0} → Store F → Tree → Option Buffer → List ℕ → RefState
 reads_kept store tree packed = state_among (base_of store) tree (kept_in packed)
 
 -- the first of the names that doesn't read as absent is found, or why it isn't
 abbrev pub FindsNames : Base → Tree → List (List ℕ) → Result (Option Reference) Error → Type 0
 FindsNames b tree names result =
     let met =
-    first_met (name_state b tree) names
+    first_met (ref_state b tree) names
     in MatchResult result (λ found. option_map met_of found ≡ met) (FindFault b tree names met)
 
 -- the same of the names that a word may stand for

@@ -5,7 +5,7 @@ use Rattle.gix_ref_format.specs.PackedBuffer.{KeepsFile, FileFault}
 use Rattle.gix_ref_format.specs.PackedKept.{kept, text_of}
 use Rattle.gix_ref_format.specs.declared.packed.buffer.Buffer.{Buffer}
 use Rattle.gix_ref_format.specs.declared.packed.buffer.Error.{Error}
-use Rattle.gix_ref_store.specs.NameStates.{packed_text_in, records_of}
+use Rattle.gix_ref_store.specs.RefStates.{packed_text_in, records_of}
 use Rattle.gix_ref_store.specs.Stores.{base_of}
 use Rattle.gix_ref_store.specs.declared.store.file.Store.{Store}
 

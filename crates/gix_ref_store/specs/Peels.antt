@@ -15,7 +15,7 @@ use Rattle.gix_object_find.specs.Existing.{Stands, LookupFault}
 use Rattle.gix_ref_format.specs.declared.packed.buffer.Error.{Error as OpenError}
 use Rattle.gix_ref_store.specs.Follows as follows
 use Rattle.gix_ref_store.specs.Follows.{Followed, Ends, EndsAt, FollowFault, follow_from}
-use Rattle.gix_ref_store.specs.NameStates.{NameState}
+use Rattle.gix_ref_store.specs.RefStates.{RefState}
 use Rattle.gix_ref_store.specs.declared.reference.Reference.{Reference}
 use Rattle.gix_ref_store.specs.declared.store.file.find.Error.TheVariants as finds
 use Rattle.gix_ref_store.specs.declared.store.file.find.ExistingError.TheVariants as existing
@@ -79,11 +79,11 @@ PeelsBy followed table from None name id =
     × PeelsTo table first id
 
 -- a reference stands for this object, which the reference of this name leads to
-abbrev pub Peels : (List ℕ → NameState) → Table → Reference → List ℕ → Id → Type 0
+abbrev pub Peels : (List ℕ → RefState) → Table → Reference → List ℕ → Id → Type 0
 Peels read table r name id =
     PeelsBy (follow_from read r) table r.name (option_map id_of r.peeled) name id
 
-abbrev pub IsPeeled : (List ℕ → NameState) → Table → Reference → Id → Type 0
+abbrev pub IsPeeled : (List ℕ → RefState) → Table → Reference → Id → Type 0
 IsPeeled read table r id = (name : List ℕ) × Peels read table r name id
 
 -- what is told where packed references aren't opened
@@ -99,7 +99,7 @@ abbrev pub LacksObject : Reference → Error → Type 0
 LacksObject r error = (r.peeled ≡ None) ⊎ IsUnopened error
 
 -- why it stands for none, where `Unopened` says why packed references aren't opened
-abbrev pub PeelFault : (OpenError → Type 0) → (List ℕ → NameState) → Table → Reference → Error
+abbrev pub PeelFault : (OpenError → Type 0) → (List ℕ → RefState) → Table → Reference → Error
     → Type 0
 PeelFault Unopened read table r (FollowToObject error) =
     FollowFault Unopened (follow_from read r) error

@@ -5,21 +5,21 @@ use Rattle.gix_ref_file.specs.Tree.{Tree}
 use Rattle.gix_ref_name.specs.Targets.{Points, ToName}
 use Rattle.gix_ref_store.specs.Listings.{all_names}
 use Rattle.gix_ref_store.specs.Places.{Base}
-use Rattle.gix_ref_store.specs.NameStates.{NameState, Stands, state_among, packed_text_in}
+use Rattle.gix_ref_store.specs.RefStates.{RefState, Stands, state_among, packed_text_in}
 use Rattle.gix_ref_store.specs.Stores.{base_of}
 use Rattle.gix_ref_store.specs.declared.store.file.Store.{Store}
 use Rattle.gix_ref_store.specs.declared.store.file.iter.Error.{Error}
 use Rattle.gix_ref_store.specs.declared.store.file.iter.Error.TheVariants.{Traversal, ReadFileContents, ReferenceCreation, Memory}
 
 -- what `HEAD` reads as
-abbrev pub head_in : Base → Tree → NameState
+abbrev pub head_in : Base → Tree → RefState
 head_in b tree = state_among b tree [] (codes "HEAD")
 
-abbrev pub PointsNowhere : NameState → Type 0
+abbrev pub PointsNowhere : RefState → Type 0
 PointsNowhere r = (points : Points) (peeled : Option Id) → r ≢ Stands points peeled
 
 -- one of the names asked for points to something
-abbrev pub SomeStands : (List ℕ → NameState) → (List ℕ → Bool) → Type 0
+abbrev pub SomeStands : (List ℕ → RefState) → (List ℕ → Bool) → Type 0
 SomeStands read asked =
     (name : List ℕ) × (points : Points) × (peeled : Option Id) × IsTrue (asked name)
     × (read name ≡ Stands points peeled)

@@ -3,7 +3,7 @@ use Rattle.std.specs.Prelude.{ℕ, ◌≡◌, List, ◌∷◌, Option, option_ma
 use Rattle.gix_ref_file.specs.Tree.{Tree}
 use Rattle.gix_ref_format.specs.Packed.{Record}
 use Rattle.gix_ref_format.specs.Lookup.{packed_hit}
-use Rattle.gix_ref_store.specs.NameStates.{NameState, packed_state, state_among, first_met}
+use Rattle.gix_ref_store.specs.RefStates.{RefState, packed_state, state_among, first_met}
 use Rattle.gix_ref_store.specs.Stores.{base_of}
 use Rattle.gix_ref_store.specs.Finds.{met_of, records_in, LookupFault, TellsState}
 use Rattle.gix_ref_store.specs.declared.reference.Reference.{Reference}
@@ -11,21 +11,21 @@ use Rattle.gix_ref_store.specs.declared.store.file.find.Error.{Error}
 use Rattle.gix_ref_store.specs.declared.store.file.search.Search.{Search}
 
 -- what a name reads as in this tree, with the records that a search has
-abbrev pub reads_in : {F : Type 0} → Tree → Search F → List ℕ → NameState
+abbrev pub reads_in : {F : Type 0} → Tree → Search F → List ℕ → RefState
 reads_in tree search = state_among (base_of search.store.now) tree (records_in search.packed)
 
 -- what a search over these names answers
-abbrev pub Finds : (List ℕ → NameState) → List (List ℕ) → Result (Option Reference) Error → Type 0
+abbrev pub Finds : (List ℕ → RefState) → List (List ℕ) → Result (Option Reference) Error → Type 0
 Finds read names result =
     MatchResult result (λ found. option_map met_of found ≡ first_met read names)
     (LookupFault (first_met read names))
 
 -- what it answers of one name
-abbrev pub AnswersName : (List ℕ → NameState) → List ℕ → Result (Option Reference) Error → Type 0
+abbrev pub AnswersName : (List ℕ → RefState) → List ℕ → Result (Option Reference) Error → Type 0
 AnswersName read name result = TellsState name (read name) result
 
 -- what it answers of the first of the names
-abbrev pub AnswersFirst : (List ℕ → NameState) → List (List ℕ) → Result (Option Reference) Error
+abbrev pub AnswersFirst : (List ℕ → RefState) → List (List ℕ) → Result (Option Reference) Error
     → Type 0
 AnswersFirst read names result =
     (first : List ℕ) × (rest : List (List ℕ)) × (names ≡ first ∷ rest)

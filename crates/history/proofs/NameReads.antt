@@ -10,7 +10,7 @@ use Rattle.history_model.specs.Repository.{Repository, Reference, id_at, stands}
 use Rattle.history_model.specs.Forms.{is_name, max_name}
 use Rattle.gix_object_lines.specs.NameTest.{is_partial_name}
 use Rattle.std.specs.Str.{is_utf8}
-use Rattle.history_model.specs.PackedNames.{id_from_hex, line_text}
+use Rattle.history_model.specs.PackedNames.{id_from_hex, whole_line}
 use Rattle.history_model.specs.Places.{Pair, file_at, packed_place, head_place, is_log_place}
 use Rattle.history_model.specs.NameStates.{NameState, Holds, Symbolic, Absent, Faulty, name_state, loose_state, loose_line, packed_text_state}
 use Rattle.history_model.specs.StandsFor.{StandsFor}
@@ -34,7 +34,7 @@ module _ (kind : Kind) where
   spelled text digits id found is spells reads =
       by_symbol (begins (codes "ref: ") digits && is_name (drop 5 digits))
       (ap (λ o. cond (begins (codes "ref: ") digits && is_name (drop 5 digits)) (Symbolic (drop 5 digits)) (unwrap_or (option_map Holds o) Faulty)) (sym spells)
-      ∙ sym (ap (λ o. unwrap_or (option_map (loose_line kind) o) Faulty) (ap line_text is ∙ line_read digits)) ∙ reads)
+      ∙ sym (ap (λ o. unwrap_or (option_map (loose_line kind) o) Faulty) (ap whole_line is ∙ line_read digits)) ∙ reads)
     where
       by_symbol : (b : Bool) → cond b (Symbolic (drop 5 digits)) (Holds id) ≡ Holds found → id ≡ found
       by_symbol true e = absurd cc

@@ -5,7 +5,7 @@ use Rattle.history_model.specs.Bytes.{Bytes, begins}
 use Rattle.gix_hash_id.specs.Id.{Id}
 use Rattle.history_model.specs.Forms.{is_name, is_private}
 use Rattle.history_model.specs.Places.{file_at, packed_place}
-use Rattle.history_model.specs.PackedNames.{PackedFile, packed_file, id_from_hex, line_text}
+use Rattle.history_model.specs.PackedNames.{PackedFile, packed_file, id_from_hex, whole_line}
 use Rattle.gix_hash_id.specs.declared.kind.Kind.{Kind}
 
 pub data NameState : Type 0 where
@@ -22,7 +22,7 @@ loose_line kind text =
 
 -- a loose file is one line, with its line feed
 abbrev pub loose_state : Kind → Bytes → NameState
-loose_state kind text = unwrap_or (option_map (loose_line kind) (line_text text)) Faulty
+loose_state kind text = unwrap_or (option_map (loose_line kind) (whole_line text)) Faulty
 
 -- what the records say of a name: private names are in no record
 abbrev pub packed_state : Bytes → PackedFile → NameState

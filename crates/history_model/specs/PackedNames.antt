@@ -12,8 +12,8 @@ use Rattle.history_model.specs.Forms.{is_name, is_private}
 use Rattle.gix_hash_id.specs.declared.kind.Kind.{Kind}
 
 -- the text before a line feed at its end
-abbrev pub line_text : Bytes → Option Bytes
-line_text text = if ends (10 ∷ []) text then Some (take (length text - 1) text) else None
+abbrev pub whole_line : Bytes → Option Bytes
+whole_line text = if ends (10 ∷ []) text then Some (take (length text - 1) text) else None
 
 -- whether the header says that the records are sorted, and the records
 pub record PackedFile : Type 0 where

@@ -18,7 +18,7 @@ use Rattle.history_model.specs.StandsFor.{StandsFor}
 use Rattle.history_steps.specs.TreeHalves.{HoldsNames}
 use Rattle.history_steps.specs.TreeSteps.{MovesName, move_entry}
 use Rattle.history_model.specs.Stops.{NameBetween}
-use Rattle.history_steps.specs.Passing.{MayMove}
+use Rattle.history_steps.specs.Passing.{MovesOnTheWay}
 use Rattle.gix_hash_id.specs.declared.kind.Kind.{Kind}
 use Rattle.history_model.proofs.IdLemmas.{ids_apart}
 use Rattle.history_model.proofs.NameLemmas.{name-lock, name-log, log-lock}
@@ -117,7 +117,7 @@ pub record Passed (r : Repository) (name : Bytes) (id : Id) (actor : Actor) (mes
   pub each : (q : Bytes) → NameBetween r (record r { names = with_name r name id actor message r.names }) (record r { names = names }) false q
 
 module _ (r : Repository) (name : Bytes) (id : Id) (actor : Actor) (message : Bytes) (pair : Pair) (tree : Tree) (s : StandsFor r.kind pair r) (is_one : is_name name ≡ true) (formed : is_id r.kind id ≡ true)
-    (none : file_at pair.names packed_place ≡ None) (may : MayMove name (move_entry r name id actor message) pair.names tree) where
+    (none : file_at pair.names packed_place ≡ None) (may : MovesOnTheWay name (move_entry r name id actor message) pair.names tree) where
   abbrev old : Tree
   old = pair.names
 

@@ -20,7 +20,7 @@ use Rattle.history_steps.specs.TreeSteps.{move_entry}
 use Rattle.history_model.specs.Stops.{LeftByStop, Between, NameBetween, deletes, made, is_changing}
 use Rattle.history_model.specs.Moments.{LeavesStopped}
 use Rattle.history_model.specs.Wholeness.{IsSound}
-use Rattle.history_steps.specs.Passing.{HoldsBetween, MayMove, MovesPass, MovingStops, passing}
+use Rattle.history_steps.specs.Passing.{HoldsBetween, MovesOnTheWay, MovesPass, MovingStops, passing}
 use Rattle.history_model.specs.declared.Cause.{Cause}
 use Rattle.gix_hash_id.specs.declared.kind.Kind.{Kind}
 use Rattle.history_model.proofs.StepLemmas.{stops_may_leave_all}
@@ -50,7 +50,7 @@ some_id (Some ref) = refl
 
 module _ (pair : Pair) (tree : Tree) (r : Repository) (c : CommitCommand) (sound : IsSound r) (s : StandsFor r.kind pair r) (is_one : is_name (branch_or_name r c.name) ≡ true)
     (none : first_cause r (Commit c) ≡ None) (free : takes_id r (Commit c) ≡ false) (unpacked : file_at pair.names packed_place ≡ None)
-    (may : MayMove (branch_or_name r c.name) (move_entry r (branch_or_name r c.name) (id_of r.kind (StoredCommit (new_commit r c))) (read_actor c.committer) (title c.message)) pair.names tree) where
+    (may : MovesOnTheWay (branch_or_name r c.name) (move_entry r (branch_or_name r c.name) (id_of r.kind (StoredCommit (new_commit r c))) (read_actor c.committer) (title c.message)) pair.names tree) where
   abbrev name : Bytes
   name = branch_or_name r c.name
 

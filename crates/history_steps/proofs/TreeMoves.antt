@@ -16,7 +16,7 @@ use Rattle.history_model.specs.Repository.{Repository, Reference, LogEntry, id_a
 use Rattle.history_model.specs.Forms.{is_id, is_name}
 use Rattle.history_model.specs.Meaning.{moved_reference, with_name}
 use Rattle.history_model.specs.Logs.{log_line, log_text}
-use Rattle.history_model.specs.PackedNames.{id_from_hex, line_text}
+use Rattle.history_model.specs.PackedNames.{id_from_hex, whole_line}
 use Rattle.history_model.specs.Places.{file_at, head_place, packed_place, log_place, is_log_place, is_name_place}
 use Rattle.history_model.specs.NameStates.{NameState, Holds, Symbolic, Absent, Faulty, name_state, loose_state, loose_line, packed_text_state}
 use Rattle.history_steps.specs.TreeHalves.{HoldsNames}
@@ -49,7 +49,7 @@ no_ref (d ∷ digits) h = first _ _ (no_r lower_digits refl d (low_digit d (and_
     first true c e = cc
     first false c e = refl
 
-pub line_read : (text : Bytes) → line_text (line text) ≡ Some text
+pub line_read : (text : Bytes) → whole_line (line text) ≡ Some text
 line_read text = ap (λ b. cond b (Some (take (length (line text) - 1) (line text))) None) ends_so ∙ ap Some (ap (λ n. take n (line text)) shorter ∙ take-append_seam text (10 ∷ []))
   where
     shorter : length (line text) - 1 ≡ length text

@@ -121,7 +121,7 @@ pub record HoldsBetween (old : Repository) (command : Command) (tree : Tree) : T
 -- What stands while a name moves: its file is as before; or, once its log has the entry's line (where the entry's two ids aren't
 -- one), it holds the id after, whole. Behind what the log held a beginning of the line may stand. Of the other files at most
 -- lock files differ, and no folders stand but those of names and logs.
-pub record MayMove (name : Bytes) (entry : LogEntry) (old tree : Tree) : Type 0 where
+pub record MovesOnTheWay (name : Bytes) (entry : LogEntry) (old tree : Tree) : Type 0 where
   pub here : (file_at tree name ≡ file_at old name)
       ⊎ ((file_at tree name ≡ Some (line (hex entry.after)))
       × (entry.before ≢ entry.after
@@ -142,7 +142,7 @@ MovesPass =
     → StandsFor r.kind pair r → IsTrue (is_name (branch_or_name r c.name))
     → first_cause r (Commit c) ≡ None → IsFalse (takes_id r (Commit c))
     → file_at pair.names packed_place ≡ None
-    → MayMove (branch_or_name r c.name)
+    → MovesOnTheWay (branch_or_name r c.name)
     (move_entry r (branch_or_name r c.name) (id_of r.kind (StoredCommit (new_commit r c)))
     (read_actor c.committer) (title c.message)) pair.names tree
     → HoldsBetween r (Commit c) tree

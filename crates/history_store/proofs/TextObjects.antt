@@ -4,6 +4,7 @@ use Rattle.std.specs.Prelude.{bytes_eq, decimal, ◌==◌}
 use Rattle.std.specs.List.{list_any}
 use Rattle.std.proofs.lemmas.Slice.Eq.{bytes_eq-Decides}
 use Rattle.std.proofs.lemmas.List.Folds.{list_any-append}
+use Rattle.std.specs.Option.{option_or}
 use Rattle.gix_object_lines.specs.Bytes.{Lacks}
 use Rattle.gix_object_lines.specs.Kind.{kind_word}
 use Rattle.gix_object_lines.specs.declared.kind.Kind.{Kind as ObjectKind}
@@ -13,7 +14,7 @@ use Rattle.gix_object_lines.proofs.Numbers.{decimal_lacks}
 use Rattle.gix_object_find.specs.Table.{Object}
 use Rattle.history_model.specs.Bytes.{Bytes}
 use Rattle.history_model.specs.Objects.{object_text}
-use Rattle.history_store.specs.ObjectTexts.{as_object, behind_zero, object_in, or_else, IsNoObject}
+use Rattle.history_store.specs.ObjectTexts.{as_object, behind_zero, object_in, IsNoObject}
 
 behind-front : (front content : Bytes) → Lacks 0 front → behind_zero (front ++ 0 ∷ content) ≡ content
 behind-front [] content lacks = refl
@@ -48,11 +49,11 @@ as_own kind content fits =
 pub object_in-text : (kind : ObjectKind) (content : Bytes) → length content < 2 ^ 64 → object_in (object_text kind content) ≡ Some (record { kind = kind; content = content })
 object_in-text kinds.Blob content fits =
     let text = object_text kinds.Blob content in
-    ap (λ o. or_else o (or_else (as_object kinds.Tree text) (or_else (as_object kinds.Commit text) (as_object kinds.Tag text)))) (as_own kinds.Blob content fits)
+    ap (λ o. option_or o (option_or (as_object kinds.Tree text) (option_or (as_object kinds.Commit text) (as_object kinds.Tag text)))) (as_own kinds.Blob content fits)
 object_in-text kinds.Tree content fits =
     let text = object_text kinds.Tree content in
-    ap (λ o. or_else o (or_else (as_object kinds.Commit text) (as_object kinds.Tag text))) (as_own kinds.Tree content fits)
-object_in-text kinds.Commit content fits = ap (λ o. or_else o (as_object kinds.Tag (object_text kinds.Commit content))) (as_own kinds.Commit content fits)
+    ap (λ o. option_or o (option_or (as_object kinds.Commit text) (as_object kinds.Tag text))) (as_own kinds.Tree content fits)
+object_in-text kinds.Commit content fits = ap (λ o. option_or o (as_object kinds.Tag (object_text kinds.Commit content))) (as_own kinds.Commit content fits)
 object_in-text kinds.Tag content fits = as_own kinds.Tag content fits
 
 length-drop_at_most : (n : ℕ) (text : Bytes) → length (drop n text) ≤ length text
@@ -69,7 +70,7 @@ as_none kind text none = by_test (bytes_eq text (object_text kind (behind_zero t
 
 pub object_in-none : (text : Bytes) → IsNoObject text → object_in text ≡ None
 object_in-none text none =
-    (λ i. or_else (as_none kinds.Blob text none i) (or_else (as_none kinds.Tree text none i) (or_else (as_none kinds.Commit text none i) (as_none kinds.Tag text none i))))
+    (λ i. option_or (as_none kinds.Blob text none i) (option_or (as_none kinds.Tree text none i) (option_or (as_none kinds.Commit text none i) (as_none kinds.Tag text none i))))
 
 -- where a text is a header and what follows it
 pub object_in-read : (text read : Bytes) (kind : ObjectKind) (start : ℕ) → read ≡ text → read ≡ object_text kind (drop start read) → length text < 2 ^ 64 → object_in text ≡ Some (record { kind = kind; content = drop start text })

@@ -1,5 +1,6 @@
 -- The texts of objects, and the ids that they have (gitformat-loose(5), "Loose objects").
 use Rattle.std.specs.Prelude.{◌≡◌, ◌≢◌, Bool, true, false, ◌&&◌, ◌||◌, ◌==◌, not, [], ◌∷◌, bytes_eq, Option, Some, None, if◌then◌else◌}
+use Rattle.std.specs.Option.{option_or}
 use Rattle.history_model.specs.Bytes.{Bytes}
 use Rattle.history_model.specs.Objects.{digest, object_text, empty_tree_id}
 use Rattle.gix_hash_id.specs.Id.{Id, id_of, null_id}
@@ -48,13 +49,9 @@ as_object kind text =
     if bytes_eq text (object_text kind (behind_zero text))
     then Some (record { kind = kind; content = behind_zero text }) else None
 
-abbrev pub or_else : Option Object → Option Object → Option Object
-or_else (Some object) other = Some object
-or_else None other = other
-
 -- the object that the text is, of whichever kind
 abbrev pub object_in : Bytes → Option Object
 object_in text =
-    or_else (as_object kinds.Blob text)
-    (or_else (as_object kinds.Tree text)
-    (or_else (as_object kinds.Commit text) (as_object kinds.Tag text)))
+    option_or (as_object kinds.Blob text)
+    (option_or (as_object kinds.Tree text)
+    (option_or (as_object kinds.Commit text) (as_object kinds.Tag text)))

@@ -6,7 +6,7 @@ ghost use Rattle.gix_ref_name.specs.Targets.{ToName, target_view};
 ghost use Rattle.gix_ref_store.specs.Listings.{all_names};
 ghost use Rattle.gix_ref_store.specs.Lookups.{reads_with};
 ghost use Rattle.gix_ref_store.specs.Pristine.{IsPristine, MayStopAt, PointsNowhere, SomeStands, head_in};
-ghost use Rattle.gix_ref_store.specs.NameStates.{Stands, packed_text_in};
+ghost use Rattle.gix_ref_store.specs.RefStates.{Stands, packed_text_in};
 ghost use Rattle.gix_ref_store.specs.Stores.{base_of};
 
 use crate::store::file::iter::Error;

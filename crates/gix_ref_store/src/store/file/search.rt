@@ -3,7 +3,7 @@
 ghost use Rattle.std.specs.Prelude.{◌≡◌, Some, IfOk, IfErr};
 ghost use Rattle.gix_ref_format.specs.Lookup.{lookup_names, tag_names, branch_names, remote_names, placed};
 ghost use Rattle.gix_ref_format.specs.PackedKept.{kept};
-ghost use Rattle.gix_ref_store.specs.NameStates.{loose_text_at};
+ghost use Rattle.gix_ref_store.specs.RefStates.{loose_text_at};
 ghost use Rattle.gix_ref_store.specs.Stores.{base_of};
 ghost use Rattle.gix_ref_store.specs.Finds.{records_in, MayTell, TellsFile};
 ghost use Rattle.gix_ref_store.specs.Searches.{reads_in, Finds, AnswersFirst, AnswersName, AnswersRecord};

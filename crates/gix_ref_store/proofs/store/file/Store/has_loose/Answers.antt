@@ -1,7 +1,7 @@
 use Rattle.std.proofs.Common.{◌∙◌, ap, subst, [], Some, None, refl}
 use Rattle.gix_ref_store.specs.Items.{left_in, GivesNext}
 use Rattle.gix_ref_store.specs.Listings.{all_names}
-use Rattle.gix_ref_store.specs.NameStates.{state_among}
+use Rattle.gix_ref_store.specs.RefStates.{state_among}
 use Rattle.gix_ref_store.specs.Searches.{reads_in}
 use Rattle.gix_ref_store.specs.Stores.{base_of}
 use Rattle.gix_ref_store.proofs.PristineLemmas.{passed_on, one_stands, none_stands}

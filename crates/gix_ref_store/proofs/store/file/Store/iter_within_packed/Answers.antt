@@ -4,7 +4,7 @@ use Rattle.gix_ref_store.specs.Known.{known_as}
 use Rattle.gix_ref_store.specs.Finds.{records_in}
 use Rattle.gix_ref_store.specs.Items.{left_in}
 use Rattle.gix_ref_store.specs.Listings.{IsListing}
-use Rattle.gix_ref_store.specs.NameStates.{state_among}
+use Rattle.gix_ref_store.specs.RefStates.{state_among}
 use Rattle.gix_ref_store.specs.Stores.{base_of}
 use Rattle.gix_ref_store.proofs.AskLemmas.{asks_whole}
 use Rattle.gix_ref_store.proofs.store.file.Store.iter_within_packed.Goals as goal

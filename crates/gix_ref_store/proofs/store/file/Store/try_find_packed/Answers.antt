@@ -1,7 +1,7 @@
 use Rattle.std.proofs.Common.{◌∙◌, ap, subst}
 use Rattle.gix_ref_format.specs.Lookup.{lookup_names}
 use Rattle.gix_ref_store.specs.Known.{known_as}
-use Rattle.gix_ref_store.specs.NameStates.{state_among}
+use Rattle.gix_ref_store.specs.RefStates.{state_among}
 use Rattle.gix_ref_store.specs.Stores.{base_of}
 use Rattle.gix_ref_store.specs.Finds.{records_in}
 use Rattle.gix_ref_store.specs.Searches.{Finds}

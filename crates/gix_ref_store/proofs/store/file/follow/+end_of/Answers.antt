@@ -5,7 +5,7 @@ use Rattle.gix_object_lines.specs.Bytes.{is_among}
 use Rattle.gix_ref_name.specs.Targets.{target_view}
 use Rattle.gix_ref_store.specs.Finds.{state_of}
 use Rattle.gix_ref_store.specs.Follows.{FollowFault, IsGiven, follow}
-use Rattle.gix_ref_store.specs.NameStates.{Stands}
+use Rattle.gix_ref_store.specs.RefStates.{Stands}
 use Rattle.gix_ref_store.specs.Searches.{reads_in}
 use Rattle.gix_ref_store.proofs.FollowLemmas.{met_again, not_read, next_is, ends_on}
 use Rattle.gix_ref_store.proofs.store.file.follow.+end_of.Goals as goal

@@ -19,25 +19,25 @@ pub data Fault : Type 0 where
   InRecords : Fault
 
 -- what a name points to, with the peeled id that its record tells; or it doesn't stand, or can't be read
-pub data NameState : Type 0 where
-  Stands : Points → Option Id → NameState
-  Absent : NameState
-  Faulty : Fault → NameState
+pub data RefState : Type 0 where
+  Stands : Points → Option Id → RefState
+  Absent : RefState
+  Faulty : Fault → RefState
 
 -- why a text tells no target: no full name follows `ref: `, or it begins with neither that nor an id
 abbrev pub text_fault : List ℕ → LooseError
 text_fault text = if is_symbolic text then RefnameValidation else Parse
 
-abbrev pub loose_state : List ℕ → Option Points → NameState
+abbrev pub loose_state : List ℕ → Option Points → RefState
 loose_state text (Some points) = Stands points None
 loose_state text None = Faulty (InFile (text_fault text))
 
-abbrev pub packed_state : Option Record → NameState
+abbrev pub packed_state : Option Record → RefState
 packed_state (Some r) = Stands (ToObject r.target) r.peeled
 packed_state None = Absent
 
 -- the file of its own, else what the records tell
-abbrev pub read_by : Kind → Option (List ℕ) → NameState → NameState
+abbrev pub read_by : Kind → Option (List ℕ) → RefState → RefState
 read_by kind (Some text) packed = loose_state text (loose_target kind text)
 read_by kind None packed = packed
 
@@ -46,7 +46,7 @@ abbrev pub loose_text_at : Base → Tree → List ℕ → Option (List ℕ)
 loose_text_at b tree name = bytes_of (node_at tree (place b name))
 
 -- what a name reads as where these records are packed
-abbrev pub state_among : Base → Tree → List Record → List ℕ → NameState
+abbrev pub state_among : Base → Tree → List Record → List ℕ → RefState
 state_among b tree records name =
     if is_full_name name
     then read_by b.kind (loose_text_at b tree name) (packed_state (packed_hit records name))
@@ -62,13 +62,13 @@ records_of kind None = Some []
 records_of kind (Some text) = packed_records kind text
 
 -- what these records tell of a name; names of which each worktree has its own have none
-abbrev pub told_by : Option (List Record) → List ℕ → NameState
+abbrev pub told_by : Option (List Record) → List ℕ → RefState
 told_by (Some records) name = packed_state (packed_hit records name)
 told_by None name = if is_some (packed_key name) then Faulty InRecords else Absent
 
 -- what a name reads as
-abbrev pub name_state : Base → Tree → List ℕ → NameState
-name_state b tree name =
+abbrev pub ref_state : Base → Tree → List ℕ → RefState
+ref_state b tree name =
     if is_full_name name
     then read_by b.kind (loose_text_at b tree name)
     (told_by (records_of b.kind (packed_text_in b tree)) name)
@@ -79,19 +79,19 @@ name_state b tree name =
 -- a name, and what it reads as
 pub record Met : Type 0 where
   pub name : List ℕ
-  pub name_state : NameState
+  pub ref_state : RefState
 
-abbrev pub met_or : List ℕ → NameState → Option Met → Option Met
+abbrev pub met_or : List ℕ → RefState → Option Met → Option Met
 met_or name Absent later = later
 met_or name (Stands points peeled) later =
-    Some (record { name = name; name_state = Stands points peeled })
-met_or name (Faulty why) later = Some (record { name = name; name_state = Faulty why })
+    Some (record { name = name; ref_state = Stands points peeled })
+met_or name (Faulty why) later = Some (record { name = name; ref_state = Faulty why })
 
 -- the first of the names that stands or can't be read
-abbrev pub first_met : (List ℕ → NameState) → List (List ℕ) → Option Met
+abbrev pub first_met : (List ℕ → RefState) → List (List ℕ) → Option Met
 first_met read [] = None
 first_met read (name ∷ names) = met_or name (read name) (first_met read names)
 
 -- that one can't be read, for this reason
 abbrev pub IsFaulty : Fault → Option Met → Type 0
-IsFaulty why met = (name : List ℕ) × (met ≡ Some (record { name = name; name_state = Faulty why }))
+IsFaulty why met = (name : List ℕ) × (met ≡ Some (record { name = name; ref_state = Faulty why }))
