@@ -1,7 +1,7 @@
 //! The formats in which Git keeps references and their logs: loose texts, `packed-refs` and log lines, after the crate `gix-ref` 0.67.
 #![tactic(auto)]
 
-mod ids;
+pub mod ids;
 pub mod laws;
 mod lines;
 pub mod log;

@@ -1,11 +1,11 @@
 //! Ids as Git's texts spell them: in lower-case hexadecimal, and read in either letter case.
-ghost use Rattle.std.specs.Prelude.{◌≡◌, ◌≢◌, ◌++◌, OnOk, option_map, MatchOption, IsTrue};
+ghost use Rattle.std.specs.Prelude.{◌≡◌, ◌≢◌, ◌++◌, OnOk, MatchOption, IsTrue};
 ghost use Rattle.gix_hash_id.specs.Id.{Id, id_of};
 ghost use Rattle.history_model.specs.Forms.{is_id};
 ghost use Rattle.history_model.specs.Objects.{hex};
-ghost use Rattle.history_model.specs.PackedNames.{id_from_hex};
 
 use gix_hash::{Kind, ObjectId};
+use gix_ref_format::ids::parse_hex;
 use std::alloc::AllocError;
 
 /// Writes an id's lower-case hex digits to the start of a buffer, which `Kind::hex_buf` makes, and returns them.
@@ -21,14 +21,6 @@ pub fn push_hex(text: &mut Vec<u8>, id: &ObjectId) -> Result<(), AllocError>
 {
     let mut digits = Kind::hex_buf();
     text.extend_from_slice(hex_digits(id, &mut digits))
-}
-
-/// The id of this kind that hex digits of either letter case spell; `None` where they spell none.
-pub fn parse_hex(kind: Kind, digits: &[u8]) -> Option<ObjectId>
-    ensures { option_map id_of result ≡ id_from_hex kind digits.now }
-{
-    let id = ObjectId::from_hex(digits).ok()?;
-    if id.kind() == kind { Some(id) } else { None }
 }
 
 /// The id of this kind that hex digits spell, all in lower case; `None` where they spell none.
