@@ -9,7 +9,7 @@ ghost use Rattle.gix_traverse_commit.specs.declared.rows.Row.{Row};
 ghost use Rattle.gix_traverse_topo.specs.declared.init.Sorting.{Sorting};
 ghost use Rattle.gix_traverse_topo.specs.Nodes.{all_facts, counts, IsOnce};
 ghost use Rattle.gix_traverse_topo.specs.Asking.{lookups_of};
-ghost use Rattle.gix_traverse_topo.specs.Giving.{AsksEach, AsksFault, AsksRest, GivesNext, answers_left};
+ghost use Rattle.gix_traverse_topo.specs.Giving.{AsksEach, AsksFault, AsksRest, GivesNext, HasGiven, accepted_by, answers_left};
 ghost use Rattle.gix_traverse_topo.specs.Standing.{Answers, CountsOff, Gives, GoesOff, IsInfo, IsTurn, IsTurnOf, NoneReachesItself, NotCounted, RowOff, Standing, Stands, Steps, all_accepted, topo_request, weight};
 ghost use Rattle.gix_traverse_topo.specs.Waiting.{waiting};
 ghost use Rattle.gix_hash_id.specs.Id.{id_of};
@@ -179,27 +179,24 @@ impl<P: Accept + Drop> Topo<P> {
         ensures more { IfSome result (λ given. IfOk given
             (λ info. (sorting : Sorting) (rows : List Row) (faults : ObjectId → Option Error)
             (g : Commits ObjectId) (tips ends listed : List ObjectId)
+            → HasGiven P.accepts self.old sorting rows faults g tips ends listed
             → Stands sorting rows faults g tips ends self.old.parents
-            (λ x. P.accepts self.old.predicate (id_of x)) listed self.old.known self.old.ready
-            → Stands sorting rows faults g tips ends self.old.parents
-            (λ x. P.accepts self.old.predicate (id_of x)) (listed ++ info.id ∷ []) self.new.known
+            (accepted_by P.accepts self.old) (listed ++ info.id ∷ []) self.new.known
             self.new.ready × IsInfo rows g info)) }
         ensures end { IfNone result ((sorting : Sorting) (rows : List Row)
             (faults : ObjectId → Option Error) (g : Commits ObjectId)
             (tips ends listed : List ObjectId)
-            → Stands sorting rows faults g tips ends self.old.parents
-            (λ x. P.accepts self.old.predicate (id_of x)) listed self.old.known self.old.ready
+            → HasGiven P.accepts self.old sorting rows faults g tips ends listed
             → NoneReachesItself g (topo_request tips ends self.old.parents all_accepted)
             → Answers sorting g (topo_request tips ends self.old.parents
-            (λ x. P.accepts self.old.predicate (id_of x))) listed) }
+            (accepted_by P.accepts self.old)) listed) }
         ensures refused { IfSome result (λ given. IfErr given
             (λ error. (sorting : Sorting) (rows : List Row) (faults : ObjectId → Option Error)
             (g : Commits ObjectId) (tips ends listed : List ObjectId)
-            → Stands sorting rows faults g tips ends self.old.parents
-            (λ x. P.accepts self.old.predicate (id_of x)) listed self.old.known self.old.ready
+            → HasGiven P.accepts self.old sorting rows faults g tips ends listed
             → (error ≡ Memory) ⊎ ((x : ObjectId) × (faults x ≡ Some error)
             × IsTurn sorting faults g (topo_request tips ends self.old.parents
-            (λ x. P.accepts self.old.predicate (id_of x))) listed x))) }
+            (accepted_by P.accepts self.old)) listed x))) }
         ensures asked { IfSome result (λ given. IfOk given (λ info. (passed : List ObjectId)
             × AsksEach P.goes self.old self.new (passed ++ info.id ∷ []))) }
         ensures asked_end { IfNone result (AsksRest P.goes self.old self.new) }
