@@ -10,7 +10,7 @@ use Rattle.gix_traverse_topo.specs.Turns.{times, SameBag, Waits, Ranked, Fresh, 
 use Rattle.gix_traverse_commit.proofs.Lists.{at_from_contains, contains_from_at, at_push, at_from_push, at_from_take}
 use Rattle.gix_traverse_commit.proofs.Slow.{TellsApart, contains_from_any, any_from_contains}
 use Rattle.gix_traverse_commit.proofs.Check.{last_name_is, no_child}
-use Rattle.gix_traverse_commit.proofs.Chosen.{take_before}
+use Rattle.std.proofs.lemmas.List.{take-append-le}
 
 pub at_append_cases : {I : Type 0} (xs ys : List I) (k : ℕ) (x : I) → At (xs ++ ys) k x → At xs k x ⊎ ((j : ℕ) × (k ≡ length xs + j) × At ys j x)
 at_append_cases [] ys k x a = inr (k, omega arith, a)
@@ -135,7 +135,7 @@ module _ {I : Type 0} (eq : I → I → Bool) (apart : TellsApart eq) (along : I
     child_inside y b n = let (k, a) = at_from_contains before y b in top.1 (contains_take before k x (w.fit k y a x top.0 n))
 
     now : take (length before) (before ++ x ∷ []) ≡ before
-    now = take_before before x (length before) (omega arith) ∙ take_whole before
+    now = take-append-le (length before) before (x ∷ []) (omega arith) ∙ take_whole before
 
     module _ (fresh waiting' : List I) (fr : Fresh eq along S before x fresh) (pushed : SameBag eq waiting' (rest ++ fresh)) (first : (y : I) → Contains rest y → Comes before x y) where
       fresh_new : (y : I) → Contains fresh y → Contains (before ++ x ∷ []) y → ⊥
@@ -185,7 +185,7 @@ module _ {I : Type 0} (eq : I → I → Bool) (apart : TellsApart eq) (along : I
 
       fit_step : (k : ℕ) (y : I) → At (before ++ x ∷ []) k y → IsReady along S (take k (before ++ x ∷ [])) y
       fit_step k y a = elim (at_from_push before x k y a) [
-        | inl g ↦ (let l = slice_get_within before k y g in subst (λ (zs : List I). IsReady along S zs y) (sym (take_before before x k (omega arith))) (w.fit k y g))
+        | inl g ↦ (let l = slice_get_within before k y g in subst (λ (zs : List I). IsReady along S zs y) (sym (take-append-le k before (x ∷ []) (omega arith))) (w.fit k y g))
         | inr e ↦ (let e' = sym (ap (λ (m : ℕ). take m (before ++ x ∷ [])) e.0 ∙ now) in subst (λ (zs : List I). IsReady along S zs y) e' (subst (λ (z : I). IsReady along S before z) (sym e.1) top.2))
       ]
 
@@ -193,7 +193,7 @@ module _ {I : Type 0} (eq : I → I → Bool) (apart : TellsApart eq) (along : I
       chosen_step k y z a s n r d = elim (at_from_push before x k y a) [
         | inl g ↦ (
             let l = slice_get_within before k y g in
-            let e = take_before before x k (omega arith) in
+            let e = take-append-le k before (x ∷ []) (omega arith) in
             subst (λ (zs : List I). Comes zs y z) (sym e) (w.chosen k y z g s (λ c. n (subst (λ (zs : List I). Contains zs z) (sym e) c)) (subst (λ (zs : List I). IsReady along S zs z) e r) d))
         | inr f ↦ (
             let e = ap (λ (m : ℕ). take m (before ++ x ∷ [])) f.0 ∙ now in

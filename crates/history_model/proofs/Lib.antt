@@ -1,5 +1,6 @@
 pub mod PartLemmas
 pub mod IdLemmas
+mod Offered
 mod GrammarLemmas
 mod RestLemmas
 mod EditLemmas
@@ -16,11 +17,11 @@ pub mod FreshLemmas
 pub mod RecoveredLemmas
 mod RoundLemmas
 mod StateLemmas
-mod FormatLemmas
-mod AfterFirstLemmas
+pub mod FormatLemmas
+pub mod AfterFirstLemmas
 mod OneFileLemmas
 mod StreamRowLemmas
-mod EntryLemmas
+pub mod EntryLemmas
 mod FirstLines
 mod AlikeLemmas
 mod OnePair

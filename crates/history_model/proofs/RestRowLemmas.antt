@@ -5,7 +5,8 @@ use Rattle.std.specs.List.{list_all, join_with_byte}
 use Rattle.history_model.specs.Bytes.{Bytes, line, has_byte}
 use Rattle.history_model.specs.Commands.{Command, Commit, Files}
 use Rattle.history_model.specs.Spelling.{Part, Line, Field, parts_of, is_word}
-use Rattle.history_model.specs.Grammar.{LineFits, LineStands, HasRestCause}
+use Rattle.history_model.specs.Grammar.{HasRestCause}
+use Rattle.history_model.proofs.Offered.{LineFits, LineStands}
 use Rattle.history_model.specs.Rows.{first_command, xs, Gives, Refuses}
 use Rattle.history_model.specs.Repository.{fresh}
 use Rattle.history_model.specs.Replies.{reply_text, RefusedFor}

@@ -5,7 +5,8 @@ use Rattle.history_model.specs.Bytes.{Bytes, line, has_byte}
 use Rattle.history_model.specs.Repository.{Repository}
 use Rattle.history_model.specs.Commands.{Command, Commit, Tag, Move, Rename, Delete, Switch, Pack, Index, Names, Files, Past, Log, Show, LogCommand}
 use Rattle.history_model.specs.Spelling.{Part, Line, parts_of, parts_text, spelling, max_line}
-use Rattle.history_model.specs.Grammar.{is_command, StopsBy, HasRestCause}
+use Rattle.history_model.specs.Grammar.{is_command, HasRestCause}
+use Rattle.history_model.proofs.Offered.{StopsBy}
 use Rattle.history_model.specs.Replies.{Reply, Faulted, LogIs, reply_text}
 use Rattle.history_model.specs.Answers.{kept, time_at}
 use Rattle.history_model.specs.Stops.{is_changing}

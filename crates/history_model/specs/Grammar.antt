@@ -68,21 +68,6 @@ pub record HasRestCauseOf (is_known : Command → Bool) (rest : Bytes) (cause : 
 
 -- ---- that of the commands that are offered
 
-abbrev pub GoesOn : List Part → Part → Type 0
-GoesOn = GoesOnOf is_command
-
-abbrev pub LineStands : List Part → Type 0
-LineStands = LineStandsOf is_command
-
-abbrev pub FieldStands : List Part → ℕ → Type 0
-FieldStands = FieldStandsOf is_command
-
-abbrev pub LineFits : List Part → Bytes → Type 0
-LineFits = LineFitsOf is_command
-
-abbrev pub StopsBy : List Part → Bytes → Cause → Type 0
-StopsBy = StopsByOf is_command
-
 abbrev pub HasRestCause : Bytes → Cause → Type 0
 HasRestCause = HasRestCauseOf is_command
 
