@@ -9,5 +9,5 @@ pub mod Fields
 pub mod Commands
 pub mod Drafts
 pub mod Progress
-pub mod Received
+pub mod Reading
 pub mod StdStream
