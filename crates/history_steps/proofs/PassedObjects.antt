@@ -37,7 +37,7 @@ module _ (tree : Tree) where
 
 -- no object's place is that of the unfinished one
 place_apart : (kind : Kind) (old : Tree) (values : Values) (value : Value) → object_place (id_of kind value) ≢ unfinished_place
-place_apart kind old values value same = absurd (cc (sym (Rattle.history_steps.proofs.TreePuts.unfinished_apart (id_of kind value)) ∙ ap (bytes_eq unfinished_place) same ∙ text_itself unfinished_place))
+place_apart kind old values value same = absurd (cc (sym (Rattle.history_model.proofs.RecoveredLemmas.place_apart (id_of kind value)) ∙ ap (bytes_eq unfinished_place) same ∙ text_itself unfinished_place))
 
 pub puts_pass : PutsPass
 puts_pass kind old tree values value own h free may = go may.here
@@ -61,7 +61,7 @@ puts_pass kind old tree values value own h free may = go may.here
       first = value ∷ [];
       rest = [];
       split = refl;
-      free = Rattle.history_model.proofs.WholeLists.none_or (is_taken kind values value) false free refl;
+      free = Rattle.std.proofs.lemmas.Bool.or_from (is_taken kind values value) false free refl;
       holds = puts_store kind old (recovered_objects tree) values value own free h (renames_put kind old (recovered_objects tree) values value own h (record {
         here = object_kept tree (object_place (id_of kind value)) apart ∙ here;
         gone = unfinished_gone tree;
