@@ -54,7 +54,7 @@ inside_unfolds kind m there folder is = record { at = at; only = only }
         (sym (behind_parts folder found.0) ∙ ap (behind (components folder)) found.1 ∙ begins_behind (components folder) (name ∷ rest))
       where
         go : (b : Bool) (o : Option Bytes) → cond b (Some []) (option_map components o) ≡ Some (name ∷ rest) → (path : Bytes) × (components path ≡ name ∷ rest)
-        go true o k = let bad = same_Some {X = Path} [] (name ∷ rest) k in cc
+        go true o k = let bad = same_Some {A = Path} [] (name ∷ rest) k in cc
         go false None k = cc
         go false (Some r) k = (r, same_Some (components r) (name ∷ rest) k)
 
