@@ -1,10 +1,8 @@
 -- A repository with its files that serves commands of this stage.
-use Rattle.std.specs.Prelude.{◌≡◌, true, false}
 use Rattle.gix_ref_file.specs.History.{History}
 use Rattle.history_model.specs.Repository as plain
 use Rattle.history_steps.specs.Offered.{IsOfStage}
-use Rattle.history.specs.Face.{has_failed}
-use Rattle.history.specs.Stands.{RecoversTo, Stands, pair_of}
+use Rattle.history.specs.Stands.{Stands, pair_of}
 use Rattle.history.specs.declared.repository.Repository.{Repository}
 
 -- It stands for this plain repository, which is one of this stage: what the calls below `run` take for granted.
@@ -12,12 +10,3 @@ pub record Serves {F : Type 0} (IsHonest : F → Type 0) (history : F → Histor
     (repository : Repository F) (r : plain.Repository) : Type 0 where
   pub stands : Stands IsHonest history repository r
   pub stage : IsOfStage r (pair_of history repository)
-
--- What a run leaves stands for this plain repository, which is one of this stage; where the repository failed, what recovery makes of
--- its files does.
-abbrev pub LeavesStanding : {F : Type 0} → (F → Type 0) → (F → History) → Repository F
-    → plain.Repository → Type 0
-LeavesStanding IsHonest history repository r =
-    (has_failed repository ≡ false
-    → Stands IsHonest history repository r × IsOfStage r (pair_of history repository))
-    × (has_failed repository ≡ true → RecoversTo history repository r)
