@@ -1,6 +1,6 @@
 //! One case to one line.
 
-use crate::shown::show_reading;
+use crate::shown::show_received;
 use case_drops::Drops;
 use case_words::{Page, read_bytes};
 use history_word::{Broken, Buffer, Bytes, Collected, Source, Stream, read_command, write_all};
@@ -39,9 +39,9 @@ fn act(alloc: Global, line: &str, page: &mut Page) -> Option<()> {
 fn read<R: Source + Drop>(alloc: Global, mut source: R, page: &mut Page) {
     let mut buffer = Buffer::new();
     show_more(buffer.has_more(&mut source), page);
-    let reading = read_command(alloc, &mut buffer, &mut source);
-    show_reading(&reading, page);
-    if reading.is_ok() {
+    let received = read_command(alloc, &mut buffer, &mut source);
+    show_received(&received, page);
+    if received.is_ok() {
         show_more(buffer.has_more(&mut source), page);
     }
 }

@@ -3,14 +3,14 @@
 use case_words::Page;
 use history_model::{Cause, FileKind};
 use history_word::{
-    ActorLine, Command, CommitCommand, Edit, Expect, Field, Put, Reading, Show, Stop,
+    ActorLine, Command, CommitCommand, Edit, Expect, Field, Put, Received, Show, Stop,
 };
 
 /// What reading a command ended with.
-pub fn show_reading(reading: &Result<Reading, Stop>, page: &mut Page) {
-    match reading {
-        Ok(Reading::Command(command)) => show_command(command, page),
-        Ok(Reading::NoMemory { is_changing }) => {
+pub fn show_received(received: &Result<Received, Stop>, page: &mut Page) {
+    match received {
+        Ok(Received::Command(command)) => show_command(command, page),
+        Ok(Received::NoMemory { is_changing }) => {
             page.word("memory:");
             page.put(*is_changing);
         }
