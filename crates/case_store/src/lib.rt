@@ -1,5 +1,4 @@
-//! Objects in memory, as programs of cases give them to what looks objects up: objects by their ids, and trees that count how often
-//! they are asked for one.
+//! Objects in memory by their ids, for programs of cases, and trees that count how often they are asked for one.
 #![tactic(auto)]
 
 mod store;

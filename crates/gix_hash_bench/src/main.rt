@@ -1,6 +1,4 @@
-//! Times the hashing of a stream and the looking up of prefixes. One line of standard input says how
-//! many bytes are hashed, how many ids a list has, and how often the prefix of each id is looked up.
-//! Standard output has what was found, and standard error the microseconds that each took.
+//! Times the hashing of a stream and the looking up of prefixes.
 #![tactic(auto)]
 
 use gix_hash::hasher::hasher;

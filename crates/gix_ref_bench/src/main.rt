@@ -1,5 +1,4 @@
-//! Times listings and lookups of references, of which each has a file of its own or each a packed record. One line of standard input
-//! says how many there are. Standard output has how many references came of each, and standard error the microseconds that each took.
+//! Times listings and lookups of references, of which each has a file of its own or each a packed record.
 #![tactic(auto)]
 
 mod files;

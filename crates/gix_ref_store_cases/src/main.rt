@@ -1,5 +1,4 @@
-//! Answers cases of stores of references, a line each: an operation, the folder of a linked worktree or `-`, what is asked for or
-//! `-`, the files, and to peel with also objects, to strip with a namespace.
+//! Answers cases of stores of references, a line each: an operation, a worktree's folder, what is asked for, and the files.
 #![tactic(auto)]
 
 mod cases;

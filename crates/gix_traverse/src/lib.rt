@@ -1,5 +1,4 @@
-//! Walks over commits and trees, after the crate `gix-traverse` 0.61. It stands in parts, whose public items are gathered here
-//! under the names of that crate.
+//! Walks over commits and trees, after the crate `gix-traverse` 0.61: its parts' public items under that crate's names.
 #![tactic(auto)]
 
 /// Walks over commits.

@@ -1,6 +1,4 @@
-//! Times walks over a ladder of merges, from objects in memory and from rows. One line of standard input says how many commits it
-//! has. Standard output has how many commits each walk gave and how many objects it asked for, and standard error the microseconds
-//! that each took.
+//! Times walks over a ladder of merges, from objects in memory and from rows.
 #![tactic(auto)]
 
 mod ladder;

@@ -115,8 +115,8 @@ pub fn paint<F: Find>(
         ≡ is_met known.old.nodes q) }
     ensures queue { OnOk result (known.new.queue ≡ known.old.queue) }
     ensures turns { OnOk result (turns_of known.new ≡ turns_of known.old) }
-    ensures painted { OnOk result (IsUnpainted known.old.nodes → OverTold F.is_honest F.table source.old
-        (λ g. Paints g hidden.now known.new.nodes)) }
+    ensures painted { OnOk result (IsUnpainted known.old.nodes
+        → OverTold F.is_honest F.table source.old (λ g. Paints g hidden.now known.new.nodes)) }
     ensures rowed { OnOk result (AllHeld (rows_of source.old.rows) hidden.now
         → source.new.lookups ≡ source.old.lookups) }
     ensures counted { OnOk result ((asked : List ObjectId)

@@ -58,7 +58,8 @@ parents_cause ids =
     then Some DuplicateParent else None
 
 -- the name that the commit moves, what it holds, and the commit's parents
-pub record IsCommitBase (r : plain.Repository) (order : orders.CommitCommand) (base : Base) : Type 0 where
+pub record IsCommitBase (r : plain.Repository) (order : orders.CommitCommand)
+    (base : Base) : Type 0 where
   pub name : base.name.items ≡ branch_or_name r order.name
   pub held : option_map id_of base.held ≡ id_at r (branch_or_name r order.name)
   pub parents : map id_of base.parents.items ≡ parents_of r order

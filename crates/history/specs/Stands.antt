@@ -35,4 +35,5 @@ pub record Stands {F : Type 0} (IsHonest : F → Type 0) (history : F → Histor
 
 -- What recovery makes of the two trees that stand is the pair of this plain repository, which is whole and in its written form.
 abbrev pub RecoversTo : {F : Type 0} → (F → History) → Repository F → plain.Repository → Type 0
-RecoversTo history repository r = StandsWhole r.kind (recovered r.kind (pair_of history repository)) r
+RecoversTo history repository r =
+    StandsWhole r.kind (recovered r.kind (pair_of history repository)) r

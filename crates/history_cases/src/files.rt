@@ -1,5 +1,4 @@
-//! What is left of the two parts by the rules of recovery, which no code does yet: an object that is unfinished goes, as do lock
-//! files, a log without its name, and of a log what isn't a whole line.
+//! What is left of the two parts by the rules of recovery: no unfinished object, lock file, log without a name, or half a line.
 
 use case_words::{Page, Trial, sound};
 use gix_ref_file::paths::joined;

@@ -1,5 +1,4 @@
-//! A stream of commands, answered over a new repository in memory: `create`, `open` and `run` of `history` as one call, whose
-//! contract speaks of the input and of what is written alone.
+//! A stream of commands, answered over a new repository in memory: `create`, `open` and `run` of `history` as one call.
 #![tactic(auto)]
 
 mod answer;

@@ -19,7 +19,8 @@ recovered_objects tree =
 abbrev pub is_leftover : Kind → Tree → Bytes → Bool
 is_leftover kind tree path =
     is_some (file_at tree path)
-    && (is_lock_file path || (is_log_place path && is_absent (name_state kind tree (log_name path))))
+    && (is_lock_file path
+    || (is_log_place path && is_absent (name_state kind tree (log_name path))))
 
 -- of a log its whole lines
 abbrev pub recovered_node : Bytes → Node → Node

@@ -114,7 +114,7 @@ abbrev pub IsMalformed : Kind → ObjectKind → Bytes → Type 0
 IsMalformed digests kind content =
     (named : List Naming) → NamesObjects digests kind content named → ⊥
 
--- ---- readings of a tag
+-- ---- the parts of a tag
 
 -- what stands on the lines of a tag of a commit, and behind them
 pub record TagParts : Type 0 where

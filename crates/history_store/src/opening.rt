@@ -90,7 +90,8 @@ fn refuse_stray<F: Files>(
 
 // Whether the name is a branch's: it lies below `refs/heads/`.
 fn is_branch(name: &[u8]) -> bool
-    ensures { result ≡ (nat_lt (length heads_front) (length name.now) && begins heads_front name.now) }
+    ensures { result
+        ≡ (nat_lt (length heads_front) (length name.now) && begins heads_front name.now) }
 {
     name.len() > HEADS.len() && name.starts_with(HEADS)
 }

@@ -25,7 +25,7 @@ pub fn written_line_is_read_back(line: &Line)
 }
 
 /// A text is a line of one list of parts at most.
-pub fn lines_have_one_reading()
+pub fn one_line()
     ensures { (text : List ℕ) (one other : LineParts) → SpellsLine text one
         → SpellsLine text other → one ≡ other }
 {}

@@ -181,7 +181,8 @@ impl<F: Find + Drop, P: Accept + Drop> Simple<F, P> {
         ensures rows { self.new.source.rows ≡ self.old.source.rows }
         ensures going { OverTold F.is_honest F.table self.old.source
             (λ g. (ids : List Id) (a : Asked) → IsSure (F.may_fail self.old.source.objects) a
-            → IsMade P.accepts a self.old → OnOk result (IsUnderWay P.accepts ids g a [] self.new)) }
+            → IsMade P.accepts a self.old
+            → OnOk result (IsUnderWay P.accepts ids g a [] self.new)) }
         ensures awaits { OnOk result ((a : Asked) → IsMade P.accepts a self.old
             → OverTold F.is_honest F.table self.old.source
             (λ g. LetsWaitIn (timing a) (F.may_fail self.old.source.objects) g (IsWanted g a) []
@@ -394,7 +395,8 @@ impl<F: Find + Drop, P: Accept + Drop> Simple<F, P> {
         ensures known { IfOk result (λ _. IsKnown (rows_of self.old.source.rows)
             (F.ids self.old.source.objects) id) }
         ensures going { OnOk result (OverTold F.is_honest F.table self.old.source
-            (λ g. (a : Asked) (listed : List ObjectId) → IsSure (F.may_fail self.old.source.objects) a
+            (λ g. (a : Asked) (listed : List ObjectId)
+            → IsSure (F.may_fail self.old.source.objects) a
             → IsAtTurn P.accepts (F.ids self.old.source.objects) g a listed id self.old
             → IsUnderWay P.accepts (F.ids self.old.source.objects) g a (listed ++ id ∷ [])
             self.new)) }

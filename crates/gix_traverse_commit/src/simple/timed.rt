@@ -266,8 +266,9 @@ fn await_parent<F: Find, P: Accept>(
         × (AllRowed (rows_of source.old.rows) (turns_of known.old)
         → AllRowed (rows_of source.old.rows) (turns_of known.new))) }
     ensures waits { OnOk result (OverSure F.is_honest F.may_fail F.table source.old
-        (λ g. Joins (not (is_met known.old.nodes id) && keep_since since g (is_hidden known.old.nodes)
-        (P.accepts predicate.old) id) (turns_of known.old) (turn_of g id) (turns_of known.new))) }
+        (λ g. Joins (not (is_met known.old.nodes id)
+        && keep_since since g (is_hidden known.old.nodes) (P.accepts predicate.old) id)
+        (turns_of known.old) (turn_of g id) (turns_of known.new))) }
     ensures awaits { OnOk result (OverTold F.is_honest F.table source.old
         (λ g. LetsWait (F.may_fail source.old.objects) since g
         (Contains (accepted (P.accepts predicate.old) (fresh known.old.nodes id)))

@@ -37,11 +37,11 @@ impl<R: ReadAt + Drop> Reverse<'_, R> {
         ensures nearer { IsNearer self.old.end self.new.is_done self.new.end }
         ensures ends { EndsWalk (Some result) → self.new.is_done ≡ true }
         ensures told { (left : List (List ℕ)) → R.is_honest self.old.log
-            → IsAt
-            (R.contents self.old.log) self.old.is_done self.old.end self.old.held self.old.buffer.now left
+            → IsAt (R.contents self.old.log) self.old.is_done self.old.end self.old.held
+            self.old.buffer.now left
             → (after : List (List ℕ))
-            × IsAt
-            (R.contents self.new.log) self.new.is_done self.new.end self.new.held self.new.buffer.now after
+            × IsAt (R.contents self.new.log) self.new.is_done self.new.end self.new.held
+            self.new.buffer.now after
             × GivesBack (length self.old.buffer.now) R.may_fail self.old.given left
             (Some result) after }
     {
@@ -71,7 +71,8 @@ impl<R: ReadAt + Drop> Iterator for Reverse<'_, R> {
     type Item = Result<Line, Error>;
 
     ghost next_gives = { λ before item after. (after.log ≡ before.log)
-        × GivesNext (R.is_honest before.log) (R.contents before.log) R.may_fail (stand_of before) item (stand_of after) };
+        × GivesNext (R.is_honest before.log) (R.contents before.log) R.may_fail
+        (stand_of before) item (stand_of after) };
 
     ghost remaining = { λ reader. at_most (if reader.is_done then 0 else reader.end + 1) };
 

@@ -59,7 +59,8 @@ impl Line {
 
 // Writes a line that has a spelling.
 fn write_whole<W: io::Write>(line: &Line, out: &mut W) -> io::Result<()>
-    requires { IsSpellable line.now.signature.name line.now.signature.email line.now.signature.time }
+    requires { IsSpellable line.now.signature.name line.now.signature.email
+        line.now.signature.time }
     ensures ok { OnOk result
         (Appends (W.contents out.old) (W.contents out.new) (written_text line.now ++ 10 ∷ [])) }
     ensures err { OnErr result
