@@ -1,5 +1,4 @@
-//! Git's object ids, prefixes of ids, digests and hashing of streams, after the crate `gix-hash` 0.26. It stands in parts, whose
-//! public items are gathered here under the names of that crate.
+//! Object ids, prefixes, digests, streams, after the crate `gix-hash` 0.26: its parts' public items under that crate's names.
 #![tactic(auto)]
 
 /// Why a text is no id.

@@ -27,7 +27,8 @@ pub record ReadsPieces {R P I : Type 0} (remaining : R → Option (List ℕ))
     (n k : ℕ) (answers : List Bool) (bytes : List ℕ) : Type 0 where
   pub count : length bytes ≡ bytes_in_pieces n k
   pub read : Consumes (remaining reader) (remaining reader_after) bytes
-  pub tells : TellsPieces told answered progress progress_after interrupt interrupt_after n k answers
+  pub tells : TellsPieces told answered progress progress_after interrupt interrupt_after n k
+      answers
 
 -- a reader gave fewer than n bytes
 abbrev pub GivesFewer : Option (List ℕ) → Option (List ℕ) → ℕ → Type 0

@@ -82,15 +82,15 @@ pub fn bytes_of_file<F: Files, L: AsPath, P: Progress, I: Interrupt>(
 ) -> Result<ObjectId, Error>
     ensures ok { IfOk result (λ id. (k : ℕ) × (bytes : List ℕ) × IsPieceCount num_bytes_from_start k
         × (length bytes ≡ num_bytes_from_start) × (id_of id ≡ id_of_message kind bytes)
-        × TellsPieces P.told I.answered progress.old progress.new should_interrupt.old should_interrupt.new
-        num_bytes_from_start k (replicate k false)) }
+        × TellsPieces P.told I.answered progress.old progress.new should_interrupt.old
+        should_interrupt.new num_bytes_from_start k (replicate k false)) }
     ensures interrupted { IfErr result
         (λ e. IsInterrupted e → (k : ℕ) × HasPiece num_bytes_from_start k
-        × TellsPieces P.told I.answered progress.old progress.new should_interrupt.old should_interrupt.new
-        num_bytes_from_start (suc k) (replicate k false ++ true ∷ [])) }
+        × TellsPieces P.told I.answered progress.old progress.new should_interrupt.old
+        should_interrupt.new num_bytes_from_start (suc k) (replicate k false ++ true ∷ [])) }
     ensures io { IfErr result (λ e. IsIo e → (k : ℕ) × (65535 * k ≤ num_bytes_from_start)
-        × TellsPieces P.told I.answered progress.old progress.new should_interrupt.old should_interrupt.new
-        num_bytes_from_start k (replicate k false)) }
+        × TellsPieces P.told I.answered progress.old progress.new should_interrupt.old
+        should_interrupt.new num_bytes_from_start k (replicate k false)) }
 {
     let mut file = fs::open(files, path)?;
     bytes(

@@ -1,5 +1,4 @@
-//! Laws of digests and of pieces of streams: the contract is the law. Where it speaks of a call the
-//! function makes that call, and else it does nothing.
+//! Laws of digests and of pieces of streams: each is the contract of a function that makes the calls it names, if any.
 
 ghost use Rattle.std.specs.Prelude.{◌≡◌, sum};
 ghost use Rattle.std.specs.List.{flat_map};

@@ -1,5 +1,4 @@
-//! Laws of ids, views and their spellings: the contract is the law. Where it speaks of a call the
-//! function makes that call, and else it does nothing.
+//! Laws of ids, views and their spellings: each is the contract of a function that makes the calls it names, if any.
 
 ghost use Rattle.std.specs.Prelude.{◌≡◌, ◌↔◌, ℕ, List, length, IsTrue, ◌<◌, slice_index, IsOkAnd};
 ghost use Rattle.std.specs.declared.cmp.Ordering.TheVariants.{Less, Greater};

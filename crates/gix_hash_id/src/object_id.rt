@@ -297,7 +297,8 @@ impl<A: Drop> MadeWith<A> for ObjectId {
 }
 
 impl From<[u8; 20]> for ObjectId {
-    ghost from_gives = { λ bytes id. id_of id ≡ record { kind = kinds.Sha1; digits = digits_of bytes } };
+    ghost from_gives = { λ bytes id. id_of id
+        ≡ record { kind = kinds.Sha1; digits = digits_of bytes } };
 
     fn from(value: [u8; 20]) -> ObjectId {
         ObjectId::Sha1(value)
@@ -305,7 +306,8 @@ impl From<[u8; 20]> for ObjectId {
 }
 
 impl From<[u8; 32]> for ObjectId {
-    ghost from_gives = { λ bytes id. id_of id ≡ record { kind = kinds.Sha256; digits = digits_of bytes } };
+    ghost from_gives = { λ bytes id. id_of id
+        ≡ record { kind = kinds.Sha256; digits = digits_of bytes } };
 
     fn from(value: [u8; 32]) -> ObjectId {
         ObjectId::Sha256(value)

@@ -223,7 +223,8 @@ impl From<ChangeId> for ObjectId {
 impl FromStr for ChangeId {
     type Err = decode::Error;
 
-    ghost from_str_gives = { λ text r. MatchResult r (IsReverseHexOfId text) (IsFaultOf reverse_digit_value text) };
+    ghost from_str_gives = { λ text r. MatchResult r (IsReverseHexOfId text)
+        (IsFaultOf reverse_digit_value text) };
 
     fn from_str(s: &str) -> Result<ChangeId, decode::Error> {
         ChangeId::from_reverse_hex(s.as_bytes())

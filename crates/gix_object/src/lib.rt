@@ -1,5 +1,4 @@
-//! Git's objects, after the crate `gix-object` 0.64. It stands in parts, whose public items are gathered here under the
-//! names of that crate.
+//! Git's objects, after the crate `gix-object` 0.64: the public items of its parts, under the names of that crate.
 #![tactic(auto)]
 
 /// Commits.

@@ -1,5 +1,4 @@
-//! What bytes spell a commit, and its lines read: for actors, for the encoding, and further headers, after the crate
-//! `gix-object` 0.64.
+//! What bytes spell a commit, after the crate `gix-object` 0.64: its lines for actors, the encoding and further headers.
 #![tactic(auto)]
 
 pub mod encoding;

@@ -1,5 +1,4 @@
-//! Laws of trees, their entries and their modes: the contract is the law. Where a function calls others it is to have what they
-//! promise, and else it does nothing.
+//! Laws of trees, their entries and modes: each is the contract of a function that makes the calls whose promises it has.
 
 ghost use Rattle.std.specs.Prelude.{◌≡◌, ◌↔◌, List, None, IsTrue, map, []};
 ghost use Rattle.std.specs.List.{All};

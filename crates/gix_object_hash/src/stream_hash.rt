@@ -39,8 +39,8 @@ pub fn compute_stream_hash<R: io::Read, P: Progress, I: Interrupt>(
         should_interrupt.old should_interrupt.new stream_len (suc k)
         (replicate k false ++ true ∷ []) content) }
     ensures io { IfErr result (λ e. IsIo e → (k : ℕ) × (content : List ℕ)
-        × StopsAfterPieces R.remaining P.told I.answered stream.old stream.new progress.old progress.new
-        should_interrupt.old should_interrupt.new stream_len k content) }
+        × StopsAfterPieces R.remaining P.told I.answered stream.old stream.new progress.old
+        progress.new should_interrupt.old should_interrupt.new stream_len k content) }
 {
     let header = encode::loose_header(object_kind, stream_len);
     let mut digest = hasher(hash_kind);

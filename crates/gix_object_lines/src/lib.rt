@@ -1,5 +1,4 @@
-//! What all of Git's objects share: their kinds, headers, numbers, lines and how they are written, after the
-//! crate `gix-object` 0.64.
+//! What all of Git's objects share, after the crate `gix-object` 0.64: kinds, headers, numbers, lines and how they are written.
 #![tactic(auto)]
 
 mod byte_string;

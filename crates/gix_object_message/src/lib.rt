@@ -1,5 +1,4 @@
-//! The messages of commits and tags: title, body and summary, paragraphs, trailers and blocks, after the crate
-//! `gix-object` 0.64.
+//! Messages of commits and tags, after the crate `gix-object` 0.64: title, body and summary, paragraphs, trailers and blocks.
 #![tactic(auto)]
 
 mod blocks;

@@ -1,5 +1,4 @@
-//! Signatures of Git's objects: their formats, the bytes that they sign, signing and verifying, after the crate
-//! `gix-object` 0.64.
+//! Signatures of Git's objects, after the crate `gix-object` 0.64: formats, the bytes that are signed, signing and verifying.
 #![tactic(auto)]
 
 mod format;

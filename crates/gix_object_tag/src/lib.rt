@@ -1,5 +1,4 @@
-//! Git's tags: reading them whole or token by token, writing them, and where their signature stands, after the crate
-//! `gix-object` 0.64.
+//! Git's tags, after the crate `gix-object` 0.64: reading whole or token by token, writing, owning, signing.
 #![tactic(auto)]
 
 pub mod laws;

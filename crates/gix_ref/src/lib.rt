@@ -1,5 +1,4 @@
-//! References and their logs, after the crate `gix-ref` 0.67: names, formats, files and stores. It stands in parts, whose public
-//! items are gathered here under the names of that crate.
+//! References and their logs, after the crate `gix-ref` 0.67: the public items of its parts, under the names of that crate.
 #![tactic(auto)]
 
 /// Names that rules may complete, and why bytes are no name.

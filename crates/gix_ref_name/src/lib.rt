@@ -1,5 +1,4 @@
-//! Names of references: full and partial ones, their categories, namespaces and the targets that references have, after the
-//! crate `gix-ref` 0.67.
+//! Names of references, after the crate `gix-ref` 0.67: full and partial ones, categories, namespaces, targets.
 #![tactic(auto)]
 
 mod category;

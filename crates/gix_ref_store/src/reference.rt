@@ -86,7 +86,8 @@ fn stripped(alloc: Global, target: &Target, namespace: &Namespace) -> Result<Tar
 }
 
 impl From<loose::Reference> for Reference {
-    ghost from_gives = { λ given r. (r.name ≡ given.name) × (r.target ≡ given.target) × (r.peeled ≡ None) };
+    ghost from_gives = { λ given r. (r.name ≡ given.name)
+        × (r.target ≡ given.target) × (r.peeled ≡ None) };
 
     fn from(reference: loose::Reference) -> Reference {
         let loose::Reference { name, target } = reference;

@@ -105,7 +105,8 @@ pub struct ParentIds<'a> {
 impl<'a> Iterator for ParentIds<'a> {
     type Item = ObjectId;
 
-    ghost next_gives = { λ before item after. GivesTold parent_told (ids_place before) (option_map id_of item) (ids_place after) };
+    ghost next_gives = { λ before item after. GivesTold parent_told (ids_place before)
+        (option_map id_of item) (ids_place after) };
 
     ghost remaining = { λ ids. at_most (length (ids_place ids).input) };
 
@@ -130,7 +131,8 @@ pub struct Signatures<'a> {
 impl<'a> Iterator for Signatures<'a> {
     type Item = ActorRef<'a>;
 
-    ghost next_gives = { λ before item after. GivesTold actor_told (signatures_place before) (option_map person_of item) (signatures_place after) };
+    ghost next_gives = { λ before item after. GivesTold actor_told (signatures_place before)
+        (option_map person_of item) (signatures_place after) };
 
     ghost remaining = { λ signatures. at_most (length (signatures_place signatures).input) };
 

@@ -172,7 +172,8 @@ impl From<EntryMode> for EntryKind {
 impl TryFrom<u32> for EntryMode {
     type Error = u32;
 
-    ghost try_from_gives = { λ number r. MatchResult r (λ mode. IsEntryMode number × (mode.value ≡ number) × (mode.padded ≡ false))
+    ghost try_from_gives = { λ number r. MatchResult r
+        (λ mode. IsEntryMode number × (mode.value ≡ number) × (mode.padded ≡ false))
         (λ back. (back ≡ number) × (¬ IsEntryMode number)) };
 
     fn try_from(number: u32) -> Result<EntryMode, u32> {

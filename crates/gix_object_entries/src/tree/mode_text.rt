@@ -43,7 +43,8 @@ impl EntryMode {
 impl<'a> TryFrom<&'a [u8]> for EntryMode {
     type Error = &'a [u8];
 
-    ghost try_from_gives = { λ bytes r. MatchResult r (λ mode. SpellsMode (text_before 32 bytes.now) (mode_of mode))
+    ghost try_from_gives = { λ bytes r. MatchResult r
+        (λ mode. SpellsMode (text_before 32 bytes.now) (mode_of mode))
         (λ back. (back ≡ bytes) × SpellsNoMode (text_before 32 bytes.now)) };
 
     fn try_from(bytes: &'a [u8]) -> Result<EntryMode, &'a [u8]> {

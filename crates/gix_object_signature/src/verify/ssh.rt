@@ -47,8 +47,9 @@ pub(crate) fn verify<'a, F: FnMut(&[Word<'_>], &[u8]) -> Result<Answer, RunError
     runner: &mut F,
 ) -> Result<Outcome, Error>
     requires { F.IsAlwaysCallable runner.old }
-    ensures told { VerifiesSsh
-        (Answers F.FnMut) runner.old signers.entry.program signers.entry.allowed signers.entry.revoked minimum_trust signature.now content.now result runner.new }
+    ensures told { VerifiesSsh (Answers F.FnMut) runner.old signers.entry.program
+        signers.entry.allowed signers.entry.revoked minimum_trust signature.now content.now result
+        runner.new }
     ensures callable { F.IsAlwaysCallable runner.new }
 {
     let word = time_word(content)?;

@@ -49,7 +49,9 @@ impl<'a> From<TagRef<'a>> for ObjectRef<'a> {
 impl<'a> TryFrom<ObjectRef<'a>> for BlobRef<'a> {
     type Error = ObjectRef<'a>;
 
-    ghost try_from_gives = { λ given r. MatchResult r (λ blob. given ≡ object.Blob blob) (λ back. (back ≡ given) × (kind_of (value_of back) ≢ kinds.Blob)) };
+    ghost try_from_gives = { λ given r. MatchResult r
+        (λ blob. given ≡ object.Blob blob)
+        (λ back. (back ≡ given) × (kind_of (value_of back) ≢ kinds.Blob)) };
 
     fn try_from(object: ObjectRef<'a>) -> Result<BlobRef<'a>, ObjectRef<'a>> {
         match object {
@@ -63,7 +65,9 @@ impl<'a> TryFrom<ObjectRef<'a>> for BlobRef<'a> {
 impl<'a> TryFrom<ObjectRef<'a>> for TreeRef<'a> {
     type Error = ObjectRef<'a>;
 
-    ghost try_from_gives = { λ given r. MatchResult r (λ tree. given ≡ object.Tree tree) (λ back. (back ≡ given) × (kind_of (value_of back) ≢ kinds.Tree)) };
+    ghost try_from_gives = { λ given r. MatchResult r
+        (λ tree. given ≡ object.Tree tree)
+        (λ back. (back ≡ given) × (kind_of (value_of back) ≢ kinds.Tree)) };
 
     fn try_from(object: ObjectRef<'a>) -> Result<TreeRef<'a>, ObjectRef<'a>> {
         match object {
@@ -77,7 +81,9 @@ impl<'a> TryFrom<ObjectRef<'a>> for TreeRef<'a> {
 impl<'a> TryFrom<ObjectRef<'a>> for CommitRef<'a> {
     type Error = ObjectRef<'a>;
 
-    ghost try_from_gives = { λ given r. MatchResult r (λ commit. given ≡ object.Commit commit) (λ back. (back ≡ given) × (kind_of (value_of back) ≢ kinds.Commit)) };
+    ghost try_from_gives = { λ given r. MatchResult r
+        (λ commit. given ≡ object.Commit commit)
+        (λ back. (back ≡ given) × (kind_of (value_of back) ≢ kinds.Commit)) };
 
     fn try_from(object: ObjectRef<'a>) -> Result<CommitRef<'a>, ObjectRef<'a>> {
         match object {
@@ -91,7 +97,9 @@ impl<'a> TryFrom<ObjectRef<'a>> for CommitRef<'a> {
 impl<'a> TryFrom<ObjectRef<'a>> for TagRef<'a> {
     type Error = ObjectRef<'a>;
 
-    ghost try_from_gives = { λ given r. MatchResult r (λ tag. given ≡ object.Tag tag) (λ back. (back ≡ given) × (kind_of (value_of back) ≢ kinds.Tag)) };
+    ghost try_from_gives = { λ given r. MatchResult r
+        (λ tag. given ≡ object.Tag tag)
+        (λ back. (back ≡ given) × (kind_of (value_of back) ≢ kinds.Tag)) };
 
     fn try_from(object: ObjectRef<'a>) -> Result<TagRef<'a>, ObjectRef<'a>> {
         match object {

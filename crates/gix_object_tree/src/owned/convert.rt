@@ -49,7 +49,9 @@ impl From<Tag> for Object {
 impl TryFrom<Object> for Blob {
     type Error = Object;
 
-    ghost try_from_gives = { λ given r. MatchResult r (λ blob. given ≡ object.Blob blob) (λ back. (back ≡ given) × (kind_of (own_value back) ≢ kinds.Blob)) };
+    ghost try_from_gives = { λ given r. MatchResult r
+        (λ blob. given ≡ object.Blob blob)
+        (λ back. (back ≡ given) × (kind_of (own_value back) ≢ kinds.Blob)) };
 
     fn try_from(object: Object) -> Result<Blob, Object> {
         match object {
@@ -63,7 +65,9 @@ impl TryFrom<Object> for Blob {
 impl TryFrom<Object> for Tree {
     type Error = Object;
 
-    ghost try_from_gives = { λ given r. MatchResult r (λ tree. given ≡ object.Tree tree) (λ back. (back ≡ given) × (kind_of (own_value back) ≢ kinds.Tree)) };
+    ghost try_from_gives = { λ given r. MatchResult r
+        (λ tree. given ≡ object.Tree tree)
+        (λ back. (back ≡ given) × (kind_of (own_value back) ≢ kinds.Tree)) };
 
     fn try_from(object: Object) -> Result<Tree, Object> {
         match object {
@@ -77,7 +81,9 @@ impl TryFrom<Object> for Tree {
 impl TryFrom<Object> for Commit {
     type Error = Object;
 
-    ghost try_from_gives = { λ given r. MatchResult r (λ commit. given ≡ object.Commit commit) (λ back. (back ≡ given) × (kind_of (own_value back) ≢ kinds.Commit)) };
+    ghost try_from_gives = { λ given r. MatchResult r
+        (λ commit. given ≡ object.Commit commit)
+        (λ back. (back ≡ given) × (kind_of (own_value back) ≢ kinds.Commit)) };
 
     fn try_from(object: Object) -> Result<Commit, Object> {
         match object {
@@ -91,7 +97,9 @@ impl TryFrom<Object> for Commit {
 impl TryFrom<Object> for Tag {
     type Error = Object;
 
-    ghost try_from_gives = { λ given r. MatchResult r (λ tag. given ≡ object.Tag tag) (λ back. (back ≡ given) × (kind_of (own_value back) ≢ kinds.Tag)) };
+    ghost try_from_gives = { λ given r. MatchResult r
+        (λ tag. given ≡ object.Tag tag)
+        (λ back. (back ≡ given) × (kind_of (own_value back) ≢ kinds.Tag)) };
 
     fn try_from(object: Object) -> Result<Tag, Object> {
         match object {

@@ -14,7 +14,9 @@ use gix_object_lines::ByteString;
 impl TryFrom<ByteString> for FullName {
     type Error = InvalidName;
 
-    ghost try_from_gives = { λ bytes r. MatchResult r (λ name. (name ≡ bytes) × IsTrue (is_full_name bytes)) (λ _. IsFalse (is_full_name bytes)) };
+    ghost try_from_gives = { λ bytes r. MatchResult r
+        (λ name. (name ≡ bytes) × IsTrue (is_full_name bytes))
+        (λ _. IsFalse (is_full_name bytes)) };
 
     fn try_from(bytes: ByteString) -> Result<FullName, InvalidName> {
         FullName::new(bytes)
@@ -24,7 +26,8 @@ impl TryFrom<ByteString> for FullName {
 impl TryFrom<String> for FullName {
     type Error = InvalidName;
 
-    ghost try_from_gives = { λ text r. MatchResult r (λ name. (name ≡ string_bytes text) × IsTrue (is_full_name (string_bytes text)))
+    ghost try_from_gives = { λ text r. MatchResult r
+        (λ name. (name ≡ string_bytes text) × IsTrue (is_full_name (string_bytes text)))
         (λ _. IsFalse (is_full_name (string_bytes text))) };
 
     fn try_from(text: String) -> Result<FullName, InvalidName> {
@@ -43,7 +46,8 @@ impl From<FullName> for ByteString {
 impl<'a> TryFrom<BStr<'a>> for FullNameRef<'a> {
     type Error = InvalidName;
 
-    ghost try_from_gives = { λ text r. MatchResult r (λ name. (name_of name ≡ bstr_bytes text) × IsTrue (is_full_name (bstr_bytes text)))
+    ghost try_from_gives = { λ text r. MatchResult r
+        (λ name. (name_of name ≡ bstr_bytes text) × IsTrue (is_full_name (bstr_bytes text)))
         (λ _. IsFalse (is_full_name (bstr_bytes text))) };
 
     fn try_from(text: BStr<'a>) -> Result<FullNameRef<'a>, InvalidName> {
@@ -54,7 +58,9 @@ impl<'a> TryFrom<BStr<'a>> for FullNameRef<'a> {
 impl<'a> TryFrom<&'a String> for FullNameRef<'a> {
     type Error = InvalidName;
 
-    ghost try_from_gives = { λ text r. MatchResult r (λ name. (name_of name ≡ string_bytes text.now) × IsTrue (is_full_name (string_bytes text.now)))
+    ghost try_from_gives = { λ text r. MatchResult r
+        (λ name. (name_of name ≡ string_bytes text.now)
+        × IsTrue (is_full_name (string_bytes text.now)))
         (λ _. IsFalse (is_full_name (string_bytes text.now))) };
 
     fn try_from(text: &'a String) -> Result<FullNameRef<'a>, InvalidName> {

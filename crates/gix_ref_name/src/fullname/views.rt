@@ -105,7 +105,8 @@ impl<'a> FullNameRef<'a> {
 impl<'a> TryFrom<&'a [u8]> for FullNameRef<'a> {
     type Error = InvalidName;
 
-    ghost try_from_gives = { λ bytes r. MatchResult r (λ name. (name_of name ≡ bytes.now) × IsTrue (is_full_name bytes.now))
+    ghost try_from_gives = { λ bytes r. MatchResult r
+        (λ name. (name_of name ≡ bytes.now) × IsTrue (is_full_name bytes.now))
         (λ _. IsFalse (is_full_name bytes.now)) };
 
     fn try_from(bytes: &'a [u8]) -> Result<FullNameRef<'a>, InvalidName> {
@@ -116,7 +117,8 @@ impl<'a> TryFrom<&'a [u8]> for FullNameRef<'a> {
 impl<'a> TryFrom<&'a str> for FullNameRef<'a> {
     type Error = InvalidName;
 
-    ghost try_from_gives = { λ text r. MatchResult r (λ name. (name_of name ≡ text.now) × IsTrue (is_full_name text.now))
+    ghost try_from_gives = { λ text r. MatchResult r
+        (λ name. (name_of name ≡ text.now) × IsTrue (is_full_name text.now))
         (λ _. IsFalse (is_full_name text.now)) };
 
     fn try_from(text: &'a str) -> Result<FullNameRef<'a>, InvalidName> {

@@ -15,7 +15,9 @@ use gix_object_lines::ByteString;
 impl TryFrom<ByteString> for PartialName {
     type Error = InvalidName;
 
-    ghost try_from_gives = { λ bytes r. MatchResult r (λ name. (name ≡ bytes) × IsTrue (is_partial_name bytes)) (λ _. IsFalse (is_partial_name bytes)) };
+    ghost try_from_gives = { λ bytes r. MatchResult r
+        (λ name. (name ≡ bytes) × IsTrue (is_partial_name bytes))
+        (λ _. IsFalse (is_partial_name bytes)) };
 
     fn try_from(bytes: ByteString) -> Result<PartialName, InvalidName> {
         PartialName::new(bytes)
@@ -25,7 +27,8 @@ impl TryFrom<ByteString> for PartialName {
 impl TryFrom<String> for PartialName {
     type Error = InvalidName;
 
-    ghost try_from_gives = { λ text r. MatchResult r (λ name. (name ≡ string_bytes text) × IsTrue (is_partial_name (string_bytes text)))
+    ghost try_from_gives = { λ text r. MatchResult r
+        (λ name. (name ≡ string_bytes text) × IsTrue (is_partial_name (string_bytes text)))
         (λ _. IsFalse (is_partial_name (string_bytes text))) };
 
     fn try_from(text: String) -> Result<PartialName, InvalidName> {
@@ -36,7 +39,8 @@ impl TryFrom<String> for PartialName {
 impl<'a> TryFrom<BStr<'a>> for PartialNameRef<'a> {
     type Error = InvalidName;
 
-    ghost try_from_gives = { λ text r. MatchResult r (λ name. (part_of name ≡ bstr_bytes text) × IsTrue (is_partial_name (bstr_bytes text)))
+    ghost try_from_gives = { λ text r. MatchResult r
+        (λ name. (part_of name ≡ bstr_bytes text) × IsTrue (is_partial_name (bstr_bytes text)))
         (λ _. IsFalse (is_partial_name (bstr_bytes text))) };
 
     fn try_from(text: BStr<'a>) -> Result<PartialNameRef<'a>, InvalidName> {
@@ -47,7 +51,8 @@ impl<'a> TryFrom<BStr<'a>> for PartialNameRef<'a> {
 impl<'a> TryFrom<&'a ByteString> for PartialNameRef<'a> {
     type Error = InvalidName;
 
-    ghost try_from_gives = { λ bytes r. MatchResult r (λ name. (part_of name ≡ bytes.now) × IsTrue (is_partial_name bytes.now))
+    ghost try_from_gives = { λ bytes r. MatchResult r
+        (λ name. (part_of name ≡ bytes.now) × IsTrue (is_partial_name bytes.now))
         (λ _. IsFalse (is_partial_name bytes.now)) };
 
     fn try_from(bytes: &'a ByteString) -> Result<PartialNameRef<'a>, InvalidName> {
@@ -58,7 +63,9 @@ impl<'a> TryFrom<&'a ByteString> for PartialNameRef<'a> {
 impl<'a> TryFrom<&'a String> for PartialNameRef<'a> {
     type Error = InvalidName;
 
-    ghost try_from_gives = { λ text r. MatchResult r (λ name. (part_of name ≡ string_bytes text.now) × IsTrue (is_partial_name (string_bytes text.now)))
+    ghost try_from_gives = { λ text r. MatchResult r
+        (λ name. (part_of name ≡ string_bytes text.now)
+        × IsTrue (is_partial_name (string_bytes text.now)))
         (λ _. IsFalse (is_partial_name (string_bytes text.now))) };
 
     fn try_from(text: &'a String) -> Result<PartialNameRef<'a>, InvalidName> {

@@ -162,7 +162,8 @@ impl<'a> TryFrom<&'a [u8]> for PartialNameRef<'a> {
 
     type Error = InvalidName;
 
-    ghost try_from_gives = { λ bytes r. MatchResult r (λ name. (part_of name ≡ bytes.now) × IsTrue (is_partial_name bytes.now))
+    ghost try_from_gives = { λ bytes r. MatchResult r
+        (λ name. (part_of name ≡ bytes.now) × IsTrue (is_partial_name bytes.now))
         (λ _. IsFalse (is_partial_name bytes.now)) };
 
     fn try_from(bytes: &'a [u8]) -> Result<PartialNameRef<'a>, InvalidName> {
@@ -175,7 +176,8 @@ impl<'a> TryFrom<&'a str> for PartialNameRef<'a> {
 
     type Error = InvalidName;
 
-    ghost try_from_gives = { λ text r. MatchResult r (λ name. (part_of name ≡ text.now) × IsTrue (is_partial_name text.now))
+    ghost try_from_gives = { λ text r. MatchResult r
+        (λ name. (part_of name ≡ text.now) × IsTrue (is_partial_name text.now))
         (λ _. IsFalse (is_partial_name text.now)) };
 
     fn try_from(text: &'a str) -> Result<PartialNameRef<'a>, InvalidName> {

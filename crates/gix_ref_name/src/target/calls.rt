@@ -172,7 +172,9 @@ impl From<ObjectId> for Target {
 impl TryFrom<Target> for ObjectId {
     type Error = Target;
 
-    ghost try_from_gives = { λ target r. MatchResult r (λ id. target_view target ≡ ToObject (id_of id)) (λ back. (back ≡ target) × (id_in (target_view target) ≡ None)) };
+    ghost try_from_gives = { λ target r. MatchResult r
+        (λ id. target_view target ≡ ToObject (id_of id))
+        (λ back. (back ≡ target) × (id_in (target_view target) ≡ None)) };
 
     fn try_from(target: Target) -> Result<ObjectId, Target> {
         target.try_into_id()

@@ -355,7 +355,8 @@ impl<'c, S: Find> Cursor<'c, S> {
             (id_of id) out.new) }
         ensures refused { (base : Path) → StandsAt self.now base
             → IfErr result
-            (λ error. WriteFault F.FnMut self.now.editor.now self.now.at.0 base out.old error out.new) }
+            (λ error. WriteFault F.FnMut self.now.editor.now self.now.at.0 base out.old error
+            out.new) }
         ensures callable { F.IsAlwaysCallable out.new }
     {
         self.editor.write_from(alloc, self.at, out)
