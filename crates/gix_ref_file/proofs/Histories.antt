@@ -1,5 +1,5 @@
 -- How histories go on.
-use Rattle.std.proofs.Common.{◌≡◌, inl, inr, ℕ, zero, suc, List, [], ◌∷◌, ◌++◌, length, take, drop, ◌+◌, ◌≤◌, refl, sym, ◌∙◌, ap, subst, arith, append_assoc, length-append}
+use Rattle.std.proofs.Common.{◌≡◌, inl, inr, ⊎_elim, ℕ, zero, suc, List, [], ◌∷◌, ◌++◌, length, take, drop, ◌+◌, ◌≤◌, refl, sym, ◌∙◌, ap, subst, arith, append_assoc, length-append}
 use Rattle.std.specs.Prelude.{Result, Ok, Err, OnOk, IsTrue}
 use Rattle.std.specs.FinMap.{insert}
 use Rattle.std.proofs.lemmas.List.{append_cancel_left, append-nil, take_all, drop_at, take-append-le}
@@ -73,6 +73,20 @@ makes change old new r may steps =
 -- a change that the tree as it is already meets
 pub makes_none : {T : Type 0} (change : Change) (history : History) (r : Result T FileError) → IsTrue (allows history.tree change) → after change history.tree ≡ history.tree → Makes change history history r
 makes_none change history r may same = record { allowed = on_ok _ r may; made = on_ok _ r (sym same); moments = adds_nothing history }
+
+-- a write where no bytes stand is an append
+onto_ok : {T E : Type 0} (P Q : Type 0) (r : Result T E) → (P → Q) → OnOk r P → OnOk r Q
+onto_ok P Q (Ok x) f p = f p
+onto_ok P Q (Err e) f p = tt
+
+pub append_by_write : {T : Type 0} (path bytes : List ℕ) (old new : History) (r : Result T FileError) → bytes_at old.tree path ≡ [] → Makes (to_write path bytes) old new r → Makes (to_append path bytes) old new r
+append_by_write path bytes old new r none makes =
+    let same = λ (bs : List ℕ). ap (λ front. insert old.tree path (file (front ++ bs))) (sym none) in
+    record {
+      allowed = makes.allowed;
+      made = onto_ok _ _ r (λ made. made ∙ same bytes) makes.made;
+      moments = adds_weaker old new makes.moments (λ t may. ⊎_elim (λ stayed. inl stayed) (λ left. inr (left.0, left.1, left.2 ∙ same (take left.0 bytes))) may);
+    }
 
 pub steps_to : (old new : History) (tree other : Tree) → Steps old new tree → tree ≡ other → Steps old new other
 steps_to old new tree other steps same = record { made = steps.made ∙ same; kept = steps.kept }

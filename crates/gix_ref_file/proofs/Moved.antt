@@ -29,6 +29,20 @@ inserted_same t p n is = same_tree _ _ (λ q. get-inserted t p n q ∙ by_case q
 turned : (p q : List ℕ) → same_path p q ≡ false → same_path q p ≡ false
 turned p q apart = (eq_by_cmp_equiv nat_list_cmp_total).symm q p ∙ apart
 
+-- ---- a folder that is put back, or that something took the place of
+folder_there : (o : Option Node) → IsTrue (is_folder o) → o ≡ Some folder
+folder_there None is = cc
+folder_there (Some (file bytes)) is = cc
+folder_there (Some folder) is = refl
+
+pub put_back : (t t1 t2 : Tree) (p : List ℕ) (n : Node) → t1 ≡ insert t p n → (IsSome (get t1 p) → t2 ≡ insert t1 p folder) → IsTrue (is_folder (get t p)) → t2 ≡ t
+put_back t t1 t2 p n put back was =
+    back (ap (λ x. is_some (get x p)) put ∙ ap is_some (get_inserted t p n))
+    ∙ ap (λ x. insert x p folder) put ∙ inserted_twice t p n folder ∙ inserted_same t p folder (folder_there (get t p) was)
+
+pub stays : (t t1 : Tree) (p : List ℕ) → IsTrue (is_folder (get t p)) → t1 ≡ insert t p folder → t1 ≡ t
+stays t t1 p was put = put ∙ inserted_same t p folder (folder_there (get t p) was)
+
 -- ---- a rename, by way of something in the new place
 module _ (t : Tree) (from to : List ℕ) (other : Node) (apart : same_path from to ≡ false) where
   pub still_there : get (insert t to other) from ≡ get t from

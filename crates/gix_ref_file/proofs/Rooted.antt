@@ -76,6 +76,11 @@ file_room t (b ∷ p) rooted is_file =
     stands_at None h = absurd (cc h)
     stands_at (Some n) h = refl
 
+-- in a folder a file may stand where no folder does
+pub room : (t : Tree) (p : List ℕ) → (is_path p && is_folder (node_at t (parent p))) ≡ true → not (is_folder (get t p)) ≡ true → IsTrue (may_hold_file t p)
+room t [] inside free = cc
+room t (b ∷ p) inside free = λ i. inside i && free i
+
 -- the root isn't among the paths that stand
 pub bytes_stand : (t : Tree) (p : List ℕ) → IsRooted t → bytes_of (get t p) ≡ bytes_of (node_at t p)
 bytes_stand t [] rooted = by_case (get t []) refl

@@ -3,7 +3,6 @@ mod record;
 
 ghost use Rattle.std.specs.Prelude.{◌≡◌, ◌&&◌, option_map};
 ghost use Rattle.gix_ref_file.specs.Tree.{node_at, place_of, bytes_of, is_path, is_folder, parent};
-ghost use Rattle.gix_ref_file.specs.Changes.{may_hold_file};
 
 use crate::files::{FileError, Files, Place};
 use crate::nodes::{Entry, Nodes};
@@ -56,17 +55,6 @@ impl MemoryFiles {
             ≡ (is_path path.now && is_folder (node_at self.now.nodes (parent path.now))) }
     {
         is_path(path) && self.place(parent(path)) == Place::Folder
-    }
-
-    // Where a file stands in a tree that is rooted, its path is one, in a folder.
-    fn may_hold_file(&self, path: &[u8]) -> bool
-        ensures { IsRooted self.now.nodes → result ≡ may_hold_file self.now.nodes path.now }
-    {
-        match self.place(path) {
-            Place::File(_) => true,
-            Place::Folder => false,
-            Place::Absent => self.is_in_folder(path),
-        }
     }
 
     fn file(&self, path: &[u8]) -> Option<&Vec<u8>>
@@ -139,32 +127,30 @@ impl Files for MemoryFiles {
     }
 
     fn write(&mut self, alloc: Global, path: &[u8], bytes: &[u8]) -> Result<(), FileError> {
-        if !self.may_hold_file(path) {
+        if !self.is_in_folder(path) || !self.put_file(alloc, path, bytes)? {
             return Err(FileError::Failed);
         }
-        let file = Entry::File(bytes.to_vec(alloc)?);
-        Ok(self.put(alloc, path, file)?)
+        Ok(())
     }
 
     fn append(&mut self, alloc: Global, path: &[u8], bytes: &[u8]) -> Result<(), FileError> {
         if self.lengthen(alloc, path, bytes)? {
             return Ok(());
         }
-        if !self.may_hold_file(path) {
-            return Err(FileError::Failed);
-        }
-        let entry = Entry::File(bytes.to_vec(alloc)?);
-        Ok(self.put(alloc, path, entry)?)
+        self.write(alloc, path, bytes)
     }
 
     fn rename(&mut self, alloc: Global, from: &[u8], to: &[u8]) -> Result<(), FileError> {
-        if self.file(from).is_none() || !self.may_hold_file(to) {
+        if self.file(from).is_none() || !self.is_in_folder(to) {
             return Err(FileError::Failed);
         }
         if from.cmp(to) == Ordering::Equal {
             return Ok(());
         }
-        Ok(self.move_file(alloc, from, to)?)
+        if !self.move_file(alloc, from, to)? {
+            return Err(FileError::Failed);
+        }
+        Ok(())
     }
 
     fn remove_file(&mut self, alloc: Global, path: &[u8]) -> Result<(), FileError> {

@@ -1,8 +1,8 @@
 //! A map from paths to what stands there.
-ghost use Rattle.std.specs.Prelude.{◌≡◌, ◌++◌, [], length, map as list_map, filter_map, option_map, unwrap_or, Some, is_some, IsSome, IsFalse, IfOk, OnOk, OnErr, IfSome, IfNone};
+ghost use Rattle.std.specs.Prelude.{◌≡◌, ◌++◌, [], length, map as list_map, filter_map, option_map, unwrap_or, Some, is_none, is_some, IsSome, IsTrue, IsFalse, IfOk, OnOk, OnErr, IfSome, IfNone};
 ghost use Rattle.std.specs.List.{list_any};
 ghost use Rattle.std.specs.FinMap as map;
-ghost use Rattle.gix_ref_file.specs.Tree.{file, bytes_of, same_path, parent, name_in};
+ghost use Rattle.gix_ref_file.specs.Tree.{file, bytes_of, is_folder, same_path, parent, name_in};
 ghost use Rattle.gix_ref_file.specs.Nodes.{node_of, with_node};
 
 use crate::paths::{name, parent};
@@ -42,6 +42,13 @@ impl Entry {
         stored.extend_from_slice(bytes)?;
         Ok(len)
     }
+}
+
+/// Whether what stood at a path is a folder.
+pub fn is_folder(before: &Option<Entry>) -> bool
+    ensures { result ≡ is_folder (option_map node_of before.now) }
+{
+    matches!(before, Some(Entry::Folder))
 }
 
 #[derive(Debug, Drop)]
@@ -102,6 +109,28 @@ impl Nodes {
         Ok(self.entries.insert(path, entry)?)
     }
 
+    /// Puts a file in where no folder stands, and answers what stood there.
+    pub fn insert_file(
+        &mut self,
+        alloc: Global,
+        path: &[u8],
+        bytes: Vec<u8>,
+    ) -> Result<Option<Entry>, AllocError>
+        ensures before { IfOk result (λ before. option_map node_of before
+            ≡ map.get self.old path.now) }
+        ensures put { IsFalse (is_folder (map.get self.old path.now))
+            → OnOk result (self.new ≡ map.insert self.old path.now (file bytes.items)) }
+        ensures stays { IsTrue (is_folder (map.get self.old path.now))
+            → OnOk result (self.new ≡ self.old) }
+        ensures err { OnErr result (self.new ≡ self.old) }
+    {
+        let before = self.insert(path.to_vec(alloc)?, Entry::File(bytes))?;
+        if is_folder(&before) {
+            let _ = self.replace(path, Entry::Folder);
+        }
+        Ok(before)
+    }
+
     /// Takes out what stands at a path, and answers it with its path.
     pub fn remove(&mut self, path: &[u8]) -> Option<(Vec<u8>, Entry)>
         ensures path { IfSome result (λ taken. taken.0.items ≡ path.now) }
@@ -123,29 +152,34 @@ impl Nodes {
         Some(mem::replace(slot, entry))
     }
 
-    /// Moves what stands at one path to another, and answers the old path and what stood at the new one.
+    /// Moves what stands at one path to another where no folder stands, and answers the old path and what stood at the new one.
     pub fn rename(
         &mut self,
         alloc: Global,
         from: &[u8],
         to: &[u8],
-    ) -> Result<(Vec<u8>, Option<Entry>), AllocError>
+    ) -> Result<Option<(Vec<u8>, Option<Entry>)>, AllocError>
         requires there { IsSome (map.get self.old from.now) }
         requires apart { IsFalse (same_path from.now to.now) }
-        ensures path { IfOk result (λ moved. moved.0.items ≡ from.now) }
-        ensures before { IfOk result (λ moved. option_map node_of moved.1
-            ≡ map.get self.old to.now) }
-        ensures ok { OnOk result (self.new
+        ensures free { IfOk result (λ moved. is_none moved ≡ is_folder (map.get self.old to.now)) }
+        ensures path { IfOk result (λ moved. IfSome moved (λ it. it.0.items ≡ from.now)) }
+        ensures before { IfOk result (λ moved. IfSome moved (λ it. option_map node_of it.1
+            ≡ map.get self.old to.now)) }
+        ensures moved { IfOk result (λ moved. IsSome moved → self.new
             ≡ with_node (map.remove self.old from.now) to.now (map.get self.old from.now)) }
+        ensures stays { IfOk result (λ moved. IfNone moved (self.new ≡ self.old)) }
         ensures err { OnErr result (self.new ≡ self.old) }
     {
-        // With this place made nothing fails any more.
+        // With this place made nothing fails any more. A folder that stands there stays one.
         let before = self.insert(to.to_vec(alloc)?, Entry::Folder)?;
+        if is_folder(&before) {
+            return Ok(None);
+        }
         let Some((old_path, moved)) = self.remove(from) else {
             unreachable!()
         };
         let _ = self.replace(to, moved);
-        Ok((old_path, before))
+        Ok(Some((old_path, before)))
     }
 
     /// Whether something stands right in a folder.

@@ -1,14 +1,14 @@
 //! The changes of a tree in memory, each with a record of how to undo it. All room is made before anything changes.
-ghost use Rattle.std.specs.Prelude.{◌≡◌, IsSome, IfOk, OnOk, OnErr, IsTrue, IsFalse};
+ghost use Rattle.std.specs.Prelude.{◌≡◌, not, IsSome, IfOk, OnOk, OnErr, IsTrue, IsFalse};
 ghost use Rattle.std.specs.FinMap as map;
-ghost use Rattle.gix_ref_file.specs.Tree.{same_path, IsRooted};
+ghost use Rattle.gix_ref_file.specs.Tree.{file, same_path, is_folder, IsRooted};
 ghost use Rattle.gix_ref_file.specs.Changes.{is_file_at, after, to_rename, to_append};
 ghost use Rattle.gix_ref_file.specs.History.{Steps};
 ghost use Rattle.gix_ref_file.specs.Nodes.{node_of};
 ghost use Rattle.gix_ref_file.specs.Past.{history_of};
 
 use super::MemoryFiles;
-use crate::nodes::Entry;
+use crate::nodes::{Entry, is_folder};
 use std::alloc::{AllocError, Global};
 
 // How to undo a change.
@@ -47,6 +47,28 @@ impl MemoryFiles {
         Ok(())
     }
 
+    // Puts a file at a path where no folder stands, and answers whether none does.
+    pub fn put_file(&mut self, alloc: Global, path: &[u8], bytes: &[u8]) -> Result<bool, AllocError>
+        ensures free { IfOk result (λ free. free
+            ≡ not (is_folder (map.get self.old.nodes path.now))) }
+        ensures put { IfOk result (λ free. IsTrue free
+            → Steps (history_of self.old) (history_of self.new)
+            (map.insert self.old.nodes path.now (file bytes.now))) }
+        ensures none { IfOk result (λ free. IsFalse free
+            → history_of self.new ≡ history_of self.old) }
+        ensures err { OnErr result (history_of self.new ≡ history_of self.old) }
+    {
+        self.past.reserve(1)?;
+        let kept = path.to_vec(alloc)?;
+        let before = self.nodes.insert_file(alloc, path, bytes.to_vec(alloc)?)?;
+        if is_folder(&before) {
+            return Ok(false);
+        }
+        self.past
+            .push_reserved(Undo::Restore { path: kept, before });
+        Ok(true)
+    }
+
     // Takes away what stands at a path.
     pub fn take(&mut self, path: &[u8]) -> Result<(), AllocError>
         requires { IsSome (map.get self.old.nodes path.now) }
@@ -65,23 +87,30 @@ impl MemoryFiles {
         Ok(())
     }
 
-    // Gives a file another path.
-    pub fn move_file(&mut self, alloc: Global, from: &[u8], to: &[u8]) -> Result<(), AllocError>
+    // Gives a file another path where no folder stands, and answers whether none does.
+    pub fn move_file(&mut self, alloc: Global, from: &[u8], to: &[u8]) -> Result<bool, AllocError>
         requires there { IsTrue (is_file_at self.old.nodes from.now) }
         requires apart { IsFalse (same_path from.now to.now) }
-        ensures ok { OnOk result (Steps (history_of self.old) (history_of self.new)
+        ensures free { IfOk result (λ free. free
+            ≡ not (is_folder (map.get self.old.nodes to.now))) }
+        ensures moved { IfOk result (λ free. IsTrue free
+            → Steps (history_of self.old) (history_of self.new)
             (after (to_rename from.now to.now) self.old.nodes)) }
+        ensures none { IfOk result (λ free. IsFalse free
+            → history_of self.new ≡ history_of self.old) }
         ensures err { OnErr result (history_of self.new ≡ history_of self.old) }
     {
         self.past.reserve(1)?;
         let new_path = to.to_vec(alloc)?;
-        let (old_path, replaced) = self.nodes.rename(alloc, from, to)?;
+        let Some((old_path, replaced)) = self.nodes.rename(alloc, from, to)? else {
+            return Ok(false);
+        };
         self.past.push_reserved(Undo::Return {
             from: old_path,
             to: new_path,
             replaced,
         });
-        Ok(())
+        Ok(true)
     }
 
     // Puts bytes behind those of a file, and answers whether one stands there.
