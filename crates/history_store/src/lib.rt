@@ -23,7 +23,7 @@ pub use creation::{CreateError, create};
 pub use gix_object::Kind as ObjectKind;
 pub use id_text::hex_digits;
 pub use ids::IdIter;
-pub use log_entry::LogEntry;
+pub use log_entry::{LogEntry, log_lines};
 pub use names::Names;
 pub use object::NewObject;
 pub use objects::{Object, Objects, PutMadeError};
