@@ -14,6 +14,7 @@ mod fields;
 mod listing;
 mod naming;
 mod open;
+mod past;
 mod planning;
 mod reply;
 mod repository;
