@@ -23,7 +23,9 @@ use Rattle.history_model.specs.StandsFor.{StandsFor}
 use Rattle.history_model.specs.Commands.{Names}
 use Rattle.history_model.specs.CommandParts.{names_in}
 use Rattle.history_model.specs.Causes.{first_cause}
+use Rattle.history_model.specs.Objects.{hex}
 use Rattle.history_model.specs.Replies.{NameLine, NamesAre, reply_text}
+use Rattle.history_model.specs.Spelling.{Part, Line}
 use Rattle.history_model.specs.Answers.{is_in_folder, name_line, names_shown}
 use Rattle.history_model.specs.declared.Cause.{Cause}
 use Rattle.history_model.specs.declared.Cause.TheVariants.{BadName, PrivateName}
@@ -136,6 +138,10 @@ held_told pair r stand unpacked name front = by_file (file_at pair.names name) r
     by_file (Some text) e = one_held text e (get r.names name) refl (name_stands pair r stand unpacked name text front e)
 
 -- ---- the lines
+
+-- the line of a name that holds a commit
+abbrev pub named_part : NamedId → Part
+named_part named = Line (hex (id_of named.id) ∷ hex (id_of named.id) ∷ named.name.items ∷ [])
 
 abbrev pub held_entry : Bytes × Reference → Bytes × Id
 held_entry e = (e.0, (e.1).id)

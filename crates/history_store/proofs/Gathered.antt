@@ -1,5 +1,6 @@
 -- What a walk over folders of names gathers.
-use Rattle.std.proofs.Common.{◌≡◌, ◌≢◌, ◌⊎◌, inl, inr, refl, sym, ◌∙◌, ap, subst, ℕ, ◌+◌, ◌-◌, ◌<◌, Bool, true, false, cond, not, ◌&&◌, T, List, [], ◌∷◌, ◌++◌, length, take, map, get_or, Vec, arith}
+use Rattle.std.proofs.Common.{◌≡◌, ◌≢◌, ◌⊎◌, inl, inr, refl, sym, ◌∙◌, ap, subst, ℕ, ◌+◌, ◌-◌, ◌<◌, ◌≤◌, Bool, true, false, cond, not, ◌&&◌, T, List, [], ◌∷◌, ◌++◌, length, take, map, get_or, append_assoc, Vec, arith}
+use Rattle.std.proofs.lemmas.List.{map-append}
 use Rattle.std.specs.Prelude.{IsSome, is_some, IsTrue, Option, Some, None, option_map, option_and_then, MatchOption}
 use Rattle.std.specs.declared.alloc.Global.{Global}
 use Rattle.std.specs.declared.cmp.Ordering.{Ordering}
@@ -61,14 +62,14 @@ module _ (kind : Kind) where
       by_file (Some text) e holds = (text, e)
 
   -- ---- below a folder
-  pub below_held : (tree : Tree) (folder name : Bytes) → IsAbove folder name → id_below kind tree folder name ≡ held_id kind tree name
-  below_held tree folder name (rest, is) = ap (λ b. cond b (held_id kind tree name) None) (ap (is_below folder) is ∙ below_front folder rest)
+  pub below_held : (tree : Tree) (place name : Bytes) → IsAbove place name → id_below kind tree place name ≡ held_id kind tree name
+  below_held tree place name (rest, is) = ap (λ b. cond b (held_id kind tree name) None) (ap (is_below place) is ∙ below_front place rest)
 
-  below_parts_of : (tree : Tree) (folder name : Bytes) (id : Id) → id_below kind tree folder name ≡ Some id → IsAbove folder name × (held_id kind tree name ≡ Some id)
-  below_parts_of tree folder name id holds = by_test (is_below folder name) refl holds
+  below_parts_of : (tree : Tree) (place name : Bytes) (id : Id) → id_below kind tree place name ≡ Some id → IsAbove place name × (held_id kind tree name ≡ Some id)
+  below_parts_of tree place name id holds = by_test (is_below place name) refl holds
     where
-      by_test : (b : Bool) → is_below folder name ≡ b → cond b (held_id kind tree name) None ≡ Some id → IsAbove folder name × (held_id kind tree name ≡ Some id)
-      by_test true e holds = ((_, below_parts folder name e), holds)
+      by_test : (b : Bool) → is_below place name ≡ b → cond b (held_id kind tree name) None ≡ Some id → IsAbove place name × (held_id kind tree name ≡ Some id)
+      by_test true e holds = ((_, below_parts place name e), holds)
       by_test false e holds = cc
 
 -- ---- the map
@@ -124,34 +125,34 @@ abbrev pub HasFrom : Kind → Tree → NameIds → Bytes → Type 0
 HasFrom kind tree ids path = (name : Bytes) (id : Id) → IsAtOrBelow path name → held_id kind tree name ≡ Some id → IsSome (get ids name)
 
 -- what of a folder's names is gathered, as far as the first of those that it lists
-pub record GathersFirst (kind : Kind) (tree : Tree) (folder : Bytes) (old now : NameIds) (names : List Bytes) (count : ℕ) : Type 0 where
+pub record GathersFirst (kind : Kind) (tree : Tree) (place : Bytes) (old now : NameIds) (names : List Bytes) (count : ℕ) : Type 0 where
   pub kept : (name : Bytes) → IsSome (get old name) → IsSome (get now name)
-  pub came : (name : Bytes) (id : Id) → get now name ≡ Some id → (get old name ≡ Some id) ⊎ (id_below kind tree folder name ≡ Some id)
-  pub all : (i : ℕ) → i < count → HasFrom kind tree now (under folder (get_or names i []))
+  pub came : (name : Bytes) (id : Id) → get now name ≡ Some id → (get old name ≡ Some id) ⊎ (id_below kind tree place name ≡ Some id)
+  pub all : (i : ℕ) → i < count → HasFrom kind tree now (under place (get_or names i []))
 
-pub none_first : (kind : Kind) (tree : Tree) (folder : Bytes) (old : NameIds) (names : List Bytes) → GathersFirst kind tree folder old old names 0
-none_first kind tree folder old names = record { kept = λ name is. is; came = λ name id is. inl is; all = λ i below. absurd (omega (arith, below)) }
+pub none_first : (kind : Kind) (tree : Tree) (place : Bytes) (old : NameIds) (names : List Bytes) → GathersFirst kind tree place old old names 0
+none_first kind tree place old names = record { kept = λ name is. is; came = λ name id is. inl is; all = λ i below. absurd (omega (arith, below)) }
 
-module _ (kind : Kind) (tree : Tree) (rooted : IsRooted tree) (folder : Bytes) (some : folder ≢ []) (old : NameIds) (names : List Bytes) where
+module _ (kind : Kind) (tree : Tree) (rooted : IsRooted tree) (place : Bytes) (some : place ≢ []) (old : NameIds) (names : List Bytes) where
   -- one of the names that are listed more
-  pub one_gathered : (now new : NameIds) (path : Bytes) (count : ℕ) → IsAbove folder path → path ≡ under folder (get_or names count []) → GathersFirst kind tree folder old now names count
+  pub one_gathered : (now new : NameIds) (path : Bytes) (count : ℕ) → IsAbove place path → path ≡ under place (get_or names count []) → GathersFirst kind tree place old now names count
       → ((name : Bytes) → IsSome (get now name) → IsSome (get new name))
       → ((name : Bytes) (id : Id) → get new name ≡ Some id → (get now name ≡ Some id) ⊎ (IsAtOrBelow path name × (held_id kind tree name ≡ Some id)))
-      → HasFrom kind tree new path → GathersFirst kind tree folder old new names (count + 1)
+      → HasFrom kind tree new path → GathersFirst kind tree place old new names (count + 1)
   one_gathered now new path count above at first kept came all = record {
     kept = λ name is. kept name (first.kept name is);
     came = λ name id is. elim (came name id is) [
       | inl was ↦ first.came name id was
-      | inr (inl same, holds) ↦ inr (below_held kind tree folder name (subst (IsAbove folder) (sym same) above) ∙ holds)
-      | inr (inr below, holds) ↦ inr (below_held kind tree folder name (above_above folder path name above below) ∙ holds)
+      | inr (inl same, holds) ↦ inr (below_held kind tree place name (subst (IsAbove place) (sym same) above) ∙ holds)
+      | inr (inr below, holds) ↦ inr (below_held kind tree place name (above_above place path name above below) ∙ holds)
     ];
-    all = one_more (HasFrom kind tree new) folder path names count (λ i below name id under holds. kept name (first.all i below name id under holds)) at all;
+    all = one_more (HasFrom kind tree new) place path names count (λ i below name id under holds. kept name (first.all i below name id under holds)) at all;
   }
 
   -- a name whose file holds an id
-  pub file_gathered : (now new : NameIds) (path : Bytes) (id : Id) (count : ℕ) → path ≢ [] → IsAbove folder path → path ≡ under folder (get_or names count []) → held_id kind tree path ≡ Some id
+  pub file_gathered : (now new : NameIds) (path : Bytes) (id : Id) (count : ℕ) → path ≢ [] → IsAbove place path → path ≡ under place (get_or names count []) → held_id kind tree path ≡ Some id
       → ((name : Bytes) → get new name ≡ cond (same_path name path) (Some id) (get now name))
-      → GathersFirst kind tree folder old now names count → GathersFirst kind tree folder old new names (count + 1)
+      → GathersFirst kind tree place old now names count → GathersFirst kind tree place old new names (count + 1)
   file_gathered now new path id count deep above at holds puts first = one_gathered now new path count above at first kept came all
     where
       either : (b : Bool) (o : Option Id) → is_some o ≡ true → is_some (cond b (Some id) o) ≡ true
@@ -181,8 +182,8 @@ module _ (kind : Kind) (tree : Tree) (rooted : IsRooted tree) (folder : Bytes) (
           absurd (no_folder (node_at tree path) own.0 own.1 (folder_over tree rooted path deep name (file_there tree rooted path deep name text.0 below text.1) below))
 
   -- a path that holds no id, and the names below it
-  pub folder_gathered : (now new : NameIds) (path : Bytes) (count : ℕ) → IsAbove folder path → path ≡ under folder (get_or names count []) → None ≡ held_id kind tree path
-      → Gathers kind tree path now new → GathersFirst kind tree folder old now names count → GathersFirst kind tree folder old new names (count + 1)
+  pub folder_gathered : (now new : NameIds) (path : Bytes) (count : ℕ) → IsAbove place path → path ≡ under place (get_or names count []) → None ≡ held_id kind tree path
+      → Gathers kind tree path now new → GathersFirst kind tree place old now names count → GathersFirst kind tree place old new names (count + 1)
   folder_gathered now new path count above at none gathers first = one_gathered now new path count above at first gathers.kept came all
     where
       came : (name : Bytes) (id : Id) → get new name ≡ Some id → (get now name ≡ Some id) ⊎ (IsAtOrBelow path name × (held_id kind tree name ≡ Some id))
@@ -196,33 +197,42 @@ module _ (kind : Kind) (tree : Tree) (rooted : IsRooted tree) (folder : Bytes) (
       all name id (inr below) holds = gathers.all name id (below_held kind tree path name below ∙ holds)
 
   -- all that the folder lists
-  pub all_gathered : (new : NameIds) → names ≡ names_at tree folder → GathersFirst kind tree folder old new names (length names) → Gathers kind tree folder old new
-  all_gathered new listed first = record { kept = first.kept; came = first.came; all = all }
+  pub all_gathered : (new : NameIds) (count : ℕ) → names ≡ names_at tree place → length names ≤ count → GathersFirst kind tree place old new names count → Gathers kind tree place old new
+  all_gathered new count listed far first = record { kept = first.kept; came = first.came; all = all }
     where
-      all : (name : Bytes) (id : Id) → id_below kind tree folder name ≡ Some id → IsSome (get new name)
+      all : (name : Bytes) (id : Id) → id_below kind tree place name ≡ Some id → IsSome (get new name)
       all name id below =
-          let parts = below_parts_of kind tree folder name id below in
+          let parts = below_parts_of kind tree place name id below in
           let text = held_file kind tree name id parts.1 in
-          let part = listed_part tree rooted folder some (HasFrom kind tree new) names listed first.all name text.0 parts.0 text.1 in
+          let part = listed_part tree rooted place some (HasFrom kind tree new) names listed (λ i near. first.all i (omega (arith, near, far))) name text.0 parts.0 text.1 in
           part.1 name id (elim part.2 [ inl same ↦ inl (sym same) | inr over ↦ inr over ]) parts.1
 
 -- ---- the names in order
 
-pub lists_names : (kind : Kind) (tree : Tree) (folder : Bytes) (ids : NameIds) (names : List NamedId) → Gathers kind tree folder (from_sorted []) ids → map name_entry names ≡ entries ids → ListsNames kind tree folder names
-lists_names kind tree folder ids names gathers are = record { ids = ids; each = each; are = are }
-  where
-    none : (name : Bytes) → get (from_sorted {X = Id} {R = by_bytes} []) name ≡ None
-    none name = get-from_sorted by_bytes [] name tt
+-- one name more
+pub one_named : (names new : List NamedId) (name : Key) (id : ObjectId) (left rest : List (Key × ObjectId)) (all : List (Bytes × Id)) → new ≡ names ++ record { name = name; id = id } ∷ [] → left ≡ (name, id) ∷ rest
+    → map name_entry names ++ named_ids left ≡ all → map name_entry new ++ named_ids rest ≡ all
+one_named names new name id left rest all is first so_far =
+    ap (λ ns. map name_entry ns ++ named_ids rest) is
+    ∙ ap (λ es. es ++ named_ids rest) (map-append name_entry names (record { name = name; id = id } ∷ []))
+    ∙ append_assoc (map name_entry names) ((name.items, id_of id) ∷ []) (named_ids rest)
+    ∙ ap (λ es. map name_entry names ++ named_ids es) (sym first) ∙ so_far
 
-    missing : (name : Bytes) → get ids name ≡ None → (o : Option Id) → id_below kind tree folder name ≡ o → None ≡ o
+pub lists_names : (kind : Kind) (tree : Tree) (place : Bytes) (start : List (Key × ObjectId)) (ids : NameIds) (names : List NamedId) → start ≡ [] → Gathers kind tree place (from_sorted (named_ids start)) ids → map name_entry names ≡ entries ids → ListsNames kind tree place names
+lists_names kind tree place start ids names empty gathers are = record { ids = ids; each = each; are = are }
+  where
+    none : (name : Bytes) → get (from_sorted {R = by_bytes} (named_ids start)) name ≡ None
+    none name = ap (λ es. get (from_sorted {R = by_bytes} (named_ids es)) name) empty ∙ get-from_sorted by_bytes [] name tt
+
+    missing : (name : Bytes) → get ids name ≡ None → (o : Option Id) → id_below kind tree place name ≡ o → None ≡ o
     missing name is None e = refl
     missing name is (Some id) e = let there = gathers.all name id e in cc (sym there ∙ ap is_some is)
 
-    each : (name : Bytes) → get ids name ≡ id_below kind tree folder name
+    each : (name : Bytes) → get ids name ≡ id_below kind tree place name
     each name = by_found (get ids name) refl
       where
-        by_found : (o : Option Id) → get ids name ≡ o → o ≡ id_below kind tree folder name
-        by_found None is = missing name is (id_below kind tree folder name) refl
+        by_found : (o : Option Id) → get ids name ≡ o → o ≡ id_below kind tree place name
+        by_found None is = missing name is (id_below kind tree place name) refl
         by_found (Some id) is = elim (gathers.came name id is) [
           | inl old ↦ let wrong : None ≡ Some id = sym (none name) ∙ old in cc
           | inr below ↦ sym below

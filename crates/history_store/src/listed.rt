@@ -61,7 +61,9 @@ impl<F: Files> Names<F> {
 fn in_order(alloc: Global, ids: BTreeMap<Vec<u8>, ObjectId>) -> Result<Vec<NamedId>, AllocError>
     ensures { IfOk result (λ names. map name_entry names.items ≡ entries (ids_in ids)) }
 {
-    ids.into_iter()
-        .map(|(name, id)| NamedId { name, id })
-        .collect(alloc)
+    let mut names = Vec::new(alloc);
+    for (name, id) in ids {
+        names.push(NamedId { name, id })?;
+    }
+    Ok(names)
 }
