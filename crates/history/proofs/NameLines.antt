@@ -7,8 +7,12 @@ use Rattle.std.specs.Cmp.Lexicographic.{nat_list_cmp_total}
 use Rattle.std.specs.FinMap.{entries, entries_sorted, get, get-entries, find, is_sorted, slice_cmp-IsAntisymmetric, nat_cmp-IsAntisymmetric}
 use Rattle.std.specs.FinMap.Entries.{below_all, same_entries, find-where_key, is_sorted-where_key}
 use Rattle.std.specs.List.{list_any}
+use Rattle.std.specs.Borrow.{Bor}
+use Rattle.std.specs.Prelude.{option_copied}
 use Rattle.std.proofs.lemmas.Bool.{and_parts}
 use Rattle.gix_ref_file.specs.History.{History}
+use Rattle.gix_ref_file.specs.declared.files.FileError.{FileError}
+use Rattle.gix_ref_file.specs.declared.files.FileError.TheVariants.{Failed, Memory}
 use Rattle.gix_ref_file.specs.Tree.{Tree}
 use Rattle.gix_hash_id.specs.Id.{Id, id_of, null_id}
 use Rattle.gix_hash_id.specs.declared.kind.Kind.{Kind}
@@ -38,13 +42,15 @@ use Rattle.history_steps.proofs.OfferedReads.{names_hold_commits}
 use Rattle.history_files.proofs.Lines.{map_twice}
 use Rattle.history_store.specs.NameLists.{ListsNames, NameIds, held_id, id_below, name_entry, spelled_id}
 use Rattle.history_store.specs.declared.listed.NamedId.{NamedId}
-use Rattle.history.specs.Acts.{AnswersReading}
+use Rattle.history.specs.Acts.{AnswersReading, IsReadingFault}
 use Rattle.history.specs.CommitCauses.{form_cause}
 use Rattle.history.specs.Face.{names_part}
+use Rattle.history.specs.Faults.{file_fault}
 use Rattle.history.specs.NamesShown.{folder_cause, shown_name}
 use Rattle.history.specs.Serving.{Serves}
 use Rattle.history.specs.Stands.{pair_of}
 use Rattle.history.specs.declared.repository.Repository as own
+use Rattle.history.specs.declared.stopped.Stopped.TheVariants.{Fault}
 use Rattle.history.proofs.NameReads.{loose, reads, name_stands, refs_front}
 
 -- ---- the folder
@@ -55,6 +61,10 @@ asked_folder folder = unwrap_or folder (codes "refs")
 
 abbrev by_names : List Bytes → Option Cause
 by_names names = cond (list_any (λ name. not (is_name name)) names || false) (Some BadName) (cond (list_any is_private names) (Some PrivateName) None)
+
+pub asked_is : (folder : Option (Bor Bytes)) (all got : Bor Bytes) → got ≡ unwrap_or folder all → all.now ≡ codes "refs" → got.now ≡ asked_folder (option_copied folder)
+asked_is None all got is all_is = ap (λ (b : Bor Bytes). b.now) is ∙ all_is
+asked_is (Some folder) all got is all_is = ap (λ (b : Bor Bytes). b.now) is
 
 -- a folder that names can't be asked of is all that `names` is refused for
 pub names_cause : (r : Repository) (folder : Option Bytes) → first_cause r (Names folder) ≡ folder_cause (asked_folder folder)
@@ -232,6 +242,11 @@ module _ (pair : Pair) (r : Repository) (stand : StandsFor r.kind pair r) (writt
       ∙ sym (lines_are r o w (is_in_folder folder) (entries r.names) (line_is r o w))
 
 -- ---- a repository with its files
+
+-- why a listing failed
+pub listing_fault : (MayFail : Type 0) (error : FileError) → (error ≡ Failed → MayFail) → IsReadingFault MayFail (Fault (file_fault error))
+listing_fault MayFail Failed failed = failed refl
+listing_fault MayFail Memory failed = tt
 
 pub names_answered : {F : Type 0} (IsHonest : F → Type 0) (history : F → History) (repository : own.Repository F) (r : Repository) (MayFail : Type 0) → Serves IsHonest history repository r
     → (kind : Kind) → kind ≡ r.kind → (folder : Option Bytes) (names : List NamedId) (text : Vec ℕ Global) → folder_cause (asked_folder folder) ≡ None
