@@ -11,6 +11,7 @@ mod causes;
 mod commit;
 mod editing;
 mod fields;
+mod listed;
 mod listing;
 mod naming;
 mod open;
