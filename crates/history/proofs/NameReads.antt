@@ -69,14 +69,14 @@ no_log (b ∷ name) h = first (nat_eq 114 b) (nat_eq 108 b) _ _ (grind (arith, t
 
 module _ (pair : Pair) (r : Repository) (stand : StandsFor r.kind pair r) (unpacked : file_at pair.names packed_place ≡ None) (name : Bytes) where
   -- where no names are packed
-  abbrev loose : Option Bytes → NameState
+  abbrev pub loose : Option Bytes → NameState
   loose found = cond (is_name name) (unwrap_or (option_map (loose_state r.kind) found) Absent) Absent
 
   read_loose : name_state r.kind pair.names name ≡ loose (file_at pair.names name)
   read_loose = ap (λ found. cond (is_name name) (unwrap_or (option_map (loose_state r.kind) (file_at pair.names name)) (unwrap_or (option_map (packed_text_state r.kind name) found) Absent)) Absent) unpacked
 
   -- what a name that holds an id reads as
-  reads : (id : Id) → id_at r name ≡ Some id → loose (file_at pair.names name) ≡ Holds id
+  pub reads : (id : Id) → id_at r name ≡ Some id → loose (file_at pair.names name) ≡ Holds id
   reads id at = sym read_loose ∙ (stand.names name id).1 at
 
   none_held : ((id : Id) → id_at r name ≡ Some id → ⊥) → None ≡ id_at r name
@@ -95,7 +95,7 @@ module _ (pair : Pair) (r : Repository) (stand : StandsFor r.kind pair r) (unpac
   of_name false text id e f = absurd cc
 
   -- a file at a name's place is one of a name that stands
-  name_stands : (text : Bytes) → begins (codes "refs/") name ≡ true → file_at pair.names name ≡ Some text → stands r name ≡ true
+  pub name_stands : (text : Bytes) → begins (codes "refs/") name ≡ true → file_at pair.names name ≡ Some text → stands r name ≡ true
   name_stands text front e = one_left (bytes_eq name head_place) (bytes_eq name packed_place) (stands r name) (is_log_place name) _ (other head_place refl) (other packed_place refl) (no_log name front) (stand.places name text e)
     where
       other : (place : Bytes) → begins (codes "refs/") place ≡ false → bytes_eq name place ≡ false

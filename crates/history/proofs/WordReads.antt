@@ -3,7 +3,7 @@ use Rattle.std.proofs.Common.{◌≡◌, ℕ, suc, ◌+◌, ◌<◌, length, dro
 use Rattle.std.specs.FinMap.{get}
 use Rattle.std.proofs.lemmas.List.{append-nil, drop_all}
 use Rattle.history_model.specs.Bytes.{Bytes, begins}
-use Rattle.history_model.specs.Forms.{is_private}
+use Rattle.history_model.specs.Forms.{is_name, is_private}
 use Rattle.history_model.specs.Repository.{Repository, Reference, id_at, stands}
 use Rattle.history_model.specs.Words.{ReadsAs, Unknown, word_meaning, name_meaning, id_meaning, candidates, head_word}
 use Rattle.gix_ref_file.specs.History.{History}
@@ -12,7 +12,7 @@ use Rattle.gix_hash_id.specs.declared.object_id.ObjectId.{ObjectId}
 use Rattle.history.specs.Serving.{Serves}
 use Rattle.history.specs.Face.{names_part}
 use Rattle.history.specs.declared.repository.Repository as own
-use Rattle.history.proofs.NameReads.{held, branch_is_name}
+use Rattle.history.proofs.NameReads.{held, branch_is_name, refs_front}
 use Rattle.gix_hash_id.specs.Id.{Id, id_of}
 use Rattle.std.proofs.lemmas.Bool.{and_parts}
 
@@ -85,9 +85,15 @@ module _ (r : Repository) (word : Bytes) where
     pub next_found : may_mean name ≡ true → stands r name ≡ true → first_left r word (drop i items) ≡ Some name
     next_found e there = next ∙ found_here (get_or items i d) (drop (i + 1) items) (ap may_mean (sym is) ∙ e) (ap (stands r) (sym is) ∙ there) ∙ ap Some (sym is)
 
-  -- a word but HEAD reads as the first of its names that stands, or as none
-  pub reads_found : bytes_eq word head_word ≡ false → (found : Option Bytes) → first_meant r word ≡ found → word_meaning r word ≡ unwrap_or (option_map (λ name. name_meaning (id_at r name)) found) Unknown
+  pub found_first : (found : Option Bytes) → first_meant r word ≡ found → find (stands r) (candidates word) ≡ found
   unfolding first_meant
+  found_first found e = e
+
+  pub none_first : (items : List Ends) (i : ℕ) → length items ≤ i → first_meant r word ≡ first_left r word (drop i items) → find (stands r) (candidates word) ≡ None
+  none_first items i past e = found_first None (e ∙ ap (first_left r word) (drop_all i items past) ∙ none_left)
+
+  -- a word but HEAD reads as the first of its names that stands, or as none
+  reads_found : bytes_eq word head_word ≡ false → (found : Option Bytes) → find (stands r) (candidates word) ≡ found → word_meaning r word ≡ unwrap_or (option_map (λ name. name_meaning (id_at r name)) found) Unknown
   reads_found other found e =
       ap (λ b. cond b (name_meaning (id_at r r.branch)) (unwrap_or (option_map (λ name. name_meaning (id_at r name)) (find (stands r) (candidates word))) (id_meaning r word))) other
       ∙ ap (λ o. unwrap_or (option_map (λ name. name_meaning (id_at r name)) o) Unknown) e
@@ -95,11 +101,11 @@ module _ (r : Repository) (word : Bytes) where
   pub reads_branch : bytes_eq word head_word ≡ true → word_meaning r word ≡ name_meaning (id_at r r.branch)
   reads_branch is = ap (λ b. cond b (name_meaning (id_at r r.branch)) (unwrap_or (option_map (λ name. name_meaning (id_at r name)) (find (stands r) (candidates word))) (id_meaning r word))) is
 
-  pub found_reads : bytes_eq word head_word ≡ false → (name : Bytes) (id : Id) → first_meant r word ≡ Some name → id_at r name ≡ Some id → ReadsAs id ≡ word_meaning r word
+  pub found_reads : bytes_eq word head_word ≡ false → (name : Bytes) (id : Id) → find (stands r) (candidates word) ≡ Some name → id_at r name ≡ Some id → ReadsAs id ≡ word_meaning r word
   found_reads other name id e at = sym (reads_found other (Some name) e ∙ ap name_meaning at)
 
-  pub none_reads : bytes_eq word head_word ≡ false → (items : List Ends) (i : ℕ) → length items ≤ i → first_meant r word ≡ first_left r word (drop i items) → Unknown ≡ word_meaning r word
-  none_reads other items i past e = sym (reads_found other None (e ∙ ap (first_left r word) (drop_all i items past) ∙ none_left))
+  pub none_reads : bytes_eq word head_word ≡ false → find (stands r) (candidates word) ≡ None → Unknown ≡ word_meaning r word
+  none_reads other e = sym (reads_found other None e)
 
 -- a name that holds an id stands, and one that holds none doesn't
 pub stands_so : (r : Repository) (name : Bytes) (held : Option Id) → id_at r name ≡ held → stands r name ≡ is_some held
@@ -119,6 +125,15 @@ module _ {F : Type 0} (IsHonest : F → Type 0) (history : F → History) (repos
   pub candidate_held : (place name : Bytes) → place ≡ name → may_mean name ≡ true → (found : Option ObjectId) → NameHolds repository.names.kind (history (names_part repository)).tree place found → id_at r name ≡ option_map id_of found
   candidate_held place name same e found holds =
       sym (held IsHonest history repository r stand name (and_parts (begins (codes "refs/") name) (not (is_private name)) e).0 found (subst (λ p. NameHolds r.kind (history (names_part repository)).tree p found) same (of_one_kind place found holds)))
+
+  -- a name stands where its file tells an id
+  pub name_stands : (name : Bytes) → is_name name ≡ true → (found : Option ObjectId) → NameHolds repository.names.kind (history (names_part repository)).tree name found → stands r name ≡ is_some found
+  name_stands name formed found holds =
+      stands_so r name (option_map id_of found) (sym (held IsHonest history repository r stand name (refs_front name formed) found (of_one_kind name found holds))) ∙ same_there found
+    where
+      same_there : (o : Option ObjectId) → is_some (option_map id_of o) ≡ is_some o
+      same_there None = refl
+      same_there (Some id) = refl
 
   -- HEAD reads as what its branch's file tells
   pub branch_reads : (word place : Bytes) → bytes_eq word head_word ≡ true → place ≡ repository.branch.items → (found : Option ObjectId) → NameHolds repository.names.kind (history (names_part repository)).tree place found

@@ -25,7 +25,7 @@ pub(crate) fn is_private(name: &[u8]) -> bool
 }
 
 /// Tests that a repository may hold the name.
-fn test_name(name: &[u8]) -> Result<(), Cause>
+pub(crate) fn test_name(name: &[u8]) -> Result<(), Cause>
     ensures { MatchResult result (λ _. form_cause name.now ≡ None)
         (λ cause. form_cause name.now ≡ Some cause) }
 {

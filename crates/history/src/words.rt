@@ -30,6 +30,13 @@ pub(crate) enum WordMeaning {
     Unknown,
 }
 
+/// A name that stands, and the id that it holds.
+#[derive(Drop)]
+pub(crate) struct Standing {
+    pub(crate) name: Vec<u8>,
+    pub(crate) id: ObjectId,
+}
+
 /// What stands before and behind a word in the names that it may mean, in the order of the search.
 const CANDIDATES: [(&[u8], &[u8]); 6] = [
     (b"", b""),
@@ -126,6 +133,27 @@ impl<F: Files> Repository<F> {
     ghost use Rattle.history_model.specs.Repository as plain;
     ghost use Rattle.history.specs.Serving.{Serves};
     ghost use Rattle.history.specs.Acts.{GivesMeant, ReadsWord};
+    ghost use Rattle.history.specs.Meanings.{IsFirstStanding};
+
+    /// The first that stands of the names that a word may mean.
+    pub(crate) fn first_standing(
+        &self,
+        alloc: Global,
+        word: &[u8],
+    ) -> Result<Option<Standing>, Stopped>
+        ensures { (r : plain.Repository) → Serves F.is_honest F.history self.now r
+            → GivesMeant F.reading_may_fail (IsFirstStanding r word.now) result }
+    {
+        for (front, back) in CANDIDATES {
+            let name = joined(alloc, front, word, back)?;
+            if is_candidate(&name) {
+                if let Some(id) = self.names.read(alloc, &name)? {
+                    return Ok(Some(Standing { name, id }));
+                }
+            }
+        }
+        Ok(None)
+    }
 
     /// What a word stands for: HEAD for its branch, else the first candidate that stands.
     pub(crate) fn read_word(&self, alloc: Global, word: &[u8]) -> Result<WordMeaning, Stopped>
@@ -139,15 +167,10 @@ impl<F: Files> Repository<F> {
                 None => WordMeaning::Unborn,
             });
         }
-        for (front, back) in CANDIDATES {
-            let name = joined(alloc, front, word, back)?;
-            if is_candidate(&name) {
-                if let Some(id) = self.names.read(alloc, &name)? {
-                    return Ok(WordMeaning::Commit(id));
-                }
-            }
-        }
-        Ok(WordMeaning::Unknown)
+        Ok(match self.first_standing(alloc, word)? {
+            Some(standing) => WordMeaning::Commit(standing.id),
+            None => WordMeaning::Unknown,
+        })
     }
 
     /// The commit that a word stands for.

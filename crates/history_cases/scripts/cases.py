@@ -172,6 +172,24 @@ def two_branches():
     runs((made,), *((line + ONE, cause) for line, cause in refused), *after)
 
 
+def of_names():
+    """The names of a repository, those of a folder, and what a name has held; each cause where it is the first."""
+    main, x, tag = b"refs/heads/main", b"refs/heads/x/y", b"refs/tags/v"
+    answer(b"names\nnames refs\nnames refs/heads\npast HEAD\npast main\npast refs/heads/main\n", "NoSuchName", "BadName", "NoSuchName")
+    made = branch(main + b" new", 1) + branch(tag + b" new", 2, b"parent main\n") + branch(main + b" any", 3) + branch(x + b" new", 4)
+    asked = [b"names", b"names refs", b"names refs/heads", b"names refs/heads/x", b"names refs/heads/x/y", b"names refs/he",
+             b"names refs/tags", b"names refs/remotes", b"past HEAD", b"past main", b"past heads/main", b"past refs/heads/main",
+             b"past v", b"past x/y", b"past tags/v"]
+    runs((made,), *((line + b"\n",) for line in asked), by_git_alone=False)
+    refused = [(b"names heads", "BadName"), (b"names refs/", "BadName"), (b"names refs/heads/", "BadName"), (b"names HEAD", "BadName"),
+               (b"names refs/bisect/x", "PrivateName"), (b"names refs/worktree/a", "PrivateName"), (b"names refs/a..b", "BadName"),
+               (b"past nosuch", "BadName"), (b"past refs/heads/nosuch", "NoSuchName"), (b"past refs/heads", "NoSuchName"),
+               (b"past refs/bisect/x", "PrivateName"), (b"past x", "BadName"), (b"past a..b", "BadName"), (b"past refs/a..b", "BadName")]
+    runs((made,), *((line + b"\n", cause) for line, cause in refused), (b"names\n",), by_git_alone=False)
+    for line in (b"names a b\n", b"past\n", b"past a b\n", b"log breadth all +main\n"):
+        answer(INPUT + line, "Syntax", end="Refused")
+
+
 def removals():
     """What stands is taken out, in the order of the edits; of what doesn't stand nothing is."""
     runs((b"commit refs/heads/main new\nput file 1 1\na\n1\nput file 1 1\nb\n1\nput file 1 1\nc\n1\n" + ONE,),
@@ -379,7 +397,8 @@ def by_chance(chance, kind):
         name = chance.choice([b"main", b"HEAD", b"refs/heads/x", b"v", b"heads/x"])
         path = chance.choice(paths)
         if chance.random() < 0.4:
-            return chance.choice([b"files %s\n" % name, b"show %s\n" % name, b"show %s path %d\n%s\n" % (name, len(path), path)])
+            return chance.choice([b"files %s\n" % name, b"show %s\n" % name, b"show %s path %d\n%s\n" % (name, len(path), path),
+                                  b"names\n", b"names %s\n" % chance.choice(names), b"past %s\n" % name])
         expect = chance.choice([b"any", b"any", b"any", b"new", b"at " + name])
         parents = b"".join(b"parent %s\n" % chance.choice([b"main", b"x", b"HEAD"]) for _ in range(chance.choice([0, 0, 0, 1, 2])))
         edits = b"".join(edit() for _ in range(chance.randrange(4)))
@@ -394,7 +413,7 @@ def by_chance(chance, kind):
 
 
 if __name__ == "__main__":
-    for part in (rows, first_causes, two_branches, removals, nested, limits, opening, readings, readers, faults, stops):
+    for part in (rows, first_causes, two_branches, of_names, removals, nested, limits, opening, readings, readers, faults, stops):
         part()
     chance = random.Random(23)
     for number in range(200):

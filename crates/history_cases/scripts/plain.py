@@ -5,6 +5,7 @@ import hashlib
 import re
 
 MODES = {b"file": b"100644", b"exec": b"100755", b"link": b"120000"}
+PRIVATE = (b"refs/bisect/", b"refs/worktree/", b"refs/rewritten/")
 LIMIT = 2 ** 24
 
 
@@ -51,9 +52,19 @@ class Reader:
             return ("show", words[1], None)
         if words[0] == b"show" and len(words) == 4 and words[2] == b"path":
             return ("show", words[1], self.fields(words[3:])[0])
+        if words[0] in (b"names", b"past"):
+            return getattr(self, words[0].decode())(words[1:])
         refuse_where(words[0] != b"commit" or len(words) not in (3, 4), "Syntax")
         refuse_where((len(words) == 4) != (words[2] == b"at") or words[2] not in (b"at", b"any", b"new"), "Syntax")
         return self.commit(words[1], words[2:])
+
+    def names(self, words):
+        refuse_where(len(words) > 1, "Syntax")
+        return ("names_in", words[0] if words else None)
+
+    def past(self, words):
+        refuse_where(len(words) != 1, "Syntax")
+        return ("past", words[0])
 
     def commit(self, name, expect):
         parents, edits, words = [], [], self.line()
@@ -137,11 +148,15 @@ class Plain:
         if word == b"HEAD":
             refuse_where(b"refs/heads/main" not in self.names, "UnbornHead")
             return self.names[b"refs/heads/main"]
+        name = self.candidate(word)
+        refuse_where(name is None, "UnknownWord")
+        return self.names[name]
+
+    def candidate(self, word):
+        """The first of a word's names that stands, if one does."""
         names = [b"refs/%s", b"refs/tags/%s", b"refs/heads/%s", b"refs/remotes/%s", b"refs/remotes/%s/HEAD"]
-        for name in ([word] if word.startswith(b"refs/") else []) + [it % word for it in names]:
-            if name in self.names:
-                return self.names[name]
-        raise Refused("UnknownWord")
+        found = ([word] if word.startswith(b"refs/") else []) + [it % word for it in names]
+        return next((name for name in found if name in self.names), None)
 
     def resolved(self, words):
         """The commits of some words: `UnknownWord` is told before `UnbornHead`."""
@@ -153,7 +168,7 @@ class Plain:
     def commit(self, name, expect, parents, edits, author, committer, message):
         name = b"refs/heads/main" if name == b"HEAD" else name
         refuse_where(not is_name(name), "BadName")
-        refuse_where(name.startswith((b"refs/bisect/", b"refs/worktree/", b"refs/rewritten/")), "PrivateName")
+        refuse_where(name.startswith(PRIVATE), "PrivateName")
         *at, = self.resolved(expect[1:] + parents)
         wanted, at = (at[0], at[1:]) if expect[1:] else (None, at)
         stands = self.names.get(name)
@@ -228,6 +243,21 @@ class Plain:
         content = self.objects[digits].partition(b"\0")[2]
         kind = {it: kind for kind, it in MODES.items()}[mode]
         return b"ok show content %s %s %d\n%s\n" % (kind, digits, len(content), content)
+
+    def names_in(self, folder):
+        refuse_where(folder not in (None, b"refs") and not is_name(folder), "BadName")
+        refuse_where((folder or b"").startswith(PRIVATE), "PrivateName")
+        found = [it for it in sorted(self.names) if folder is None or it.startswith(folder + b"/")]
+        lines = [b"%s %s %s\n" % (self.names[name], self.names[name], name) for name in found]
+        return b"ok names %d refs/heads/main\n" % len(found) + b"".join(lines)
+
+    def past(self, word):
+        name = b"refs/heads/main" if word == b"HEAD" else word if is_name(word) else self.candidate(word) or word
+        refuse_where(not is_name(name), "BadName")
+        refuse_where(name.startswith(PRIVATE), "PrivateName")
+        refuse_where(name not in self.names, "NoSuchName")
+        moves = self.logs[name].splitlines(keepends=True)
+        return b"ok past %d\n" % len(moves) + b"".join(reversed(moves))
 
     def run(self, data):
         """How the run ends, and the reply to each command, with where in the input the command ends."""

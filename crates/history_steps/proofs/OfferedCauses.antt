@@ -112,6 +112,26 @@ module _ (r : Repository) (o : IsOffered r) (w : HasWholeNames r) where
     wrong_order = refl;
   }
 
+  names_out : (folder : Option Bytes) → RuledOut (λ cause. holds cause r (Names folder))
+  names_out folder = record {
+    name_twice = refl;
+    ambiguous = refl;
+    no_commit = refl;
+    holds_tag = refl;
+    moves_nothing = refl;
+    wrong_order = refl;
+  }
+
+  past_out : (word : Bytes) → RuledOut (λ cause. holds cause r (Past word))
+  past_out word = record {
+    name_twice = refl;
+    ambiguous = refl;
+    no_commit = refl;
+    holds_tag = refl;
+    moves_nothing = refl;
+    wrong_order = refl;
+  }
+
   show_out : (word : Bytes) (path : Option Bytes) → RuledOut (λ cause. holds cause r (Show word path))
   show_out word path = record {
     name_twice = refl;
@@ -131,8 +151,8 @@ first_offered_cause r (Delete name at) o w offered = cc
 first_offered_cause r (Switch name) o w offered = cc
 first_offered_cause r Pack o w offered = cc
 first_offered_cause r Index o w offered = cc
-first_offered_cause r (Names folder) o w offered = cc
+first_offered_cause r (Names folder) o w offered = first_of_few (λ cause. holds cause r (Names folder)) (names_out r o w folder)
 first_offered_cause r (Files word) o w offered = first_of_few (λ cause. holds cause r (Files word)) (files_out r o w word)
-first_offered_cause r (Past word) o w offered = cc
+first_offered_cause r (Past word) o w offered = first_of_few (λ cause. holds cause r (Past word)) (past_out r o w word)
 first_offered_cause r (Log c) o w offered = cc
 first_offered_cause r (Show word path) o w offered = first_of_few (λ cause. holds cause r (Show word path)) (show_out r o w word path)

@@ -140,36 +140,47 @@ module _ (tree : Tree) (rooted : IsRooted tree) (place : Bytes) (some : place �
           let over : IsAbove (parent path) path = (after_last is_slash path, path_in_folder path (omega (arith, long))) in
           behind (rest (parent path) (omega (arith, short, above_shorter (parent path) path over)) (folder_stands (parent path) beyond (rooted path there).1) beyond) over
 
-  module _ (names : List Bytes) (listed : names ≡ names_at tree place) (free : (i : ℕ) → i < length names → IsFreeFrom tree (under place (get_or names i []))) where
-    child : (path : Bytes) → IsSome (get tree path) → parent path ≡ place → IsFreeFrom tree path
+  -- what something stands below is a folder
+  pub folder_over : (path : Bytes) → IsSome (get tree path) → IsAbove place path → IsTrue (is_folder (node_at tree place))
+  folder_over path there above =
+      let f = first_part (length path) path (omega arith) there above in
+      subst (λ p. IsTrue (is_folder (node_at tree p))) f.in_place (rooted f.part f.there).1
+
+  pub file_there : (path bytes : Bytes) → IsAbove place path → file_at tree path ≡ Some bytes → IsSome (get tree path)
+  file_there [] bytes above is = absurd (omega (arith, above_shorter place [] above))
+  file_there (b ∷ path) bytes above is = stood (get tree (b ∷ path)) is
+    where
+      stood : (o : Option Node) → bytes_of o ≡ Some bytes → is_some o ≡ true
+      stood None h = cc
+      stood (Some n) h = refl
+
+  module _ (P : Bytes → Type 0) (names : List Bytes) (listed : names ≡ names_at tree place) (all : (i : ℕ) → i < length names → P (under place (get_or names i []))) where
+    child : (path : Bytes) → IsSome (get tree path) → parent path ≡ place → P path
     child path there here =
         let r = found place (keys tree) path [] (sym (contains_key-keys tree path) ∙ there) here in
         let is_there : is_folder (node_at tree place) ≡ true = subst (λ p. IsTrue (is_folder (node_at tree p))) here (rooted path there).1 in
         let names_are : names ≡ filter_map (name_in place) (keys tree) = listed ∙ ap (λ b. cond b (filter_map (name_in place) (keys tree)) []) is_there in
         let same : under place (get_or names r.0 []) ≡ path = (λ j. under (sym here j) ((ap (λ (ns : List Bytes). get_or ns r.0 []) names_are ∙ r.2) j)) ∙ sym (in_folder path (rooted path there).0) in
-        subst (λ p. IsFreeFrom tree p) same (free r.0 (subst (λ (ns : List Bytes). r.0 < length ns) (sym names_are) r.1))
+        subst P same (all r.0 (subst (λ (ns : List Bytes). r.0 < length ns) (sym names_are) r.1))
 
-    -- none below where all that is listed is free
-    pub none_below : NoFileBelow place tree
-    none_below path above = by_file (file_at tree path) refl
-      where
-        stands : (path bytes : Bytes) → IsAbove place path → file_at tree path ≡ Some bytes → IsSome (get tree path)
-        stands [] bytes above is = absurd (omega (arith, above_shorter place [] above))
-        stands (b ∷ path) bytes above is = stood (get tree (b ∷ path)) is
-          where
-            stood : (o : Option Node) → bytes_of o ≡ Some bytes → is_some o ≡ true
-            stood None h = cc
-            stood (Some n) h = refl
+    -- what stands below stands at a path that is listed, or below one
+    pub listed_part : (path bytes : Bytes) → IsAbove place path → file_at tree path ≡ Some bytes → (part : Bytes) × P part × ((part ≡ path) ⊎ IsAbove part path)
+    listed_part path bytes above is =
+        let f = first_part (length path) path (omega arith) (file_there path bytes above is) above in
+        (f.part, child f.part f.there f.in_place, f.leads)
 
-        by_file : (o : Option Bytes) → file_at tree path ≡ o → file_at tree path ≡ None
-        by_file None is = is
-        by_file (Some bytes) is =
-            let f = first_part (length path) path (omega arith) (stands path bytes above is) above in
-            let free_there = child f.part f.there f.in_place in
-            elim f.leads [
-              | inl same ↦ subst (λ p. file_at tree p ≡ None) same free_there.0
-              | inr over ↦ free_there.1 path over
-            ]
+  -- none below where all that is listed is free
+  pub none_below : (names : List Bytes) → names ≡ names_at tree place → ((i : ℕ) → i < length names → IsFreeFrom tree (under place (get_or names i []))) → NoFileBelow place tree
+  none_below names listed free path above = by_file (file_at tree path) refl
+    where
+      by_file : (o : Option Bytes) → file_at tree path ≡ o → file_at tree path ≡ None
+      by_file None is = is
+      by_file (Some bytes) is =
+          let f = listed_part (IsFreeFrom tree) names listed free path bytes above is in
+          elim f.2 [
+            | inl same ↦ subst (λ p. file_at tree p ≡ None) same (f.1).0
+            | inr over ↦ (f.1).1 path over
+          ]
 
 -- a path below isn't the root's
 pub longer_too : (place path : Bytes) → IsAbove place path → path ≢ []

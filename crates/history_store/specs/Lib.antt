@@ -7,6 +7,7 @@ pub mod Ids
 pub mod KeptIds
 pub mod KnownObjects
 pub mod Lookups
+pub mod NameLists
 pub mod ObjectTexts
 pub mod Opening
 pub mod Parts

@@ -1,5 +1,8 @@
-//! A line of a name's log: `<old> <new> <actor>`, a tab, the message and a line feed.
-ghost use Rattle.std.specs.Prelude.{◌≡◌, IfOk};
+//! The lines of a name's log: each is `<old> <new> <actor>`, a tab, the message and a line feed.
+ghost use Rattle.std.specs.Prelude.{◌≡◌, List, IfOk, map, reverse};
+ghost use Rattle.std.specs.List.{All, flat_map};
+ghost use Rattle.gix_object_lines.specs.Bytes.{Lacks};
+ghost use Rattle.history_model.specs.Bytes.{Bytes, line};
 ghost use Rattle.history_model.specs.Logs.{log_line};
 ghost use Rattle.history_store.specs.Formats.{entry_of};
 
@@ -34,4 +37,15 @@ impl LogEntry {
         line.push(b'\n')?;
         Ok(line)
     }
+}
+
+/// The lines of a log without their line feeds, the newest first. What stands behind the last line feed is left out.
+pub fn log_lines(alloc: Global, log: &[u8]) -> Result<Vec<&[u8]>, AllocError>
+    ensures { (lines : List Bytes) → All (Lacks 10) lines → log.now ≡ flat_map line (reverse lines)
+        → IfOk result (λ found. map (λ text. text.now) found.items ≡ lines) }
+{
+    let mut lines: Vec<&[u8]> = log.split(|byte| *byte == b'\n').collect(alloc)?;
+    lines.pop();
+    lines.reverse();
+    Ok(lines)
 }

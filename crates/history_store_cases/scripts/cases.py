@@ -302,6 +302,28 @@ def names():
             (f"collides:{main}/x", "collides"), ("collides:refs/heads", "collides"), ("collides:refs/heads/mai", "free"))
         each(99, kind, f"names:fail:#:- move:{main}:{zero}:{hello}:{ONE}:one names:sound names:read:{main}",
              "failed none:so%20", "moved " + read(hello.encode() + b"\n"))
+        lists(kind)
+
+
+# In the order in which `git for-each-ref` printed them.
+LISTED = ["refs/heads/a!b", "refs/heads/a-b", "refs/heads/a.b", "refs/heads/a/b-c", "refs/heads/a/b/c", "refs/heads/a0", "refs/heads/ab",
+          "refs/heads/b/c/d/e/f", "refs/headsx/a", "refs/tags/a"]
+
+
+def lists(kind):
+    ids = {name: oid(kind, "blob", name.encode()) for name in LISTED}
+
+    def told(folder):
+        return " ".join(["names", *(f"name:{word(it.encode())}:{ids[it]}" for it in LISTED if it.startswith(folder + "/"))])
+
+    moves = [moved(name, null(kind), ids[name]) for name in LISTED[1::2] + LISTED[::2]]
+    folders = ["refs", "refs/heads", "refs/heads/a", "refs/heads/b/c", "refs/head", "refs/heads/ab", "refs/tags", "refs/tags/a"]
+    row(kind, *moves, *((f"list:{folder}", told(folder)) for folder in folders))
+    one, text = LISTED[-1], word(ids[LISTED[-1]].encode() + b"\n")
+    row(kind, ("list:refs", "names"), moved(one, null(kind), ids[one]), ("names:write:refs/tags/b:ref%3a%20refs/tags/a%0a", "done"),
+        (f"names:write:refs/tags/c:{ids[one]}", "done"), ("names:folder:refs/tags/d", "done"), ("list:refs", told("refs/tags")),
+        (f"names:write:refs/tags/d/a:{text}", "done"), ("list:refs/tags/d", f"names name:refs/tags/d/a:{ids[one]}"))
+    each(9, kind, f"{moved(one, null(kind), ids[one])[0]} names:fail:#:- list:refs", "moved names failed", f"moved {told('refs/tags')}")
 
 
 def creation():

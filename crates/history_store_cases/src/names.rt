@@ -1,4 +1,4 @@
-//! Names that are read and moved.
+//! Names that are read, listed and moved.
 
 use crate::objects::show_id;
 use crate::session::Parts;
@@ -27,6 +27,7 @@ pub fn act(
             Ok(None) => page.word("none"),
             Err(_) => page.word("failed"),
         },
+        "list" => show_names(alloc, parts, &name, page),
         "collides" => match parts.names.collides(alloc, &name) {
             Ok(true) => page.word("collides"),
             Ok(false) => page.word("free"),
@@ -41,4 +42,19 @@ pub fn act(
         }
     }
     Some(())
+}
+
+// The names below a folder, each with its id behind it.
+fn show_names(alloc: Global, parts: &Parts, folder: &[u8], page: &mut Page) {
+    page.word("names");
+    match parts.names.list(alloc, folder) {
+        Ok(names) => {
+            for named in &names {
+                page.named("name", &named.name);
+                page.text(":");
+                page.put(named.id);
+            }
+        }
+        Err(_) => page.word("failed"),
+    }
 }

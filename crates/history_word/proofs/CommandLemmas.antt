@@ -1,5 +1,5 @@
 -- The command whose parts have come.
-use Rattle.std.proofs.Common.{◌≡◌, ◌≢◌, Bool, true, false, ◌&&◌, List, [], Some, refl, ap, subst}
+use Rattle.std.proofs.Common.{◌≡◌, ◌≢◌, true, ◌&&◌, List, [], Some, None, refl, ap, subst}
 use Rattle.std.specs.List.{list_all}
 use Rattle.history_model.specs.Commands as model
 use Rattle.history_model.specs.Spelling.{Part, parts_of, parts_text, is_part, has_enough}
@@ -23,6 +23,9 @@ is_enough : (d : Draft) (order : model.Command) → IsDraft d order → (has_eno
 is_enough (draft.Commit c) (model.Commit order) h = (refl, refl)
 is_enough (draft.Files w) (model.Files word) h = (refl, refl)
 is_enough (draft.Show s) (model.Show word path) h = (refl, refl)
+is_enough draft.Names (model.Names None) h = (refl, refl)
+is_enough (draft.NamesIn f) (model.Names (Some folder)) h = (refl, refl)
+is_enough (draft.Past w) (model.Past word) h = (refl, refl)
 is_enough d order h = absurd h
 
 -- at the end, the parts are those of the command that the draft has

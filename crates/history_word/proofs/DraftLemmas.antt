@@ -1,5 +1,5 @@
 -- What a draft has after each line.
-use Rattle.std.proofs.Common.{◌≡◌, ℕ, ◌<◌, true, List, [], ◌∷◌, ◌++◌, length, map, Some, None, ◌⊎◌, inl, inr, refl, sym, ap, subst, ◌∙◌, arith, flat_map}
+use Rattle.std.proofs.Common.{◌≡◌, ℕ, ◌<◌, true, List, [], ◌∷◌, ◌++◌, length, map, Option, Some, None, ◌⊎◌, inl, inr, refl, sym, ap, subst, ◌∙◌, arith, flat_map}
 use Rattle.std.specs.List.{join_with_byte}
 use Rattle.std.proofs.lemmas.List.{append-nil, length-append}
 use Rattle.history_model.specs.Bytes.{Bytes, line}
@@ -120,3 +120,11 @@ show_place p q w e = cc
 pub path_place : (p q : Place) (w : Bytes) (n : ℕ) → next_offered (place_of p) (lines.ShowHeading w (Some n)) ≡ Some (place_of q) → (p ≡ place.Start) × (q ≡ place.Done)
 path_place place.Start place.Done w n e = (refl, refl)
 path_place p q w n e = cc
+
+pub names_place : (p q : Place) (folder : Option Bytes) → next_offered (place_of p) (lines.NamesHeading folder) ≡ Some (place_of q) → (p ≡ place.Start) × (q ≡ place.Done)
+names_place place.Start place.Done folder e = (refl, refl)
+names_place p q folder e = cc
+
+pub past_place : (p q : Place) (w : Bytes) → next_offered (place_of p) (lines.PastHeading w) ≡ Some (place_of q) → (p ≡ place.Start) × (q ≡ place.Done)
+past_place place.Start place.Done w e = (refl, refl)
+past_place p q w e = cc

@@ -1,5 +1,5 @@
 -- What a command that was read stands for.
-use Rattle.std.specs.Prelude.{◌≡◌, ⊤, List, map, Option, Some, None}
+use Rattle.std.specs.Prelude.{◌≡◌, ⊤, List, map, Option, Some, None, option_map}
 use Rattle.std.specs.List.{AllZip}
 use Rattle.history_model.specs.Bytes.{Bytes}
 use Rattle.history_model.specs.Commands as model
@@ -60,6 +60,8 @@ IsCommandOf (command.Commit commit) (model.Commit order) = IsCommit commit order
 IsCommandOf (command.Files word) (model.Files bytes) = word.items ≡ bytes
 IsCommandOf (command.Show show) (model.Show word path) =
     (show.word.items ≡ word) × IsPath show.path path
+IsCommandOf (command.Names folder) (model.Names word) = option_map (λ w. w.items) folder ≡ word
+IsCommandOf (command.Past word) (model.Past bytes) = word.items ≡ bytes
 IsCommandOf _ _ = ⊥
 
 -- a command was read, or read past for want of memory

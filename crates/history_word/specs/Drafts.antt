@@ -60,6 +60,9 @@ IsHeading (heading.Files word) (lines.FilesHeading w) = IfSome word (λ x. x.ite
 IsHeading (heading.Show word) (lines.ShowHeading w None) = IfSome word (λ x. x.items ≡ w)
 IsHeading (heading.ShowPath word path) (lines.ShowHeading w (Some n)) =
     IfSome word (λ x. x.items ≡ w) × (path ≡ n)
+IsHeading heading.Names (lines.NamesHeading None) = ⊤
+IsHeading (heading.NamesIn folder) (lines.NamesHeading (Some f)) = IfSome folder (λ x. x.items ≡ f)
+IsHeading (heading.Past word) (lines.PastHeading w) = IfSome word (λ x. x.items ≡ w)
 IsHeading _ _ = ⊥
 
 -- What is read is what the words say; none is read where they say no line that may stand at a place of an offered command.
@@ -89,6 +92,9 @@ IsDraft (draft.Commit commit) (model.Commit order) = IsCommitDraft commit order
 IsDraft (draft.Files word) (model.Files bytes) = IfSome word (λ x. x.items ≡ bytes)
 IsDraft (draft.Show show) (model.Show word path) =
     IfSome show (λ x. (x.word.items ≡ word) × IsPath x.path path)
+IsDraft draft.Names (model.Names None) = ⊤
+IsDraft (draft.NamesIn folder) (model.Names (Some bytes)) = IfSome folder (λ x. x.items ≡ bytes)
+IsDraft (draft.Past word) (model.Past bytes) = IfSome word (λ x. x.items ≡ bytes)
 IsDraft _ _ = ⊥
 
 abbrev pub with_actor : Role → model.CommitCommand → model.ActorLine → model.CommitCommand

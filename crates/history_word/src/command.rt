@@ -81,6 +81,10 @@ pub enum Command {
     /// Lists the files of this word's commit.
     Files(Vec<u8>),
     Show(Show),
+    /// Lists the names, or those in this folder.
+    Names(Option<Vec<u8>>),
+    /// Lists what this word's name has held.
+    Past(Vec<u8>),
 }
 
 impl Field {

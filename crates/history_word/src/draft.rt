@@ -33,6 +33,9 @@ pub(crate) enum Draft {
     Commit(CommitDraft),
     Files(Option<Vec<u8>>),
     Show(Option<Show>),
+    Names,
+    NamesIn(Option<Vec<u8>>),
+    Past(Option<Vec<u8>>),
 }
 
 impl CommitDraft {
@@ -175,6 +178,9 @@ impl Draft {
             Draft::Commit(commit) => Some(Command::Commit(commit.finish()?)),
             Draft::Files(word) => Some(Command::Files(word?)),
             Draft::Show(show) => Some(Command::Show(show?)),
+            Draft::Names => Some(Command::Names(None)),
+            Draft::NamesIn(folder) => Some(Command::Names(Some(folder?))),
+            Draft::Past(word) => Some(Command::Past(word?)),
         }
     }
 }

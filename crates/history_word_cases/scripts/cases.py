@@ -70,6 +70,11 @@ def commands():
     row("read", b"show HEAD\n", "more show:HEAD end")
     row("read", b"show HEAD path 2\na\n\n", f"more show:HEAD path:{word(b'a' + bytes([10]))} end")
     row("stream", b"files main\nx", "more files:main more")
+    row("read", b"names\n", "more names end")
+    row("read", b"names refs/heads\n", "more names:refs/heads end")
+    row("read", b"names path\nx", "more names:path more")
+    row("read", b"past HEAD\n", "more past:HEAD end")
+    row("stream", b"past main\npast", "more past:main more")
     nobody = (b"", b"", b"s", b"o")
     for expect in [("any",), ("new",), ("at", b"main")]:
         commit = Commit(b"HEAD", expect, [], [], nobody, nobody, b"")
@@ -100,6 +105,8 @@ LINES = [
     b"commit HEAD new\nremove 1 1\n", b"commit HEAD new\nremove-files 1\n", b"commit HEAD new\nremove-file 1\nab\n",
     b"commit HEAD new\nput text 1 1\n", b"commit HEAD new\ncommitter 1 1 1 1\n",
     b"commit HEAD new\nauthor 0 0 s o\n\n\nput file 1 1\n",
+    b"names a b\n", b"names \n", b"past\n", b"past a b\n", b"commit HEAD new\nnames\n", b"commit HEAD new\npast a\n",
+    b"log breadth all +a\n", b"switch main\n", b"delete main any\n", b"rename a b\n", b"tag a new b\n", b"move\n", b"pack\n", b"index\n",
 ]
 # Where a line may stand, and the input ends behind it.
 BEGINNINGS = [b"commit nowhere new\n", b"commit at any\nparent parent\n",

@@ -34,6 +34,9 @@ fn show_command(command: &Command, page: &mut Page) {
         Command::Commit(commit) => show_commit(commit, page),
         Command::Files(word) => page.named("files", word),
         Command::Show(show) => show_show(show, page),
+        Command::Names(None) => page.word("names"),
+        Command::Names(Some(folder)) => page.named("names", folder),
+        Command::Past(word) => page.named("past", word),
     }
 }
 

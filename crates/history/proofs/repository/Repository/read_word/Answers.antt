@@ -1,11 +1,13 @@
-use Rattle.std.proofs.Common.{◌∙◌, sym, ap, refl, bytes_eq, option_map, is_some}
+use Rattle.std.proofs.Common.{◌∙◌, sym, ap, subst, bytes_eq, option_map}
+use Rattle.std.specs.Prelude.{Option}
 use Rattle.std.proofs.lemmas.Bool.Decides.{Decides-eqb}
 use Rattle.std.proofs.lemmas.Slice.Eq.{slice_eq-Decides}
 use Rattle.history_model.specs.Words.{head_word, name_meaning}
 use Rattle.history_model.proofs.PlaceLemmas.{text_itself, texts_apart}
-use Rattle.history.proofs.WordReads.{may_mean, all_left, next_passed, next_absent, next_found, found_reads, none_reads, stands_so, candidate_held, branch_reads}
+use Rattle.history.specs.Meanings.{IsFirstStanding}
+use Rattle.history.specs.declared.words.Standing.{Standing}
+use Rattle.history.proofs.WordReads.{found_reads, none_reads, branch_reads}
 use Rattle.history.proofs.repository.Repository.read_word.Goals as goal
-use Rattle.history.proofs.repository.Repository.read_word.Goals.{then-is_candidate+in_ok-id-2+in_default, else-is_candidate}
 use Rattle.gix_hash_id.specs.Id.{id_of}
 
 pub returns-in-Some : goal.returns-in-Some
@@ -22,32 +24,13 @@ returns-in-None g c = λ r stand.
     ∙ branch_reads g.F.Files.is_honest g.F.Files.history c.args.self.now r stand c.args.word.now c.deref.result.now (ap (λ w. bytes_eq w head_word) is ∙ text_itself head_word) c.deref.ensures.value
     _ (c.in_ok-id.ensures.found stand.stands.honest_names)
 
-pub loop-front-init : goal.loop-front-init
-loop-front-init g c = λ r stand. all_left r c.args.word.now _ refl
-
-pub loop-front-preserved : goal.loop-front-preserved
-loop-front-preserved g c = λ r stand.
-    let name = c.in_ok-name.name.items in
-    let tested = c.is_candidate.ensures ∙ ap may_mean c.deref-in-loop-front.ensures.value in
-    c.loop-front.invariant r stand
-    ∙ elim c.if-is_candidate.branch [
-      | then-is_candidate+in_ok-id-2+in_default w ↦
-          let at = candidate_held g.F.Files.is_honest g.F.Files.history c.args.self.now r stand _ name w.deref-then-is_candidate.ensures.value (sym tested ∙ w.if-is_candidate.true) _ (w.in_ok-id-2.ensures.found stand.stands.honest_names) in
-          next_absent r c.args.word.now _ c.loop-front.front-index _ c.loop-front-test.true name c.in_ok-name.ensures (stands_so r name _ at ∙ ap (λ o. is_some (option_map id_of o)) w.in_default.is)
-      | else-is_candidate w ↦ next_passed r c.args.word.now _ c.loop-front.front-index _ c.loop-front-test.true name c.in_ok-name.ensures (sym tested ∙ w.if-is_candidate.false)
-    ]
-
 pub returns-in-Some-2 : goal.returns-in-Some-2
 returns-in-Some-2 g c = λ r stand.
-    let name = c.in_ok-name.name.items in
-    let may = sym (c.is_candidate.ensures ∙ ap may_mean c.deref-in-loop-front.ensures.value) ∙ c.if-is_candidate.true in
     let other = texts_apart c.args.word.now head_word (λ same. absurd (cc ((slice_eq-Decides Decides-eqb c.args.word.now head_word c.eq.result c.eq.ensures).1 same, c.if-eq.false))) in
-    let at = candidate_held g.F.Files.is_honest g.F.Files.history c.args.self.now r stand _ name c.deref-then-is_candidate.ensures.value may _ (c.in_ok-id-2.ensures.found stand.stands.honest_names) ∙ ap (option_map id_of) c.in-Some-2.is in
-    found_reads r c.args.word.now other name (id_of c.in-Some-2.id)
-    (c.loop-front.invariant r stand ∙ next_found r c.args.word.now _ c.loop-front.front-index _ c.loop-front-test.true name c.in_ok-name.ensures may (stands_so r name _ at))
-    at
+    let found = subst (λ (o : Option Standing). IsFirstStanding r c.args.word.now o) c.in-Some-2.is (c.in_ok-standing.ensures r stand) in
+    found_reads r c.args.word.now other c.in-Some-2.standing.name.items (id_of c.in-Some-2.standing.id) found.first found.holds
 
-pub returns : goal.returns
-returns g c = λ r stand.
+pub returns-in-None-2 : goal.returns-in-None-2
+returns-in-None-2 g c = λ r stand.
     let other = texts_apart c.args.word.now head_word (λ same. absurd (cc ((slice_eq-Decides Decides-eqb c.args.word.now head_word c.eq.result c.eq.ensures).1 same, c.if-eq.false))) in
-    none_reads r c.args.word.now other _ c.loop-front.front-index c.loop-front-test.false (c.loop-front.invariant r stand)
+    none_reads r c.args.word.now other (subst (λ (o : Option Standing). IsFirstStanding r c.args.word.now o) c.in-None-2.is (c.in_ok-standing.ensures r stand))

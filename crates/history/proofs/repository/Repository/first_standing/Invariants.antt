@@ -2,7 +2,7 @@ use Rattle.std.proofs.Common.{◌≡◌, drop}
 use Rattle.history_model.specs.Repository as plain
 use Rattle.history.specs.Serving.{Serves}
 use Rattle.history.proofs.WordReads.{first_meant, first_left}
-use Rattle.history.proofs.repository.Repository.read_word.Given as goal
+use Rattle.history.proofs.repository.Repository.first_standing.Given as goal
 
 -- no name that was read stands
 abbrev pub invariant-loop-front : goal.invariant-loop-front

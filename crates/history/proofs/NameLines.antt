@@ -1,0 +1,263 @@
+-- What `names` answers, by what its folder lists.
+use Rattle.std.proofs.Common.{◌≡◌, ℕ, ◌⊎◌, inl, inr, Bool, true, false, cond, not, ◌&&◌, ◌||◌, T, List, [], ◌∷◌, ◌++◌, map, drop, length, refl, sym, ◌∙◌, ap, subst, append_assoc, Option, Some, None, option_map, option_and_then, is_some, unwrap_or, filter, codes, bytes_eq, Vec, Result, Ok}
+use Rattle.std.specs.declared.alloc.Global.{Global}
+use Rattle.std.specs.declared.cmp.Ordering.TheVariants.{Equal}
+use Rattle.std.specs.Ordering.{eq_by_cmp, is_lt}
+use Rattle.std.specs.Cmp.Lexicographic.{nat_list_cmp_total}
+use Rattle.std.specs.FinMap.{entries, entries_sorted, get, get-entries, find, is_sorted, slice_cmp-IsAntisymmetric, nat_cmp-IsAntisymmetric}
+use Rattle.std.specs.FinMap.Entries.{below_all, same_entries, find-where_key, is_sorted-where_key}
+use Rattle.std.specs.List.{list_any}
+use Rattle.std.specs.Borrow.{Bor}
+use Rattle.std.specs.Prelude.{option_copied}
+use Rattle.std.proofs.lemmas.Bool.{and_parts}
+use Rattle.gix_ref_file.specs.History.{History}
+use Rattle.gix_ref_file.specs.declared.files.FileError.{FileError}
+use Rattle.gix_ref_file.specs.declared.files.FileError.TheVariants.{Failed, Memory}
+use Rattle.gix_ref_file.specs.Tree.{Tree}
+use Rattle.gix_hash_id.specs.Id.{Id, id_of, null_id}
+use Rattle.gix_hash_id.specs.declared.kind.Kind.{Kind}
+use Rattle.history_model.specs.Bytes.{Bytes, by_bytes, begins}
+use Rattle.history_model.specs.FileMap.{is_below}
+use Rattle.history_model.specs.Forms.{is_name, is_private, is_reference, IsWritten}
+use Rattle.history_model.specs.Repository.{Repository, Reference, HasWholeNames, id_at, stands, peeled, peeled_value}
+use Rattle.history_model.specs.PackedNames.{id_from_hex, whole_line}
+use Rattle.history_model.specs.Places.{Pair, file_at, packed_place}
+use Rattle.history_model.specs.NameStates.{Holds, Symbolic, Absent, Faulty, loose_state, loose_line}
+use Rattle.history_model.specs.StandsFor.{StandsFor}
+use Rattle.history_model.specs.Commands.{Names}
+use Rattle.history_model.specs.CommandParts.{names_in}
+use Rattle.history_model.specs.Causes.{first_cause}
+use Rattle.history_model.specs.Objects.{hex}
+use Rattle.history_model.specs.Replies.{NameLine, NamesAre, reply_text}
+use Rattle.history_model.specs.Spelling.{Part, Line}
+use Rattle.history_model.specs.Answers.{is_in_folder, name_line, names_shown}
+use Rattle.history_model.specs.declared.Cause.{Cause}
+use Rattle.history_model.specs.declared.Cause.TheVariants.{BadName, PrivateName}
+use Rattle.history_model.proofs.FormatLemmas.{holds_same}
+use Rattle.history_model.proofs.WholeLists.{In, same_text}
+use Rattle.history_model.proofs.WholePaths.{begins_front, begins_parts}
+use Rattle.history_model.proofs.WholeStores.{in_get}
+use Rattle.history_steps.specs.Offered.{IsOffered}
+use Rattle.history_steps.proofs.OfferedReads.{names_hold_commits}
+use Rattle.history_files.proofs.Lines.{map_twice}
+use Rattle.history_store.specs.NameLists.{ListsNames, NameIds, held_id, id_below, name_entry, spelled_id}
+use Rattle.history_store.specs.declared.listed.NamedId.{NamedId}
+use Rattle.history.specs.Acts.{AnswersReading, IsReadingFault}
+use Rattle.history.specs.CommitCauses.{form_cause}
+use Rattle.history.specs.Face.{names_part}
+use Rattle.history.specs.Faults.{file_fault}
+use Rattle.history.specs.NamesShown.{folder_cause, shown_name}
+use Rattle.history.specs.Serving.{Serves}
+use Rattle.history.specs.Stands.{pair_of}
+use Rattle.history.specs.declared.repository.Repository as own
+use Rattle.history.specs.declared.stopped.Stopped.TheVariants.{Fault}
+use Rattle.history.proofs.NameReads.{loose, reads, name_stands, refs_front}
+
+-- ---- the folder
+
+-- the folder of all names, where none is asked for
+abbrev pub asked_folder : Option Bytes → Bytes
+asked_folder folder = unwrap_or folder (codes "refs")
+
+abbrev by_names : List Bytes → Option Cause
+by_names names = cond (list_any (λ name. not (is_name name)) names || false) (Some BadName) (cond (list_any is_private names) (Some PrivateName) None)
+
+pub asked_is : (folder : Option (Bor Bytes)) (all got : Bor Bytes) → got ≡ unwrap_or folder all → all.now ≡ codes "refs" → got.now ≡ asked_folder (option_copied folder)
+asked_is None all got is all_is = ap (λ (b : Bor Bytes). b.now) is ∙ all_is
+asked_is (Some folder) all got is all_is = ap (λ (b : Bor Bytes). b.now) is
+
+-- a folder that names can't be asked of is all that `names` is refused for
+pub names_cause : (r : Repository) (folder : Option Bytes) → first_cause r (Names folder) ≡ folder_cause (asked_folder folder)
+names_cause r None = refl
+names_cause r (Some folder) = by_folder (bytes_eq folder (codes "refs"))
+  where
+    by_form : (bad private : Bool) → cond ((bad || false) || false) (Some BadName) (cond (private || false) (Some PrivateName) None) ≡ cond bad (Some BadName) (cond private (Some PrivateName) None)
+    by_form true private = refl
+    by_form false true = refl
+    by_form false false = refl
+
+    by_folder : (b : Bool) → by_names (cond b [] (folder ∷ []) ++ []) ≡ cond b None (form_cause folder)
+    by_folder true = refl
+    by_folder false = by_form (not (is_name folder)) (is_private folder)
+
+pub not_root : (folder : Bytes) → folder_cause folder ≡ None → folder ≡ [] → ⊥
+not_root folder good none = let wrong : Some BadName ≡ None = ap folder_cause (sym none) ∙ good in absurd (cc wrong)
+
+-- names below a folder that they can be asked of begin with `refs/`
+pub front_below : (folder name : Bytes) → folder_cause folder ≡ None → is_below folder name ≡ true → begins (codes "refs/") name ≡ true
+front_below folder name good below = by_folder (bytes_eq folder (codes "refs")) refl good
+  where
+    in_refs : (rest : Bytes) → folder ≡ codes "refs/" ++ rest → begins (codes "refs/") name ≡ true
+    in_refs rest is =
+        let parts = begins_parts (folder ++ 47 ∷ []) name below in
+        let back = drop (length (folder ++ 47 ∷ [])) name in
+        let whole : name ≡ codes "refs/" ++ ((rest ++ 47 ∷ []) ++ back) = parts ∙ ap (λ f. (f ++ 47 ∷ []) ++ back) is in
+        ap (begins (codes "refs/")) whole ∙ begins_front (codes "refs/") ((rest ++ 47 ∷ []) ++ back)
+
+    by_form : (b : Bool) → is_name folder ≡ b → cond (not b) (Some BadName) (cond (is_private folder) (Some PrivateName) None) ≡ None → begins (codes "refs/") name ≡ true
+    by_form false e h = cc
+    by_form true e h = in_refs (drop 5 folder) (begins_parts (codes "refs/") folder (refs_front folder e))
+
+    by_folder : (b : Bool) → bytes_eq folder (codes "refs") ≡ b → cond b None (form_cause folder) ≡ None → begins (codes "refs/") name ≡ true
+    by_folder true e h = subst (λ f. begins (f ++ 47 ∷ []) name ≡ true) (same_text folder (codes "refs") e) below
+    by_folder false e h = by_form (is_name folder) refl h
+
+-- ---- what a name holds
+
+-- what reads as an id spells it
+loose_spelled : (kind : Kind) (text : Bytes) (id : Id) → loose_state kind text ≡ Holds id → spelled_id kind text ≡ Some id
+loose_spelled kind text id reads = by_line (whole_line text) reads
+  where
+    by_id : (o : Option Id) → unwrap_or (option_map Holds o) Faulty ≡ Holds id → o ≡ Some id
+    by_id None e = cc
+    by_id (Some found) e = ap Some (holds_same e)
+
+    by_symbol : (digits : Bytes) (b : Bool) → cond b (Symbolic (drop 5 digits)) (unwrap_or (option_map Holds (id_from_hex kind digits)) Faulty) ≡ Holds id → id_from_hex kind digits ≡ Some id
+    by_symbol digits true e = cc
+    by_symbol digits false e = by_id (id_from_hex kind digits) e
+
+    by_line : (o : Option Bytes) → unwrap_or (option_map (loose_line kind) o) Faulty ≡ Holds id → option_and_then (id_from_hex kind) o ≡ Some id
+    by_line None e = cc
+    by_line (Some digits) e = by_symbol digits (begins (codes "ref: ") digits && is_name (drop 5 digits)) e
+
+-- the id that a name's file holds is the one that the name holds
+pub held_told : (pair : Pair) (r : Repository) (stand : StandsFor r.kind pair r) (unpacked : file_at pair.names packed_place ≡ None) (name : Bytes) → begins (codes "refs/") name ≡ true → held_id r.kind pair.names name ≡ id_at r name
+held_told pair r stand unpacked name front = by_file (file_at pair.names name) refl
+  where
+    no_file : (b : Bool) (id : Id) → cond b Absent Absent ≡ Holds id → ⊥
+    no_file true id e = absurd cc
+    no_file false id e = absurd cc
+
+    of_name : (b : Bool) (text : Bytes) (id : Id) → cond b (loose_state r.kind text) Absent ≡ Holds id → loose_state r.kind text ≡ Holds id
+    of_name true text id e = e
+    of_name false text id e = absurd cc
+
+    reads_so : (o : Option Bytes) → file_at pair.names name ≡ o → (id : Id) → id_at r name ≡ Some id → loose pair r stand unpacked name o ≡ Holds id
+    reads_so o e id at = ap (loose pair r stand unpacked name) (sym e) ∙ reads pair r stand unpacked name id at
+
+    none_held : file_at pair.names name ≡ None → (o : Option Id) → id_at r name ≡ o → None ≡ o
+    none_held e None at = refl
+    none_held e (Some id) at = absurd (no_file (is_name name) id (reads_so None e id at))
+
+    one_held : (text : Bytes) → file_at pair.names name ≡ Some text → (o : Option Reference) → get r.names name ≡ o → is_some o ≡ true → spelled_id r.kind text ≡ option_map (λ (ref : Reference). ref.id) o
+    one_held text e None at there = cc
+    one_held text e (Some ref) at there = loose_spelled r.kind text ref.id (of_name (is_name name) text ref.id (reads_so (Some text) e ref.id (ap (option_map (λ (ref : Reference). ref.id)) at)))
+
+    by_file : (o : Option Bytes) → file_at pair.names name ≡ o → option_and_then (spelled_id r.kind) o ≡ id_at r name
+    by_file None e = none_held e (id_at r name) refl
+    by_file (Some text) e = one_held text e (get r.names name) refl (name_stands pair r stand unpacked name text front e)
+
+-- ---- the lines
+
+-- the line of a name that holds a commit
+abbrev pub named_part : NamedId → Part
+named_part named = Line (hex (id_of named.id) ∷ hex (id_of named.id) ∷ named.name.items ∷ [])
+
+abbrev pub held_entry : Bytes × Reference → Bytes × Id
+held_entry e = (e.0, (e.1).id)
+
+abbrev entry_line : Bytes × Id → NameLine
+entry_line e = record { id = e.1; commit = e.1; name = e.0 }
+
+find_held : (q : Bytes) (es : List (Bytes × Reference)) → find by_bytes q (map held_entry es) ≡ option_map (λ (ref : Reference). ref.id) (find by_bytes q es)
+find_held q [] = refl
+find_held q (e ∷ es) = elim (eq_by_cmp by_bytes q e.0) as (λ b. cond b (Some (e.1).id) (find by_bytes q (map held_entry es)) ≡ option_map (λ (ref : Reference). ref.id) (cond b (Some e.1) (find by_bytes q es))) [
+  | true ↦ refl
+  | false ↦ find_held q es
+]
+
+below_held : (p : Bytes) (es : List (Bytes × Reference)) → below_all by_bytes p (map held_entry es) ≡ below_all by_bytes p es
+below_held p [] = refl
+below_held p (e ∷ es) = ap (λ b. is_lt (by_bytes p e.0) && b) (below_held p es)
+
+sorted_held : (es : List (Bytes × Reference)) → is_sorted by_bytes (map held_entry es) ≡ is_sorted by_bytes es
+sorted_held [] = refl
+sorted_held (e ∷ es) = λ i. below_held e.0 es i && sorted_held es i
+
+module _ (r : Repository) (o : IsOffered r) (w : HasWholeNames r) where
+  -- a name stands for the commit that it holds
+  line_is : (e : Bytes × Reference) → In e (entries r.names) → name_line r e ≡ entry_line (held_entry e)
+  line_is e is =
+      let at : id_at r e.0 ≡ Some (e.1).id = ap (option_map (λ (ref : Reference). ref.id)) (in_get r.names e.0 e.1 is) in
+      let commit = names_hold_commits r e.0 (e.1).id o w at in
+      let stands_for : peeled r (e.1).id ≡ Some (e.1).id = ap (option_and_then (peeled_value (e.1).id)) commit.1 in
+      λ i. record { id = (e.1).id; commit = unwrap_or (stands_for i) (null_id r.kind); name = e.0 }
+
+  lines_are : (p : Bytes → Bool) (es : List (Bytes × Reference)) → ((e : Bytes × Reference) → In e es → name_line r e ≡ entry_line (held_entry e)) → map (name_line r) (filter (λ e. p e.0) es) ≡ map entry_line (map held_entry (filter (λ e. p e.0) es))
+  lines_are p [] are = refl
+  lines_are p (e ∷ es) are = by_test (p e.0) (lines_are p es (λ x is. are x (inr is)))
+    where
+      by_test : (b : Bool) → map (name_line r) (filter (λ e. p e.0) es) ≡ map entry_line (map held_entry (filter (λ e. p e.0) es))
+          → map (name_line r) (cond b (e ∷ filter (λ e. p e.0) es) (filter (λ e. p e.0) es)) ≡ map entry_line (map held_entry (cond b (e ∷ filter (λ e. p e.0) es) (filter (λ e. p e.0) es)))
+      by_test true rest = λ i. are e (inl refl) i ∷ rest i
+      by_test false rest = rest
+
+module _ (pair : Pair) (r : Repository) (stand : StandsFor r.kind pair r) (written : IsWritten r) (unpacked : file_at pair.names packed_place ≡ None) (folder : Option Bytes) (good : folder_cause (asked_folder folder) ≡ None) where
+  -- a name in the folder holds what its file does, and no other name is listed
+  asked_holds : (q : Bytes) → id_below r.kind pair.names (asked_folder folder) q ≡ cond (is_in_folder folder q) (id_at r q) None
+  asked_holds q = by_folder folder good
+    where
+      told : (f : Bytes) → folder_cause f ≡ None → (b : Bool) → is_below f q ≡ b → cond b (held_id r.kind pair.names q) None ≡ cond b (id_at r q) None
+      told f good true below = held_told pair r stand unpacked q (front_below f q good below)
+      told f good false apart = refl
+
+      no_name : (o : Option Reference) → get r.names q ≡ o → is_below (codes "refs") q ≡ false → None ≡ option_map (λ (ref : Reference). ref.id) o
+      no_name None e apart = refl
+      no_name (Some ref) e apart =
+          let formed = (and_parts (is_name q) (not (is_private q)) (and_parts (is_name q && not (is_private q)) (is_reference r.kind ref) (written.names q ref e)).0).0 in
+          let wrong : false ≡ true = sym apart ∙ refs_front q formed in
+          cc
+
+      all_named : (b : Bool) → is_below (codes "refs") q ≡ b → cond b (id_at r q) None ≡ id_at r q
+      all_named true below = refl
+      all_named false apart = no_name (get r.names q) refl apart
+
+      by_folder : (folder : Option Bytes) → folder_cause (asked_folder folder) ≡ None → id_below r.kind pair.names (asked_folder folder) q ≡ cond (is_in_folder folder q) (id_at r q) None
+      by_folder None good = told (codes "refs") good (is_below (codes "refs") q) refl ∙ all_named (is_below (codes "refs") q) refl
+      by_folder (Some f) good = told f good (is_below f q) refl
+
+  abbrev shown : List (Bytes × Reference)
+  shown = filter (λ e. is_in_folder folder e.0) (entries r.names)
+
+  find_shown : (q : Bytes) → find by_bytes q (map held_entry shown) ≡ cond (is_in_folder folder q) (id_at r q) None
+  find_shown q =
+      find_held q shown
+      ∙ ap (option_map (λ (ref : Reference). ref.id)) (find-where_key by_bytes (is_in_folder folder) q (λ x tie. ap (is_in_folder folder) (sym (slice_cmp-IsAntisymmetric nat_cmp-IsAntisymmetric q x tie))) (entries r.names))
+      ∙ by_test (is_in_folder folder q)
+    where
+      by_test : (b : Bool) → option_map (λ (ref : Reference). ref.id) (cond b (find by_bytes q (entries r.names)) None) ≡ cond b (id_at r q) None
+      by_test true = ap (option_map (λ (ref : Reference). ref.id)) (sym (get-entries r.names q))
+      by_test false = refl
+
+  ids_are : (ids : NameIds) → ((name : Bytes) → get ids name ≡ id_below r.kind pair.names (asked_folder folder) name) → entries ids ≡ map held_entry shown
+  ids_are ids each =
+      same_entries by_bytes nat_list_cmp_total (slice_cmp-IsAntisymmetric nat_cmp-IsAntisymmetric) (entries ids) (map held_entry shown) (entries_sorted ids)
+      (subst T (sym (sorted_held shown)) (is_sorted-where_key by_bytes (is_in_folder folder) (entries r.names) (entries_sorted r.names)))
+      (λ q. sym (get-entries ids q) ∙ each q ∙ asked_holds q ∙ sym (find_shown q))
+
+  -- what is listed is what is shown
+  pub names_are : (o : IsOffered r) (w : HasWholeNames r) (names : List NamedId) → ListsNames r.kind pair.names (asked_folder folder) names → map shown_name names ≡ names_shown r folder
+  names_are o w names lists =
+      sym (map_twice entry_line name_entry names) ∙ ap (map entry_line) (lists.are ∙ ids_are lists.ids lists.each)
+      ∙ sym (lines_are r o w (is_in_folder folder) (entries r.names) (line_is r o w))
+
+-- ---- a repository with its files
+
+-- why a listing failed
+pub listing_fault : (MayFail : Type 0) (error : FileError) → (error ≡ Failed → MayFail) → IsReadingFault MayFail (Fault (file_fault error))
+listing_fault MayFail Failed failed = failed refl
+listing_fault MayFail Memory failed = tt
+
+pub names_answered : {F : Type 0} (IsHonest : F → Type 0) (history : F → History) (repository : own.Repository F) (r : Repository) (MayFail : Type 0) → Serves IsHonest history repository r
+    → (kind : Kind) → kind ≡ r.kind → (folder : Option Bytes) (names : List NamedId) (text : Vec ℕ Global) → folder_cause (asked_folder folder) ≡ None
+    → ListsNames kind (history (names_part repository)).tree (asked_folder folder) names
+    → text.items ≡ reply_text (NamesAre repository.branch.items (map shown_name names)) → AnswersReading MayFail r (Names folder) (Ok text)
+names_answered IsHonest history repository r MayFail serves kind same folder names text good lists written =
+    let whole = serves.stands.whole in
+    let of_kind = subst (λ k. ListsNames k (history (names_part repository)).tree (asked_folder folder) names) same lists in
+    let are = names_are (pair_of history repository) r whole.stands whole.written serves.stage.unpacked folder good serves.stage.offered whole.whole.names names of_kind in (
+      NamesAre r.branch (names_shown r folder),
+      written ∙ (λ i. reply_text (NamesAre (serves.stands.branch i) (are i))),
+      names_cause r folder ∙ good,
+      refl,
+    )

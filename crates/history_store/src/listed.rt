@@ -1,0 +1,69 @@
+//! The names that stand below a folder, with the ids that their files hold.
+ghost use Rattle.std.specs.Prelude.{◌≡◌, ◌≢◌, [], map, IfOk, OnOk, IsErrOf};
+ghost use Rattle.std.specs.FinMap.{entries};
+ghost use Rattle.gix_ref_file.specs.Calls.{Finds};
+ghost use Rattle.gix_ref_file.specs.declared.files.FileError.TheVariants.{Failed};
+ghost use Rattle.history_store.specs.NameLists.{Gathers, ListsNames, ids_in, name_entry};
+
+use crate::names::Names;
+use gix_hash::ObjectId;
+use gix_ref_file::paths::{is_deeper, joined};
+use gix_ref_file::{FileError, Files};
+use std::alloc::{AllocError, Global};
+use std::collections::BTreeMap;
+
+/// A name, and the id that its file holds.
+#[derive(Debug, Drop, PartialEq, Eq)]
+pub struct NamedId {
+    pub name: Vec<u8>,
+    pub id: ObjectId,
+}
+
+impl<F: Files> Names<F> {
+    /// The names below a folder, which isn't the root, with the ids that their files hold, ascending by the names' bytes. A file
+    /// that isn't an id's hex digits and a line feed is passed over. The folder and those below it are listed, no others.
+    pub fn list(&self, alloc: Global, folder: &[u8]) -> Result<Vec<NamedId>, FileError>
+        ensures found { folder.now ≢ [] → Finds F.is_honest F.history self.now.files
+            (λ tree. IfOk result (λ names.
+            ListsNames self.now.kind tree folder.now names.items)) }
+        ensures failed { IsErrOf result Failed → F.reading_may_fail }
+    {
+        let mut ids = BTreeMap::new(alloc);
+        self.gather(alloc, folder, &mut ids)?;
+        Ok(in_order(alloc, ids)?)
+    }
+
+    // Puts in the names below a folder, with their ids.
+    fn gather(
+        &self,
+        alloc: Global,
+        folder: &[u8],
+        ids: &mut BTreeMap<Vec<u8>, ObjectId>,
+    ) -> Result<(), FileError>
+        ensures found { folder.now ≢ [] → Finds F.is_honest F.history self.now.files
+            (λ tree. OnOk result
+            (Gathers self.now.kind tree folder.now (ids_in ids.old) (ids_in ids.new))) }
+        ensures failed { IsErrOf result Failed → F.reading_may_fail }
+    {
+        for entry in &self.files().list(alloc, folder)? {
+            let path = joined(alloc, folder, entry)?;
+            if let Some(id) = self.read(alloc, &path)? {
+                ids.insert(path, id)?;
+            } else if is_deeper(&path, folder) {
+                self.gather(alloc, &path, ids)?;
+            }
+        }
+        Ok(())
+    }
+}
+
+// The names in a map, ascending, with their ids.
+fn in_order(alloc: Global, ids: BTreeMap<Vec<u8>, ObjectId>) -> Result<Vec<NamedId>, AllocError>
+    ensures { IfOk result (λ names. map name_entry names.items ≡ entries (ids_in ids)) }
+{
+    let mut names = Vec::new(alloc);
+    for (name, id) in ids {
+        names.push(NamedId { name, id })?;
+    }
+    Ok(names)
+}
