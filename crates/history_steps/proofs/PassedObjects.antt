@@ -13,6 +13,7 @@ use Rattle.history_steps.specs.Passing.{HoldsFirst, PutsPass}
 use Rattle.gix_hash_id.specs.declared.kind.Kind.{Kind}
 use Rattle.history_model.proofs.ClosedLemmas.{unfinished_gone, object_kept, object_folder_stood}
 use Rattle.history_model.proofs.PlaceLemmas.{one_text, text_itself}
+use Rattle.history_model.proofs.RecoveredLemmas.{place_differs}
 use Rattle.history_steps.proofs.TreePuts.{halves_stand, none_unfinished, puts_store, renames_put}
 use Rattle.history_model.proofs.WholeLists.{In, either, in_left, in_right, of_flat, none_is_some}
 use Rattle.std.proofs.lemmas.Bool.{or_parts}
@@ -35,15 +36,11 @@ module _ (tree : Tree) where
           let apart : path ≢ unfinished_place = λ one. absurd (cc (sym e ∙ ap (λ t. bytes_eq t unfinished_place) one ∙ text_itself unfinished_place)) in
           object_kept tree path apart ∙ same path apart ∙ h.files path
 
--- no object's place is that of the unfinished one
-place_apart : (kind : Kind) (old : Tree) (values : Values) (value : Value) → object_place (id_of kind value) ≢ unfinished_place
-place_apart kind old values value same = absurd (cc (sym (Rattle.history_model.proofs.RecoveredLemmas.place_apart (id_of kind value)) ∙ ap (bytes_eq unfinished_place) same ∙ text_itself unfinished_place))
-
 pub puts_pass : PutsPass
 puts_pass kind old tree values value own h free may = go may.here
   where
     apart : object_place (id_of kind value) ≢ unfinished_place
-    apart = place_apart kind old values value
+    apart = place_differs (id_of kind value)
 
     go : (file_at tree (object_place (id_of kind value)) ≡ file_at old (object_place (id_of kind value))) ⊎ (file_at tree (object_place (id_of kind value)) ≡ Some (value_text kind value))
         → HoldsFirst kind values (value ∷ []) tree

@@ -19,7 +19,7 @@ use Rattle.history_store.specs.ObjectTexts.{object_in}
 use Rattle.history_store.specs.Stores.{IsIdTaken, MayStand}
 use Rattle.history_store.proofs.IdSets.{has_with}
 use Rattle.history_store.proofs.TextObjects.{object_in-text}
-use Rattle.history_model.proofs.RecoveredLemmas.{place_apart}
+use Rattle.history_model.proofs.RecoveredLemmas.{place_differs}
 
 -- ---- the map that a set of ids and a tree make
 
@@ -37,9 +37,6 @@ StaysAt place old new = (other : Bytes) → file_at old place ≡ Some other →
 some_file : (o : Option Bytes) → IsSome (option_and_then object_in o) → (bytes : Bytes) × (o ≡ Some bytes)
 some_file None some = cc
 some_file (Some bytes) some = (bytes, refl)
-
-apart : (id : Id) → object_place id ≢ unfinished_place
-apart id same = cc (sym (place_apart id) ∙ (bytes_eq-Decides unfinished_place (object_place id)).1 (sym same))
 
 pub map_length : {X Y : Type 0} (f : X → Y) (xs : List X) → length (map f xs) ≡ length xs
 map_length f [] = refl
@@ -65,7 +62,7 @@ module _ (place text : Bytes) (old new : Tree) (may : MayStand place text old ne
     pub object_stays : (id : Id) → IsTrue (contains_key ids id) → object_at new id ≡ object_at old id
     object_stays id known =
         let stood = some_file (file_at old (object_place id)) (knows id known) in
-        ap (option_and_then object_in) (file_stays (object_place id) stood.0 (apart id) stood.1)
+        ap (option_and_then object_in) (file_stays (object_place id) stood.0 (place_differs id) stood.1)
 
     pub table_stays : IsAsBefore (table_in ids old) (table_in ids new)
     table_stays id = by_test (contains_key ids id) refl
