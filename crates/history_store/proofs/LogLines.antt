@@ -5,7 +5,7 @@ use Rattle.std.proofs.Math.Seq.{take-append_seam}
 use Rattle.std.proofs.lemmas.Bool.{or_parts}
 use Rattle.std.proofs.lemmas.List.{length-map, reverse-append, reverse-reverse, take-map}
 use Rattle.std.proofs.lemmas.List.Elements.{All-nil, All-cons, All-head, All-tail, All-append}
-use Rattle.std.proofs.lemmas.List.Splits.{slice_split_at}
+use Rattle.std.proofs.lemmas.List.Splits.{slice_split_at, slice_split_none}
 use Rattle.gix_object_lines.specs.Bytes.{Lacks}
 use Rattle.history_model.specs.Bytes.{Bytes, line}
 
@@ -36,20 +36,20 @@ no_feed (b ∷ text) lacks =
     let parts = or_parts (is_feed b) (list_any is_feed text) lacks in
     All-cons (λ byte. is_feed byte ≡ false) b text parts.0 (no_feed text parts.1)
 
--- lines that are cut at each line feed leave nothing behind the last
-lines_split : (lines : List Bytes) → All (Lacks 10) lines → slice_split is_feed (flat_map line lines) ≡ lines ++ [] ∷ []
-lines_split [] all = refl
-lines_split (text ∷ lines) all =
-    ap (slice_split is_feed) (append_assoc text (10 ∷ []) (flat_map line lines))
-    ∙ slice_split_at is_feed text 10 (flat_map line lines) (no_feed text (All-head (Lacks 10) text lines all)) refl
-    ∙ ap (λ parts. text ∷ parts) (lines_split lines (All-tail (Lacks 10) text lines all))
+-- lines that are cut at each line feed, with what stands behind the last
+lines_split : (lines : List Bytes) (rest : Bytes) → All (Lacks 10) lines → Lacks 10 rest → slice_split is_feed (flat_map line lines ++ rest) ≡ lines ++ rest ∷ []
+lines_split [] rest all lacks = slice_split_none is_feed rest (no_feed rest lacks)
+lines_split (text ∷ lines) rest all lacks =
+    ap (slice_split is_feed) (append_assoc (line text) (flat_map line lines) rest ∙ append_assoc text (10 ∷ []) (flat_map line lines ++ rest))
+    ∙ slice_split_at is_feed text 10 (flat_map line lines ++ rest) (no_feed text (All-head (Lacks 10) text lines all)) refl
+    ∙ ap (λ parts. text ∷ parts) (lines_split lines rest (All-tail (Lacks 10) text lines all) lacks)
 
-pub newest_first : (log : Bytes) (parts left turned : List (Bor Bytes)) (lines : List Bytes) (n : ℕ) → map (λ part. part.now) parts ≡ slice_split is_feed log → length parts ≡ n → left ≡ take (n - 1) parts → turned ≡ reverse left
-    → All (Lacks 10) lines → log ≡ flat_map line (reverse lines) → map (λ part. part.now) turned ≡ lines
-newest_first log parts left turned lines n cut all_parts is_left is_turned all is_log =
-    let texts : map (λ (part : Bor Bytes). part.now) parts ≡ reverse lines ++ [] ∷ [] = cut ∙ ap (slice_split is_feed) is_log ∙ lines_split (reverse lines) (All-reverse (Lacks 10) lines all) in
-    let count : n - 1 ≡ length (reverse lines) = omega (arith, length-map parts (λ (part : Bor Bytes). part.now), ap length texts, length-append (reverse lines) ([] ∷ [])) in
+pub newest_first : (log : Bytes) (parts left turned : List (Bor Bytes)) (lines : List Bytes) (rest : Bytes) (n : ℕ) → map (λ part. part.now) parts ≡ slice_split is_feed log → length parts ≡ n → left ≡ take (n - 1) parts → turned ≡ reverse left
+    → All (Lacks 10) lines → Lacks 10 rest → log ≡ flat_map line (reverse lines) ++ rest → map (λ part. part.now) turned ≡ lines
+newest_first log parts left turned lines rest n cut all_parts is_left is_turned all lacks is_log =
+    let texts : map (λ (part : Bor Bytes). part.now) parts ≡ reverse lines ++ rest ∷ [] = cut ∙ ap (slice_split is_feed) is_log ∙ lines_split (reverse lines) rest (All-reverse (Lacks 10) lines all) lacks in
+    let count : n - 1 ≡ length (reverse lines) = omega (arith, length-map parts (λ (part : Bor Bytes). part.now), ap length texts, length-append (reverse lines) (rest ∷ [])) in
     let kept : map (λ (part : Bor Bytes). part.now) left ≡ reverse lines =
     ap (map (λ (part : Bor Bytes). part.now)) is_left ∙ sym (take-map (λ (part : Bor Bytes). part.now) (n - 1) parts) ∙ ap (take (n - 1)) texts
-    ∙ ap (λ n. take n (reverse lines ++ [] ∷ [])) count ∙ take-append_seam (reverse lines) ([] ∷ []) in
+    ∙ ap (λ n. take n (reverse lines ++ rest ∷ [])) count ∙ take-append_seam (reverse lines) (rest ∷ []) in
     ap (map (λ (part : Bor Bytes). part.now)) is_turned ∙ map-reverse (λ (part : Bor Bytes). part.now) left ∙ ap reverse kept ∙ reverse-reverse lines

@@ -1,5 +1,5 @@
 //! The lines of a name's log: each is `<old> <new> <actor>`, a tab, the message and a line feed.
-ghost use Rattle.std.specs.Prelude.{◌≡◌, List, IfOk, map, reverse};
+ghost use Rattle.std.specs.Prelude.{◌≡◌, ◌++◌, List, IfOk, map, reverse};
 ghost use Rattle.std.specs.List.{All, flat_map};
 ghost use Rattle.gix_object_lines.specs.Bytes.{Lacks};
 ghost use Rattle.history_model.specs.Bytes.{Bytes, line};
@@ -41,7 +41,8 @@ impl LogEntry {
 
 /// The lines of a log without their line feeds, the newest first. What stands behind the last line feed is left out.
 pub fn log_lines(alloc: Global, log: &[u8]) -> Result<Vec<&[u8]>, AllocError>
-    ensures { (lines : List Bytes) → All (Lacks 10) lines → log.now ≡ flat_map line (reverse lines)
+    ensures { (lines : List Bytes) (rest : Bytes) → All (Lacks 10) lines → Lacks 10 rest
+        → log.now ≡ flat_map line (reverse lines) ++ rest
         → IfOk result (λ found. map (λ text. text.now) found.items ≡ lines) }
 {
     let mut lines: Vec<&[u8]> = log.split(|byte| *byte == b'\n').collect(alloc)?;

@@ -1,4 +1,4 @@
-use Rattle.std.proofs.Common.{◌≡◌, ◌∷◌, ◌++◌, [], length, map, ap, arith, ◌∙◌, Bor}
+use Rattle.std.proofs.Common.{◌≡◌, ◌∷◌, ◌++◌, [], length, map, ap, refl, sym, append-nil, arith, ◌∙◌, Bor}
 use Rattle.std.specs.Prelude.{codes, decimal}
 use Rattle.std.specs.List.{flat_map}
 use Rattle.std.proofs.lemmas.List.{take_all}
@@ -12,7 +12,7 @@ pub returns : goal.returns
 returns c = λ kind moves formed is_log.
     let found = c.deref-entry-items.result.now in
     let are : map (λ (entry : Bor Bytes). entry.now) found ≡ bodies moves =
-    ap (map (λ (entry : Bor Bytes). entry.now)) c.deref-entry-items.ensures.value ∙ c.in_ok-moves.ensures (bodies moves) (bodies_lack kind moves formed) (is_log ∙ log_of_bodies moves) in
+    ap (map (λ (entry : Bor Bytes). entry.now)) c.deref-entry-items.ensures.value ∙ c.in_ok-moves.ensures (bodies moves) [] (bodies_lack kind moves formed) refl (is_log ∙ log_of_bodies moves ∙ sym (append-nil _)) in
     let written : c.format.result.now ≡ decimal c.len.result = c.format.ensures.text in
     let count : c.as_bytes.result.now ≡ decimal (length found) = c.as_bytes.ensures.value ∙ written ∙ ap decimal (let same : c.len.result ≡ length found = omega arith in same) in
     let heading = same_line (c.as_slice.result.now ∷ c.as_slice-2.result.now ∷ c.as_bytes.result.now ∷ []) (codes "ok" ∷ codes "past" ∷ decimal (length found) ∷ []) c.new-text.result.items c.line.new.text.items c.in_ok-line.ensures (cc) in

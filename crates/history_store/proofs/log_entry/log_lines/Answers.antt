@@ -10,8 +10,8 @@ use Rattle.history_store.proofs.LogLines.{is_feed, newest_first}
 use Rattle.history_store.proofs.log_entry.log_lines.Goals as goal
 
 pub returns : goal.returns
-returns c = λ lines all is_log.
+returns c = λ lines rest all lacks is_log.
     let log = c.args.log.now in
     let collected = map_from_collect c.collect.result c.collect.ensures.ran (YieldsList-from_slice_split _ is_feed log c.split.ensures.rest c.split.ensures.done refl (λ x b q k. search rules)) in
     let cut = subst (λ (r : Result (Vec (Bor Bytes) Global) AllocError). IfOk r (λ parts. map (λ part. part.now) parts.items ≡ slice_split is_feed log)) c.in_ok-lines.was collected in
-    newest_first log c.in_ok-lines.lines.items c.pop.new.self.items c.reverse.new.self.items lines _ cut (omega arith) c.pop.ensures.rest c.reverse.ensures.items all is_log
+    newest_first log c.in_ok-lines.lines.items c.pop.new.self.items c.reverse.new.self.items lines rest _ cut (omega arith) c.pop.ensures.rest c.reverse.ensures.items all lacks is_log
