@@ -32,30 +32,30 @@ use Rattle.history_model.proofs.WholeLists.{texts_differ}
 use Rattle.history_store.specs.Commits.{SaysCommit}
 use Rattle.gix_object_commit.specs.declared.commit.owned.Commit as commits
 use Rattle.gix_hash_id.specs.declared.object_id.ObjectId.{ObjectId}
-use Rattle.history.specs.Acts.{AnswersReading, GivesMeant, ReadsWord, IsReadingFault, word_cause}
+use Rattle.history.specs.Acts.{OnlyAnswers, GivesMeant, ReadsWord, IsReadingFault, word_cause}
 use Rattle.history.specs.Shown.{shown_commit, shown_content}
 use Rattle.history.specs.declared.stopped.Stopped.{Stopped}
 use Rattle.history.specs.declared.stopped.Stopped.TheVariants.{Refused, Fault}
 use Rattle.history_model.proofs.EntryLemmas.{same_mode}
 
 -- a fault of reading is no refusal
-pub reading_fault : (MayFail : Type 0) (r : Repository) (order : Command) (stopped : Stopped) → IsReadingFault MayFail stopped → AnswersReading MayFail r order (Err stopped)
+pub reading_fault : (MayFail : Type 0) (r : Repository) (order : Command) (stopped : Stopped) → IsReadingFault MayFail stopped → OnlyAnswers MayFail r order (Err stopped)
 reading_fault MayFail r order (Refused cause) h = absurd h
 reading_fault MayFail r order (Fault fault) h = h
 
 -- a word that stands for no commit is told by its cause
 pub unread : (MayFail : Type 0) (r : Repository) (order : Command) (word : Bytes) (stopped : Stopped) → ((cause : Cause) → word_cause (word_meaning r word) ≡ Some cause → first_cause r order ≡ Some cause)
-    → ReadsWord MayFail r word (Err stopped) → AnswersReading MayFail r order (Err stopped)
+    → ReadsWord MayFail r word (Err stopped) → OnlyAnswers MayFail r order (Err stopped)
 unread MayFail r order word (Refused cause) told h = told cause h
 unread MayFail r order word (Fault fault) told h = h
 
 -- what a call stopped for is handed on
-pub handed_on : (MayFail : Type 0) (r : Repository) (order : Command) (result : Result (Vec ℕ Global) Stopped) (stopped : Stopped) → IsErrAnd result (λ other. other ≡ stopped) → AnswersReading MayFail r order (Err stopped) → AnswersReading MayFail r order result
+pub handed_on : (MayFail : Type 0) (r : Repository) (order : Command) (result : Result (Vec ℕ Global) Stopped) (stopped : Stopped) → IsErrAnd result (λ other. other ≡ stopped) → OnlyAnswers MayFail r order (Err stopped) → OnlyAnswers MayFail r order result
 handed_on MayFail r order (Ok text) stopped same h = absurd same
-handed_on MayFail r order (Err other) stopped same h = subst (λ (x : Stopped). AnswersReading MayFail r order (Err x)) (sym same) h
+handed_on MayFail r order (Err other) stopped same h = subst (λ (x : Stopped). OnlyAnswers MayFail r order (Err x)) (sym same) h
 
 -- what is given answers the command
-pub given : (MayFail : Type 0) (P : Vec ℕ Global → Type 0) (r : Repository) (order : Command) (result : Result (Vec ℕ Global) Stopped) → GivesMeant MayFail P result → ((text : Vec ℕ Global) → P text → AnswersReading MayFail r order (Ok text)) → AnswersReading MayFail r order result
+pub given : (MayFail : Type 0) (P : Vec ℕ Global → Type 0) (r : Repository) (order : Command) (result : Result (Vec ℕ Global) Stopped) → GivesMeant MayFail P result → ((text : Vec ℕ Global) → P text → OnlyAnswers MayFail r order (Ok text)) → OnlyAnswers MayFail r order result
 given MayFail P r order (Ok text) h answers = answers text h
 given MayFail P r order (Err stopped) h answers = reading_fault MayFail r order stopped h
 
@@ -106,7 +106,7 @@ module _ (r : Repository) (o : IsOffered r) (w : HasWholeNames r) where
   -- ---- what is shown
 
   pub files_answered : (MayFail : Type 0) (word : Bytes) (id : Id) (commit : CommitValue) (found : List FoundFile) (text : Vec ℕ Global) → word_meaning r word ≡ ReadsAs id → get r.objects id ≡ Some (StoredCommit commit)
-      → map line_of found ≡ map (file_line r.kind) (entries commit.files) → text.items ≡ reply_text (FilesAre (map line_of found)) → AnswersReading MayFail r (Files word) (Ok text)
+      → map line_of found ≡ map (file_line r.kind) (entries commit.files) → text.items ≡ reply_text (FilesAre (map line_of found)) → OnlyAnswers MayFail r (Files word) (Ok text)
   files_answered MayFail word id commit found text reads at are written = (
     FilesAre (files_shown r commit.files),
     written ∙ ap (λ files. reply_text (FilesAre files)) are,
@@ -115,7 +115,7 @@ module _ (r : Repository) (o : IsOffered r) (w : HasWholeNames r) where
   )
 
   pub commit_answered : (MayFail : Type 0) (word : Bytes) (id : ObjectId) (value : CommitValue) (commit : commits.Commit) (text : Vec ℕ Global) → word_meaning r word ≡ ReadsAs (id_of id) → get r.objects (id_of id) ≡ Some (StoredCommit value)
-      → SaysCommit r.kind commit value → text.items ≡ reply_text (ShowsCommit (shown_commit id commit)) → AnswersReading MayFail r (Show word None) (Ok text)
+      → SaysCommit r.kind commit value → text.items ≡ reply_text (ShowsCommit (shown_commit id commit)) → OnlyAnswers MayFail r (Show word None) (Ok text)
   commit_answered MayFail word id value commit text reads at is written =
       let shown : shown_commit id commit ≡ commit_shown r (id_of id) value = λ i. record { id = id_of id; tree = is.tree i; parents = is.parents i; author = is.author i; committer = is.committer i; message = is.message i } in (
         ShowsCommit (commit_shown r (id_of id) value),
@@ -159,7 +159,7 @@ module _ (r : Repository) (o : IsOffered r) (w : HasWholeNames r) where
 
     pub content_answered : (MayFail : Type 0) (kind : FileKind) (blob : ObjectId) (content : Content) (text : Vec ℕ Global) → has_below commit.files path ≡ false → get commit.files path ≡ Some content
         → kind ≡ content.kind → id_of blob ≡ blob_id r.kind content.bytes
-        → text.items ≡ reply_text (ShowsContent (shown_content kind blob content.bytes)) → AnswersReading MayFail r (Show word (Some path)) (Ok text)
+        → text.items ≡ reply_text (ShowsContent (shown_content kind blob content.bytes)) → OnlyAnswers MayFail r (Show word (Some path)) (Ok text)
     content_answered MayFail kind blob content text below found is_kind is_id written =
         let shown : shown_content kind blob content.bytes ≡ content_shown r content = λ i. record { kind = is_kind i; id = is_id i; bytes = content.bytes } in
         let accepted : first_cause r (Show word (Some path)) ≡ None = no_folder below ∙ ap (λ found. cond (is_none found || false) (Some NoSuchPath) None) found in

@@ -1,7 +1,6 @@
 -- What `names` answers, by what its folder lists.
-use Rattle.std.proofs.Common.{◌≡◌, ℕ, ◌⊎◌, inl, inr, Bool, true, false, cond, not, ◌&&◌, ◌||◌, T, List, [], ◌∷◌, ◌++◌, map, drop, length, refl, sym, ◌∙◌, ap, subst, append_assoc, Option, Some, None, option_map, option_and_then, is_some, unwrap_or, filter, codes, bytes_eq, Vec, Result, Ok}
+use Rattle.std.proofs.Common.{◌≡◌, ℕ, inl, inr, Bool, true, false, cond, not, ◌&&◌, ◌||◌, T, List, [], ◌∷◌, ◌++◌, map, drop, length, refl, sym, ◌∙◌, ap, subst, Option, Some, None, option_map, option_and_then, is_some, unwrap_or, filter, codes, bytes_eq, Vec, Ok}
 use Rattle.std.specs.declared.alloc.Global.{Global}
-use Rattle.std.specs.declared.cmp.Ordering.TheVariants.{Equal}
 use Rattle.std.specs.Ordering.{eq_by_cmp, is_lt}
 use Rattle.std.specs.Cmp.Lexicographic.{nat_list_cmp_total}
 use Rattle.std.specs.FinMap.{entries, entries_sorted, get, get-entries, find, is_sorted, slice_cmp-IsAntisymmetric, nat_cmp-IsAntisymmetric}
@@ -13,7 +12,6 @@ use Rattle.std.proofs.lemmas.Bool.{and_parts}
 use Rattle.gix_ref_file.specs.History.{History}
 use Rattle.gix_ref_file.specs.declared.files.FileError.{FileError}
 use Rattle.gix_ref_file.specs.declared.files.FileError.TheVariants.{Failed, Memory}
-use Rattle.gix_ref_file.specs.Tree.{Tree}
 use Rattle.gix_hash_id.specs.Id.{Id, id_of, null_id}
 use Rattle.gix_hash_id.specs.declared.kind.Kind.{Kind}
 use Rattle.history_model.specs.Bytes.{Bytes, by_bytes, begins}
@@ -25,7 +23,6 @@ use Rattle.history_model.specs.Places.{Pair, file_at, packed_place}
 use Rattle.history_model.specs.NameStates.{Holds, Symbolic, Absent, Faulty, loose_state, loose_line}
 use Rattle.history_model.specs.StandsFor.{StandsFor}
 use Rattle.history_model.specs.Commands.{Names}
-use Rattle.history_model.specs.CommandParts.{names_in}
 use Rattle.history_model.specs.Causes.{first_cause}
 use Rattle.history_model.specs.Objects.{hex}
 use Rattle.history_model.specs.Replies.{NameLine, NamesAre, reply_text}
@@ -42,7 +39,7 @@ use Rattle.history_steps.proofs.OfferedReads.{names_hold_commits}
 use Rattle.history_files.proofs.Lines.{map_twice}
 use Rattle.history_store.specs.NameLists.{ListsNames, NameIds, held_id, id_below, name_entry, spelled_id}
 use Rattle.history_store.specs.declared.listed.NamedId.{NamedId}
-use Rattle.history.specs.Acts.{AnswersReading, IsReadingFault}
+use Rattle.history.specs.Acts.{OnlyAnswers, IsReadingFault}
 use Rattle.history.specs.CommitCauses.{form_cause}
 use Rattle.history.specs.Face.{names_part}
 use Rattle.history.specs.Faults.{file_fault}
@@ -251,7 +248,7 @@ listing_fault MayFail Memory failed = tt
 pub names_answered : {F : Type 0} (IsHonest : F → Type 0) (history : F → History) (repository : own.Repository F) (r : Repository) (MayFail : Type 0) → Serves IsHonest history repository r
     → (kind : Kind) → kind ≡ r.kind → (folder : Option Bytes) (names : List NamedId) (text : Vec ℕ Global) → folder_cause (asked_folder folder) ≡ None
     → ListsNames kind (history (names_part repository)).tree (asked_folder folder) names
-    → text.items ≡ reply_text (NamesAre repository.branch.items (map shown_name names)) → AnswersReading MayFail r (Names folder) (Ok text)
+    → text.items ≡ reply_text (NamesAre repository.branch.items (map shown_name names)) → OnlyAnswers MayFail r (Names folder) (Ok text)
 names_answered IsHonest history repository r MayFail serves kind same folder names text good lists written =
     let whole = serves.stands.whole in
     let of_kind = subst (λ k. ListsNames k (history (names_part repository)).tree (asked_folder folder) names) same lists in

@@ -1,20 +1,19 @@
 -- Which name a word asks the past of, and why it is refused.
-use Rattle.std.proofs.Common.{◌≡◌, ℕ, Bool, true, false, cond, not, ◌||◌, List, [], ◌∷◌, refl, sym, ◌∙◌, ap, Option, Some, None, find, unwrap_or, bytes_eq, codes, Vec, Ok}
+use Rattle.std.proofs.Common.{◌≡◌, ℕ, Bool, true, false, cond, not, ◌||◌, [], ◌∷◌, refl, sym, ◌∙◌, ap, Option, Some, None, find, unwrap_or, bytes_eq, codes, Vec, Ok}
 use Rattle.std.specs.declared.alloc.Global.{Global}
 use Rattle.std.specs.List.{list_any}
 use Rattle.history_model.specs.Bytes.{Bytes, begins}
 use Rattle.history_model.specs.Repository.{Repository, moves_at, stands}
-use Rattle.history_model.specs.Forms.{IsWritten, is_branch, is_name, is_private}
+use Rattle.history_model.specs.Forms.{IsWritten, is_name, is_private}
 use Rattle.history_model.specs.Words.{candidates, head_word}
 use Rattle.history_model.specs.Commands.{Past}
-use Rattle.history_model.specs.CommandParts.{names_in}
 use Rattle.history_model.specs.Meaning.{past_name}
 use Rattle.history_model.specs.Causes.{first_cause}
 use Rattle.history_model.specs.Replies.{PastIs, reply_text}
 use Rattle.history_model.specs.declared.Cause.{Cause}
 use Rattle.history_model.specs.declared.Cause.TheVariants.{BadName, PrivateName, NoSuchName}
 use Rattle.history_model.proofs.WholePaths.{begins_parts}
-use Rattle.history.specs.Acts.{AnswersReading}
+use Rattle.history.specs.Acts.{OnlyAnswers}
 use Rattle.history.specs.CommitCauses.{form_cause}
 use Rattle.std.proofs.lemmas.Bool.{and_parts}
 
@@ -92,7 +91,7 @@ module _ (r : Repository) (written : IsWritten r) where
     pub absent_refused : form_cause name ≡ None → stands r name ≡ false → first_cause r (Past word) ≡ Some NoSuchName
     absent_refused e absent = formed e ∙ ap (λ b. cond (not b) (Some NoSuchName) None) absent
 
-    pub past_answered : (MayFail : Type 0) (text : Vec ℕ Global) → form_cause name ≡ None → stands r name ≡ true → text.items ≡ reply_text (PastIs (moves_at r name)) → AnswersReading MayFail r (Past word) (Ok text)
+    pub past_answered : (MayFail : Type 0) (text : Vec ℕ Global) → form_cause name ≡ None → stands r name ≡ true → text.items ≡ reply_text (PastIs (moves_at r name)) → OnlyAnswers MayFail r (Past word) (Ok text)
     past_answered MayFail text e there written = (
       PastIs (moves_at r (past_name r word)),
       written ∙ ap (λ n. reply_text (PastIs (moves_at r n))) asked,

@@ -56,7 +56,7 @@ impl<F: Files> Repository<F> {
     ghost use Rattle.history_model.specs.Repository as plain;
     ghost use Rattle.history_model.specs.Commands as model;
     ghost use Rattle.history.specs.Serving.{Serves};
-    ghost use Rattle.history.specs.Acts.{AnswersReading};
+    ghost use Rattle.history.specs.Acts.{OnlyAnswers};
 
     /// The reply to `names`: the names that stand, or those below a folder, ascending by their bytes, and HEAD's branch. Each
     /// name holds a commit, since no tag is stored yet.
@@ -66,7 +66,7 @@ impl<F: Files> Repository<F> {
         folder: Option<&[u8]>,
     ) -> Result<Vec<u8>, Stopped>
         ensures { (r : plain.Repository) → Serves F.is_honest F.history self.now r
-            → AnswersReading F.reading_may_fail r (model.Names (option_copied folder.entry)) result }
+            → OnlyAnswers F.reading_may_fail r (model.Names (option_copied folder.entry)) result }
     {
         let folder = folder.unwrap_or(ALL_NAMES);
         test_folder(folder)?;

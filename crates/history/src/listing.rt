@@ -47,12 +47,12 @@ impl<F: Files> Repository<F> {
     ghost use Rattle.history_model.specs.Repository as plain;
     ghost use Rattle.history_model.specs.Commands as model;
     ghost use Rattle.history.specs.Serving.{Serves};
-    ghost use Rattle.history.specs.Acts.{AnswersReading};
+    ghost use Rattle.history.specs.Acts.{OnlyAnswers};
 
     /// The reply to `files`: the files of the commit that the word stands for, their paths ascending.
     pub(crate) fn list_files(&self, alloc: Global, word: &[u8]) -> Result<Vec<u8>, Stopped>
         ensures { (r : plain.Repository) → Serves F.is_honest F.history self.now r
-            → AnswersReading F.reading_may_fail r (model.Files word.now) result }
+            → OnlyAnswers F.reading_may_fail r (model.Files word.now) result }
     {
         let id = self.commit_of(alloc, word)?;
         let commit = self.read_commit(alloc, &id)?;

@@ -46,7 +46,7 @@ impl<F: Files> Repository<F> {
     ghost use Rattle.history_model.specs.Commands as model;
     ghost use Rattle.history_model.specs.Meaning.{past_name};
     ghost use Rattle.history.specs.Serving.{Serves};
-    ghost use Rattle.history.specs.Acts.{AnswersReading, GivesMeant};
+    ghost use Rattle.history.specs.Acts.{OnlyAnswers, GivesMeant};
 
     /// The name that a word asks for: HEAD for its branch, a name for itself, and another word for the first that stands of the
     /// names that it may mean. A word that means none is left as it is.
@@ -69,7 +69,7 @@ impl<F: Files> Repository<F> {
     /// The reply to `past`: the lines of a name's log, the newest first.
     pub(crate) fn past(&self, alloc: Global, word: &[u8]) -> Result<Vec<u8>, Stopped>
         ensures { (r : plain.Repository) → Serves F.is_honest F.history self.now r
-            → AnswersReading F.reading_may_fail r (model.Past word.now) result }
+            → OnlyAnswers F.reading_may_fail r (model.Past word.now) result }
     {
         let name = self.past_name(alloc, word)?;
         test_name(&name)?;

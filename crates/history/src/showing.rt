@@ -149,13 +149,13 @@ impl<F: Files> Repository<F> {
     ghost use Rattle.history_model.specs.Objects.{StoredBytes};
     ghost use Rattle.history.specs.Stands.{Stands};
     ghost use Rattle.history.specs.Serving.{Serves};
-    ghost use Rattle.history.specs.Acts.{AnswersReading, GivesMeant};
+    ghost use Rattle.history.specs.Acts.{OnlyAnswers, GivesMeant};
 
     /// The reply to `show` of a commit.
     fn show_commit(&self, alloc: Global, id: &ObjectId) -> Result<Vec<u8>, Stopped>
         ensures { (r : plain.Repository) (word : Bytes) → Serves F.is_honest F.history self.now r
             → word_meaning r word ≡ ReadsAs (id_of id.now)
-            → AnswersReading F.reading_may_fail r (model.Show word None) result }
+            → OnlyAnswers F.reading_may_fail r (model.Show word None) result }
     {
         let commit = self.read_commit(alloc, id)?;
         Ok(commit_text(alloc, id, &commit)?)
@@ -177,7 +177,7 @@ impl<F: Files> Repository<F> {
         ensures { (r : plain.Repository) (word bytes : Bytes)
             → Serves F.is_honest F.history self.now r
             → word_meaning r word ≡ ReadsAs (id_of id.now) → Keeps max_path path.now bytes
-            → AnswersReading F.reading_may_fail r (model.Show word (Some bytes)) result }
+            → OnlyAnswers F.reading_may_fail r (model.Show word (Some bytes)) result }
     {
         if is_bad_path(path) {
             return Err(Stopped::Refused(Cause::BadPath));
@@ -194,7 +194,7 @@ impl<F: Files> Repository<F> {
     pub(crate) fn show(&self, alloc: Global, command: &Show) -> Result<Vec<u8>, Stopped>
         ensures { (r : plain.Repository) (path : Option Bytes)
             → Serves F.is_honest F.history self.now r → IsPath command.now.path path
-            → AnswersReading F.reading_may_fail r (model.Show command.now.word.items path) result }
+            → OnlyAnswers F.reading_may_fail r (model.Show command.now.word.items path) result }
     {
         let id = self.commit_of(alloc, &command.word)?;
         match &command.path {

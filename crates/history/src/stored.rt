@@ -35,7 +35,8 @@ impl<F: Files> Repository<F> {
     ) -> Result<Vec<u8>, Stopped>
         ensures { (r : plain.Repository) (value : Value) → Stands F.is_honest F.history self.now r
             → get r.objects (id_of id.now) ≡ Some value → object_kind value ≡ kind
-            → GivesMeant F.reading_may_fail (λ content. content.items ≡ content_of r.kind value) result }
+            → GivesMeant F.reading_may_fail
+            (λ content. content.items ≡ content_of r.kind value) result }
     {
         match self.objects.read(alloc, id)? {
             Some(object) if object.kind == kind => Ok(object.content),
@@ -59,7 +60,8 @@ impl<F: Files> Repository<F> {
         ensures { (r : plain.Repository) (value : CommitValue)
             → Stands F.is_honest F.history self.now r
             → get r.objects (id_of id.now) ≡ Some (StoredCommit value)
-            → GivesMeant F.reading_may_fail (λ root. id_of root ≡ folder_id r.kind value.files) result }
+            → GivesMeant F.reading_may_fail
+            (λ root. id_of root ≡ folder_id r.kind value.files) result }
     {
         let content = self.content(alloc, gix_object::Kind::Commit, id)?;
         Ok(commit_tree(self.objects.kind(), &content).ok_or(Fault::File)?)

@@ -1,19 +1,18 @@
 -- What a walk over folders of names gathers.
-use Rattle.std.proofs.Common.{◌≡◌, ◌≢◌, ◌⊎◌, inl, inr, refl, sym, ◌∙◌, ap, subst, ℕ, ◌+◌, ◌-◌, ◌<◌, ◌≤◌, Bool, true, false, cond, not, ◌&&◌, T, List, [], ◌∷◌, ◌++◌, length, take, map, get_or, append_assoc, Vec, arith}
+use Rattle.std.proofs.Common.{◌≡◌, ◌≢◌, ◌⊎◌, inl, inr, refl, sym, ◌∙◌, ap, subst, ℕ, ◌+◌, ◌-◌, ◌<◌, ◌≤◌, Bool, true, false, cond, ◌&&◌, T, List, [], ◌∷◌, ◌++◌, length, take, map, get_or, append_assoc, Vec, arith}
 use Rattle.std.proofs.lemmas.List.{map-append}
 use Rattle.std.specs.Prelude.{IsSome, is_some, IsTrue, Option, Some, None, option_map, option_and_then, MatchOption}
 use Rattle.std.specs.declared.alloc.Global.{Global}
 use Rattle.std.specs.declared.cmp.Ordering.{Ordering}
 use Rattle.std.specs.declared.cmp.Ordering.TheVariants.{Less, Equal, Greater}
-use Rattle.std.specs.Ordering.{is_lt, match_ordering, eq_by_cmp}
-use Rattle.std.specs.Cmp.{eq_by_cmp_equiv}
+use Rattle.std.specs.Ordering.{is_lt, match_ordering}
 use Rattle.std.specs.Cmp.Lexicographic.{nat_list_cmp_total}
 use Rattle.std.specs.List.{AllByRecursion}
 use Rattle.std.specs.List.Sorted.{IsStrictlySortedBy}
-use Rattle.std.specs.FinMap.{get, put, find, is_sorted, from_sorted, get-from_sorted, get-empty, entries-from_sorted, entries}
+use Rattle.std.specs.FinMap.{get, put, find, is_sorted, from_sorted, get-from_sorted, entries-from_sorted, entries}
 use Rattle.std.specs.FinMap.Entries.{by_order, below_all, find-put}
 use Rattle.std.specs.Map.{keys_of}
-use Rattle.std.specs.BTreeMap.{BTreeMap, insert_entry}
+use Rattle.std.specs.BTreeMap.{insert_entry}
 use Rattle.gix_ref_file.specs.Tree.{Tree, Node, file, folder, same_path, node_at, names_at, bytes_of, is_folder, IsRooted, under}
 use Rattle.gix_ref_file.proofs.Trees.{one_path, same_path_itself}
 use Rattle.gix_hash_id.specs.Id.{Id, id_of}
@@ -21,12 +20,12 @@ use Rattle.gix_hash_id.specs.declared.kind.Kind.{Kind}
 use Rattle.gix_hash_id.specs.declared.object_id.ObjectId.{ObjectId}
 use Rattle.history_model.specs.Bytes.{Bytes, by_bytes, ends}
 use Rattle.history_model.specs.FileMap.{is_below}
-use Rattle.history_model.specs.PackedNames.{id_from_hex, whole_line}
+use Rattle.history_model.specs.PackedNames.{id_from_hex}
 use Rattle.history_model.specs.Places.{file_at}
 use Rattle.history_model.proofs.FormatLemmas.{ends_so}
 use Rattle.history_model.proofs.WholePaths.{below_front, below_parts}
 use Rattle.history_steps.proofs.TreeMoves.{line_read}
-use Rattle.history_store.specs.NameLists.{Gathers, ListsNames, NameIds, held_id, id_below, ids_in, name_entry, spelled_id}
+use Rattle.history_store.specs.NameLists.{Gathers, ListsNames, NameIds, held_id, id_below, name_entry, spelled_id}
 use Rattle.history_store.specs.References.{SpellsId, NameHolds, IsAtOrBelow}
 use Rattle.history_store.specs.Stores.{IsAbove}
 use Rattle.history_store.specs.declared.listed.NamedId.{NamedId}

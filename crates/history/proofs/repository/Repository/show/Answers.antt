@@ -1,7 +1,7 @@
 use Rattle.std.proofs.Common.{subst}
 use Rattle.history_model.specs.Bytes.{Bytes}
 use Rattle.history_model.specs.Commands.{Show}
-use Rattle.history.specs.Acts.{AnswersReading}
+use Rattle.history.specs.Acts.{OnlyAnswers}
 use Rattle.history.proofs.Answered.{unread, handed_on, show_refused}
 use Rattle.history.proofs.repository.Repository.show.Goals as goal
 
@@ -9,6 +9,6 @@ pub returns-in_err-id : goal.returns-in_err-id
 returns-in_err-id g c = λ r path s kept.
     let word = c.deref.result.now in
     let MayFail = g.F.Files.reading_may_fail in
-    subst (λ (w : Bytes). AnswersReading MayFail r (Show w path) c.from_residual.result) c.deref.ensures.value
+    subst (λ (w : Bytes). OnlyAnswers MayFail r (Show w path) c.from_residual.result) c.deref.ensures.value
     (handed_on MayFail r (Show word path) c.from_residual.result _ c.from_residual.ensures.1
     (unread MayFail r (Show word path) word _ (show_refused r s.stage.offered s.stands.whole.whole.names word path) (c.in_err-id.ensures r s)))
