@@ -12,6 +12,7 @@ mod commit;
 mod editing;
 mod fields;
 mod listing;
+mod log;
 mod naming;
 mod open;
 mod planning;

@@ -1,0 +1,4 @@
+pub mod Named
+pub mod Spelled
+pub mod Faulty
+pub mod Walking
