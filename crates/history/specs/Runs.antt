@@ -32,6 +32,9 @@ abbrev pub changes_files : read_commands.Command → Bool
 changes_files (command.Commit commit) = true
 changes_files (command.Files word) = false
 changes_files (command.Show show) = false
+changes_files (command.Names folder) = false
+changes_files (command.Past word) = false
+changes_files (command.Log log) = false
 
 -- whether the command that was read changes files
 abbrev pub is_changing : Received → Bool

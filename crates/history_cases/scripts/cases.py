@@ -172,6 +172,60 @@ def two_branches():
     runs((made,), *((line + ONE, cause) for line, cause in refused), *after)
 
 
+def of_names():
+    """The names of a repository, those of a folder, and what a name has held; each cause where it is the first."""
+    one, two = SIGNED % (1, 1, 3, b"one"), SIGNED % (2, 2, 3, b"two")
+    main, x, tag = b"refs/heads/main", b"refs/heads/x/y", b"refs/tags/v"
+    answer(b"names\nnames refs\nnames refs/heads\npast HEAD\npast main\npast refs/heads/main\n", "NoSuchName", "BadName", "NoSuchName")
+    made = branch(main + b" new", 1) + branch(tag + b" new", 2, b"parent main\n") + branch(main + b" any", 3) + branch(x + b" new", 4)
+    asked = [b"names", b"names refs", b"names refs/heads", b"names refs/heads/x", b"names refs/heads/x/y", b"names refs/he",
+             b"names refs/tags", b"names refs/remotes", b"past HEAD", b"past main", b"past heads/main", b"past refs/heads/main",
+             b"past v", b"past x/y", b"past tags/v"]
+    runs((made,), *((line + b"\n",) for line in asked), by_git_alone=False)
+    refused = [(b"names heads", "BadName"), (b"names refs/", "BadName"), (b"names refs/heads/", "BadName"), (b"names HEAD", "BadName"),
+               (b"names refs/bisect/x", "PrivateName"), (b"names refs/worktree/a", "PrivateName"), (b"names refs/a..b", "BadName"),
+               (b"past nosuch", "BadName"), (b"past refs/heads/nosuch", "NoSuchName"), (b"past refs/heads", "NoSuchName"),
+               (b"past refs/bisect/x", "PrivateName"), (b"past x", "BadName"), (b"past a..b", "BadName"), (b"past refs/a..b", "BadName")]
+    runs((made,), *((line + b"\n", cause) for line, cause in refused), (b"names\n",), by_git_alone=False)
+
+
+def as_git_lists(made):
+    """Stops where a log isn't the list that git printed."""
+    plain = Plain("sha1")
+    numbers = {reply.split()[-1]: number for (reply, _), number in zip(plain.run(made)[1], "123459678")}
+    for (order, how), lists in by_git.LISTS.items():
+        for items, listed_ in lists.items():
+            _, ((reply, _),) = plain.run(f"log {order} {how} {items}\n".encode())
+            assert "".join(numbers[it] for it in reply.split()[3:]) == listed_, (order, how, items)
+
+
+def logs():
+    """Eight commits on two branches in each order, from one tip and from more, with some that are hidden, and what is refused."""
+    m, s = b"refs/heads/m", b"refs/heads/s"
+    made = branch(m + b" new", 1) + branch(s + b" new", 2, b"parent m\n") + branch(m + b" any", 3) + branch(s + b" any", 4)
+    made += branch(m + b" any", 5) + branch(b"refs/heads/o new", 9, b"parent s\n") + branch(m + b" any", 6) + branch(s + b" any", 7)
+    made += branch(b"refs/heads/j new", 8, b"parent m\nparent s\n")
+    lines = [b"log %s %s %s\n" % (order, how, items) for order in (b"breadth", b"newest", b"oldest", b"date", b"topological")
+             for how in (b"all", b"first") for items in (b"+j", b"+m +s", b"+s +m +s", b"+o +j", b"+j -s", b"-o +j", b"+j -j", b"+m -o -s")
+             if how == b"all" or order == b"breadth" or b"-" not in items and order in (b"date", b"topological")]
+    lines += [b"log %s %d %s\n" % (order, since, items) for order in (b"newest-since", b"oldest-since") for since in (0, 4, 6, 8, 9)
+              for items in (b"all +j", b"all +s +m", b"all -o +j")]
+    runs((made,), *((line,) for line in lines), by_git_alone=False)
+    as_git_lists(made)
+    refused = [(b"log newest all +m -nosuch", "UnknownWord"), (b"log newest-since x all +HEAD", "UnbornHead"),
+               (b"log newest-since x all +nosuch -HEAD", "UnknownWord"), (b"log newest-since x first +m", "BadTime"),
+               (b"log oldest-since 01 all +m", "BadTime"), (b"log oldest-since 9223372036854775808 all +m", "BadTime"),
+               (b"log newest-since -1 all +m", "BadTime"), (b"log newest first +m", "OrderWithParents"),
+               (b"log oldest first +m", "OrderWithParents"), (b"log newest-since 1 first +m", "OrderWithParents"),
+               (b"log oldest-since 1 first +m", "OrderWithParents"), (b"log date first +m -s", "OrderWithParents"),
+               (b"log topological first +m -m", "OrderWithParents")]
+    runs((made,), *((line + b"\n", cause) for line, cause in refused), (b"log newest-since 9223372036854775807 all +j\n",),
+         (b"log breadth first +m -s\n",), by_git_alone=False)
+    for line in (b"log\n", b"log breadth all -m\n", b"log breadth all m\n", b"log breadth all +\n", b"log breadth all +m path 1\na\n",
+                 b"log newest-since all +m\n", b"names a b\n", b"past\n", b"past a b\n"):
+        answer(INPUT + line, "Syntax", end="Refused")
+
+
 def removals():
     """What stands is taken out, in the order of the edits; of what doesn't stand nothing is."""
     runs((b"commit refs/heads/main new\nput file 1 1\na\n1\nput file 1 1\nb\n1\nput file 1 1\nc\n1\n" + ONE,),
@@ -379,7 +433,9 @@ def by_chance(chance, kind):
         name = chance.choice([b"main", b"HEAD", b"refs/heads/x", b"v", b"heads/x"])
         path = chance.choice(paths)
         if chance.random() < 0.4:
-            return chance.choice([b"files %s\n" % name, b"show %s\n" % name, b"show %s path %d\n%s\n" % (name, len(path), path)])
+            return chance.choice([b"files %s\n" % name, b"show %s\n" % name, b"show %s path %d\n%s\n" % (name, len(path), path),
+                                  b"names\n", b"names %s\n" % chance.choice(names), b"past %s\n" % name,
+                                  b"log breadth all +%s +main -%s\n" % (name, chance.choice(names))])
         expect = chance.choice([b"any", b"any", b"any", b"new", b"at " + name])
         parents = b"".join(b"parent %s\n" % chance.choice([b"main", b"x", b"HEAD"]) for _ in range(chance.choice([0, 0, 0, 1, 2])))
         edits = b"".join(edit() for _ in range(chance.randrange(4)))
@@ -394,7 +450,7 @@ def by_chance(chance, kind):
 
 
 if __name__ == "__main__":
-    for part in (rows, first_causes, two_branches, removals, nested, limits, opening, readings, readers, faults, stops):
+    for part in (rows, first_causes, two_branches, of_names, logs, removals, nested, limits, opening, readings, readers, faults, stops):
         part()
     chance = random.Random(23)
     for number in range(200):

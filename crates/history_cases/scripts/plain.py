@@ -5,6 +5,8 @@ import hashlib
 import re
 
 MODES = {b"file": b"100644", b"exec": b"100755", b"link": b"120000"}
+ORDERS = (b"breadth", b"newest", b"oldest", b"newest-since", b"oldest-since", b"date", b"topological")
+PRIVATE = (b"refs/bisect/", b"refs/worktree/", b"refs/rewritten/")
 LIMIT = 2 ** 24
 
 
@@ -51,9 +53,30 @@ class Reader:
             return ("show", words[1], None)
         if words[0] == b"show" and len(words) == 4 and words[2] == b"path":
             return ("show", words[1], self.fields(words[3:])[0])
+        if words[0] in (b"names", b"past", b"log"):
+            return getattr(self, words[0].decode())(words[1:])
         refuse_where(words[0] != b"commit" or len(words) not in (3, 4), "Syntax")
         refuse_where((len(words) == 4) != (words[2] == b"at") or words[2] not in (b"at", b"any", b"new"), "Syntax")
         return self.commit(words[1], words[2:])
+
+    def names(self, words):
+        refuse_where(len(words) > 1, "Syntax")
+        return ("names_in", words[0] if words else None)
+
+    def past(self, words):
+        refuse_where(len(words) != 1, "Syntax")
+        return ("past", words[0])
+
+    def log(self, words):
+        """A log: its order, the seconds behind it or none, whether it follows first parents alone, and its items."""
+        order, words = words[0] if words else b"", words[1:]
+        refuse_where(order not in ORDERS, "Syntax")
+        since, words = (words[0] if words else None, words[1:]) if order.endswith(b"-since") else (None, words)
+        refuse_where(not words or words[0] not in (b"all", b"first"), "Syntax")
+        items = [(it[:1], it[1:]) for it in words[1:]]
+        refuse_where(any(sign not in (b"+", b"-") or not target for sign, target in items), "Syntax")
+        refuse_where(all(sign != b"+" for sign, _ in items), "Syntax")
+        return ("log", order.partition(b"-")[0], since, words[0] == b"first", items)
 
     def commit(self, name, expect):
         parents, edits, words = [], [], self.line()
@@ -103,6 +126,51 @@ def is_time(seconds, offset):
     return bool(good) and offset != b"-0000"
 
 
+class Walk:
+    """Commits along their parents, or their first parents alone."""
+
+    def __init__(self, commits, first_parents):
+        self.parents = {it: commit["parents"][:1] if first_parents else commit["parents"] for it, commit in commits.items()}
+        self.times = {it: int(commit["committer"][2]) for it, commit in commits.items()}
+
+    def reached(self, tips, since):
+        """What is reached from the tips, where each commit on the way is no older."""
+        found, left = set(), list(tips)
+        while left:
+            at = left.pop()
+            if at not in found and self.times[at] >= since:
+                found.add(at)
+                left += self.parents[at]
+        return found
+
+    def listed(self, order, tips, inside):
+        """All that are inside, in this order. Where two of one time might both come next, either may be told: then this stops."""
+        found = []
+        while len(found) < len(inside):
+            found.append(self.following(order, tips, inside, found))
+        return found
+
+    def following(self, order, tips, inside, found):
+        named = [(at, place, number) for place, it in enumerate(found) for number, at in enumerate(self.parents[it])]
+        after_all = [it for it in inside if all(it not in self.parents[child] or child in found for child in inside)]
+        opened = [it for it in [*tips, *(at for at, _, _ in named)] if it in inside and it not in found]
+        if order == b"breadth":
+            return opened[0]
+        if order == b"topological":
+            last = {at: (place, number) for at, place, number in named}
+            ready = [it for it in after_all if it not in found]
+            behind = [it for it in ready if it in last]
+            return max(behind, key=last.get) if behind else self.only(max, ready)
+        if order == b"date":
+            return self.only(max, [it for it in after_all if it not in found])
+        return self.only(min if order == b"oldest" else max, opened)
+
+    def only(self, choose, some):
+        time = choose(self.times[it] for it in some)
+        (one,) = {it for it in some if self.times[it] == time}
+        return one
+
+
 class Plain:
     """A repository: objects by id, names, logs. HEAD is on `refs/heads/main`."""
 
@@ -137,11 +205,15 @@ class Plain:
         if word == b"HEAD":
             refuse_where(b"refs/heads/main" not in self.names, "UnbornHead")
             return self.names[b"refs/heads/main"]
+        name = self.candidate(word)
+        refuse_where(name is None, "UnknownWord")
+        return self.names[name]
+
+    def candidate(self, word):
+        """The first of a word's names that stands, if one does."""
         names = [b"refs/%s", b"refs/tags/%s", b"refs/heads/%s", b"refs/remotes/%s", b"refs/remotes/%s/HEAD"]
-        for name in ([word] if word.startswith(b"refs/") else []) + [it % word for it in names]:
-            if name in self.names:
-                return self.names[name]
-        raise Refused("UnknownWord")
+        found = ([word] if word.startswith(b"refs/") else []) + [it % word for it in names]
+        return next((name for name in found if name in self.names), None)
 
     def resolved(self, words):
         """The commits of some words: `UnknownWord` is told before `UnbornHead`."""
@@ -153,7 +225,7 @@ class Plain:
     def commit(self, name, expect, parents, edits, author, committer, message):
         name = b"refs/heads/main" if name == b"HEAD" else name
         refuse_where(not is_name(name), "BadName")
-        refuse_where(name.startswith((b"refs/bisect/", b"refs/worktree/", b"refs/rewritten/")), "PrivateName")
+        refuse_where(name.startswith(PRIVATE), "PrivateName")
         *at, = self.resolved(expect[1:] + parents)
         wanted, at = (at[0], at[1:]) if expect[1:] else (None, at)
         stands = self.names.get(name)
@@ -228,6 +300,32 @@ class Plain:
         content = self.objects[digits].partition(b"\0")[2]
         kind = {it: kind for kind, it in MODES.items()}[mode]
         return b"ok show content %s %s %d\n%s\n" % (kind, digits, len(content), content)
+
+    def names_in(self, folder):
+        refuse_where(folder not in (None, b"refs") and not is_name(folder), "BadName")
+        refuse_where((folder or b"").startswith(PRIVATE), "PrivateName")
+        found = [it for it in sorted(self.names) if folder is None or it.startswith(folder + b"/")]
+        lines = [b"%s %s %s\n" % (self.names[name], self.names[name], name) for name in found]
+        return b"ok names %d refs/heads/main\n" % len(found) + b"".join(lines)
+
+    def past(self, word):
+        name = b"refs/heads/main" if word == b"HEAD" else word if is_name(word) else self.candidate(word) or word
+        refuse_where(not is_name(name), "BadName")
+        refuse_where(name.startswith(PRIVATE), "PrivateName")
+        refuse_where(name not in self.names, "NoSuchName")
+        moves = self.logs[name].splitlines(keepends=True)
+        return b"ok past %d\n" % len(moves) + b"".join(reversed(moves))
+
+    def log(self, order, since, first_parents, items):
+        targets = self.resolved([target for _, target in items])
+        refuse_where(since is not None and not is_time(since, b"+0000"), "BadTime")
+        hidden = [it for it, (sign, _) in zip(targets, items) if sign == b"-"]
+        refuse_where(first_parents and order != b"breadth" and (hidden or order in (b"newest", b"oldest")), "OrderWithParents")
+        tips = list(dict.fromkeys(it for it, (sign, _) in zip(targets, items) if sign == b"+"))
+        walk = Walk(self.commits, first_parents)
+        hides = Walk(self.commits, False).reached(hidden, 0)
+        listed = walk.listed(order, tips, walk.reached(tips, int(since or 0)) - hides)
+        return b"ok log %d\n" % len(listed) + b"".join(it + b"\n" for it in listed)
 
     def run(self, data):
         """How the run ends, and the reply to each command, with where in the input the command ends."""

@@ -1,14 +1,17 @@
 -- What is offered at this stage: first lines and words. The other modules state all commands, and to offer more is to widen this
 -- module alone: the grammar, its table of lines and the words each ask it at one place.
-use Rattle.std.specs.Prelude.{Bool, true, false}
+use Rattle.std.specs.Prelude.{Bool, true, false, None}
 use Rattle.history_model.specs.Commands.{Command}
-use Rattle.history_model.specs.Lines.{Heading, CommitHeading, FilesHeading, ShowHeading, first_line}
+use Rattle.history_model.specs.Lines.{Heading, CommitHeading, NamesHeading, FilesHeading, PastHeading, LogHeading, ShowHeading, first_line}
 
--- The lines that may begin a command: those of `commit`, and of `files` and `show`, which only read. In a stream the grammar allows
--- no other there.
+-- The lines that may begin a command: those of `commit`, and of the commands that only read: `names`, `files`, `past`, `log` without a
+-- path, and `show`. In a stream the grammar allows no other there.
 abbrev pub opens : Heading → Bool
 opens (CommitHeading name expect) = true
+opens (NamesHeading folder) = true
 opens (FilesHeading word) = true
+opens (PastHeading name) = true
+opens (LogHeading order first_parents items None) = true
 opens (ShowHeading word path) = true
 opens _ = false
 

@@ -1,8 +1,9 @@
 -- The command whose parts have come.
-use Rattle.std.proofs.Common.{◌≡◌, ◌≢◌, Bool, true, false, ◌&&◌, List, [], Some, refl, ap, subst}
+use Rattle.std.proofs.Common.{◌≡◌, ◌≢◌, true, ◌&&◌, List, [], length, nat_le, Some, None, refl, ap, subst}
 use Rattle.std.specs.List.{list_all}
 use Rattle.history_model.specs.Commands as model
-use Rattle.history_model.specs.Spelling.{Part, parts_of, parts_text, is_part, has_enough}
+use Rattle.history_model.specs.Spelling.{Part, parts_of, parts_text, is_part, are_items, has_enough}
+use Rattle.history_model.specs.Lines.{LogHeading, first_length}
 use Rattle.history_model.specs.Stage.{opens, is_spoken}
 use Rattle.history_model.specs.Grammar.{Spells}
 use Rattle.history_word.specs.LineTable as table
@@ -19,10 +20,18 @@ pub live : (p : Place) → p ≢ place.Done → place_of p ≢ table.Done
 live place.Done h e = h refl
 live p h e = cc
 
+without_path : (log : model.LogCommand) → are_items log.items ≡ true → log.paths ≡ [] → (has_enough (model.Log log) ≡ true) × (is_spoken (model.Log log) ≡ true)
+without_path log begins none =
+    (and_from (are_items log.items) (nat_le (length log.paths) 1) begins (ap (λ paths. nat_le (length paths) 1) none), ap (λ paths. opens (LogHeading log.order log.first_parents log.items (first_length paths))) none)
+
 is_enough : (d : Draft) (order : model.Command) → IsDraft d order → (has_enough order ≡ true) × (is_spoken order ≡ true)
 is_enough (draft.Commit c) (model.Commit order) h = (refl, refl)
 is_enough (draft.Files w) (model.Files word) h = (refl, refl)
 is_enough (draft.Show s) (model.Show word path) h = (refl, refl)
+is_enough draft.Names (model.Names None) h = (refl, refl)
+is_enough (draft.NamesIn f) (model.Names (Some folder)) h = (refl, refl)
+is_enough (draft.Past w) (model.Past word) h = (refl, refl)
+is_enough (draft.Log line) (model.Log log) h = without_path log h.begins h.paths
 is_enough d order h = absurd h
 
 -- at the end, the parts are those of the command that the draft has

@@ -12,7 +12,7 @@ use Rattle.history_word.specs.TableRuns.{at, run_from}
 use Rattle.history_model.specs.declared.Cause.{Cause}
 use Rattle.history_word.specs.Commands.{IsExpect}
 use Rattle.history_word.specs.Progress.{IsNoField, StopsFrom}
-use Rattle.history_word.specs.Drafts.{role_of, place_of, edit_heading, edit_fields, edit_sizes, to_parents, IsEditHeading, IsHeading, IsDraft, TakesLine, TakesEdit, TakesParts, with_parent, with_edit, with_actor, with_message}
+use Rattle.history_word.specs.Drafts.{role_of, place_of, edit_heading, edit_fields, edit_sizes, to_parents, IsEditHeading, IsHeading, IsLogLine, log_of, IsDraft, TakesLine, TakesEdit, TakesParts, with_parent, with_edit, with_actor, with_message}
 use Rattle.std.proofs.Common.{Vec, Global}
 use Rattle.history_word.specs.declared.command.Expect.{Expect}
 use Rattle.history_word.specs.declared.command.Edit.{Edit}
@@ -20,6 +20,7 @@ use Rattle.history_word.specs.declared.heading.EditHeading.{EditHeading}
 use Rattle.history_word.specs.declared.heading.EditHeading.TheVariants as edit
 use Rattle.history_word.specs.declared.heading.Heading.{Heading}
 use Rattle.history_word.specs.declared.heading.Heading.TheVariants as heading
+use Rattle.history_word.specs.declared.logs.LogLine.{LogLine}
 use Rattle.history_word.specs.declared.heading.Role.{Role}
 use Rattle.history_word.specs.declared.heading.Role.TheVariants.{Author, Committer}
 use Rattle.history_word.specs.declared.place.Place.{Place}
@@ -27,7 +28,7 @@ use Rattle.history_word.specs.declared.place.Place.TheVariants as place
 use Rattle.history_word.specs.declared.draft.Draft.{Draft}
 use Rattle.history_word.specs.declared.draft.Draft.TheVariants as draft
 use Rattle.history_word.proofs.ProgressLemmas.{leads_line, leads_field, stops_here, stops_after, field_stops}
-use Rattle.history_word.proofs.DraftLemmas.{as_said, parts_with, takes_parts, come_to_edits, commit_place, parent_place, edit_place, author_place, committer_place, message_place, end_place, files_place, show_place, path_place}
+use Rattle.history_word.proofs.DraftLemmas.{as_said, parts_with, takes_parts, come_to_edits, commit_place, parent_place, edit_place, author_place, committer_place, message_place, end_place, files_place, show_place, path_place, log_heading, names_place, past_place, log_place}
 
 abbrev Word : Type 0
 Word = Option (Vec ℕ Global)
@@ -88,6 +89,22 @@ show_said word h e = absurd e
 pub path_said : (word : Word) (n : ℕ) (h : lines.Heading) → IsHeading (heading.ShowPath word n) h → (w : Bytes) × (h ≡ lines.ShowHeading w (Some n)) × IfSome word (λ x. x.items ≡ w)
 path_said word n (lines.ShowHeading w (Some m)) e = (w, (λ i. lines.ShowHeading w (Some (sym e.1 i))), e.0)
 path_said word n h e = absurd e
+
+pub names_said : (h : lines.Heading) → IsHeading heading.Names h → h ≡ lines.NamesHeading None
+names_said (lines.NamesHeading None) e = refl
+names_said h e = absurd e
+
+pub folder_said : (folder : Word) (h : lines.Heading) → IsHeading (heading.NamesIn folder) h → (f : Bytes) × (h ≡ lines.NamesHeading (Some f)) × IfSome folder (λ x. x.items ≡ f)
+folder_said folder (lines.NamesHeading (Some f)) e = (f, refl, e)
+folder_said folder h e = absurd e
+
+pub past_said : (word : Word) (h : lines.Heading) → IsHeading (heading.Past word) h → (w : Bytes) × (h ≡ lines.PastHeading w) × IfSome word (λ x. x.items ≡ w)
+past_said word (lines.PastHeading w) e = (w, refl, e)
+past_said word h e = absurd e
+
+pub log_said : (line : LogLine) (h : lines.Heading) → IsHeading (heading.Log line) h → (log : model.LogCommand) × (h ≡ log_heading log) × IsLogLine line log
+log_said line (lines.LogHeading order first_parents items None) e = (log_of order first_parents items, refl, e)
+log_said line h e = absurd e
 
 pub actor_sizes : (role : Role) (m n : ℕ) (seconds offset : Word) (h : lines.Heading) → IsHeading (heading.Actor role m n seconds offset) h → lines.sizes h ≡ m ∷ n ∷ []
 actor_sizes role m n seconds offset h e = ap lines.sizes (actor_said role m n seconds offset h e).2
@@ -296,3 +313,42 @@ path_parts p q word n xs ys old new t a la ya f =
     let places = path_place p q said.0 (length a) s.stands in
     takes_parts p q place.Start place.Done old new h xs (xs ++ ys) (a ∷ []) s refl places.0 places.1 (one_text xs ys a ya)
     (λ before come. (model.Show said.0 (Some a), ap (λ x. x ++ parts_with h (a ∷ [])) come, f said.0 said.2))
+
+pub names_parts : (p q : Place) (xs : Bytes) (old : Draft) → TakesLine p heading.Names q xs → TakesParts p old q draft.Names xs
+names_parts p q xs old t =
+    let h = lines.NamesHeading None in
+    let s = as_said p q heading.Names h xs t (names_said t.heading t.is) in
+    let places = names_place p q None s.stands in
+    takes_parts p q place.Start place.Done old draft.Names h xs xs [] s refl places.0 places.1 (sym (append-nil xs))
+    (λ before come. (model.Names None, ap (λ x. x ++ parts_with h []) come, tt))
+
+pub folder_parts : (p q : Place) (folder : Word) (xs : Bytes) (old : Draft) → TakesLine p (heading.NamesIn folder) q xs → TakesParts p old q (draft.NamesIn folder) xs
+folder_parts p q folder xs old t =
+    let said = folder_said folder t.heading t.is in
+    let h = lines.NamesHeading (Some said.0) in
+    let s = as_said p q (heading.NamesIn folder) h xs t said.1 in
+    let places = names_place p q (Some said.0) s.stands in
+    takes_parts p q place.Start place.Done old (draft.NamesIn folder) h xs xs [] s refl places.0 places.1 (sym (append-nil xs))
+    (λ before come. (model.Names (Some said.0), ap (λ x. x ++ parts_with h []) come, said.2))
+
+pub past_parts : (p q : Place) (word : Word) (xs : Bytes) (old : Draft) → TakesLine p (heading.Past word) q xs → TakesParts p old q (draft.Past word) xs
+past_parts p q word xs old t =
+    let said = past_said word t.heading t.is in
+    let h = lines.PastHeading said.0 in
+    let s = as_said p q (heading.Past word) h xs t said.1 in
+    let places = past_place p q said.0 s.stands in
+    takes_parts p q place.Start place.Done old (draft.Past word) h xs xs [] s refl places.0 places.1 (sym (append-nil xs))
+    (λ before come. (model.Past said.0, ap (λ x. x ++ parts_with h []) come, said.2))
+
+-- the parts of a log without a path
+log_line : (log : model.LogCommand) → log.paths ≡ [] → parts_with (log_heading log) [] ≡ spelling.parts_of (model.Log log)
+log_line log none = ap (λ paths. spelling.parts_of (model.Log (record log { paths = paths }))) (sym none)
+
+pub log_parts : (p q : Place) (line : LogLine) (xs : Bytes) (old : Draft) → TakesLine p (heading.Log line) q xs → TakesParts p old q (draft.Log line) xs
+log_parts p q line xs old t =
+    let said = log_said line t.heading t.is in
+    let h = log_heading said.0 in
+    let s = as_said p q (heading.Log line) h xs t said.1 in
+    let places = log_place p q said.0 said.2.begins s.stands in
+    takes_parts p q place.Start place.Done old (draft.Log line) h xs xs [] s refl places.0 places.1 (sym (append-nil xs))
+    (λ before come. (model.Log said.0, ap (λ x. x ++ parts_with h []) come ∙ log_line said.0 said.2.paths, said.2))

@@ -2,20 +2,21 @@
 use Rattle.std.proofs.Common.{◌≡◌, ℕ, Bool, true, false, List, [], ◌∷◌, Option, Some, None, refl, sym, ◌∙◌, bytes_eq, codes, if◌then◌else◌, option_map, option_and_then}
 use Rattle.std.proofs.lemmas.Slice.Eq.{bytes_eq-Decides}
 use Rattle.history_model.specs.Bytes.{Bytes}
-use Rattle.history_model.specs.Commands.{Expect, Order}
+use Rattle.history_model.specs.Commands.{Expect}
 use Rattle.history_model.specs.Lines as lines
 use Rattle.history_word.specs.LineTable as table
-use Rattle.history_word.specs.LineTable.{expect_of, number_of, end_of_words, word_of_words, actor_of_words, target_of_words, rename_of_words, delete_of_words, names_of_words, order_of, first_parents_of, items_of, walk_of_words, log_of_words, name_heading_of, heading_of}
+use Rattle.history_word.specs.LineTable.{expect_of, number_of, end_of_words, word_of_words, actor_of_words, target_of_words, rename_of_words, delete_of_words, name_heading_of, heading_of}
 use Rattle.history_word.specs.TableRuns.{next_offered}
+use Rattle.history_word.specs.declared.heading.Heading.{Heading}
 use Rattle.history_word.specs.declared.place.Place.{Place}
 use Rattle.history_word.specs.declared.place.Place.TheVariants as place
 use Rattle.history_word.specs.Drafts.{place_of, Says}
 
-abbrev Nowhere : lines.Heading → Type 0
+abbrev pub Nowhere : lines.Heading → Type 0
 Nowhere h = (p : Place) → next_offered (place_of p) h ≡ None
 
 -- it stands at none of the places, one by one
-nowhere : (h : lines.Heading) → next_offered table.Start h ≡ None → next_offered table.Parents h ≡ None → next_offered table.Edits h ≡ None → next_offered table.ToCommitter h ≡ None → next_offered table.ToMessage h ≡ None
+pub nowhere : (h : lines.Heading) → next_offered table.Start h ≡ None → next_offered table.Parents h ≡ None → next_offered table.Edits h ≡ None → next_offered table.ToCommitter h ≡ None → next_offered table.ToMessage h ≡ None
     → next_offered table.ToEnd h ≡ None → Nowhere h
 nowhere h start parents edits committer message end place.Start = start
 nowhere h start parents edits committer message end place.Parents = parents
@@ -67,24 +68,40 @@ no_delete (name ∷ any ∷ []) = either (bytes_eq any (codes "any")) (Some (lin
 no_delete (name ∷ at ∷ word ∷ []) = either (bytes_eq at (codes "at")) (Some (lines.DeleteHeading name (Some word))) None (nowhere (lines.DeleteHeading name (Some word)) refl refl refl refl refl refl) tt
 no_delete words = tt
 
-no_names : (words : List Bytes) → Says None (names_of_words words)
-no_names [] = nowhere (lines.NamesHeading None) refl refl refl refl refl refl
-no_names (folder ∷ []) = nowhere (lines.NamesHeading (Some folder)) refl refl refl refl refl refl
-no_names words = tt
-
-no_walk : (order : Order) (words : List Bytes) → Says None (walk_of_words order words)
-no_walk order [] = tt
-no_walk order (parents ∷ words) =
-    chained (λ first. option_map (λ items. lines.LogHeading order first items.0 items.1) (items_of words))
-    (λ first. mapped (λ items. lines.LogHeading order first items.0 items.1) (λ items. nowhere (lines.LogHeading order first items.0 items.1) refl refl refl refl refl refl) (items_of words)) (first_parents_of parents)
-
-no_log : (words : List Bytes) → Says None (log_of_words words)
-no_log words = chained (λ order. walk_of_words order.0 order.1) (λ order. no_walk order.0 order.1) (order_of words)
-
 -- ---- by the first word
 
-no_name_line : (first : Bytes) (words : List Bytes) → Says None (name_heading_of first words)
-no_name_line first words =
+-- the first word isn't this one, where a test of them fails
+pub is_other : (first word name : Bytes) (test : Bool) → (first ≡ word → test ≡ true) → word ≡ name → test ≡ false → bytes_eq first name ≡ false
+is_other first word name test finds is fails = at (bytes_eq first name) refl
+  where
+    at : (b : Bool) → bytes_eq first name ≡ b → b ≡ false
+    at true e = sym (finds ((bytes_eq-Decides first name).0 e ∙ sym is)) ∙ fails
+    at false e = refl
+
+passed : (said : Option Heading) (b : Bool) (x y : Option lines.Heading) → b ≡ false → Says said y → Says said (if b then x else y)
+passed said true x y e f = cc
+passed said false x y e f = f
+
+-- a line whose first word is none of those that are told apart first
+pub said_behind : (said : Option Heading) (first : Bytes) (words : List Bytes) → bytes_eq first (codes "commit") ≡ false → bytes_eq first (codes "parent") ≡ false → bytes_eq first (codes "put") ≡ false → bytes_eq first (codes "remove") ≡ false
+    → bytes_eq first (codes "remove-file") ≡ false → bytes_eq first (codes "author") ≡ false → bytes_eq first (codes "committer") ≡ false → bytes_eq first (codes "message") ≡ false → bytes_eq first (codes "end") ≡ false
+    → bytes_eq first (codes "files") ≡ false → bytes_eq first (codes "show") ≡ false → Says said (name_heading_of first words) → Says said (heading_of (first ∷ words))
+said_behind said first words commit parent put remove remove_file author committer message end files show names =
+    passed said (bytes_eq first (codes "commit")) _ _ commit (
+    passed said (bytes_eq first (codes "parent")) _ _ parent (
+    passed said (bytes_eq first (codes "put")) _ _ put (
+    passed said (bytes_eq first (codes "remove")) _ _ remove (
+    passed said (bytes_eq first (codes "remove-file")) _ _ remove_file (
+    passed said (bytes_eq first (codes "author")) _ _ author (
+    passed said (bytes_eq first (codes "committer")) _ _ committer (
+    passed said (bytes_eq first (codes "message")) _ _ message (
+    passed said (bytes_eq first (codes "end")) _ _ end (
+    passed said (bytes_eq first (codes "files")) _ _ files (
+    passed said (bytes_eq first (codes "show")) _ _ show names))))))))))
+
+-- a line whose first word is none of those that are read
+pub no_line_of : (first : Bytes) (words : List Bytes) → bytes_eq first (codes "names") ≡ false → bytes_eq first (codes "past") ≡ false → bytes_eq first (codes "log") ≡ false → Says None (name_heading_of first words)
+no_line_of first words names past log =
     either (bytes_eq first (codes "tag")) (target_of_words lines.TagHeading words) _ (no_target lines.TagHeading (λ n x w. nowhere (lines.TagHeading n x w) refl refl refl refl refl refl) words) (
     either (bytes_eq first (codes "tagger")) (actor_of_words lines.Tagger words) _ (no_actor lines.Tagger (λ m n s o. nowhere (lines.ActorHeading lines.Tagger m n s o) refl refl refl refl refl refl) words) (
     either (bytes_eq first (codes "move")) (end_of_words lines.MoveHeading words) _ (no_end lines.MoveHeading (nowhere lines.MoveHeading refl refl refl refl refl refl) words) (
@@ -95,35 +112,6 @@ no_name_line first words =
     either (bytes_eq first (codes "switch")) (word_of_words lines.SwitchHeading words) _ (no_word lines.SwitchHeading (λ w. nowhere (lines.SwitchHeading w) refl refl refl refl refl refl) words) (
     either (bytes_eq first (codes "pack")) (end_of_words lines.PackHeading words) _ (no_end lines.PackHeading (nowhere lines.PackHeading refl refl refl refl refl refl) words) (
     either (bytes_eq first (codes "index")) (end_of_words lines.IndexHeading words) _ (no_end lines.IndexHeading (nowhere lines.IndexHeading refl refl refl refl refl refl) words) (
-    either (bytes_eq first (codes "names")) (names_of_words words) _ (no_names words) (
-    either (bytes_eq first (codes "past")) (word_of_words lines.PastHeading words) _ (no_word lines.PastHeading (λ w. nowhere (lines.PastHeading w) refl refl refl refl refl refl) words) (
-    either (bytes_eq first (codes "log")) (log_of_words words) None (no_log words) tt))))))))))))
-
--- the first word isn't this one, where a test of them fails
-pub is_other : (first word name : Bytes) (test : Bool) → (first ≡ word → test ≡ true) → word ≡ name → test ≡ false → bytes_eq first name ≡ false
-is_other first word name test finds is fails = at (bytes_eq first name) refl
-  where
-    at : (b : Bool) → bytes_eq first name ≡ b → b ≡ false
-    at true e = sym (finds ((bytes_eq-Decides first name).0 e ∙ sym is)) ∙ fails
-    at false e = refl
-
-passed : (b : Bool) (x y : Option lines.Heading) → b ≡ false → Says None y → Says None (if b then x else y)
-passed true x y e f = cc
-passed false x y e f = f
-
--- a line whose first word is none of those that are read
-pub no_line_of : (first : Bytes) (words : List Bytes) → bytes_eq first (codes "commit") ≡ false → bytes_eq first (codes "parent") ≡ false → bytes_eq first (codes "put") ≡ false → bytes_eq first (codes "remove") ≡ false
-    → bytes_eq first (codes "remove-file") ≡ false → bytes_eq first (codes "author") ≡ false → bytes_eq first (codes "committer") ≡ false → bytes_eq first (codes "message") ≡ false → bytes_eq first (codes "end") ≡ false
-    → bytes_eq first (codes "files") ≡ false → bytes_eq first (codes "show") ≡ false → Says None (heading_of (first ∷ words))
-no_line_of first words commit parent put remove remove_file author committer message end files show =
-    passed (bytes_eq first (codes "commit")) _ _ commit (
-    passed (bytes_eq first (codes "parent")) _ _ parent (
-    passed (bytes_eq first (codes "put")) _ _ put (
-    passed (bytes_eq first (codes "remove")) _ _ remove (
-    passed (bytes_eq first (codes "remove-file")) _ _ remove_file (
-    passed (bytes_eq first (codes "author")) _ _ author (
-    passed (bytes_eq first (codes "committer")) _ _ committer (
-    passed (bytes_eq first (codes "message")) _ _ message (
-    passed (bytes_eq first (codes "end")) _ _ end (
-    passed (bytes_eq first (codes "files")) _ _ files (
-    passed (bytes_eq first (codes "show")) _ _ show (no_name_line first words)))))))))))
+    passed None (bytes_eq first (codes "names")) _ _ names (
+    passed None (bytes_eq first (codes "past")) _ _ past (
+    passed None (bytes_eq first (codes "log")) _ _ log tt))))))))))))

@@ -1,5 +1,5 @@
 -- What a command that was read stands for.
-use Rattle.std.specs.Prelude.{◌≡◌, ⊤, List, map, Option, Some, None}
+use Rattle.std.specs.Prelude.{◌≡◌, ⊤, List, [], map, Option, Some, None, option_map}
 use Rattle.std.specs.List.{AllZip}
 use Rattle.history_model.specs.Bytes.{Bytes}
 use Rattle.history_model.specs.Commands as model
@@ -13,6 +13,11 @@ use Rattle.history_word.specs.declared.command.Edit.{Edit}
 use Rattle.history_word.specs.declared.command.Edit.TheVariants.{Put, Remove, RemoveFile}
 use Rattle.history_word.specs.declared.command.ActorLine.{ActorLine}
 use Rattle.history_word.specs.declared.command.CommitCommand.{CommitCommand}
+use Rattle.history_word.specs.declared.command.Order.{Order}
+use Rattle.history_word.specs.declared.command.Order.TheVariants.{Breadth, Newest, Oldest, NewestSince, OldestSince, Date, Topological}
+use Rattle.history_word.specs.declared.command.LogItem.{LogItem}
+use Rattle.history_word.specs.declared.command.LogItem.TheVariants.{Tip, Hidden}
+use Rattle.history_word.specs.declared.command.LogCommand.{LogCommand}
 use Rattle.history_word.specs.declared.command.Command.{Command}
 use Rattle.history_word.specs.declared.command.Command.TheVariants as command
 use Rattle.history_word.specs.declared.reader.Received.{Received}
@@ -54,12 +59,37 @@ IsPath (Some field) (Some path) = Keeps max_path field path
 IsPath None None = ⊤
 IsPath _ _ = ⊥
 
+abbrev pub IsOrder : Order → model.Order → Type 0
+IsOrder Breadth model.Breadth = ⊤
+IsOrder Newest model.Newest = ⊤
+IsOrder Oldest model.Oldest = ⊤
+IsOrder (NewestSince word) (model.NewestSince bytes) = word.items ≡ bytes
+IsOrder (OldestSince word) (model.OldestSince bytes) = word.items ≡ bytes
+IsOrder Date model.Date = ⊤
+IsOrder Topological model.Topological = ⊤
+IsOrder _ _ = ⊥
+
+abbrev pub IsLogItem : LogItem → model.LogItem → Type 0
+IsLogItem (Tip word) (model.Tip bytes) = word.items ≡ bytes
+IsLogItem (Hidden word) (model.Hidden bytes) = word.items ≡ bytes
+IsLogItem _ _ = ⊥
+
+-- a log without a path
+pub record IsLog (log : LogCommand) (line : model.LogCommand) : Type 0 where
+  pub order : IsOrder log.order line.order
+  pub first_parents : log.first_parents ≡ line.first_parents
+  pub items : AllZip IsLogItem log.items.items line.items
+  pub paths : line.paths ≡ []
+
 -- the command that was read is this one, but for the bytes of fields over their limits
 abbrev pub IsCommandOf : Command → model.Command → Type 0
 IsCommandOf (command.Commit commit) (model.Commit order) = IsCommit commit order
 IsCommandOf (command.Files word) (model.Files bytes) = word.items ≡ bytes
 IsCommandOf (command.Show show) (model.Show word path) =
     (show.word.items ≡ word) × IsPath show.path path
+IsCommandOf (command.Names folder) (model.Names word) = option_map (λ w. w.items) folder ≡ word
+IsCommandOf (command.Past word) (model.Past bytes) = word.items ≡ bytes
+IsCommandOf (command.Log log) (model.Log order) = IsLog log order
 IsCommandOf _ _ = ⊥
 
 -- a command was read, or read past for want of memory

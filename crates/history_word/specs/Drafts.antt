@@ -1,6 +1,7 @@
 -- What a command's draft, and the line that stands first, have of the command.
-use Rattle.std.specs.Prelude.{◌≡◌, ℕ, ◌<◌, ⊤, IsTrue, List, [], ◌∷◌, ◌++◌, length, Option, Some, None, map, IfSome, codes}
-use Rattle.std.specs.List.{flat_map, join_with_byte}
+use Rattle.std.specs.Prelude.{◌≡◌, ℕ, ◌<◌, ⊤, Bool, true, false, IsTrue, IsFalse, List, [], ◌∷◌, ◌++◌, length, Option, Some, None, option_map, map, IfSome, Vec, codes}
+use Rattle.std.specs.List.{flat_map, join_with_byte, AllZip}
+use Rattle.std.specs.declared.alloc.Global.{Global}
 use Rattle.history_model.specs.Bytes.{Bytes, line}
 use Rattle.history_model.specs.Commands as model
 use Rattle.history_model.specs.Spelling as spelling
@@ -8,10 +9,13 @@ use Rattle.history_model.specs.Lines as lines
 use Rattle.history_word.specs.LineTable as table
 use Rattle.history_word.specs.TableRuns as runs
 use Rattle.history_word.specs.Fields.{Keeps}
-use Rattle.history_word.specs.Commands.{IsExpect, IsEdit, AreEdits, IsActor, IsPath}
+use Rattle.history_word.specs.Commands.{IsExpect, IsEdit, AreEdits, IsActor, IsPath, IsOrder, IsLogItem}
 use Rattle.history_model.specs.Forms.{max_content}
 use Rattle.history_word.specs.declared.command.Edit.{Edit}
 use Rattle.history_word.specs.declared.command.Expect.{Expect}
+use Rattle.history_word.specs.declared.command.Order.{Order}
+use Rattle.history_word.specs.declared.command.LogItem.{LogItem}
+use Rattle.history_word.specs.declared.logs.LogLine.{LogLine}
 use Rattle.history_word.specs.declared.heading.Role.{Role}
 use Rattle.history_word.specs.declared.heading.Role.TheVariants.{Author, Committer}
 use Rattle.history_word.specs.declared.heading.EditHeading.{EditHeading}
@@ -45,6 +49,19 @@ IsEditHeading (edit.Remove path) (lines.RemoveHeading n) = path ≡ n
 IsEditHeading (edit.RemoveFile path) (lines.RemoveFileHeading n) = path ≡ n
 IsEditHeading _ _ = ⊥
 
+-- The line is that of this log. A word that found no memory may be any.
+pub record IsLogLine (line : LogLine) (log : model.LogCommand) : Type 0 where
+  pub order : IfSome line.order (λ x. IsOrder x log.order)
+  pub first_parents : line.first_parents ≡ log.first_parents
+  pub items : IfSome line.items (λ all. AllZip IsLogItem all.items log.items)
+  pub begins : IsTrue (spelling.are_items log.items)
+  pub paths : log.paths ≡ []
+
+-- a log with these words, without a path
+abbrev pub log_of : model.Order → Bool → List model.LogItem → model.LogCommand
+log_of order first_parents items =
+    record { order = order; first_parents = first_parents; items = items; paths = [] }
+
 -- The line is this one. A word that found no memory may be any.
 abbrev pub IsHeading : Heading → lines.Heading → Type 0
 IsHeading (heading.Commit name expect) (lines.CommitHeading n e) =
@@ -60,6 +77,11 @@ IsHeading (heading.Files word) (lines.FilesHeading w) = IfSome word (λ x. x.ite
 IsHeading (heading.Show word) (lines.ShowHeading w None) = IfSome word (λ x. x.items ≡ w)
 IsHeading (heading.ShowPath word path) (lines.ShowHeading w (Some n)) =
     IfSome word (λ x. x.items ≡ w) × (path ≡ n)
+IsHeading heading.Names (lines.NamesHeading None) = ⊤
+IsHeading (heading.NamesIn folder) (lines.NamesHeading (Some f)) = IfSome folder (λ x. x.items ≡ f)
+IsHeading (heading.Past word) (lines.PastHeading w) = IfSome word (λ x. x.items ≡ w)
+IsHeading (heading.Log line) (lines.LogHeading order first_parents items None) =
+    IsLogLine line (log_of order first_parents items)
 IsHeading _ _ = ⊥
 
 -- What is read is what the words say; none is read where they say no line that may stand at a place of an offered command.
@@ -73,6 +95,28 @@ abbrev pub SaysExpect : Option (Option Expect) → Option model.Expect → Type 
 SaysExpect (Some expect) (Some e) = IfSome expect (λ x. IsExpect x e)
 SaysExpect None None = ⊤
 SaysExpect _ _ = ⊥
+
+abbrev pub SaysLog : Option LogLine → Option lines.Heading → Type 0
+SaysLog line h = Says (option_map heading.Log line) h
+
+-- The order is the one that the words begin with, and the others are left; none is read where they begin with none.
+abbrev pub SaysOrder : Option (Option Order) → Option (model.Order × List Bytes) → List Bytes
+    → Type 0
+SaysOrder (Some order) (Some (o, words)) left = IfSome order (λ x. IsOrder x o) × (left ≡ words)
+SaysOrder None None left = ⊤
+SaysOrder _ _ _ = ⊥
+
+-- The items are the ones that the words say; none are read where they say none, a path, or items without a tip.
+abbrev pub SaysItems : Option (Option (Vec LogItem Global)) → Option table.Items → Type 0
+SaysItems (Some items) (Some (is, None)) =
+    IsTrue (spelling.are_items is) × IfSome items (λ all. AllZip IsLogItem all.items is)
+SaysItems (Some items) _ = ⊥
+SaysItems None (Some (is, None)) = IsFalse (spelling.are_items is)
+SaysItems None _ = ⊤
+
+abbrev pub item_with : Bool → Bytes → model.LogItem
+item_with true word = model.Tip word
+item_with false word = model.Hidden word
 
 -- the draft of a commit has these parts, each that found memory
 pub record IsCommitDraft (draft : CommitDraft) (order : model.CommitCommand) : Type 0 where
@@ -89,6 +133,10 @@ IsDraft (draft.Commit commit) (model.Commit order) = IsCommitDraft commit order
 IsDraft (draft.Files word) (model.Files bytes) = IfSome word (λ x. x.items ≡ bytes)
 IsDraft (draft.Show show) (model.Show word path) =
     IfSome show (λ x. (x.word.items ≡ word) × IsPath x.path path)
+IsDraft draft.Names (model.Names None) = ⊤
+IsDraft (draft.NamesIn folder) (model.Names (Some bytes)) = IfSome folder (λ x. x.items ≡ bytes)
+IsDraft (draft.Past word) (model.Past bytes) = IfSome word (λ x. x.items ≡ bytes)
+IsDraft (draft.Log line) (model.Log log) = IsLogLine line log
 IsDraft _ _ = ⊥
 
 abbrev pub with_actor : Role → model.CommitCommand → model.ActorLine → model.CommitCommand

@@ -74,6 +74,38 @@ pub struct Show {
     pub path: Option<Field>,
 }
 
+/// In which order a log lists its commits. The words for the seconds are as they were sent.
+#[derive(Debug, Drop)]
+pub enum Order {
+    Breadth,
+    Newest,
+    Oldest,
+    /// The newest first, of those made at these seconds or later.
+    NewestSince(Vec<u8>),
+    /// The oldest first, of those made at these seconds or later.
+    OldestSince(Vec<u8>),
+    Date,
+    Topological,
+}
+
+/// Where a log begins, or what it leaves out.
+#[derive(Debug, Drop)]
+pub enum LogItem {
+    /// It begins at this word's commit.
+    Tip(Vec<u8>),
+    /// This word's commit and all that it reaches are left out.
+    Hidden(Vec<u8>),
+}
+
+/// Lists the commits that some commits reach. At least one item is a tip.
+#[derive(Debug, Drop)]
+pub struct LogCommand {
+    pub order: Order,
+    /// Whether of a commit's parents the first alone is followed.
+    pub first_parents: bool,
+    pub items: Vec<LogItem>,
+}
+
 /// What a client asks. A word is nonempty, without space or line feed, and a line's words have at most 4,096 bytes.
 #[derive(Debug, Drop)]
 pub enum Command {
@@ -81,6 +113,11 @@ pub enum Command {
     /// Lists the files of this word's commit.
     Files(Vec<u8>),
     Show(Show),
+    /// Lists the names, or those in this folder.
+    Names(Option<Vec<u8>>),
+    /// Lists what this word's name has held.
+    Past(Vec<u8>),
+    Log(LogCommand),
 }
 
 impl Field {

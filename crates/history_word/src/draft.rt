@@ -11,6 +11,7 @@ ghost use Rattle.history_word.specs.Drafts.{IsCommitDraft, IsDraft, with_parent,
 
 use crate::command::{ActorLine, Command, CommitCommand, Edit, Expect, Field, Put, Show};
 use crate::heading::Role;
+use crate::logs::LogLine;
 use history_model::FileKind;
 use std::alloc::Global;
 
@@ -33,6 +34,10 @@ pub(crate) enum Draft {
     Commit(CommitDraft),
     Files(Option<Vec<u8>>),
     Show(Option<Show>),
+    Names,
+    NamesIn(Option<Vec<u8>>),
+    Past(Option<Vec<u8>>),
+    Log(LogLine),
 }
 
 impl CommitDraft {
@@ -175,12 +180,16 @@ impl Draft {
             Draft::Commit(commit) => Some(Command::Commit(commit.finish()?)),
             Draft::Files(word) => Some(Command::Files(word?)),
             Draft::Show(show) => Some(Command::Show(show?)),
+            Draft::Names => Some(Command::Names(None)),
+            Draft::NamesIn(folder) => Some(Command::Names(Some(folder?))),
+            Draft::Past(word) => Some(Command::Past(word?)),
+            Draft::Log(line) => Some(Command::Log(line.finish()?)),
         }
     }
 }
 
 /// The list and one item more, if there is memory for them.
-fn pushed<T: Drop>(list: Option<Vec<T>>, item: Option<T>) -> Option<Vec<T>>
+pub(crate) fn pushed<T: Drop>(list: Option<Vec<T>>, item: Option<T>) -> Option<Vec<T>>
     ensures { IfSome result (λ all. MatchOption list ⊥
         (λ old. MatchOption item ⊥ (λ x. all.items ≡ old.items ++ x ∷ []))) }
 {

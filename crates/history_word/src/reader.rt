@@ -217,6 +217,10 @@ fn read_part<R: Source>(
             let path = read_field(alloc, buffer, source, path, MAX_PATH)?;
             *draft = Draft::show_path(word, path);
         }
+        Heading::Names => *draft = Draft::Names,
+        Heading::NamesIn { folder } => *draft = Draft::NamesIn(folder),
+        Heading::Past { word } => *draft = Draft::Past(word),
+        Heading::Log(line) => *draft = Draft::Log(line),
     }
     Ok(next)
 }

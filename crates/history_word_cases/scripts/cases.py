@@ -70,6 +70,21 @@ def commands():
     row("read", b"show HEAD\n", "more show:HEAD end")
     row("read", b"show HEAD path 2\na\n\n", f"more show:HEAD path:{word(b'a' + bytes([10]))} end")
     row("stream", b"files main\nx", "more files:main more")
+    row("read", b"names\n", "more names end")
+    row("read", b"names refs/heads\n", "more names:refs/heads end")
+    row("read", b"names path\nx", "more names:path more")
+    row("read", b"past HEAD\n", "more past:HEAD end")
+    row("stream", b"past main\npast", "more past:main more")
+    for order in (b"breadth", b"newest", b"oldest", b"date", b"topological"):
+        row("read", b"log %s all +main\n" % order, f"more log {order.decode()} all tip:main end")
+        row("read", b"log %s first +main -old\n" % order, f"more log {order.decode()} first tip:main hidden:old end")
+    for order in (b"newest-since", b"oldest-since"):
+        row("read", b"log %s 17 all +HEAD\n" % order, f"more log {order.decode()}:17 all tip:HEAD end")
+    row("read", b"log newest-since all first -a\n", "more Syntax")
+    row("read", b"log newest-since first first -a +a\n", "more log newest-since:first first hidden:a tip:a end")
+    row("read", b"log date all -b ++a +-c --path +path +1\n",
+        f"more log date all hidden:b tip:{word(b'+a')} tip:-c hidden:-path tip:path tip:1 end")
+    row("read", b"log breadth all " + b" ".join([b"+a"] * 800) + b"\n", "more log breadth all" + " tip:a" * 800 + " end")
     nobody = (b"", b"", b"s", b"o")
     for expect in [("any",), ("new",), ("at", b"main")]:
         commit = Commit(b"HEAD", expect, [], [], nobody, nobody, b"")
@@ -100,6 +115,12 @@ LINES = [
     b"commit HEAD new\nremove 1 1\n", b"commit HEAD new\nremove-files 1\n", b"commit HEAD new\nremove-file 1\nab\n",
     b"commit HEAD new\nput text 1 1\n", b"commit HEAD new\ncommitter 1 1 1 1\n",
     b"commit HEAD new\nauthor 0 0 s o\n\n\nput file 1 1\n",
+    b"names a b\n", b"names \n", b"past\n", b"past a b\n", b"log\n", b"log breadth\n", b"log breadth all\n",
+    b"log breadth all -a\n", b"log breadth all +\n", b"log breadth all +a -\n", b"log breadth all a\n", b"log breadth all +a b\n",
+    b"log breadth all +a path 1\n", b"log breadth all +a path\n", b"log breadth every +a\n", b"log all +a\n",
+    b"log depth all +a\n", b"log newest-since all +a\n", b"log newest 1 all +a\n", b"log breadth +a all\n", b"log breadth all all +a\n",
+    b"commit HEAD new\nnames\n", b"commit HEAD new\npast a\n", b"commit HEAD new\nlog breadth all +a\n",
+    b"switch main\n", b"delete main any\n", b"rename a b\n", b"tag a new b\n", b"move\n", b"pack\n", b"index\n",
 ]
 # Where a line may stand, and the input ends behind it.
 BEGINNINGS = [b"commit nowhere new\n", b"commit at any\nparent parent\n",

@@ -3,7 +3,8 @@
 use case_words::Page;
 use history_model::{Cause, FileKind};
 use history_word::{
-    ActorLine, Command, CommitCommand, Edit, Expect, Field, Put, Received, Show, Stop,
+    ActorLine, Command, CommitCommand, Edit, Expect, Field, LogCommand, LogItem, Order, Put,
+    Received, Show, Stop,
 };
 
 /// What reading a command ended with.
@@ -34,6 +35,34 @@ fn show_command(command: &Command, page: &mut Page) {
         Command::Commit(commit) => show_commit(commit, page),
         Command::Files(word) => page.named("files", word),
         Command::Show(show) => show_show(show, page),
+        Command::Names(None) => page.word("names"),
+        Command::Names(Some(folder)) => page.named("names", folder),
+        Command::Past(word) => page.named("past", word),
+        Command::Log(log) => show_log(log, page),
+    }
+}
+
+fn show_log(log: &LogCommand, page: &mut Page) {
+    page.word("log");
+    show_order(&log.order, page);
+    page.word(if log.first_parents { "first" } else { "all" });
+    for item in &log.items {
+        match item {
+            LogItem::Tip(word) => page.named("tip", word),
+            LogItem::Hidden(word) => page.named("hidden", word),
+        }
+    }
+}
+
+fn show_order(order: &Order, page: &mut Page) {
+    match order {
+        Order::Breadth => page.word("breadth"),
+        Order::Newest => page.word("newest"),
+        Order::Oldest => page.word("oldest"),
+        Order::NewestSince(seconds) => page.named("newest-since", seconds),
+        Order::OldestSince(seconds) => page.named("oldest-since", seconds),
+        Order::Date => page.word("date"),
+        Order::Topological => page.word("topological"),
     }
 }
 

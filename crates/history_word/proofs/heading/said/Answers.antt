@@ -1,4 +1,4 @@
-use Rattle.std.proofs.Common.{◌≡◌, ◌∷◌, None, sym, ap, subst, ◌∙◌}
+use Rattle.std.proofs.Common.{◌≡◌, ◌∷◌, sym, ap, subst, ◌∙◌}
 use Rattle.std.specs.Prelude.{codes}
 use Rattle.std.proofs.lemmas.Slice.Eq.{slice_eq-Decides}
 use Rattle.std.proofs.lemmas.Bool.Decides.{Decides-eqb}
@@ -6,7 +6,7 @@ use Rattle.history_word.specs.LineTable.{heading_of}
 use Rattle.history_word.specs.Lines.{split_words}
 use Rattle.history_word.specs.Words.{left}
 use Rattle.history_word.specs.Drafts.{Says}
-use Rattle.history_word.proofs.UnofferedLemmas.{is_other, no_line_of}
+use Rattle.history_word.proofs.UnofferedLemmas.{is_other, said_behind}
 use Rattle.history_word.proofs.heading.said.Goals as goal
 
 pub returns-then-eq : goal.returns-then-eq
@@ -77,7 +77,7 @@ returns-then-eq-11 c =
 
 pub returns-else-eq-11 : goal.returns-else-eq-11
 returns-else-eq-11 c =
-    subst (λ ws. Says None (heading_of ws)) (sym (sym c.new-words.ensures ∙ c.in_ok-first.ensures.found)) (no_line_of c.in_ok-first.first.now (left c.next.new.self)
+    subst (λ ws. Says c.said_of_names.result (heading_of ws)) (sym (sym c.new-words.ensures ∙ c.in_ok-first.ensures.found)) (said_behind c.said_of_names.result c.in_ok-first.first.now (left c.next.new.self)
     (is_other c.in_ok-first.first.now _ (codes "commit") _ (slice_eq-Decides Decides-eqb _ _ _ c.eq.ensures).1 c.as_slice.ensures c.if-eq.false)
     (is_other c.in_ok-first.first.now _ (codes "parent") _ (slice_eq-Decides Decides-eqb _ _ _ c.eq-else-eq.ensures).1 c.as_slice-else-eq.ensures c.if-eq-2.false)
     (is_other c.in_ok-first.first.now _ (codes "put") _ (slice_eq-Decides Decides-eqb _ _ _ c.eq-else-eq-2.ensures).1 c.as_slice-else-eq-2.ensures c.if-eq-3.false)
@@ -88,4 +88,4 @@ returns-else-eq-11 c =
     (is_other c.in_ok-first.first.now _ (codes "message") _ (slice_eq-Decides Decides-eqb _ _ _ c.eq-else-eq-7.ensures).1 c.as_slice-else-eq-7.ensures c.if-eq-8.false)
     (is_other c.in_ok-first.first.now _ (codes "end") _ (slice_eq-Decides Decides-eqb _ _ _ c.eq-else-eq-8.ensures).1 c.as_slice-else-eq-8.ensures c.if-eq-9.false)
     (is_other c.in_ok-first.first.now _ (codes "files") _ (slice_eq-Decides Decides-eqb _ _ _ c.eq-else-eq-9.ensures).1 c.as_slice-else-eq-9.ensures c.if-eq-10.false)
-    (is_other c.in_ok-first.first.now _ (codes "show") _ (slice_eq-Decides Decides-eqb _ _ _ c.eq-else-eq-10.ensures).1 c.as_slice-else-eq-10.ensures c.if-eq-11.false))
+    (is_other c.in_ok-first.first.now _ (codes "show") _ (slice_eq-Decides Decides-eqb _ _ _ c.eq-else-eq-10.ensures).1 c.as_slice-else-eq-10.ensures c.if-eq-11.false) c.said_of_names.ensures)

@@ -9,7 +9,7 @@ use Rattle.history_word.specs.Drafts.{place_of, edit_sizes}
 use Rattle.history_word.proofs.TakingLemmas.{asks_then, took_then, took_none}
 use Rattle.history_word.proofs.StopLemmas.{stops_then}
 use Rattle.history_word.proofs.ProgressLemmas.{stops_here}
-use Rattle.history_word.proofs.LineEndLemmas.{first_stops, second_stops, actor_sizes, message_sizes, path_sizes, commit_parts, parent_parts, edit_parts, edit_sizes_are, fields_stop, actor_parts, message_parts, end_parts, files_parts, show_parts, path_parts}
+use Rattle.history_word.proofs.LineEndLemmas.{first_stops, second_stops, actor_sizes, message_sizes, path_sizes, commit_parts, parent_parts, edit_parts, edit_sizes_are, fields_stop, actor_parts, message_parts, end_parts, files_parts, show_parts, path_parts, names_parts, folder_parts, past_parts, log_parts}
 use Rattle.history_word.proofs.reader.read_part.Goals as goal
 
 pub returns-in_err-heading : goal.returns-in_err-heading
@@ -130,3 +130,23 @@ returns-in_ok-path-in-ShowPath g c =
       took_then g.R.Source.left g.R.Source.readings _ _ _ _ _ _ h.0 a.0 h.1 a.1,
       (path_parts c.args.place c.in_ok-heading.next c.in-ShowPath.word c.in-ShowPath.path h.0 a.0 _ _ h.2.0 a.2.0 a.2.1 a.2.2 (λ w x. c.show_path.ensures w a.2.0 x a.2.3), asks_then g.R.Source.left g.R.Source.readings _ _ _ _ _ h.0 a.0 h.1 h.2.1 a.2.4),
     )
+
+pub returns-in-Names : goal.returns-in-Names
+returns-in-Names g c =
+    let h = rw c.in-Names.is at c.in_ok-heading.ensures in
+    (h.0, h.1, (names_parts c.args.place c.in_ok-heading.next h.0 _ h.2.0, h.2.1))
+
+pub returns-in-NamesIn : goal.returns-in-NamesIn
+returns-in-NamesIn g c =
+    let h = rw c.in-NamesIn.is at c.in_ok-heading.ensures in
+    (h.0, h.1, (folder_parts c.args.place c.in_ok-heading.next c.in-NamesIn.folder h.0 _ h.2.0, h.2.1))
+
+pub returns-in-Past : goal.returns-in-Past
+returns-in-Past g c =
+    let h = rw c.in-Past.is at c.in_ok-heading.ensures in
+    (h.0, h.1, (past_parts c.args.place c.in_ok-heading.next c.in-Past.word h.0 _ h.2.0, h.2.1))
+
+pub returns-in-Log : goal.returns-in-Log
+returns-in-Log g c =
+    let h = rw c.in-Log.is at c.in_ok-heading.ensures in
+    (h.0, h.1, (log_parts c.args.place c.in_ok-heading.next c.in-Log.line h.0 _ h.2.0, h.2.1))
