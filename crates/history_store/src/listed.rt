@@ -22,6 +22,8 @@ pub struct NamedId {
 impl<F: Files> Names<F> {
     /// The names below a folder, which isn't the root, with the ids that their files hold, ascending by the names' bytes. A file
     /// that isn't an id's hex digits and a line feed is passed over. The folder and those below it are listed, no others.
+    ///
+    /// It is `Failed` where a file call failed, and `Memory` where no memory is left.
     pub fn list(&self, alloc: Global, folder: &[u8]) -> Result<Vec<NamedId>, FileError>
         ensures found { folder.now ≢ [] → Finds F.is_honest F.history self.now.files
             (λ tree. IfOk result (λ names.

@@ -39,7 +39,8 @@ impl LogEntry {
     }
 }
 
-/// The lines of a log without their line feeds, the newest first. What stands behind the last line feed is left out.
+/// The lines of a log without their line feeds, the newest first. What stands behind the last line feed is left out. An error is want
+/// of memory.
 pub fn log_lines(alloc: Global, log: &[u8]) -> Result<Vec<&[u8]>, AllocError>
     ensures { (lines : List Bytes) (rest : Bytes) → All (Lacks 10) lines → Lacks 10 rest
         → log.now ≡ flat_map line (reverse lines) ++ rest
