@@ -41,6 +41,7 @@ module _ {P : Type 0} (accepts : P → Id → Bool) (goes : P → Id → P → T
       → IfSome item (λ a. IfOk a (λ info. (passed : List ObjectId) × AsksEach goes before after (passed ++ info.id ∷ []))) → IfNone item (AsksRest goes before after) → IfSome item (λ a. IfErr a (AsksFault goes before after)) → GivesNext accepts goes before item after
   gives_next parents same lookups more end refused failed over ended fewer asked asked_end asked_fault = record {
     lookups = lookups;
+    parents = parents;
     more = λ sorting rows faults g tips ends given sd. ok_then item _ _ more (λ info f.
         let (s, i) = f sorting rows faults g tips ends given sd in (
           subst (λ (p : Parents). Stands sorting rows faults g tips ends p (λ x. accepts after.predicate (id_of x)) (given ++ info.id ∷ []) after.known after.ready) (sym parents)

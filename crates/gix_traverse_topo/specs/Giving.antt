@@ -74,6 +74,7 @@ pub record AsksFault {P : Type 0} (goes : P → Id → P → Type 0) (before aft
 pub record GivesNext {P : Type 0} (accepts : P → Id → Bool) (goes : P → Id → P → Type 0)
     (before : Topo P) (item : Option (Result Info Error)) (after : Topo P) : Type 0 where
   pub lookups : after.lookups ≡ before.lookups
+  pub parents : after.parents ≡ before.parents
   pub more : (sorting : Sorting) (rows : List Row) (faults : ObjectId → Option Error)
       (g : Commits ObjectId) (tips ends given : List ObjectId)
       → HasGiven accepts before sorting rows faults g tips ends given

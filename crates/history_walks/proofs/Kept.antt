@@ -1,0 +1,115 @@
+-- Commits that are read one after another, and kept.
+use Rattle.std.proofs.Common.{◌≡◌, ◌∙◌, ap, refl, sym, subst, arith, Bool, true, false, List, [], ◌∷◌, ◌++◌, ℕ, inl, inr, Some, None, option_map, cond, Vec}
+use Rattle.std.specs.Prelude.{Contains, map, ⊤}
+use Rattle.std.specs.BTreeMap.{Updates, get, get_by, is_at}
+use Rattle.std.specs.Map.{keys_of, lookup}
+use Rattle.std.specs.Ordering.{is_eq}
+use Rattle.std.specs.declared.alloc.Global.{Global}
+use Rattle.std.specs.declared.cmp.Ordering.{Ordering}
+use Rattle.std.proofs.lemmas.List.Elements.{Contains-append_cases, Contains-append_left, Contains-append_right, Contains-push_cases}
+use Rattle.gix_hash_id.specs.Id.{Id, id_of}
+use Rattle.gix_hash_id.specs.Order.{id_cmp}
+use Rattle.gix_hash_id.specs.OrderLaws.{id_eq-same, id_tied}
+use Rattle.gix_hash_id.specs.declared.object_id.ObjectId.{ObjectId}
+use Rattle.gix_object_find.specs.Existing.{Stands}
+use Rattle.gix_object_find.specs.Table.{Table}
+use Rattle.gix_object_lines.specs.declared.kind.Kind.TheVariants as kinds
+use Rattle.gix_traverse_commit.specs.Commits.{Commits, Listed, Reached, tip, parent}
+use Rattle.gix_traverse_commit.specs.Painting.{ReachedFrom}
+use Rattle.gix_traverse_commit.specs.Simply.{Answers, request_in}
+use Rattle.gix_traverse_commit.specs.declared.parents.Parents.TheVariants.{All}
+use Rattle.gix_traverse_commit.specs.declared.simple.sorting.Sorting.TheVariants.{BreadthFirst}
+use Rattle.gix_traverse_commit.proofs.Lists.{at_from_contains, none_at_nil}
+use Rattle.history_walks.specs.Faults.{IsMet, WalkFault}
+use Rattle.history_walks.specs.ReadCommits.{AreKept, Contents, commit_object, ids_of, table_of}
+use Rattle.history_walks.specs.Simply.{asked}
+use Rattle.history_walks.specs.declared.error.WalkError.{WalkError}
+use Rattle.history_walks.specs.declared.error.WalkError.TheVariants.{Failed, Broken, Memory}
+
+abbrev pub by_id : ObjectId → ObjectId → Ordering
+by_id x y = id_cmp (id_of x) (id_of y)
+
+pub in_nil : {X : Type 0} (x : X) → Contains [] x → ⊥
+in_nil x c = let (k, a) = at_from_contains [] x c in none_at_nil k x a
+
+-- ids that the order ties are one
+tied_same : (a b : Id) → is_eq (id_cmp a b) ≡ true → a ≡ b
+tied_same a b tied = id_eq-same a b (id_tied a b ∙ tied)
+
+-- ---- what is found is kept
+
+found_among : (id : Id) (entries : List (ObjectId × Vec ℕ Global)) (content : Vec ℕ Global) → lookup (is_at (λ key. id_cmp id (id_of key))) entries ≡ Some content → Contains (map id_of (keys_of entries)) id
+found_among id [] content found = let z : ⊥ = cc in absurd z
+found_among id (e ∷ es) content found = go (λ there. found_among id es content there) (is_eq (id_cmp id (id_of e.0))) refl
+  where
+    go : (lookup (is_at (λ key. id_cmp id (id_of key))) es ≡ Some content → Contains (map id_of (keys_of es)) id) → (tied : Bool) → is_eq (id_cmp id (id_of e.0)) ≡ tied → Contains (id_of e.0 ∷ map id_of (keys_of es)) id
+    go later true tied = subst (λ x. Contains (id_of e.0 ∷ map id_of (keys_of es)) x) (sym (tied_same id (id_of e.0) tied)) (0, omega arith, refl)
+    go later false tied =
+        Contains-append_right (id_of e.0 ∷ []) (map id_of (keys_of es)) id
+        (later (sym (ap (λ b. cond b (Some e.1) (lookup (is_at (λ key. id_cmp id (id_of key))) es)) tied) ∙ found))
+
+pub is_among : (contents : Contents) (id : Id) (content : Vec ℕ Global) → get_by (λ key. id_cmp id (id_of key)) contents ≡ Some content → Contains (ids_of contents) id
+is_among contents id content found = found_among id contents.entries content found
+
+-- ---- one more is kept
+
+module _ (table : Table) (old new : Contents) (ids : List ObjectId) (id : ObjectId) (content : Vec ℕ Global) (put : Updates by_id old new id (Some content)) where
+  after : (x : ObjectId) (tied : Bool) → is_eq (by_id id x) ≡ tied → table_of new (id_of x) ≡ option_map commit_object (cond tied (Some content) (get by_id old x))
+  after x tied is = ap (option_map commit_object) (put.0 x ∙ ap (λ b. cond b (Some content) (get by_id old x)) is)
+
+  pub one_kept : Stands table (id_of id) kinds.Commit content.items → AreKept table (table_of old) (Contains ids) → AreKept table (table_of new) (Contains (ids ++ id ∷ []))
+  one_kept stands kept = record {
+    stand = λ x bytes there. standing x bytes there (is_eq (by_id id x)) refl;
+    each = λ x c. elim (Contains-push_cases ids id x c) [
+      | inl earlier ↦ still x (kept.each x earlier) (is_eq (by_id id x)) refl
+      | inr same ↦ subst (λ y. (bytes : List ℕ) × Stands (table_of new) (id_of y) kinds.Commit bytes) same (content.items, ap (option_map commit_object) put.1)
+    ];
+  }
+    where
+      standing : (x : ObjectId) (bytes : List ℕ) → Stands (table_of new) (id_of x) kinds.Commit bytes → (tied : Bool) → is_eq (by_id id x) ≡ tied → Stands table (id_of x) kinds.Commit bytes
+      standing x bytes there true is = ap table (sym (tied_same (id_of id) (id_of x) is)) ∙ stands ∙ sym (after x true is) ∙ there
+      standing x bytes there false is = kept.stand x bytes (sym (after x false is) ∙ there)
+
+      still : (x : ObjectId) → (bytes : List ℕ) × Stands (table_of old) (id_of x) kinds.Commit bytes → (tied : Bool) → is_eq (by_id id x) ≡ tied → (bytes : List ℕ) × Stands (table_of new) (id_of x) kinds.Commit bytes
+      still x there true is = (content.items, after x true is)
+      still x there false is = (there.0, after x false is ∙ there.1)
+
+-- ---- a walk in breadth order from the tips and the hidden ones has all that they reach
+
+-- from more tips, past what passes otherwise; and past all
+pub reached_as : (along : ObjectId → List ObjectId) (P Q : ObjectId → Type 0) (tips more : List ObjectId) → ((x : ObjectId) → Contains tips x → Contains more x) → ((x : ObjectId) → Reached along (λ _. ⊤) tips x → P x → Q x) → {x : ObjectId}
+    → Reached along P tips x → Reached along Q more x × Reached along (λ _. ⊤) tips x
+reached_as along P Q tips more wider passes (tip {x = x} c p) = (tip (wider x c) (passes x (tip c tt) p), tip c tt)
+reached_as along P Q tips more wider passes (parent {x = x} {y = y} r c p) =
+    let before = reached_as along P Q tips more wider passes r in
+    let met : Reached along (λ _. ⊤) tips y = parent before.1 c tt in
+    (parent before.0 c (passes y met p), met)
+
+none_reached : (g : Commits ObjectId) {x : ObjectId} → ReachedFrom g [] x → ⊥
+none_reached g (tip {x = x} c p) = in_nil x c
+none_reached g (parent r c p) = none_reached g r
+
+module _ (g : Commits ObjectId) (tips hidden : List ObjectId) where
+  met_by_one : {x : ObjectId} → ReachedFrom g (tips ++ hidden) x → IsMet g tips hidden x
+  met_by_one (tip {x = x} c p) = elim (Contains-append_cases tips hidden x c) [ inl a ↦ inl (tip a tt) | inr b ↦ inr (tip b tt) ]
+  met_by_one (parent r c p) = elim (met_by_one r) [ inl a ↦ inl (parent a c tt) | inr b ↦ inr (parent b c tt) ]
+
+  pub fault_of_met : (may_fail : Type 0) (table : Table) (error : WalkError) → WalkFault may_fail table g (tips ++ hidden) [] error → WalkFault may_fail table g tips hidden error
+  fault_of_met may_fail table Failed f = f
+  fault_of_met may_fail table Broken (x, inl met, unread) = (x, met_by_one met, unread)
+  fault_of_met may_fail table Broken (x, inr met, unread) = absurd (none_reached g met)
+  fault_of_met may_fail table Memory f = tt
+
+  comes : (x : ObjectId) → IsMet g tips hidden x → Listed g (request_in None (asked (tips ++ hidden) [] All BreadthFirst)) x
+  comes x (inl r) = ((reached_as (λ y. (g y).parents) (λ _. ⊤) _ tips (tips ++ hidden) (λ y c. Contains-append_left tips hidden y c) (λ y _ _. (refl, tt)) r).0, λ h. none_reached g h)
+  comes x (inr r) = ((reached_as (λ y. (g y).parents) (λ _. ⊤) _ hidden (tips ++ hidden) (λ y c. Contains-append_right tips hidden y c) (λ y _ _. (refl, tt)) r).0, λ h. none_reached g h)
+
+  pub met_kept : (table kept : Table) → (ids : List ObjectId) × Answers g (asked (tips ++ hidden) [] All BreadthFirst) ids × AreKept table kept (Contains ids) → AreKept table kept (IsMet g tips hidden)
+  met_kept table kept (ids, answers, all) = record {
+    stand = all.stand;
+    each = λ x met. all.each x ((answers.list.each x).1 (comes x met));
+  }
+
+pub kept_same : (g : Commits ObjectId) (lent tips lent_hidden hidden : List ObjectId) (table kept : Table) → lent ≡ tips → lent_hidden ≡ hidden → AreKept table kept (IsMet g lent lent_hidden) → AreKept table kept (IsMet g tips hidden)
+kept_same g lent tips lent_hidden hidden table kept same same_hidden all =
+    subst (λ (xs : List ObjectId). AreKept table kept (IsMet g xs hidden)) same (subst (λ (xs : List ObjectId). AreKept table kept (IsMet g lent xs)) same_hidden all)

@@ -1,0 +1,6 @@
+pub mod Asking
+pub mod Faults
+pub mod Naming
+pub mod ReadCommits
+pub mod Simply
+pub mod Sorted

@@ -1,0 +1,15 @@
+-- What a walk in breadth order or by time is asked for.
+use Rattle.std.specs.Prelude.{true, List}
+use Rattle.gix_hash_id.specs.declared.object_id.ObjectId.{ObjectId}
+use Rattle.gix_traverse_commit.specs.Simply.{Asked}
+use Rattle.gix_traverse_commit.specs.declared.parents.Parents.{Parents}
+use Rattle.gix_traverse_commit.specs.declared.simple.sorting.Sorting.{Sorting}
+
+abbrev pub asked : List ObjectId → List ObjectId → Parents → Sorting → Asked
+asked tips hidden parents sorting = record {
+  tips = tips;
+  hidden = hidden;
+  parents = parents;
+  sorting = sorting;
+  accepts = λ _. true;
+}

@@ -1,0 +1,103 @@
+//! Lists of commits.
+
+ghost use Rattle.std.specs.Prelude.{◌≡◌, IfOk, IfErr, Some};
+ghost use Rattle.gix_traverse_commit.specs.Sorting.{timing_of};
+ghost use Rattle.gix_traverse_commit.specs.declared.parents.Parents.TheVariants.{All as AllParents};
+ghost use Rattle.gix_traverse_topo.specs.Standing.{NoneReachesItself};
+ghost use Rattle.history_walks.specs.Asking.{IsInOrder, OverTable, request_of};
+ghost use Rattle.history_walks.specs.Faults.{WalkFault};
+
+use crate::error::WalkError;
+use crate::{simply, sorted};
+use gix_hash::ObjectId;
+use gix_object_find::Find;
+use gix_traverse_commit::Parents;
+use gix_traverse_commit::simple::{CommitTimeOrder, Sorting};
+use gix_traverse_topo as topo;
+use std::alloc::Global;
+
+/// In which order commits are listed, and along which parents.
+#[derive(Debug, Clone, Copy, PartialEq, Eq)]
+pub enum Order {
+    /// First the tips in their order, then the parents of what came, in their order.
+    Breadth(Parents),
+    /// The newest of the tips and of the parents of what came is next.
+    Newest {
+        /// The seconds since 1970 of the oldest commit that is listed, where there is such a bound.
+        since: Option<i64>,
+    },
+    /// The oldest of these is next.
+    Oldest {
+        /// The seconds since 1970 of the oldest commit that is listed, where there is such a bound.
+        since: Option<i64>,
+    },
+    /// The newest commit whose children are all listed is next.
+    Date(Parents),
+    /// Each commit comes after all its children, and lines of history aren't mixed.
+    Topological(Parents),
+}
+
+/// Which commits are listed: those that the tips reach, past all that the hidden commits reach.
+#[derive(Debug, Drop)]
+pub struct Request {
+    /// In which order.
+    pub order: Order,
+    /// The tips.
+    pub tips: Vec<ObjectId>,
+    /// The hidden commits.
+    pub hidden: Vec<ObjectId>,
+}
+
+/// The commits that are asked for, in their order, each once.
+///
+/// It is `Failed` where a lookup failed, `Broken` where a commit that the tips or the hidden commits reach doesn't stand or can't be
+/// read, and `Memory` where no memory is left.
+pub fn list_commits<S: Find>(
+    alloc: Global,
+    store: &S,
+    request: Request,
+) -> Result<Vec<ObjectId>, WalkError>
+    ensures lists { OverTable (S.is_honest store.now) (S.table store.now) (λ g.
+        NoneReachesItself g (request_of request)
+        → IfOk result (λ ids. IsInOrder request.order g (request_of request) ids.items)) }
+    ensures refused { OverTable (S.is_honest store.now) (S.table store.now) (λ g. IfErr result
+        (WalkFault (S.may_fail store.now) (S.table store.now) g request.tips.items
+        request.hidden.items)) }
+{
+    let Request {
+        order,
+        tips,
+        hidden,
+    } = request;
+    match order {
+        Order::Breadth(parents) => {
+            simply::listed(alloc, store, tips, hidden, parents, Sorting::BreadthFirst)
+        }
+        Order::Newest { since } => {
+            let sorting = by_time(CommitTimeOrder::NewestFirst, since);
+            simply::listed_by_time(alloc, store, tips, hidden, sorting)
+        }
+        Order::Oldest { since } => {
+            let sorting = by_time(CommitTimeOrder::OldestFirst, since);
+            simply::listed_by_time(alloc, store, tips, hidden, sorting)
+        }
+        Order::Date(parents) => {
+            let sorting = topo::Sorting::DateOrder;
+            sorted::listed(alloc, store, &tips, &hidden, parents, sorting)
+        }
+        Order::Topological(parents) => {
+            let sorting = topo::Sorting::TopoOrder;
+            sorted::listed(alloc, store, &tips, &hidden, parents, sorting)
+        }
+    }
+}
+
+// The order by time with this cutoff, where there is one.
+fn by_time(order: CommitTimeOrder, since: Option<i64>) -> Sorting
+    ensures { timing_of AllParents result ≡ Some (record { order = order; since = since }) }
+{
+    match since {
+        None => Sorting::ByCommitTime(order),
+        Some(seconds) => Sorting::ByCommitTimeCutoff { order, seconds },
+    }
+}
