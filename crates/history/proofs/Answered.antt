@@ -172,7 +172,7 @@ pub folder_at : (r : Repository) → IsWholeStore r → (id : Id) (value : Commi
     → get r.objects (id_of commit.tree) ≡ Some (StoredFolder value.files)
 folder_at r store id value commit at is = ap (get r.objects) is.tree ∙ (store.closed id (StoredCommit value) at).1
 
-no_file_mode : {A : Type 0} (kind : FileKind) → mode_of kind ≡ codes "40000" → A
+pub no_file_mode : {A : Type 0} (kind : FileKind) → mode_of kind ≡ codes "40000" → A
 no_file_mode File e = texts_differ _ _ refl e
 no_file_mode Exec e = texts_differ _ _ refl e
 no_file_mode Link e = texts_differ _ _ refl e

@@ -17,7 +17,7 @@ use Rattle.gix_hash_id.specs.declared.kind.Kind.{Kind}
 use Rattle.history_model.specs.Bytes.{Bytes, by_bytes, begins}
 use Rattle.history_model.specs.FileMap.{is_below}
 use Rattle.history_model.specs.Forms.{is_name, is_private, is_reference, IsWritten}
-use Rattle.history_model.specs.Repository.{Repository, Reference, HasWholeNames, id_at, stands, peeled, peeled_value}
+use Rattle.history_model.specs.Repository.{Repository, Reference, HasWholeNames, id_at, peeled, peeled_value}
 use Rattle.history_model.specs.PackedNames.{id_from_hex, whole_line}
 use Rattle.history_model.specs.Places.{Pair, file_at, packed_place}
 use Rattle.history_model.specs.NameStates.{Holds, Symbolic, Absent, Faulty, loose_state, loose_line}

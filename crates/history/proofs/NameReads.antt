@@ -1,8 +1,7 @@
 -- What the files of names tell of the ids that they hold.
-use Rattle.std.proofs.Common.{◌≡◌, ◌≢◌, ◌-◌, Bool, true, false, cond, ◌&&◌, ◌||◌, [], ◌∷◌, ◌++◌, length, take, drop, refl, sym, ◌∙◌, ap, arith, tests, take-append-drop, length-append, nat_eq, Option, Some, None, option_map, is_some, unwrap_or, bytes_eq, codes}
+use Rattle.std.proofs.Common.{◌≡◌, ◌≢◌, ◌-◌, Bool, true, false, cond, ◌&&◌, ◌||◌, [], ◌∷◌, length, take, drop, refl, sym, ◌∙◌, ap, arith, tests, nat_eq, Option, Some, None, option_map, is_some, unwrap_or, bytes_eq, codes}
 use Rattle.std.specs.Prelude.{MatchOption, nat_le}
 use Rattle.std.specs.FinMap.{get}
-use Rattle.std.proofs.Math.Seq.{take-append_seam, drop-append_seam}
 use Rattle.gix_ref_file.specs.History.{History}
 use Rattle.history_model.specs.Bytes.{Bytes, begins, ends, line}
 use Rattle.gix_hash_id.specs.Id.{Id, id_of}
@@ -15,7 +14,7 @@ use Rattle.history_model.specs.Places.{Pair, file_at, packed_place, head_place, 
 use Rattle.history_model.specs.NameStates.{NameState, Holds, Symbolic, Absent, Faulty, name_state, loose_state, loose_line, packed_text_state}
 use Rattle.history_model.specs.StandsFor.{StandsFor}
 use Rattle.gix_hash_id.specs.declared.kind.Kind.{Kind}
-use Rattle.history_model.proofs.PlaceLemmas.{one_text, texts_apart}
+use Rattle.history_model.proofs.PlaceLemmas.{texts_apart}
 use Rattle.history_store.specs.References.{SpellsId, NameHolds}
 use Rattle.gix_hash_id.specs.declared.object_id.ObjectId.{ObjectId}
 use Rattle.history.specs.Stands.{pair_of}

@@ -1,10 +1,9 @@
 -- The texts of replies, part by part.
-use Rattle.std.proofs.Common.{◌≡◌, ℕ, ◌+◌, ◌<◌, List, [], ◌∷◌, ◌++◌, length, map, take, get_or, refl, ap, sym, ◌∙◌, append_assoc}
+use Rattle.std.proofs.Common.{◌≡◌, ℕ, ◌+◌, ◌<◌, List, [], ◌∷◌, ◌++◌, length, map, take, get_or, ap, sym, ◌∙◌, append_assoc}
 use Rattle.std.proofs.lemmas.List.{append-nil, flat_map_more, map_more}
 use Rattle.std.proofs.lemmas.List.Concat.{flat_map-append}
 use Rattle.history_model.specs.Bytes.{Bytes}
 use Rattle.history_model.specs.Spelling.{Part, Line, part_text, parts_text}
-use Rattle.history_files.proofs.Lines.{map_twice}
 
 -- a line of the same words
 pub same_line : (words others : List Bytes) (old new : Bytes) → new ≡ old ++ part_text (Line words) → words ≡ others → new ≡ old ++ part_text (Line others)

@@ -1,5 +1,5 @@
 -- Runs one after another.
-use Rattle.std.proofs.Common.{◌≡◌, ℕ, ◌⊎◌, Bool, true, false, not, ◌&&◌, ◌||◌, ◌≢◌, ◌<◌, ◌≤◌, length, List, [], ◌∷◌, ◌++◌, Option, Some, None, Result, Ok, Err, IfOk, MatchResult, MatchBool, is_ok, refl, sym, ap, subst, ◌∙◌, inl, inr, append_assoc, IsTrue, arith}
+use Rattle.std.proofs.Common.{◌≡◌, ℕ, ◌⊎◌, Bool, true, false, not, ◌&&◌, ◌||◌, ◌≢◌, ◌<◌, length, List, [], ◌∷◌, ◌++◌, Option, Some, None, Result, Ok, Err, IfOk, MatchResult, MatchBool, is_ok, refl, sym, ap, subst, ◌∙◌, inl, inr, append_assoc, IsTrue, arith}
 use Rattle.std.proofs.lemmas.List.{append-nil, length-append}
 use Rattle.std.proofs.lemmas.List.Folds.{list_all-append}
 use Rattle.std.proofs.lemmas.Grind.{flat_map-append}
@@ -21,7 +21,6 @@ use Rattle.history_word.specs.Taking.{Came}
 use Rattle.history.specs.declared.running.RunError.{RunError}
 use Rattle.history.specs.declared.running.RunError.TheVariants.{Read, Write}
 use Rattle.history.specs.declared.repository.Repository.{Repository as Store}
-use Rattle.gix_ref_file.specs.History.{HasRisen}
 use Rattle.history.specs.Acts.{CountsRise, CountsFailure}
 use Rattle.history.specs.Runs.{EndsRun}
 use Rattle.std.proofs.lemmas.Bool.{or_parts, not-false}

@@ -68,7 +68,7 @@ module _ {F : Type 0} (IsHonest : F → Type 0) (history : F → History) (repos
     known_there : IsTrue (contains_key (known_ids repository) id) → IsSome (object_at (history (objects_part repository)).tree id)
     known_there known = some_there (get r.objects id) refl (sym (stands.known id) ∙ known)
 
-  tables_same : table_of history repository.objects ≡ laws.table_of r
+  pub tables_same : table_of history repository.objects ≡ laws.table_of r
   tables_same = λ i. λ id. at_id id i
 
   pub holds_known : HoldsKnown IsHonest history repository.objects

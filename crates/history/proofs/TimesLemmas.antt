@@ -15,7 +15,6 @@ use Rattle.history_word.specs.declared.command.Edit.{Edit}
 use Rattle.history.specs.CommitCauses.{first_among, form_causes, path_causes, IsTime, AreTimes}
 use Rattle.gix_object_lines.specs.declared.lines.time.Time.{Time}
 use Rattle.history.proofs.FirstCauses.{here, passed}
-use Rattle.std.proofs.lemmas.Bool.{not-true}
 use Rattle.history_model.proofs.StepLemmas.{passed as none_of}
 
 or_true : (a : Bool) → (a || true) ≡ true

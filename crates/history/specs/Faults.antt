@@ -8,6 +8,8 @@ use Rattle.history_files.specs.declared.error.ReadError.{ReadError}
 use Rattle.history_files.specs.declared.error.ReadError.TheVariants as read
 use Rattle.history_store.specs.declared.objects.PutMadeError.{PutMadeError}
 use Rattle.history_store.specs.declared.objects.PutMadeError.TheVariants as put
+use Rattle.history_walks.specs.declared.error.WalkError.{WalkError}
+use Rattle.history_walks.specs.declared.error.WalkError.TheVariants as walk
 use Rattle.history.specs.declared.stopped.Stopped.{Stopped}
 use Rattle.history.specs.declared.stopped.Stopped.TheVariants as stopped
 
@@ -20,6 +22,12 @@ abbrev pub read_fault : ReadError → Fault
 read_fault read.Failed = File
 read_fault (read.Broken oid) = File
 read_fault read.Memory = Memory
+
+-- In a whole store each commit that a walk comes to stands.
+abbrev pub walk_fault : WalkError → Fault
+walk_fault walk.Failed = File
+walk_fault walk.Broken = File
+walk_fault walk.Memory = Memory
 
 abbrev pub fault_of_put : PutMadeError → Fault
 fault_of_put (put.IdTaken id) = IdTaken

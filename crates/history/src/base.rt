@@ -103,13 +103,15 @@ fn test_words(expected: Expected, parents: &[WordMeaning]) -> Result<(), Cause>
     Ok(())
 }
 
-fn have_unknown(meanings: &[WordMeaning]) -> bool
+/// Whether one of the words reads as nothing.
+pub(crate) fn have_unknown(meanings: &[WordMeaning]) -> bool
     ensures { result ≡ list_any is_unknown (map meaning_of meanings.now) }
 {
     meanings.iter().any(|meaning| meaning.is_unknown())
 }
 
-fn have_unborn(meanings: &[WordMeaning]) -> bool
+/// Whether one of the words is HEAD, whose branch doesn't stand.
+pub(crate) fn have_unborn(meanings: &[WordMeaning]) -> bool
     ensures { result ≡ list_any is_unborn (map meaning_of meanings.now) }
 {
     meanings.iter().any(|meaning| meaning.is_unborn())

@@ -112,7 +112,11 @@ fn unmade(error: EditError) -> Result<Option<EditedFiles>, Stopped>
 
 impl<F: Files> Repository<F> {
     /// The tree of a commit's first parent; `None` without one.
-    fn tree_before(&self, alloc: Global, parents: &[ObjectId]) -> Result<Option<ObjectId>, Stopped>
+    pub(crate) fn tree_before(
+        &self,
+        alloc: Global,
+        parents: &[ObjectId],
+    ) -> Result<Option<ObjectId>, Stopped>
         ensures { (r : plain.Repository) → Serves F.is_honest F.history self.now r
             → AllByRecursion (HoldsCommit r) (map id_of parents.now)
             → GivesMeant F.reading_may_fail (IsTreeBefore r (map id_of parents.now)) result }

@@ -3,12 +3,13 @@
 ghost use Rattle.std.specs.Prelude.{◌≡◌};
 ghost use Rattle.history_model.specs.declared.Fault.TheVariants.{Memory};
 ghost use Rattle.history.specs.declared.stopped.Stopped.TheVariants as why;
-ghost use Rattle.history.specs.Faults.{file_fault, fault_of_put, read_fault};
+ghost use Rattle.history.specs.Faults.{file_fault, fault_of_put, read_fault, walk_fault};
 
 use gix_ref_file::FileError;
 use history_files::ReadError;
 use history_model::{Cause, Fault};
 use history_store::PutMadeError;
+use history_walks::WalkError;
 use std::alloc::{AllocError, AllocFailed};
 
 /// Why a command isn't done.
@@ -68,6 +69,17 @@ impl From<ReadError> for Stopped {
         Stopped::Fault(match error {
             ReadError::Failed | ReadError::Broken { .. } => Fault::File,
             ReadError::Memory => Fault::Memory,
+        })
+    }
+}
+
+impl From<WalkError> for Stopped {
+    ghost from_gives = { λ error stopped. stopped ≡ why.Fault (walk_fault error) };
+
+    fn from(error: WalkError) -> Stopped {
+        Stopped::Fault(match error {
+            WalkError::Failed | WalkError::Broken => Fault::File,
+            WalkError::Memory => Fault::Memory,
         })
     }
 }

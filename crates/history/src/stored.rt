@@ -18,6 +18,7 @@ use gix_ref_file::Files;
 use history_files::{File, Found, entry_at, files};
 use history_model::Fault;
 use history_store::{commit_tree, parse_commit};
+use history_walks::{Request, list_commits};
 use std::alloc::Global;
 
 // In a whole repository each id that is read names an object of its kind, so only a failed call leads to `fault File`.
@@ -25,6 +26,7 @@ impl<F: Files> Repository<F> {
     ghost use Rattle.history_model.specs.Repository as plain;
     ghost use Rattle.history.specs.Stands.{Stands};
     ghost use Rattle.history.specs.Acts.{GivesMeant};
+    ghost use Rattle.history.specs.Walked.{AllHold, IsLogged};
 
     /// The content of a stored object.
     pub(crate) fn content(
@@ -75,6 +77,17 @@ impl<F: Files> Repository<F> {
             ≡ map (file_line r.kind) (entries below)) result }
     {
         Ok(files(alloc, &self.objects, tree)?)
+    }
+
+    /// The commits that some tips reach and no hidden commit reaches, each once, in the order that is asked for.
+    ///
+    /// The tips and the hidden ones are stored commits. It is a fault where a call of the files failed, or where no memory is left.
+    pub(crate) fn commits(&self, alloc: Global, request: Request) -> Result<Vec<ObjectId>, Stopped>
+        ensures { (r : plain.Repository) → Stands F.is_honest F.history self.now r
+            → AllHold r request.tips.items → AllHold r request.hidden.items
+            → GivesMeant F.reading_may_fail (IsLogged r request) result }
+    {
+        Ok(list_commits(alloc, &self.objects, request)?)
     }
 
     /// What stands at a path below a stored tree. The trees on the path are read, and no other.

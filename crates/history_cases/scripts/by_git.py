@@ -1,4 +1,5 @@
-"""Ids of commits and of their trees that git printed, by commit-tree and write-tree, in repositories of both object formats."""
+"""Ids of commits and of their trees that git printed, by commit-tree and write-tree, in repositories of both object formats, and the
+orders in which it listed some of them."""
 
 SHA1 = (
     "d39b036c797dcd9c0210b66a094ee846a3bc4fd9 66685e2ab14c48f6b22dfeca748179d40cfc74f0 4b825dc642cb6eb9a060e54bf8d69288fbee4904 "
@@ -47,3 +48,26 @@ SHA256 = (
     "d36ecdfc49a7f41b95bea69edb3e1cc0f712ac396bb386b7071b302e71611e05 "
     "94bb588fc0eec7ae824803368c38ee393c2f68ab1b32b7f2de41d6033dbd5912"
 ).split()
+
+# The commits of scripts/cases.py's logs, by their seconds, as `git rev-list` printed them: of itself for `newest`, with `--date-order`
+# and `--topo-order`, and with `--first-parent`. A hidden commit is `^` there.
+LISTS = {
+    ("newest", "all"): {
+        "+j": "87654321", "+m +s": "7654321", "+s +m +s": "7654321", "+o +j": "987654321", "+j -s": "8653", "-o +j": "87653",
+        "+j -j": "", "+m -o -s": "653"
+    },
+    ("date", "all"): {
+        "+j": "87654321", "+m +s": "7654321", "+s +m +s": "7654321", "+o +j": "987654321", "+j -s": "8653", "-o +j": "87653",
+        "+j -j": "", "+m -o -s": "653"
+    },
+    ("date", "first"): {
+        "+j": "86531", "+m +s": "7654321", "+s +m +s": "7654321", "+o +j": "98654321"
+    },
+    ("topological", "all"): {
+        "+j": "87426531", "+m +s": "7426531", "+s +m +s": "7426531", "+o +j": "987426531", "+j -s": "8653", "-o +j": "87653",
+        "+j -j": "", "+m -o -s": "653"
+    },
+    ("topological", "first"): {
+        "+j": "86531", "+m +s": "7426531", "+s +m +s": "7426531", "+o +j": "94286531"
+    },
+}

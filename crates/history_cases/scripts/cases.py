@@ -145,7 +145,8 @@ def first_causes():
 
 
 def branch(name, number, more=b""):
-    return b"commit %s\n" % name + more + SIGNED % (number, number, 1, b"%d" % number)
+    title = b"%d" % number
+    return b"commit %s\n" % name + more + SIGNED % (number, number, len(title), title)
 
 
 def two_branches():
@@ -186,8 +187,90 @@ def of_names():
                (b"past nosuch", "BadName"), (b"past refs/heads/nosuch", "NoSuchName"), (b"past refs/heads", "NoSuchName"),
                (b"past refs/bisect/x", "PrivateName"), (b"past x", "BadName"), (b"past a..b", "BadName"), (b"past refs/a..b", "BadName")]
     runs((made,), *((line + b"\n", cause) for line, cause in refused), (b"names\n",), by_git_alone=False)
-    for line in (b"names a b\n", b"past\n", b"past a b\n", b"log breadth all +main\n"):
+
+
+def as_git_lists(made):
+    """Stops where a log isn't the list that git printed."""
+    plain = Plain("sha1")
+    numbers = {reply.split()[-1]: number for (reply, _), number in zip(plain.run(made)[1], "123459678")}
+    for (order, how), lists in by_git.LISTS.items():
+        for items, listed_ in lists.items():
+            _, ((reply, _),) = plain.run(f"log {order} {how} {items}\n".encode())
+            assert "".join(numbers[it] for it in reply.split()[3:]) == listed_, (order, how, items)
+
+
+def logs():
+    """Eight commits on two branches in each order, from one tip and from more, with some that are hidden, and what is refused."""
+    m, s = b"refs/heads/m", b"refs/heads/s"
+    made = branch(m + b" new", 1) + branch(s + b" new", 2, b"parent m\n") + branch(m + b" any", 3) + branch(s + b" any", 4)
+    made += branch(m + b" any", 5) + branch(b"refs/heads/o new", 9, b"parent s\n") + branch(m + b" any", 6) + branch(s + b" any", 7)
+    made += branch(b"refs/heads/j new", 8, b"parent m\nparent s\n")
+    lines = [b"log %s %s %s\n" % (order, how, items) for order in (b"breadth", b"newest", b"oldest", b"date", b"topological")
+             for how in (b"all", b"first") for items in (b"+j", b"+m +s", b"+s +m +s", b"+o +j", b"+j -s", b"-o +j", b"+j -j", b"+m -o -s")
+             if how == b"all" or order == b"breadth" or b"-" not in items and order in (b"date", b"topological")]
+    lines += [b"log %s %d %s\n" % (order, since, items) for order in (b"newest-since", b"oldest-since") for since in (0, 4, 6, 8, 9)
+              for items in (b"all +j", b"all +s +m", b"all -o +j")]
+    runs((made,), *((line,) for line in lines), by_git_alone=False)
+    as_git_lists(made)
+    refused = [(b"log newest all +m -nosuch", "UnknownWord"), (b"log newest-since x all +HEAD", "UnbornHead"),
+               (b"log newest-since x all +nosuch -HEAD", "UnknownWord"), (b"log newest-since x first +m", "BadTime"),
+               (b"log oldest-since 01 all +m", "BadTime"), (b"log oldest-since 9223372036854775808 all +m", "BadTime"),
+               (b"log newest-since -1 all +m", "BadTime"), (b"log newest first +m", "OrderWithParents"),
+               (b"log oldest first +m", "OrderWithParents"), (b"log newest-since 1 first +m", "OrderWithParents"),
+               (b"log oldest-since 1 first +m", "OrderWithParents"), (b"log date first +m -s", "OrderWithParents"),
+               (b"log topological first +m -m", "OrderWithParents")]
+    runs((made,), *((line + b"\n", cause) for line, cause in refused), (b"log newest-since 9223372036854775807 all +j\n",),
+         (b"log breadth first +m -s\n",), by_git_alone=False)
+    for line in (b"log\n", b"log breadth all -m\n", b"log breadth all m\n", b"log breadth all +\n", b"log breadth all path 1 +m\na\n",
+                 b"log newest-since all +m\n", b"names a b\n", b"past\n", b"past a b\n"):
         answer(INPUT + line, "Syntax", end="Refused")
+
+
+def log_at(words, path):
+    return b"log %s path %d\n%s\n" % (words, len(path), path)
+
+
+def path_logs():
+    """Logs with a path: what they list, by the numbers of the commits, and each refused path, with its place among the causes."""
+    m, s = b"refs/heads/m", b"refs/heads/s"
+    made = b"".join([
+        branch(m + b" new", 1, b"put file 1 1\na\nx\n"), branch(m + b" any", 2, b"put file 1 1\nb\ny\n"),
+        branch(m + b" any", 3, b"put file 1 1\na\nz\n"), branch(m + b" any", 4, b"put file 3 1\nd/e\n1\nput file 3 1\nd/f\n2\n"),
+        # The mode of a file alone, and back; a file that nothing changes; one that is put anew as it was.
+        branch(m + b" any", 5, b"put exec 3 1\nd/e\n1\n"), branch(m + b" any", 6, b"put link 3 1\nd/e\n1\n"), branch(m + b" any", 7),
+        branch(m + b" any", 8, b"put file 1 1\na\nz\n"),
+        # A branch whose `a` and `d` the merge takes from its first parent; and one that takes the `a` of the second.
+        branch(s + b" new", 9, b"parent m\nput file 1 1\na\nw\nremove 1\nd\n"), branch(m + b" any", 10, b"put file 1 1\nb\nv\n"),
+        branch(m + b" any", 11, b"parent s\n"), branch(m + b" any", 12, b"parent s\nput file 1 1\na\nw\n"),
+        # A file in place of a folder, a folder in place of a file, and all files gone.
+        branch(m + b" any", 13, b"put file 1 0\nd\n\n"), branch(m + b" any", 14, b"put file 3 0\na/x\n\n"),
+        branch(m + b" any", 15, b"remove 1\na\nremove 1\nb\nremove 1\nd\n")])
+    listed_ = [(b"a", [15, 14, 12, 9, 3, 1]), (b"b", [15, 10, 2]), (b"c", []), (b"d", [15, 13, 9, 6, 5, 4]), (b"d/e", [13, 9, 6, 5, 4]),
+               (b"d/f", [13, 9, 4]), (b"d/", None), (b"d/e/x", []), (b"a/x", [15, 14]), (b"a/x/y", []), (b"A", []), (b"aa", []),
+               (b"d" * 4096, [])]
+    as_numbered(made, listed_)
+    paths = [path for path, numbers in listed_ if numbers is not None]
+    ways = [b"topological all +m", b"newest all +m", b"oldest all +m", b"date all +m", b"breadth first +m", b"topological first +m",
+            b"breadth all +m -s", b"newest-since 5 all +m", b"breadth all +s +m"]
+    runs((made,), *((log_at(b"topological all +m", path),) for path in paths), by_git_alone=False)
+    runs((made,), *((log_at(way, path),) for way in ways for path in (b"a", b"d", b"b")), by_git_alone=False)
+    bad = [b"", b"/", b"/a", b"a/", b"a//b", b"a\0", b"d" * 4097, b"d" * 5000]
+    first = [(log_at(b"breadth all +nosuch", b""), "UnknownWord"), (log_at(b"breadth all +HEAD", b""), "UnbornHead"),
+             (log_at(b"newest-since x first +m", b""), "BadPath"), (log_at(b"newest first +m", b"/"), "BadPath"),
+             (log_at(b"newest-since x first +m", b"a"), "BadTime"), (log_at(b"newest first +m", b"a"), "OrderWithParents"),
+             (log_at(b"breadth all +nosuch", b"a"), "UnknownWord")]
+    runs((made,), *((log_at(b"breadth all +m", path), "BadPath") for path in bad), *first, (log_at(b"topological all +m", b"a"),),
+         by_git_alone=False)
+
+
+def as_numbered(made, listed_):
+    """Stops where a log with a path doesn't list the commits of these numbers."""
+    plain = Plain("sha1")
+    numbers = {reply.split()[-1]: number for number, (reply, _) in enumerate(plain.run(made)[1], 1)}
+    for path, wanted in listed_:
+        _, ((reply, _),) = plain.run(log_at(b"topological all +m", path))
+        found = [numbers[it] for it in reply.split()[3:]] if reply.startswith(b"ok") else None
+        assert found == wanted, (path, found, wanted)
 
 
 def removals():
@@ -330,6 +413,24 @@ def faults():
                  ["created File closed closed closed closed", f"created opened Fault:{word(fault)} failed Fault:- failed", *ends])
 
 
+def log_faults():
+    """One call of either part fails, each in turn, of two commits and two logs in each order, and of two at a path: the log that makes it
+    tells so, and the other is right."""
+    fault = b"fault File\n"
+    made = PUT_HELLO + b"commit refs/heads/main any\n" + SIGNED % (1, 1, 3, b"two")
+    for kind in KINDS:
+        orders = (b"breadth", b"newest", b"oldest-since 1", b"date", b"topological")
+        for line in [*(b"log %s all +main\n" % order for order in orders), log_at(b"breadth all +main", b"a")]:
+            stream = made + line * 2
+            _, replies = Plain(kind).run(stream)
+            one, two, first, second = (reply for reply, _ in replies)
+            told_ = [b"".join(it) for it in [(one, two, fault, second), (one, two, first, fault), (one, two, first, second)]]
+            answers = ["created File closed closed", f"created opened Fault:{word(fault)} failed",
+                       f"created opened Fault:{word(one + fault)} failed", *(f"created opened Input:{word(it)} sound" for it in told_)]
+            for part in ("objects", "names"):
+                each(80, kind, f"create {part}:fail:#:- open run:{word(stream)} failed", answers)
+
+
 def stops():
     """A run of two commits that is stopped at each call: what recovery would leave is the repository before or after the command, with
     the first of the objects that are on the way. A call that keeps what it was to write has made a change without bytes."""
@@ -398,7 +499,9 @@ def by_chance(chance, kind):
         path = chance.choice(paths)
         if chance.random() < 0.4:
             return chance.choice([b"files %s\n" % name, b"show %s\n" % name, b"show %s path %d\n%s\n" % (name, len(path), path),
-                                  b"names\n", b"names %s\n" % chance.choice(names), b"past %s\n" % name])
+                                  b"names\n", b"names %s\n" % chance.choice(names), b"past %s\n" % name,
+                                  b"log breadth all +%s +main -%s\n" % (name, chance.choice(names)),
+                                  log_at(b"breadth all +%s +main" % name, path)])
         expect = chance.choice([b"any", b"any", b"any", b"new", b"at " + name])
         parents = b"".join(b"parent %s\n" % chance.choice([b"main", b"x", b"HEAD"]) for _ in range(chance.choice([0, 0, 0, 1, 2])))
         edits = b"".join(edit() for _ in range(chance.randrange(4)))
@@ -413,7 +516,8 @@ def by_chance(chance, kind):
 
 
 if __name__ == "__main__":
-    for part in (rows, first_causes, two_branches, of_names, removals, nested, limits, opening, readings, readers, faults, stops):
+    for part in (rows, first_causes, two_branches, of_names, logs, path_logs, removals, nested, limits, opening, readings, readers, faults,
+                 log_faults, stops):
         part()
     chance = random.Random(23)
     for number in range(200):

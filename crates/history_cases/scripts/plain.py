@@ -5,6 +5,7 @@ import hashlib
 import re
 
 MODES = {b"file": b"100644", b"exec": b"100755", b"link": b"120000"}
+ORDERS = (b"breadth", b"newest", b"oldest", b"newest-since", b"oldest-since", b"date", b"topological")
 PRIVATE = (b"refs/bisect/", b"refs/worktree/", b"refs/rewritten/")
 LIMIT = 2 ** 24
 
@@ -52,7 +53,7 @@ class Reader:
             return ("show", words[1], None)
         if words[0] == b"show" and len(words) == 4 and words[2] == b"path":
             return ("show", words[1], self.fields(words[3:])[0])
-        if words[0] in (b"names", b"past"):
+        if words[0] in (b"names", b"past", b"log"):
             return getattr(self, words[0].decode())(words[1:])
         refuse_where(words[0] != b"commit" or len(words) not in (3, 4), "Syntax")
         refuse_where((len(words) == 4) != (words[2] == b"at") or words[2] not in (b"at", b"any", b"new"), "Syntax")
@@ -65,6 +66,19 @@ class Reader:
     def past(self, words):
         refuse_where(len(words) != 1, "Syntax")
         return ("past", words[0])
+
+    def log(self, words):
+        """A log: its order, the seconds behind it or none, whether it follows first parents alone, its items, and its path or none."""
+        order, words = words[0] if words else b"", words[1:]
+        refuse_where(order not in ORDERS, "Syntax")
+        since, words = (words[0] if words else None, words[1:]) if order.endswith(b"-since") else (None, words)
+        refuse_where(not words or words[0] not in (b"all", b"first"), "Syntax")
+        size = words[-1:] if words[-2:-1] == [b"path"] else []
+        items = [(it[:1], it[1:]) for it in (words[1:-2] if size else words[1:])]
+        refuse_where(any(sign not in (b"+", b"-") or not target for sign, target in items), "Syntax")
+        refuse_where(all(sign != b"+" for sign, _ in items), "Syntax")
+        path = self.fields(size)[0] if size else None
+        return ("log", order.partition(b"-")[0], since, words[0] == b"first", items, path)
 
     def commit(self, name, expect):
         parents, edits, words = [], [], self.line()
@@ -105,6 +119,11 @@ def is_path(path):
     return len(path) <= 4096 and b"\0" not in path and b"" not in path.split(b"/")
 
 
+def at_path(files, path):
+    """The files at a path or below it."""
+    return {it: file for it, file in files.items() if (it + b"/").startswith(path + b"/")}
+
+
 def is_part(part):
     return len(part) <= 512 and part.strip(b" ") == part and not re.search(rb"[<>\0\t\r\n]", part)
 
@@ -112,6 +131,51 @@ def is_part(part):
 def is_time(seconds, offset):
     good = re.fullmatch(rb"0|[1-9]\d*", seconds) and int(seconds) < 2 ** 63 and re.fullmatch(rb"[+-]\d\d[0-5]\d", offset)
     return bool(good) and offset != b"-0000"
+
+
+class Walk:
+    """Commits along their parents, or their first parents alone."""
+
+    def __init__(self, commits, first_parents):
+        self.parents = {it: commit["parents"][:1] if first_parents else commit["parents"] for it, commit in commits.items()}
+        self.times = {it: int(commit["committer"][2]) for it, commit in commits.items()}
+
+    def reached(self, tips, since):
+        """What is reached from the tips, where each commit on the way is no older."""
+        found, left = set(), list(tips)
+        while left:
+            at = left.pop()
+            if at not in found and self.times[at] >= since:
+                found.add(at)
+                left += self.parents[at]
+        return found
+
+    def listed(self, order, tips, inside):
+        """All that are inside, in this order. Where two of one time might both come next, either may be told: then this stops."""
+        found = []
+        while len(found) < len(inside):
+            found.append(self.following(order, tips, inside, found))
+        return found
+
+    def following(self, order, tips, inside, found):
+        named = [(at, place, number) for place, it in enumerate(found) for number, at in enumerate(self.parents[it])]
+        after_all = [it for it in inside if all(it not in self.parents[child] or child in found for child in inside)]
+        opened = [it for it in [*tips, *(at for at, _, _ in named)] if it in inside and it not in found]
+        if order == b"breadth":
+            return opened[0]
+        if order == b"topological":
+            last = {at: (place, number) for at, place, number in named}
+            ready = [it for it in after_all if it not in found]
+            behind = [it for it in ready if it in last]
+            return max(behind, key=last.get) if behind else self.only(max, ready)
+        if order == b"date":
+            return self.only(max, [it for it in after_all if it not in found])
+        return self.only(min if order == b"oldest" else max, opened)
+
+    def only(self, choose, some):
+        time = choose(self.times[it] for it in some)
+        (one,) = {it for it in some if self.times[it] == time}
+        return one
 
 
 class Plain:
@@ -258,6 +322,25 @@ class Plain:
         refuse_where(name not in self.names, "NoSuchName")
         moves = self.logs[name].splitlines(keepends=True)
         return b"ok past %d\n" % len(moves) + b"".join(reversed(moves))
+
+    def differs(self, digits, path):
+        """Whether a commit's files at a path or below it aren't those of its first parent; without one, whether it has some there."""
+        commit = self.commits[digits]
+        before = self.commits[commit["parents"][0]]["files"] if commit["parents"] else {}
+        return at_path(commit["files"], path) != at_path(before, path)
+
+    def log(self, order, since, first_parents, items, path):
+        targets = self.resolved([target for _, target in items])
+        refuse_where(path is not None and not is_path(path), "BadPath")
+        refuse_where(since is not None and not is_time(since, b"+0000"), "BadTime")
+        hidden = [it for it, (sign, _) in zip(targets, items) if sign == b"-"]
+        refuse_where(first_parents and order != b"breadth" and (hidden or order in (b"newest", b"oldest")), "OrderWithParents")
+        tips = list(dict.fromkeys(it for it, (sign, _) in zip(targets, items) if sign == b"+"))
+        walk = Walk(self.commits, first_parents)
+        hides = Walk(self.commits, False).reached(hidden, 0)
+        walked = walk.listed(order, tips, walk.reached(tips, int(since or 0)) - hides)
+        listed = [it for it in walked if path is None or self.differs(it, path)]
+        return b"ok log %d\n" % len(listed) + b"".join(it + b"\n" for it in listed)
 
     def run(self, data):
         """How the run ends, and the reply to each command, with where in the input the command ends."""

@@ -1,5 +1,5 @@
 -- The causes that may be the first for a command of this stage.
-use Rattle.std.proofs.Common.{◌≡◌, Bool, true, false, cond, List, [], ◌∷◌, ◌++◌, refl, Option, Some, None, option_map, is_some, is_none, unwrap_or, find}
+use Rattle.std.proofs.Common.{◌≡◌, Bool, true, false, cond, List, [], ◌∷◌, ◌++◌, map, refl, Option, Some, None, option_map, is_some, is_none, unwrap_or, find}
 use Rattle.std.specs.List.{list_any}
 use Rattle.std.specs.FinMap.{get}
 use Rattle.history_model.specs.Bytes.{Bytes}
@@ -7,8 +7,9 @@ use Rattle.history_model.specs.Objects.{Value, StoredCommit, StoredTag, StoredBy
 use Rattle.gix_hash_id.specs.Id.{Id}
 use Rattle.history_model.specs.Repository.{Repository, HasWholeNames, id_at, peeled, is_tag, is_tag_value}
 use Rattle.history_model.specs.Words.{WordMeaning, ReadsAs, Unborn, Unknown, Ambiguous, word_meaning}
-use Rattle.history_model.specs.Commands.{Commit, Tag, Move, Rename, Delete, Switch, Pack, Index, Names, Files, Past, Log, Show, CommitCommand}
+use Rattle.history_model.specs.Commands.{Commit, Tag, Move, Rename, Delete, Switch, Pack, Index, Names, Files, Past, Log, Show, CommitCommand, LogCommand}
 use Rattle.history_model.specs.CommandParts.{at_word}
+use Rattle.history_model.specs.Spelling.{item_target}
 use Rattle.history_model.specs.Meaning.{branch_or_name}
 use Rattle.history_model.specs.Causes.{holds, in_order, is_ambiguous, is_no_commit}
 use Rattle.history_steps.specs.Offered.{IsOffered, offered_causes, FirstOfferedCause}
@@ -26,7 +27,6 @@ record RuledOut (p : Cause → Bool) : Type 0 where
   no_commit : p NotACommit ≡ false
   holds_tag : p HoldsTag ≡ false
   moves_nothing : p NothingMoves ≡ false
-  wrong_order : p OrderWithParents ≡ false
 
 drop : (b : Bool) (x : Cause) (rest want : Option Cause) → b ≡ false → rest ≡ want → cond b (Some x) rest ≡ want
 drop true x rest want e same = cc
@@ -43,7 +43,7 @@ first_of_few p out =
     (keep (p NoSuchName) _ _ _ (λ s. keep (p Taken) _ _ _ (λ t. keep (p NotExpected) _ _ _ (λ e. keep (p Collides) _ _ _ (λ c. drop _ _ _ _ out.holds_tag
     (keep (p TooManyParents) _ _ _ (λ m. keep (p DuplicateParent) _ _ _ (λ d. keep (p BadPath) _ _ _ (λ b. keep (p IsFolder) _ _ _ (λ f.
     keep (p NoSuchPath) _ _ _ (λ s. keep (p BadActor) _ _ _ (λ a. keep (p BadTime) _ _ _ (λ t. keep (p BadMessage) _ _ _ (λ m. keep (p TooLarge) _ _ _ (λ l.
-    drop _ _ _ _ out.moves_nothing (drop _ _ _ _ out.wrong_order refl))))))))))))))))))))))
+    drop _ _ _ _ out.moves_nothing refl)))))))))))))))))))))
 
 -- ---- lists
 
@@ -99,7 +99,6 @@ module _ (r : Repository) (o : IsOffered r) (w : HasWholeNames r) where
     no_commit = none_passes (λ word. is_no_commit r (word_meaning r word)) (at_word c.expect ++ c.parents) is_commit;
     holds_tag = no_tag (branch_or_name r c.name);
     moves_nothing = refl;
-    wrong_order = refl;
   }
 
   files_out : (word : Bytes) → RuledOut (λ cause. holds cause r (Files word))
@@ -109,7 +108,6 @@ module _ (r : Repository) (o : IsOffered r) (w : HasWholeNames r) where
     no_commit = or_from _ false (is_commit word) refl;
     holds_tag = refl;
     moves_nothing = refl;
-    wrong_order = refl;
   }
 
   names_out : (folder : Option Bytes) → RuledOut (λ cause. holds cause r (Names folder))
@@ -119,7 +117,6 @@ module _ (r : Repository) (o : IsOffered r) (w : HasWholeNames r) where
     no_commit = refl;
     holds_tag = refl;
     moves_nothing = refl;
-    wrong_order = refl;
   }
 
   past_out : (word : Bytes) → RuledOut (λ cause. holds cause r (Past word))
@@ -129,7 +126,15 @@ module _ (r : Repository) (o : IsOffered r) (w : HasWholeNames r) where
     no_commit = refl;
     holds_tag = refl;
     moves_nothing = refl;
-    wrong_order = refl;
+  }
+
+  log_out : (c : LogCommand) → RuledOut (λ cause. holds cause r (Log c))
+  log_out c = record {
+    name_twice = refl;
+    ambiguous = none_passes (λ word. is_ambiguous (word_meaning r word)) (map item_target c.items) not_ambiguous;
+    no_commit = none_passes (λ word. is_no_commit r (word_meaning r word)) (map item_target c.items) is_commit;
+    holds_tag = refl;
+    moves_nothing = refl;
   }
 
   show_out : (word : Bytes) (path : Option Bytes) → RuledOut (λ cause. holds cause r (Show word path))
@@ -139,7 +144,6 @@ module _ (r : Repository) (o : IsOffered r) (w : HasWholeNames r) where
     no_commit = or_from _ false (is_commit word) refl;
     holds_tag = refl;
     moves_nothing = refl;
-    wrong_order = refl;
   }
 
 pub first_offered_cause : FirstOfferedCause
@@ -154,5 +158,5 @@ first_offered_cause r Index o w offered = cc
 first_offered_cause r (Names folder) o w offered = first_of_few (λ cause. holds cause r (Names folder)) (names_out r o w folder)
 first_offered_cause r (Files word) o w offered = first_of_few (λ cause. holds cause r (Files word)) (files_out r o w word)
 first_offered_cause r (Past word) o w offered = first_of_few (λ cause. holds cause r (Past word)) (past_out r o w word)
-first_offered_cause r (Log c) o w offered = cc
+first_offered_cause r (Log c) o w offered = first_of_few (λ cause. holds cause r (Log c)) (log_out r o w c)
 first_offered_cause r (Show word path) o w offered = first_of_few (λ cause. holds cause r (Show word path)) (show_out r o w word path)

@@ -116,5 +116,5 @@ offered_stays r Index o offered none = cc
 offered_stays r (Names folder) o offered none = o
 offered_stays r (Files word) o offered none = o
 offered_stays r (Past word) o offered none = o
-offered_stays r (Log c) o offered none = cc
+offered_stays r (Log c) o offered none = o
 offered_stays r (Show word path) o offered none = o

@@ -26,6 +26,7 @@ is_enough (draft.Show s) (model.Show word path) h = (refl, refl)
 is_enough draft.Names (model.Names None) h = (refl, refl)
 is_enough (draft.NamesIn f) (model.Names (Some folder)) h = (refl, refl)
 is_enough (draft.Past w) (model.Past word) h = (refl, refl)
+is_enough (draft.Log l) (model.Log log) h = (h.0, refl)
 is_enough d order h = absurd h
 
 -- at the end, the parts are those of the command that the draft has

@@ -1,5 +1,5 @@
 -- What a draft has after each line.
-use Rattle.std.proofs.Common.{◌≡◌, ℕ, ◌<◌, true, List, [], ◌∷◌, ◌++◌, length, map, Option, Some, None, ◌⊎◌, inl, inr, refl, sym, ap, subst, ◌∙◌, arith, flat_map}
+use Rattle.std.proofs.Common.{◌≡◌, ℕ, ◌<◌, true, List, [], ◌∷◌, ◌++◌, length, map, Option, Some, None, if◌then◌else◌, ◌⊎◌, inl, inr, refl, sym, ap, subst, ◌∙◌, arith, flat_map}
 use Rattle.std.specs.List.{join_with_byte}
 use Rattle.std.proofs.lemmas.List.{append-nil, length-append}
 use Rattle.history_model.specs.Bytes.{Bytes, line}
@@ -58,6 +58,10 @@ takes_parts p q from to old new h xs taken fields t sizes is_from is_to split co
   come = subst (λ a. (before : List spelling.Part) → HasCome a old before → HasCome q new (before ++ parts_with h fields)) (sym is_from)
       (subst (λ b. (before : List spelling.Part) → HasCome from old before → HasCome b new (before ++ parts_with h fields)) (sym is_to) come);
 }
+
+-- the line of a log, with a path of this length or none
+abbrev pub log_heading : model.LogCommand → Option ℕ → lines.Heading
+log_heading log path = lines.LogHeading log.order log.first_parents log.items path
 
 -- ---- where each line stands, and what it leads to
 
@@ -128,3 +132,11 @@ names_place p q folder e = cc
 pub past_place : (p q : Place) (w : Bytes) → next_offered (place_of p) (lines.PastHeading w) ≡ Some (place_of q) → (p ≡ place.Start) × (q ≡ place.Done)
 past_place place.Start place.Done w e = (refl, refl)
 past_place p q w e = cc
+
+pub log_place : (p q : Place) (log : model.LogCommand) (path : Option ℕ) → spelling.are_items log.items ≡ true → next_offered (place_of p) (log_heading log path) ≡ Some (place_of q) → (p ≡ place.Start) × (q ≡ place.Done)
+log_place place.Start q log path begins e = done q (sym (ap (λ b. if b then Some table.Done else None) begins) ∙ e)
+  where
+    done : (q : Place) → Some table.Done ≡ Some (place_of q) → (place.Start ≡ place.Start) × (q ≡ place.Done)
+    done place.Done e = (refl, refl)
+    done q e = cc
+log_place p q log path begins e = cc

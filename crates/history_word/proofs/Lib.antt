@@ -13,6 +13,7 @@ pub mod SinkLemmas
 pub mod FieldLemmas
 pub mod LineLemmas
 pub mod UnofferedLemmas
+pub mod LogLemmas
 pub mod ProgressLemmas
 pub mod DraftLemmas
 pub mod LineEndLemmas

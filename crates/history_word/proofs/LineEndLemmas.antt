@@ -1,8 +1,9 @@
 -- What a line that was taken, and the fields behind it, leave in the draft.
-use Rattle.std.proofs.Common.{◌≡◌, ℕ, List, [], ◌∷◌, ◌++◌, length, map, Option, Some, None, refl, sym, ap, ◌∙◌, append_assoc, codes, flat_map}
+use Rattle.std.proofs.Common.{◌≡◌, ℕ, true, List, [], ◌∷◌, ◌++◌, length, nat_le, map, Option, Some, None, option_map, refl, sym, ap, ◌∙◌, append_assoc, codes, flat_map}
 use Rattle.std.specs.Prelude.{IfSome}
 use Rattle.std.proofs.lemmas.Grind.{flat_map-append}
 use Rattle.std.proofs.lemmas.List.{append-nil, map-append}
+use Rattle.std.proofs.lemmas.Bool.{and_from}
 use Rattle.history_model.specs.Bytes.{Bytes, line}
 use Rattle.history_model.specs.Commands as model
 use Rattle.history_model.specs.Spelling as spelling
@@ -12,14 +13,16 @@ use Rattle.history_word.specs.TableRuns.{at, run_from}
 use Rattle.history_model.specs.declared.Cause.{Cause}
 use Rattle.history_word.specs.Commands.{IsExpect}
 use Rattle.history_word.specs.Progress.{IsNoField, StopsFrom}
-use Rattle.history_word.specs.Drafts.{role_of, place_of, edit_heading, edit_fields, edit_sizes, to_parents, IsEditHeading, IsHeading, IsDraft, TakesLine, TakesEdit, TakesParts, with_parent, with_edit, with_actor, with_message}
+use Rattle.history_word.specs.Drafts.{role_of, place_of, edit_heading, edit_fields, edit_sizes, to_parents, IsEditHeading, IsHeading, IsLogLine, log_of, IsDraft, TakesLine, TakesEdit, TakesLog, TakesParts, with_parent, with_edit, with_actor, with_message, with_path}
 use Rattle.std.proofs.Common.{Vec, Global}
 use Rattle.history_word.specs.declared.command.Expect.{Expect}
 use Rattle.history_word.specs.declared.command.Edit.{Edit}
+use Rattle.history_word.specs.declared.command.LogCommand.{LogCommand}
 use Rattle.history_word.specs.declared.heading.EditHeading.{EditHeading}
 use Rattle.history_word.specs.declared.heading.EditHeading.TheVariants as edit
 use Rattle.history_word.specs.declared.heading.Heading.{Heading}
 use Rattle.history_word.specs.declared.heading.Heading.TheVariants as heading
+use Rattle.history_word.specs.declared.logs.LogLine.{LogLine}
 use Rattle.history_word.specs.declared.heading.Role.{Role}
 use Rattle.history_word.specs.declared.heading.Role.TheVariants.{Author, Committer}
 use Rattle.history_word.specs.declared.place.Place.{Place}
@@ -27,7 +30,7 @@ use Rattle.history_word.specs.declared.place.Place.TheVariants as place
 use Rattle.history_word.specs.declared.draft.Draft.{Draft}
 use Rattle.history_word.specs.declared.draft.Draft.TheVariants as draft
 use Rattle.history_word.proofs.ProgressLemmas.{leads_line, leads_field, stops_here, stops_after, field_stops}
-use Rattle.history_word.proofs.DraftLemmas.{as_said, parts_with, takes_parts, come_to_edits, commit_place, parent_place, edit_place, author_place, committer_place, message_place, end_place, files_place, show_place, path_place, names_place, past_place}
+use Rattle.history_word.proofs.DraftLemmas.{as_said, parts_with, takes_parts, come_to_edits, commit_place, parent_place, edit_place, author_place, committer_place, message_place, end_place, files_place, show_place, path_place, log_heading, names_place, past_place, log_place}
 
 abbrev Word : Type 0
 Word = Option (Vec ℕ Global)
@@ -101,11 +104,18 @@ pub past_said : (word : Word) (h : lines.Heading) → IsHeading (heading.Past wo
 past_said word (lines.PastHeading w) e = (w, refl, e)
 past_said word h e = absurd e
 
+pub log_said : (line : LogLine) (h : lines.Heading) → IsHeading (heading.Log line) h → (log : model.LogCommand) × (h ≡ log_heading log line.path) × IsLogLine line log
+log_said line (lines.LogHeading order first_parents items path) e = (log_of order first_parents items, (λ i. lines.LogHeading order first_parents items (sym e.1 i)), e.0)
+log_said line h e = absurd e
+
 pub actor_sizes : (role : Role) (m n : ℕ) (seconds offset : Word) (h : lines.Heading) → IsHeading (heading.Actor role m n seconds offset) h → lines.sizes h ≡ m ∷ n ∷ []
 actor_sizes role m n seconds offset h e = ap lines.sizes (actor_said role m n seconds offset h e).2
 
 pub path_sizes : (word : Word) (n : ℕ) (h : lines.Heading) → IsHeading (heading.ShowPath word n) h → lines.sizes h ≡ n ∷ []
 path_sizes word n h e = ap lines.sizes (path_said word n h e).1
+
+pub log_sizes : (line : LogLine) (h : lines.Heading) → IsHeading (heading.Log line) h → lines.sizes h ≡ spelling.option_list line.path
+log_sizes line h e = ap lines.sizes (log_said line h e).1
 
 -- ---- the sizes of the fields that follow
 
@@ -334,3 +344,29 @@ past_parts p q word xs old t =
     let places = past_place p q said.0 s.stands in
     takes_parts p q place.Start place.Done old (draft.Past word) h xs xs [] s refl places.0 places.1 (sym (append-nil xs))
     (λ before come. (model.Past said.0, ap (λ x. x ++ parts_with h []) come, said.2))
+
+-- the parts of a log, the length of its path, and how many it has
+
+log_spelled : (log : model.LogCommand) (path : Option Bytes) → parts_with (log_heading log (option_map length path)) (spelling.option_list path) ≡ spelling.parts_of (model.Log (with_path log path))
+log_spelled log None = refl
+log_spelled log (Some path) = refl
+
+log_lengths : (path : Option Bytes) → spelling.option_list (option_map length path) ≡ map length (spelling.option_list path)
+log_lengths None = refl
+log_lengths (Some path) = refl
+
+one_path : (path : Option Bytes) → nat_le (length (spelling.option_list path)) 1 ≡ true
+one_path None = refl
+one_path (Some path) = refl
+
+pub log_parts : (p q : Place) (line : LogLine) (log : Option LogCommand) (xs ys : Bytes) (old : Draft) → TakesLine p (heading.Log line) q xs → TakesLog line log ys → TakesParts p old q (draft.Log log) (xs ++ ys)
+log_parts p q line log xs ys old t took =
+    let said = log_said line t.heading t.is in
+    let path = took.path in
+    let order = with_path said.0 path in
+    let h = log_heading said.0 (option_map length path) in
+    let s = as_said p q (heading.Log line) h xs t (said.1 ∙ ap (log_heading said.0) took.heads) in
+    let places = log_place p q said.0 (option_map length path) said.2.begins s.stands in
+    let enough = and_from (spelling.are_items order.items) (nat_le (length order.paths) 1) said.2.begins (one_path path) in
+    takes_parts p q place.Start place.Done old (draft.Log log) h xs (xs ++ ys) (spelling.option_list path) s (log_lengths path) places.0 places.1 (ap (λ y. xs ++ y) took.spelled)
+    (λ before come. (model.Log order, ap (λ x. x ++ parts_with h (spelling.option_list path)) come ∙ log_spelled said.0 path, (enough, took.is said.0 said.2)))

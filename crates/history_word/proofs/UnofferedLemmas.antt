@@ -2,21 +2,21 @@
 use Rattle.std.proofs.Common.{◌≡◌, ℕ, Bool, true, false, List, [], ◌∷◌, Option, Some, None, refl, sym, ◌∙◌, bytes_eq, codes, if◌then◌else◌, option_map, option_and_then}
 use Rattle.std.proofs.lemmas.Slice.Eq.{bytes_eq-Decides}
 use Rattle.history_model.specs.Bytes.{Bytes}
-use Rattle.history_model.specs.Commands.{Expect, Order}
+use Rattle.history_model.specs.Commands.{Expect}
 use Rattle.history_model.specs.Lines as lines
 use Rattle.history_word.specs.LineTable as table
-use Rattle.history_word.specs.LineTable.{expect_of, number_of, end_of_words, word_of_words, actor_of_words, target_of_words, rename_of_words, delete_of_words, order_of, first_parents_of, items_of, walk_of_words, log_of_words, name_heading_of, heading_of}
+use Rattle.history_word.specs.LineTable.{expect_of, number_of, end_of_words, word_of_words, actor_of_words, target_of_words, rename_of_words, delete_of_words, name_heading_of, heading_of}
 use Rattle.history_word.specs.TableRuns.{next_offered}
 use Rattle.history_word.specs.declared.heading.Heading.{Heading}
 use Rattle.history_word.specs.declared.place.Place.{Place}
 use Rattle.history_word.specs.declared.place.Place.TheVariants as place
 use Rattle.history_word.specs.Drafts.{place_of, Says}
 
-abbrev Nowhere : lines.Heading → Type 0
+abbrev pub Nowhere : lines.Heading → Type 0
 Nowhere h = (p : Place) → next_offered (place_of p) h ≡ None
 
 -- it stands at none of the places, one by one
-nowhere : (h : lines.Heading) → next_offered table.Start h ≡ None → next_offered table.Parents h ≡ None → next_offered table.Edits h ≡ None → next_offered table.ToCommitter h ≡ None → next_offered table.ToMessage h ≡ None
+pub nowhere : (h : lines.Heading) → next_offered table.Start h ≡ None → next_offered table.Parents h ≡ None → next_offered table.Edits h ≡ None → next_offered table.ToCommitter h ≡ None → next_offered table.ToMessage h ≡ None
     → next_offered table.ToEnd h ≡ None → Nowhere h
 nowhere h start parents edits committer message end place.Start = start
 nowhere h start parents edits committer message end place.Parents = parents
@@ -68,15 +68,6 @@ no_delete (name ∷ any ∷ []) = either (bytes_eq any (codes "any")) (Some (lin
 no_delete (name ∷ at ∷ word ∷ []) = either (bytes_eq at (codes "at")) (Some (lines.DeleteHeading name (Some word))) None (nowhere (lines.DeleteHeading name (Some word)) refl refl refl refl refl refl) tt
 no_delete words = tt
 
-no_walk : (order : Order) (words : List Bytes) → Says None (walk_of_words order words)
-no_walk order [] = tt
-no_walk order (parents ∷ words) =
-    chained (λ first. option_map (λ items. lines.LogHeading order first items.0 items.1) (items_of words))
-    (λ first. mapped (λ items. lines.LogHeading order first items.0 items.1) (λ items. nowhere (lines.LogHeading order first items.0 items.1) refl refl refl refl refl refl) (items_of words)) (first_parents_of parents)
-
-no_log : (words : List Bytes) → Says None (log_of_words words)
-no_log words = chained (λ order. walk_of_words order.0 order.1) (λ order. no_walk order.0 order.1) (order_of words)
-
 -- ---- by the first word
 
 -- the first word isn't this one, where a test of them fails
@@ -109,8 +100,8 @@ said_behind said first words commit parent put remove remove_file author committ
     passed said (bytes_eq first (codes "show")) _ _ show names))))))))))
 
 -- a line whose first word is none of those that are read
-pub no_line_of : (first : Bytes) (words : List Bytes) → bytes_eq first (codes "names") ≡ false → bytes_eq first (codes "past") ≡ false → Says None (name_heading_of first words)
-no_line_of first words names past =
+pub no_line_of : (first : Bytes) (words : List Bytes) → bytes_eq first (codes "names") ≡ false → bytes_eq first (codes "past") ≡ false → bytes_eq first (codes "log") ≡ false → Says None (name_heading_of first words)
+no_line_of first words names past log =
     either (bytes_eq first (codes "tag")) (target_of_words lines.TagHeading words) _ (no_target lines.TagHeading (λ n x w. nowhere (lines.TagHeading n x w) refl refl refl refl refl refl) words) (
     either (bytes_eq first (codes "tagger")) (actor_of_words lines.Tagger words) _ (no_actor lines.Tagger (λ m n s o. nowhere (lines.ActorHeading lines.Tagger m n s o) refl refl refl refl refl refl) words) (
     either (bytes_eq first (codes "move")) (end_of_words lines.MoveHeading words) _ (no_end lines.MoveHeading (nowhere lines.MoveHeading refl refl refl refl refl refl) words) (
@@ -123,4 +114,4 @@ no_line_of first words names past =
     either (bytes_eq first (codes "index")) (end_of_words lines.IndexHeading words) _ (no_end lines.IndexHeading (nowhere lines.IndexHeading refl refl refl refl refl refl) words) (
     passed None (bytes_eq first (codes "names")) _ _ names (
     passed None (bytes_eq first (codes "past")) _ _ past (
-    either (bytes_eq first (codes "log")) (log_of_words words) None (no_log words) tt))))))))))))
+    passed None (bytes_eq first (codes "log")) _ _ log tt))))))))))))

@@ -4,6 +4,7 @@ use Rattle.std.specs.List.{AllZip}
 use Rattle.history_model.specs.Bytes.{Bytes}
 use Rattle.history_model.specs.Commands as model
 use Rattle.history_model.specs.Forms.{max_path, max_actor_part, max_content}
+use Rattle.history_model.specs.Spelling.{option_list}
 use Rattle.history_model.specs.Stops.{is_changing}
 use Rattle.history_word.specs.Fields.{Keeps}
 use Rattle.history_word.specs.declared.command.Field.{Field}
@@ -13,6 +14,11 @@ use Rattle.history_word.specs.declared.command.Edit.{Edit}
 use Rattle.history_word.specs.declared.command.Edit.TheVariants.{Put, Remove, RemoveFile}
 use Rattle.history_word.specs.declared.command.ActorLine.{ActorLine}
 use Rattle.history_word.specs.declared.command.CommitCommand.{CommitCommand}
+use Rattle.history_word.specs.declared.command.Order.{Order}
+use Rattle.history_word.specs.declared.command.Order.TheVariants.{Breadth, Newest, Oldest, NewestSince, OldestSince, Date, Topological}
+use Rattle.history_word.specs.declared.command.LogItem.{LogItem}
+use Rattle.history_word.specs.declared.command.LogItem.TheVariants.{Tip, Hidden}
+use Rattle.history_word.specs.declared.command.LogCommand.{LogCommand}
 use Rattle.history_word.specs.declared.command.Command.{Command}
 use Rattle.history_word.specs.declared.command.Command.TheVariants as command
 use Rattle.history_word.specs.declared.reader.Received.{Received}
@@ -54,6 +60,31 @@ IsPath (Some field) (Some path) = Keeps max_path field path
 IsPath None None = ⊤
 IsPath _ _ = ⊥
 
+abbrev pub IsOrder : Order → model.Order → Type 0
+IsOrder Breadth model.Breadth = ⊤
+IsOrder Newest model.Newest = ⊤
+IsOrder Oldest model.Oldest = ⊤
+IsOrder (NewestSince word) (model.NewestSince bytes) = word.items ≡ bytes
+IsOrder (OldestSince word) (model.OldestSince bytes) = word.items ≡ bytes
+IsOrder Date model.Date = ⊤
+IsOrder Topological model.Topological = ⊤
+IsOrder _ _ = ⊥
+
+abbrev pub IsLogItem : LogItem → model.LogItem → Type 0
+IsLogItem (Tip word) (model.Tip bytes) = word.items ≡ bytes
+IsLogItem (Hidden word) (model.Hidden bytes) = word.items ≡ bytes
+IsLogItem _ _ = ⊥
+
+-- the path is the only one, or there is none
+abbrev pub ArePaths : Option Field → List Bytes → Type 0
+ArePaths field paths = (path : Option Bytes) × (paths ≡ option_list path) × IsPath field path
+
+pub record IsLog (log : LogCommand) (line : model.LogCommand) : Type 0 where
+  pub order : IsOrder log.order line.order
+  pub first_parents : log.first_parents ≡ line.first_parents
+  pub items : AllZip IsLogItem log.items.items line.items
+  pub paths : ArePaths log.path line.paths
+
 -- the command that was read is this one, but for the bytes of fields over their limits
 abbrev pub IsCommandOf : Command → model.Command → Type 0
 IsCommandOf (command.Commit commit) (model.Commit order) = IsCommit commit order
@@ -62,6 +93,7 @@ IsCommandOf (command.Show show) (model.Show word path) =
     (show.word.items ≡ word) × IsPath show.path path
 IsCommandOf (command.Names folder) (model.Names word) = option_map (λ w. w.items) folder ≡ word
 IsCommandOf (command.Past word) (model.Past bytes) = word.items ≡ bytes
+IsCommandOf (command.Log log) (model.Log order) = IsLog log order
 IsCommandOf _ _ = ⊥
 
 -- a command was read, or read past for want of memory

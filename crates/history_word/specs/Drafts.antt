@@ -1,6 +1,7 @@
 -- What a command's draft, and the line that stands first, have of the command.
-use Rattle.std.specs.Prelude.{◌≡◌, ℕ, ◌<◌, ⊤, IsTrue, List, [], ◌∷◌, ◌++◌, length, Option, Some, None, map, IfSome, codes}
-use Rattle.std.specs.List.{flat_map, join_with_byte}
+use Rattle.std.specs.Prelude.{◌≡◌, ℕ, ◌<◌, ⊤, Bool, true, false, IsTrue, IsFalse, List, [], ◌∷◌, ◌++◌, length, Option, Some, None, option_map, map, IfSome, Vec, codes}
+use Rattle.std.specs.List.{flat_map, join_with_byte, AllZip}
+use Rattle.std.specs.declared.alloc.Global.{Global}
 use Rattle.history_model.specs.Bytes.{Bytes, line}
 use Rattle.history_model.specs.Commands as model
 use Rattle.history_model.specs.Spelling as spelling
@@ -8,10 +9,14 @@ use Rattle.history_model.specs.Lines as lines
 use Rattle.history_word.specs.LineTable as table
 use Rattle.history_word.specs.TableRuns as runs
 use Rattle.history_word.specs.Fields.{Keeps}
-use Rattle.history_word.specs.Commands.{IsExpect, IsEdit, AreEdits, IsActor, IsPath}
+use Rattle.history_word.specs.Commands.{IsExpect, IsEdit, AreEdits, IsActor, IsPath, IsOrder, IsLogItem, IsLog}
 use Rattle.history_model.specs.Forms.{max_content}
 use Rattle.history_word.specs.declared.command.Edit.{Edit}
 use Rattle.history_word.specs.declared.command.Expect.{Expect}
+use Rattle.history_word.specs.declared.command.Order.{Order}
+use Rattle.history_word.specs.declared.command.LogItem.{LogItem}
+use Rattle.history_word.specs.declared.command.LogCommand.{LogCommand}
+use Rattle.history_word.specs.declared.logs.LogLine.{LogLine}
 use Rattle.history_word.specs.declared.heading.Role.{Role}
 use Rattle.history_word.specs.declared.heading.Role.TheVariants.{Author, Committer}
 use Rattle.history_word.specs.declared.heading.EditHeading.{EditHeading}
@@ -45,6 +50,18 @@ IsEditHeading (edit.Remove path) (lines.RemoveHeading n) = path ≡ n
 IsEditHeading (edit.RemoveFile path) (lines.RemoveFileHeading n) = path ≡ n
 IsEditHeading _ _ = ⊥
 
+-- The line is that of this log, whatever its paths are. A word that found no memory may be any.
+pub record IsLogLine (line : LogLine) (log : model.LogCommand) : Type 0 where
+  pub order : IfSome line.order (λ x. IsOrder x log.order)
+  pub first_parents : line.first_parents ≡ log.first_parents
+  pub items : IfSome line.items (λ all. AllZip IsLogItem all.items log.items)
+  pub begins : IsTrue (spelling.are_items log.items)
+
+-- a log with these words, without a path
+abbrev pub log_of : model.Order → Bool → List model.LogItem → model.LogCommand
+log_of order first_parents items =
+    record { order = order; first_parents = first_parents; items = items; paths = [] }
+
 -- The line is this one. A word that found no memory may be any.
 abbrev pub IsHeading : Heading → lines.Heading → Type 0
 IsHeading (heading.Commit name expect) (lines.CommitHeading n e) =
@@ -63,6 +80,8 @@ IsHeading (heading.ShowPath word path) (lines.ShowHeading w (Some n)) =
 IsHeading heading.Names (lines.NamesHeading None) = ⊤
 IsHeading (heading.NamesIn folder) (lines.NamesHeading (Some f)) = IfSome folder (λ x. x.items ≡ f)
 IsHeading (heading.Past word) (lines.PastHeading w) = IfSome word (λ x. x.items ≡ w)
+IsHeading (heading.Log line) (lines.LogHeading order first_parents items path) =
+    IsLogLine line (log_of order first_parents items) × (line.path ≡ path)
 IsHeading _ _ = ⊥
 
 -- What is read is what the words say; none is read where they say no line that may stand at a place of an offered command.
@@ -76,6 +95,29 @@ abbrev pub SaysExpect : Option (Option Expect) → Option model.Expect → Type 
 SaysExpect (Some expect) (Some e) = IfSome expect (λ x. IsExpect x e)
 SaysExpect None None = ⊤
 SaysExpect _ _ = ⊥
+
+abbrev pub SaysLog : Option LogLine → Option lines.Heading → Type 0
+SaysLog line h = Says (option_map heading.Log line) h
+
+-- The order is the one that the words begin with, and the others are left; none is read where they begin with none.
+abbrev pub SaysOrder : Option (Option Order) → Option (model.Order × List Bytes) → List Bytes
+    → Type 0
+SaysOrder (Some order) (Some (o, words)) left = IfSome order (λ x. IsOrder x o) × (left ≡ words)
+SaysOrder None None left = ⊤
+SaysOrder _ _ _ = ⊥
+
+-- The items and the path's size are the ones that the words say; none are read where they say none, or items without a tip.
+abbrev pub SaysItems : Option (Option (Vec LogItem Global) × Option ℕ) → Option table.Items
+    → Type 0
+SaysItems (Some (items, size)) (Some (is, path)) = IsTrue (spelling.are_items is)
+    × IfSome items (λ all. AllZip IsLogItem all.items is) × (size ≡ path)
+SaysItems (Some items) None = ⊥
+SaysItems None (Some (is, path)) = IsFalse (spelling.are_items is)
+SaysItems None None = ⊤
+
+abbrev pub item_with : Bool → Bytes → model.LogItem
+item_with true word = model.Tip word
+item_with false word = model.Hidden word
 
 -- the draft of a commit has these parts, each that found memory
 pub record IsCommitDraft (draft : CommitDraft) (order : model.CommitCommand) : Type 0 where
@@ -95,6 +137,8 @@ IsDraft (draft.Show show) (model.Show word path) =
 IsDraft draft.Names (model.Names None) = ⊤
 IsDraft (draft.NamesIn folder) (model.Names (Some bytes)) = IfSome folder (λ x. x.items ≡ bytes)
 IsDraft (draft.Past word) (model.Past bytes) = IfSome word (λ x. x.items ≡ bytes)
+IsDraft (draft.Log log) (model.Log order) =
+    IsTrue (spelling.has_enough (model.Log order)) × IfSome log (λ x. IsLog x order)
 IsDraft _ _ = ⊥
 
 abbrev pub with_actor : Role → model.CommitCommand → model.ActorLine → model.CommitCommand
@@ -106,6 +150,10 @@ with_parent order word = record order { parents = order.parents ++ word ∷ [] }
 
 abbrev pub with_edit : model.CommitCommand → model.EditLine → model.CommitCommand
 with_edit order edit = record order { edits = order.edits ++ edit ∷ [] }
+
+-- the log with this path alone, or with none
+abbrev pub with_path : model.LogCommand → Option Bytes → model.LogCommand
+with_path order path = record order { paths = spelling.option_list path }
 
 abbrev pub with_message : model.CommitCommand → Bytes → model.CommitCommand
 with_message order message = record order { message = message }
@@ -193,6 +241,14 @@ pub record TakesEdit (heading : EditHeading) (edit : Option Edit) (taken : Bytes
   pub heads : IsEditHeading heading (edit_heading line_is)
   pub spelled : taken ≡ flat_map line (edit_fields line_is)
   pub is : IfSome edit (λ x. IsEdit x line_is)
+
+-- the path that follows the line of a log was taken, where one does
+pub record TakesLog (heading : LogLine) (log : Option LogCommand) (taken : Bytes) : Type 0 where
+  pub path : Option Bytes
+  pub heads : heading.path ≡ option_map length path
+  pub spelled : taken ≡ flat_map line (spelling.option_list path)
+  pub is : (order : model.LogCommand) → IsLogLine heading order
+      → IfSome log (λ x. IsLog x (with_path order path))
 
 -- parts were taken into the draft, and lead from the one place to the other
 pub record TakesParts (place : Place) (old : Draft) (next : Place) (new : Draft)

@@ -74,6 +74,40 @@ pub struct Show {
     pub path: Option<Field>,
 }
 
+/// In which order a log lists its commits. The words for the seconds are as they were sent.
+#[derive(Debug, Drop)]
+pub enum Order {
+    Breadth,
+    Newest,
+    Oldest,
+    /// The newest first, of those made at these seconds or later.
+    NewestSince(Vec<u8>),
+    /// The oldest first, of those made at these seconds or later.
+    OldestSince(Vec<u8>),
+    Date,
+    Topological,
+}
+
+/// Where a log begins, or what it leaves out.
+#[derive(Debug, Drop)]
+pub enum LogItem {
+    /// It begins at this word's commit.
+    Tip(Vec<u8>),
+    /// This word's commit and all that it reaches are left out.
+    Hidden(Vec<u8>),
+}
+
+/// Lists the commits that some commits reach, or those of them that differ at a path. At least one item is a tip. The
+/// path has at most 4,096 bytes.
+#[derive(Debug, Drop)]
+pub struct LogCommand {
+    pub order: Order,
+    /// Whether of a commit's parents the first alone is followed.
+    pub first_parents: bool,
+    pub items: Vec<LogItem>,
+    pub path: Option<Field>,
+}
+
 /// What a client asks. A word is nonempty, without space or line feed, and a line's words have at most 4,096 bytes.
 #[derive(Debug, Drop)]
 pub enum Command {
@@ -85,6 +119,7 @@ pub enum Command {
     Names(Option<Vec<u8>>),
     /// Lists what this word's name has held.
     Past(Vec<u8>),
+    Log(LogCommand),
 }
 
 impl Field {

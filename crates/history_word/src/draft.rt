@@ -9,7 +9,9 @@ ghost use Rattle.history_word.specs.Fields.{Keeps};
 ghost use Rattle.history_word.specs.Commands.{IsExpect, IsEdit, IsActor, IsCommit, IsCommandOf};
 ghost use Rattle.history_word.specs.Drafts.{IsCommitDraft, IsDraft, with_parent, with_actor, with_edit, with_message};
 
-use crate::command::{ActorLine, Command, CommitCommand, Edit, Expect, Field, Put, Show};
+use crate::command::{
+    ActorLine, Command, CommitCommand, Edit, Expect, Field, LogCommand, Put, Show,
+};
 use crate::heading::Role;
 use history_model::FileKind;
 use std::alloc::Global;
@@ -36,6 +38,7 @@ pub(crate) enum Draft {
     Names,
     NamesIn(Option<Vec<u8>>),
     Past(Option<Vec<u8>>),
+    Log(Option<LogCommand>),
 }
 
 impl CommitDraft {
@@ -181,12 +184,13 @@ impl Draft {
             Draft::Names => Some(Command::Names(None)),
             Draft::NamesIn(folder) => Some(Command::Names(Some(folder?))),
             Draft::Past(word) => Some(Command::Past(word?)),
+            Draft::Log(log) => Some(Command::Log(log?)),
         }
     }
 }
 
 /// The list and one item more, if there is memory for them.
-fn pushed<T: Drop>(list: Option<Vec<T>>, item: Option<T>) -> Option<Vec<T>>
+pub(crate) fn pushed<T: Drop>(list: Option<Vec<T>>, item: Option<T>) -> Option<Vec<T>>
     ensures { IfSome result (λ all. MatchOption list ⊥
         (λ old. MatchOption item ⊥ (λ x. all.items ≡ old.items ++ x ∷ []))) }
 {

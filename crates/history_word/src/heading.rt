@@ -2,7 +2,7 @@
 
 ghost use Rattle.std.specs.Prelude.{◌≡◌, ◌∷◌, ◌≤◌, length, IfSome, IfNone, OnSome, IsTrue};
 ghost use Rattle.history_model.specs.Lines.{ParentHeading, RemoveHeading, RemoveFileHeading, MessageHeading, EndHeading, FilesHeading, PastHeading};
-ghost use Rattle.history_word.specs.LineTable.{heading_of, expect_of, end_of_words, word_of_words, size_of_words, commit_of_words, put_of_words, actor_of_words, show_of_words, names_of_words, name_heading_of};
+ghost use Rattle.history_word.specs.LineTable.{heading_of, expect_of, end_of_words, word_of_words, size_of_words, commit_of_words, put_of_words, actor_of_words, show_of_words, names_of_words, log_of_words, name_heading_of};
 ghost use Rattle.history_model.specs.Spelling.{max_line};
 ghost use Rattle.history_word.specs.TableRuns.{IsLineAt};
 ghost use Rattle.history_word.specs.Held.{IsUnbroken};
@@ -12,6 +12,7 @@ ghost use Rattle.history_word.specs.Drafts.{role_of, place_of, Says, SaysExpect,
 ghost use Rattle.history_word.specs.declared.place.Place.{Place};
 
 use crate::command::Expect;
+use crate::logs::LogLine;
 use crate::words::{Words, are_words, file_kind, number};
 use history_model::FileKind;
 use std::alloc::Global;
@@ -78,10 +79,11 @@ pub(crate) enum Heading {
     Past {
         word: Option<Vec<u8>>,
     },
+    Log(LogLine),
 }
 
 /// A word of its own, if there is memory for it.
-fn kept(alloc: Global, word: &[u8]) -> Option<Vec<u8>>
+pub(crate) fn kept(alloc: Global, word: &[u8]) -> Option<Vec<u8>>
     ensures { IfSome result (λ own. own.items ≡ word.now) }
 {
     Vec::from_slice(alloc, word).ok()
@@ -249,7 +251,15 @@ fn past(alloc: Global, words: &mut Words) -> Option<Heading>
     })
 }
 
-/// What the words of a line say that begins with this word and is about names.
+/// What follows `log`.
+fn log(alloc: Global, words: &mut Words) -> Option<Heading>
+    ensures { Says result (log_of_words (left words.old)) }
+{
+    let line = LogLine::new(alloc, words)?;
+    Some(Heading::Log(line))
+}
+
+/// What the words of a line say that begins with this word and is about names or a log.
 fn said_of_names(alloc: Global, first: &[u8], words: &mut Words) -> Option<Heading>
     ensures { Says result (name_heading_of first.now (left words.old)) }
 {
@@ -257,6 +267,8 @@ fn said_of_names(alloc: Global, first: &[u8], words: &mut Words) -> Option<Headi
         names(alloc, words)
     } else if first == b"past".as_slice() {
         past(alloc, words)
+    } else if first == b"log".as_slice() {
+        log(alloc, words)
     } else {
         None
     }

@@ -6,6 +6,7 @@ mod command;
 mod draft;
 mod heading;
 pub mod laws;
+mod logs;
 mod memory;
 mod place;
 mod reader;
@@ -14,7 +15,9 @@ mod streams;
 mod words;
 
 pub use buffer::Buffer;
-pub use command::{ActorLine, Command, CommitCommand, Edit, Expect, Field, Put, Show};
+pub use command::{
+    ActorLine, Command, CommitCommand, Edit, Expect, Field, LogCommand, LogItem, Order, Put, Show,
+};
 pub use memory::{Bytes, Collected};
 pub use reader::{Received, Stop, read_command};
 pub use stream::Stream;

@@ -33,6 +33,7 @@ impl Place {
             (Place::Start, Heading::Names) => Some(Place::Done),
             (Place::Start, Heading::NamesIn { .. }) => Some(Place::Done),
             (Place::Start, Heading::Past { .. }) => Some(Place::Done),
+            (Place::Start, Heading::Log(_)) => Some(Place::Done),
             (Place::Parents, Heading::Parent { .. }) => Some(Place::Parents),
             (Place::Parents | Place::Edits, Heading::Edit(_)) => Some(Place::Edits),
             (

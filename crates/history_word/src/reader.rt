@@ -3,7 +3,7 @@
 ghost use Rattle.std.specs.Prelude.{◌≡◌, ◌≢◌, ◌<◌, ℕ, List, [], ◌++◌, length, IfSome};
 ghost use Rattle.history_model.specs.Bytes.{Bytes, line};
 ghost use Rattle.history_model.specs.Commands as model;
-ghost use Rattle.history_model.specs.Spelling.{spelling};
+ghost use Rattle.history_model.specs.Spelling.{spelling, option_list};
 ghost use Rattle.history_model.specs.Grammar.{Spells};
 ghost use Rattle.history_word.specs.LineTable as table;
 ghost use Rattle.history_word.specs.TableRuns.{StopsAt};
@@ -11,16 +11,17 @@ ghost use Rattle.history_word.specs.Held.{IsLineOf};
 ghost use Rattle.history_word.specs.Buffer.{unread};
 ghost use Rattle.history_word.specs.Fields.{KeepsFront, Keeps};
 ghost use Rattle.history_word.specs.Commands.{IsReceived};
-ghost use Rattle.history_word.specs.Drafts.{place_of, edit_sizes, TakesLine, TakesEdit, TakesParts};
+ghost use Rattle.history_word.specs.Drafts.{place_of, edit_sizes, TakesLine, TakesEdit, TakesLog, TakesParts};
 ghost use Rattle.history_word.specs.Progress.{IsEndless, IsNoField, StopsFrom, IsCauseOf};
 ghost use Rattle.history_word.specs.Reading.{Reads};
 ghost use Rattle.history_word.specs.Taking.{AsksForMore};
 ghost use Rattle.history_word.specs.declared.reader.Stop.TheVariants.{Broken as broken};
 
 use crate::buffer::Buffer;
-use crate::command::{Command, Edit, Field};
+use crate::command::{Command, Edit, Field, LogCommand};
 use crate::draft::{Draft, actor_line, put};
 use crate::heading::{EditHeading, Heading, parse};
+use crate::logs::LogLine;
 use crate::place::Place;
 use crate::streams::{Broken, Source};
 use history_model::Cause;
@@ -174,6 +175,28 @@ fn read_edit<R: Source>(
     }
 }
 
+/// Takes the path of a log's line, where one follows it. The log is `None` where a part of it found no memory.
+fn read_log<R: Source>(
+    alloc: Global,
+    buffer: &mut Buffer,
+    source: &mut R,
+    line: LogLine,
+) -> Result<Option<LogCommand>, Stop>
+    ensures { Reads R.left R.has_failed R.readings source.old buffer.old source.new buffer.new
+        (λ log taken. TakesLog line log taken
+        × AsksForMore source.old buffer.old source.new taken)
+        (λ bytes cause. (place : table.Place)
+        → StopsFrom (option_list line.path) place bytes cause) result }
+{
+    let Some(size) = line.path else {
+        return Ok(line.finish(None));
+    };
+    let Some(path) = read_field(alloc, buffer, source, size, MAX_PATH)? else {
+        return Ok(None);
+    };
+    Ok(line.finish(Some(path)))
+}
+
 /// Takes a line and its fields into the draft, and says where the next line stands.
 fn read_part<R: Source>(
     alloc: Global,
@@ -220,6 +243,7 @@ fn read_part<R: Source>(
         Heading::Names => *draft = Draft::Names,
         Heading::NamesIn { folder } => *draft = Draft::NamesIn(folder),
         Heading::Past { word } => *draft = Draft::Past(word),
+        Heading::Log(line) => *draft = Draft::Log(read_log(alloc, buffer, source, line)?),
     }
     Ok(next)
 }

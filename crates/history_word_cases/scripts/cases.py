@@ -57,15 +57,19 @@ COMMIT_TEXT = (b"commit refs/heads/s new\nparent m\nparent refs/heads/t\nput fil
                b"author 1 3 1 +0000\nA\na@b\ncommitter 1 3 1 +0000\nA\na@b\nmessage 3\none\nend\n")
 
 
-def commands():
-    assert COMMIT.text() == COMMIT_TEXT
-    text, words = COMMIT_TEXT, COMMIT.words()
+def cut(text, words):
+    """A command whole, and cut behind each of its bytes, where the input ends or the source fails."""
     row("read", text, f"more {words} end")
     for end in range(len(text)):
         row("read", text[:end], f"{'more' if end else 'end'} Truncated")
     row("drops", text, f"more {words} end")
     for good in range(len(text)):
         row("drops", text, f"{'more' if good else 'broken'} Broken", good)
+
+
+def commands():
+    assert COMMIT.text() == COMMIT_TEXT
+    cut(COMMIT_TEXT, COMMIT.words())
     row("read", b"files main\n", "more files:main end")
     row("read", b"show HEAD\n", "more show:HEAD end")
     row("read", b"show HEAD path 2\na\n\n", f"more show:HEAD path:{word(b'a' + bytes([10]))} end")
@@ -75,6 +79,17 @@ def commands():
     row("read", b"names path\nx", "more names:path more")
     row("read", b"past HEAD\n", "more past:HEAD end")
     row("stream", b"past main\npast", "more past:main more")
+    for order in (b"breadth", b"newest", b"oldest", b"date", b"topological"):
+        row("read", b"log %s all +main\n" % order, f"more log {order.decode()} all tip:main end")
+        row("read", b"log %s first +main -old\n" % order, f"more log {order.decode()} first tip:main hidden:old end")
+    for order in (b"newest-since", b"oldest-since"):
+        row("read", b"log %s 17 all +HEAD\n" % order, f"more log {order.decode()}:17 all tip:HEAD end")
+    row("read", b"log newest-since all first -a\n", "more Syntax")
+    row("read", b"log newest-since first first -a +a\n", "more log newest-since:first first hidden:a tip:a end")
+    row("read", b"log date all -b ++a +-c --path +path +1\n",
+        f"more log date all hidden:b tip:{word(b'+a')} tip:-c hidden:-path tip:path tip:1 end")
+    row("read", b"log breadth all " + b" ".join([b"+a"] * 800) + b"\n", "more log breadth all" + " tip:a" * 800 + " end")
+    log_paths()
     nobody = (b"", b"", b"s", b"o")
     for expect in [("any",), ("new",), ("at", b"main")]:
         commit = Commit(b"HEAD", expect, [], [], nobody, nobody, b"")
@@ -83,6 +98,17 @@ def commands():
     row("write", b"ok", "written:ok")
     row("write", b"ok ", "written:" + word(b"ok files 0\n"), word(b"files 0\n"))
     row("write", b"", "written:-")
+
+
+def log_paths():
+    cut(b"log newest first +a -b path 3\na/b\n", "log newest first tip:a hidden:b path:a/b")
+    row("read", b"log newest-since 17 all +main path 1\na\n", "more log newest-since:17 all tip:main path:a end")
+    row("read", b"log breadth all -path +path path 2\na\n\n",
+        f"more log breadth all hidden:path tip:path path:{word(b'a' + bytes([10]))} end")
+    row("read", b"log date all +a path 0\n\n", "more log date all tip:a path:- end")
+    row("read", b"log date all +a path 8\nlog date\n", f"more log date all tip:a path:{word(b'log date')} end")
+    row("stream", b"log topological all +a path 1\na\nlog", "more log topological all tip:a path:a more")
+    row("drops", b"log oldest all +a path 1\na\nlog", "more log oldest all tip:a path:a more")
 
 
 def limits():
@@ -94,6 +120,13 @@ def limits():
     row("read", "show%20a%20path%204096%0a+x*4096+%0a", "more show:a path:" + "x" * 4096 + " end")
     row("read", "show%20a%20path%204097%0a+x*4096+%0a", "more Truncated")
     row("read", "show%20a%20path%204097%0a+x*4096+%0a%0a", "more show:a path:" + "x" * 1025 + "... end")
+    log, words = "log%20breadth%20all%20%2ba%20path%20", "more log breadth all tip:a path:"
+    row("read", log + "4096%0a+x*4096+%0a", words + "x" * 4096 + " end")
+    row("read", log + "4097%0a+x*4096+%0a", "more Truncated")
+    row("read", log + "4097%0a+x*4096+%0a%0a", words + "x" * 1025 + "... end")
+    row("read", log + "4097%0a+x*4096+%0axlog", "more Syntax")
+    row("read", "log%20breadth%20all%20%2b+x*4072+%20path%200%0a%0a", "more log breadth all tip:" + "x" * 4072 + " path:- end")
+    row("read", "log%20breadth%20all%20%2b+x*4073+%20path%200%0a%0a", "more LineTooLong")
 
 
 LINES = [
@@ -105,13 +138,21 @@ LINES = [
     b"commit HEAD new\nremove 1 1\n", b"commit HEAD new\nremove-files 1\n", b"commit HEAD new\nremove-file 1\nab\n",
     b"commit HEAD new\nput text 1 1\n", b"commit HEAD new\ncommitter 1 1 1 1\n",
     b"commit HEAD new\nauthor 0 0 s o\n\n\nput file 1 1\n",
-    b"names a b\n", b"names \n", b"past\n", b"past a b\n", b"commit HEAD new\nnames\n", b"commit HEAD new\npast a\n",
-    b"log breadth all +a\n", b"switch main\n", b"delete main any\n", b"rename a b\n", b"tag a new b\n", b"move\n", b"pack\n", b"index\n",
+    b"names a b\n", b"names \n", b"past\n", b"past a b\n", b"log\n", b"log breadth\n", b"log breadth all\n",
+    b"log breadth all -a\n", b"log breadth all +\n", b"log breadth all +a -\n", b"log breadth all a\n", b"log breadth all +a b\n",
+    b"log breadth all +a path 1\nab\n", b"log breadth all +a path\n", b"log breadth every +a\n", b"log all +a\n",
+    b"log breadth all path 1\n", b"log breadth all path\n", b"log breadth all -a path 1\n", b"log breadth all path 1 +a\n",
+    b"log breadth all +a path 1 +b\n", b"log breadth all +a path 1 path 1\n", b"log breadth all +a path path\n",
+    b"log breadth all +a path 01\n", b"log breadth all +a path +1\n", b"log breadth all +a path 18446744073709551616\n",
+    b"log breadth all +a paths 1\n", b"log breadth all +a 1\n", b"log breadth all + path 1\n", b"log breadth path 1 +a\n",
+    b"log depth all +a\n", b"log newest-since all +a\n", b"log newest 1 all +a\n", b"log breadth +a all\n", b"log breadth all all +a\n",
+    b"commit HEAD new\nnames\n", b"commit HEAD new\npast a\n", b"commit HEAD new\nlog breadth all +a\n",
+    b"switch main\n", b"delete main any\n", b"rename a b\n", b"tag a new b\n", b"move\n", b"pack\n", b"index\n",
 ]
 # Where a line may stand, and the input ends behind it.
 BEGINNINGS = [b"commit nowhere new\n", b"commit at any\nparent parent\n",
               b"commit HEAD new\nparent end\nremove 0\n\nremove-file 1\n\n\n", b"commit HEAD new\nremove 18446744073709551615\n",
-              b"show a path 18446744073709551615\n"]
+              b"show a path 18446744073709551615\n", b"log breadth all +a path 18446744073709551615\n"]
 
 
 def lines():

@@ -3,7 +3,8 @@
 use case_words::Page;
 use history_model::{Cause, FileKind};
 use history_word::{
-    ActorLine, Command, CommitCommand, Edit, Expect, Field, Put, Received, Show, Stop,
+    ActorLine, Command, CommitCommand, Edit, Expect, Field, LogCommand, LogItem, Order, Put,
+    Received, Show, Stop,
 };
 
 /// What reading a command ended with.
@@ -37,12 +38,43 @@ fn show_command(command: &Command, page: &mut Page) {
         Command::Names(None) => page.word("names"),
         Command::Names(Some(folder)) => page.named("names", folder),
         Command::Past(word) => page.named("past", word),
+        Command::Log(log) => show_log(log, page),
+    }
+}
+
+fn show_log(log: &LogCommand, page: &mut Page) {
+    page.word("log");
+    show_order(&log.order, page);
+    page.word(if log.first_parents { "first" } else { "all" });
+    for item in &log.items {
+        match item {
+            LogItem::Tip(word) => page.named("tip", word),
+            LogItem::Hidden(word) => page.named("hidden", word),
+        }
+    }
+    show_path(&log.path, page);
+}
+
+fn show_order(order: &Order, page: &mut Page) {
+    match order {
+        Order::Breadth => page.word("breadth"),
+        Order::Newest => page.word("newest"),
+        Order::Oldest => page.word("oldest"),
+        Order::NewestSince(seconds) => page.named("newest-since", seconds),
+        Order::OldestSince(seconds) => page.named("oldest-since", seconds),
+        Order::Date => page.word("date"),
+        Order::Topological => page.word("topological"),
     }
 }
 
 fn show_show(show: &Show, page: &mut Page) {
     page.named("show", &show.word);
-    if let Some(path) = &show.path {
+    show_path(&show.path, page);
+}
+
+// A path, where one was sent.
+fn show_path(path: &Option<Field>, page: &mut Page) {
+    if let Some(path) = path {
         show_field("path", path, page);
     }
 }

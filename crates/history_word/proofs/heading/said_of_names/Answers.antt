@@ -18,8 +18,14 @@ returns-then-eq-2 c =
     let name = (slice_eq-Decides Decides-eqb _ _ _ c.eq-else-eq.ensures).0 c.if-eq-2.true ∙ c.as_slice-else-eq.ensures in
     subst (λ first. Says c.past.result (name_heading_of first (left c.args.words.now))) (sym name) c.past.ensures
 
-pub returns-else-eq-2 : goal.returns-else-eq-2
-returns-else-eq-2 c =
+pub returns-then-eq-3 : goal.returns-then-eq-3
+returns-then-eq-3 c =
+    let name = (slice_eq-Decides Decides-eqb _ _ _ c.eq-else-eq-2.ensures).0 c.if-eq-3.true ∙ c.as_slice-else-eq-2.ensures in
+    subst (λ first. Says c.log.result (name_heading_of first (left c.args.words.now))) (sym name) c.log.ensures
+
+pub returns-else-eq-3 : goal.returns-else-eq-3
+returns-else-eq-3 c =
     no_line_of c.args.first.now (left c.args.words.now)
     (is_other c.args.first.now _ (codes "names") _ (slice_eq-Decides Decides-eqb _ _ _ c.eq.ensures).1 c.as_slice.ensures c.if-eq.false)
     (is_other c.args.first.now _ (codes "past") _ (slice_eq-Decides Decides-eqb _ _ _ c.eq-else-eq.ensures).1 c.as_slice-else-eq.ensures c.if-eq-2.false)
+    (is_other c.args.first.now _ (codes "log") _ (slice_eq-Decides Decides-eqb _ _ _ c.eq-else-eq-2.ensures).1 c.as_slice-else-eq-2.ensures c.if-eq-3.false)

@@ -5,11 +5,12 @@ use Rattle.history_word.specs.TableRuns.{StopsAt}
 use Rattle.std.specs.Prelude.{IfSome}
 use Rattle.history_word.specs.Fields.{Keeps}
 use Rattle.history_word.specs.Progress.{IsNoField, StopsFrom}
+use Rattle.history_model.specs.Spelling.{option_list}
 use Rattle.history_word.specs.Drafts.{place_of, edit_sizes}
 use Rattle.history_word.proofs.TakingLemmas.{asks_then, took_then, took_none}
 use Rattle.history_word.proofs.StopLemmas.{stops_then}
 use Rattle.history_word.proofs.ProgressLemmas.{stops_here}
-use Rattle.history_word.proofs.LineEndLemmas.{first_stops, second_stops, actor_sizes, message_sizes, path_sizes, commit_parts, parent_parts, edit_parts, edit_sizes_are, fields_stop, actor_parts, message_parts, end_parts, files_parts, show_parts, path_parts, names_parts, folder_parts, past_parts}
+use Rattle.history_word.proofs.LineEndLemmas.{first_stops, second_stops, actor_sizes, message_sizes, path_sizes, commit_parts, parent_parts, edit_parts, edit_sizes_are, fields_stop, actor_parts, message_parts, end_parts, files_parts, show_parts, path_parts, names_parts, folder_parts, past_parts, log_parts, log_sizes}
 use Rattle.history_word.proofs.reader.read_part.Goals as goal
 
 pub returns-in_err-heading : goal.returns-in_err-heading
@@ -60,6 +61,15 @@ returns-in_err-path-in-ShowPath g c =
     rw (p.1, p.2) (stops_then g.R.Source.left g.R.Source.has_failed g.R.Source.readings _ _ _ _ _ _ h.0 (IsNoField c.in-ShowPath.path) (StopsFrom [] (place_of c.args.place))
     (first_stops c.args.place c.in_ok-heading.next _ h.0 h.2.0 c.in-ShowPath.path [] (path_sizes c.in-ShowPath.word c.in-ShowPath.path h.2.0.heading h.2.0.is))
     c.in_err-path-in-ShowPath.field-0.0 h.1 c.in_err-path-in-ShowPath.ensures)
+
+pub returns-in_err-read_log-in-Log : goal.returns-in_err-read_log-in-Log
+returns-in_err-read_log-in-Log g c =
+    let p = err_from_is_err_and c.from_residual-in_err-read_log-in-Log.result c.from_residual-in_err-read_log-in-Log.ensures.1 in
+    let h = rw c.in-Log.is at c.in_ok-heading.ensures in
+    rw (p.1, p.2) (stops_then g.R.Source.left g.R.Source.has_failed g.R.Source.readings _ _ _ _ _ _ h.0
+    (λ bytes cause. (place : table.Place) → StopsFrom (option_list c.in-Log.line.path) place bytes cause) (StopsFrom [] (place_of c.args.place))
+    (fields_stop c.args.place c.in_ok-heading.next _ h.0 h.2.0 (option_list c.in-Log.line.path) (log_sizes c.in-Log.line h.2.0.heading h.2.0.is))
+    c.in_err-read_log-in-Log.field-0.0 h.1 c.in_err-read_log-in-Log.ensures)
 
 pub returns-in-Commit : goal.returns-in-Commit
 returns-in-Commit g c =
@@ -145,3 +155,12 @@ pub returns-in-Past : goal.returns-in-Past
 returns-in-Past g c =
     let h = rw c.in-Past.is at c.in_ok-heading.ensures in
     (h.0, h.1, (past_parts c.args.place c.in_ok-heading.next c.in-Past.word h.0 _ h.2.0, h.2.1))
+
+pub returns-in_ok-read_log-in-Log : goal.returns-in_ok-read_log-in-Log
+returns-in_ok-read_log-in-Log g c =
+    let h = rw c.in-Log.is at c.in_ok-heading.ensures in
+    let a = c.in_ok-read_log-in-Log.ensures in (
+      h.0 ++ a.0,
+      took_then g.R.Source.left g.R.Source.readings _ _ _ _ _ _ h.0 a.0 h.1 a.1,
+      (log_parts c.args.place c.in_ok-heading.next c.in-Log.line c.in_ok-read_log-in-Log.field-0 h.0 a.0 _ h.2.0 a.2.0, asks_then g.R.Source.left g.R.Source.readings _ _ _ _ _ h.0 a.0 h.1 h.2.1 a.2.1),
+    )

@@ -1,0 +1,268 @@
+-- What a log's words, its order and its walk tell.
+use Rattle.std.proofs.Common.{◌≡◌, ◌∙◌, ap, refl, sym, subst, ℕ, zero, suc, ℤ, pos, Bool, true, false, cond, not, ◌==◌, ◌||◌, List, [], ◌∷◌, ◌++◌, map, length, Option, Some, None, option_map, Vec, Ok, Err, arith, tests}
+use Rattle.std.specs.declared.alloc.Global.{Global}
+use Rattle.std.specs.Prelude.{Contains, IsErrAnd, IsSome, Result, option_and_then}
+use Rattle.std.specs.List.{filter_map, list_any}
+use Rattle.std.proofs.lemmas.Bool.{or_parts}
+use Rattle.std.proofs.lemmas.List.Folds.{list_any-append}
+use Rattle.gix_hash_id.specs.Id.{Id, id_of}
+use Rattle.gix_hash_id.specs.declared.object_id.ObjectId.{ObjectId}
+use Rattle.gix_traverse_commit.specs.Commits.{Commits, WalkRequest}
+use Rattle.gix_traverse_commit.specs.Order.{At}
+use Rattle.gix_traverse_commit.proofs.Lists.{at_from_contains}
+use Rattle.gix_traverse_commit.specs.Walks.{InBreadth, ByNewest, ByOldest, InDate, InTopological}
+use Rattle.gix_traverse_commit.specs.declared.parents.Parents.{Parents}
+use Rattle.gix_traverse_commit.specs.declared.parents.Parents.TheVariants.{All}
+use Rattle.history_model.specs.Answers.{IsWalk, commits_of, hidden_word, kept, since_of, tip_word, walk_request}
+use Rattle.history_model.specs.Bytes.{Bytes, digits_value}
+use Rattle.history_model.specs.Causes.{first_cause, is_bad_path, is_hidden, is_unborn, is_unknown}
+use Rattle.history_model.specs.Commands.{Log, LogCommand, LogItem, Tip, Hidden, Order, Breadth, Newest, Oldest, NewestSince, OldestSince, Date, Topological}
+use Rattle.history_model.specs.Replies.{LogIs, reply_text}
+use Rattle.history_model.specs.Forms.{IsWritten}
+use Rattle.history_model.specs.Repository.{Repository, HasWholeNames, HoldsCommit, IsWholeStore, as_commit}
+use Rattle.history_model.specs.Spelling.{item_target}
+use Rattle.history_model.specs.Words as model
+use Rattle.history_model.specs.Words.{word_meaning, commit_of}
+use Rattle.history_model.specs.declared.Cause.{Cause}
+use Rattle.history_model.specs.declared.Cause.TheVariants.{UnknownWord, UnbornHead, BadPath}
+use Rattle.history_steps.specs.Offered.{IsOffered}
+use Rattle.history_steps.proofs.OfferedCauses.{first_offered_cause}
+use Rattle.history_steps.proofs.OfferedReads.{names_hold_commits, words_read_names, words_stand_for_theirs}
+use Rattle.history_walks.specs.Asking.{IsInOrder, walk_from}
+use Rattle.history_walks.specs.declared.listing.Request.{Request}
+use Rattle.history_walks.specs.declared.listing.Order as walks
+use Rattle.history_walks.specs.declared.listing.Order.TheVariants as walk
+use Rattle.history_word.specs.Commands.{ArePaths}
+use Rattle.history_word.specs.declared.command.Field.{Field}
+use Rattle.history.specs.Acts.{GivesMeant, IsReadingFault, OnlyAnswers}
+use Rattle.history.specs.Bases.{words_cause}
+use Rattle.history.specs.Fields.{kept_bytes}
+use Rattle.history.specs.Logs.{AreEnds, IsOrderOf, followed, meanings_in, order_cause}
+use Rattle.history.specs.Meanings.{commit_in, meaning_of}
+use Rattle.history.specs.Walked.{AllHold, IsLogged, IsWalkOf, Walks}
+use Rattle.history.specs.declared.log.Ends.{Ends}
+use Rattle.history.specs.declared.stopped.Stopped.{Stopped}
+use Rattle.history.specs.declared.stopped.Stopped.TheVariants.{Refused, Fault}
+use Rattle.history.specs.declared.words.WordMeaning as own
+use Rattle.history.specs.declared.words.WordMeaning.TheVariants as read
+use Rattle.history.proofs.BaseLemmas.{any_map}
+use Rattle.history.proofs.CommitsWalked.{logged_hold}
+use Rattle.history.proofs.FieldLemmas.{whole_path}
+use Rattle.history_steps.specs.OfferedWords.{read_id}
+
+-- ---- words
+
+or_first : (x a b c : Bool) → (a || b) ≡ c → ((x || a) || b) ≡ (x || c)
+or_first true a b c e = refl
+or_first false a b c e = e
+
+or_second : (x a b c : Bool) → (a || b) ≡ c → (a || (x || b)) ≡ (x || c)
+or_second true true b c e = refl
+or_second true false b c e = refl
+or_second false true b c e = e
+or_second false false b c e = e
+
+-- the words of tips and then of hidden commits are the items'
+any_end : (test : Bytes → Bool) (items : List LogItem) → (list_any test (filter_map tip_word items) || list_any test (filter_map hidden_word items)) ≡ list_any test (map item_target items)
+any_end test [] = refl
+any_end test (Tip word ∷ items) = or_first (test word) _ _ _ (any_end test items)
+any_end test (Hidden word ∷ items) = or_second (test word) (list_any test (filter_map tip_word items)) _ _ (any_end test items)
+
+module _ (r : Repository) (items : List LogItem) (ends : Ends) (are : AreEnds r items ends) where
+  any_meaning : (test : model.WordMeaning → Bool) → list_any test (meanings_in ends) ≡ list_any (λ word. test (word_meaning r word)) (map item_target items)
+  any_meaning test =
+      (λ i. list_any test (are.tips i ++ are.hidden i))
+      ∙ list_any-append test (map (word_meaning r) (filter_map tip_word items)) (map (word_meaning r) (filter_map hidden_word items))
+      ∙ (λ i. any_map test (word_meaning r) (filter_map tip_word items) i || any_map test (word_meaning r) (filter_map hidden_word items) i)
+      ∙ any_end (λ word. test (word_meaning r word)) items
+
+  -- some commit is hidden where an item says so
+  pub hides_told : not (length ends.hidden.items == 0) ≡ list_any is_hidden items
+  hides_told = go items ends.hidden.items are.hidden
+    where
+      some : (n : ℕ) → (suc n == 0) ≡ false
+      some n = grind (arith, tests)
+
+      go : (items : List LogItem) (meanings : List own.WordMeaning) → map meaning_of meanings ≡ map (word_meaning r) (filter_map hidden_word items) → not (length meanings == 0) ≡ list_any is_hidden items
+      go [] [] e = refl
+      go [] (m ∷ meanings) e = let z : ⊥ = cc in absurd z
+      go (Tip word ∷ items) meanings e = go items meanings e
+      go (Hidden word ∷ items) [] e = let z : ⊥ = cc in absurd z
+      go (Hidden word ∷ items) (m ∷ meanings) e = ap not (some (length meanings))
+
+-- ---- causes
+
+module _ (r : Repository) (order : LogCommand) (o : IsOffered r) (w : HasWholeNames r) where
+  abbrev Unread : Option Cause → Option Cause
+  Unread rest =
+      cond (list_any (λ word. is_unknown (word_meaning r word)) (map item_target order.items)) (Some UnknownWord)
+      (cond (list_any (λ word. is_unborn (word_meaning r word)) (map item_target order.items)) (Some UnbornHead) rest)
+
+  abbrev Ordered : Option Cause
+  Ordered = order_cause order.order order.first_parents (list_any is_hidden order.items)
+
+  abbrev Placed : Option Cause
+  Placed = cond (list_any is_bad_path order.paths) (Some BadPath) Ordered
+
+  first_told : first_cause r (Log order) ≡ Unread Placed
+  first_told = first_offered_cause r (Log order) o w refl
+
+  -- an accepted log has no bad path
+  pub good_paths : first_cause r (Log order) ≡ None → list_any is_bad_path order.paths ≡ false
+  good_paths none = go (list_any (λ word. is_unknown (word_meaning r word)) (map item_target order.items)) (list_any (λ word. is_unborn (word_meaning r word)) (map item_target order.items)) (list_any is_bad_path order.paths) (sym first_told ∙ none)
+    where
+      go : (a b c : Bool) → cond a (Some UnknownWord) (cond b (Some UnbornHead) (cond c (Some BadPath) Ordered)) ≡ None → c ≡ false
+      go true b c e = cc
+      go false true c e = cc
+      go false false true e = cc
+      go false false false e = refl
+
+  module _ (ends : Ends) (are : AreEnds r order.items ends) where
+    words_told : (rest : Option Cause) → Unread rest ≡ cond (list_any is_unknown (meanings_in ends)) (Some UnknownWord) (cond (list_any is_unborn (meanings_in ends)) (Some UnbornHead) rest)
+    words_told rest = λ i.
+        cond (sym (any_meaning r order.items ends are is_unknown) i) (Some UnknownWord) (cond (sym (any_meaning r order.items ends are is_unborn) i) (Some UnbornHead) rest)
+
+    pub refused_by_word : (cause : Cause) → words_cause (meanings_in ends) ≡ Some cause → first_cause r (Log order) ≡ Some cause
+    refused_by_word cause is = first_told ∙ words_told Placed ∙ go (list_any is_unknown (meanings_in ends)) (list_any is_unborn (meanings_in ends)) is
+      where
+        go : (a b : Bool) → cond a (Some UnknownWord) (cond b (Some UnbornHead) None) ≡ Some cause → cond a (Some UnknownWord) (cond b (Some UnbornHead) Placed) ≡ Some cause
+        go true b e = e
+        go false true e = e
+        go false false e = cc
+
+    told_by_path : words_cause (meanings_in ends) ≡ None → first_cause r (Log order) ≡ Placed
+    told_by_path none = first_told ∙ words_told Placed ∙ go (list_any is_unknown (meanings_in ends)) (list_any is_unborn (meanings_in ends)) none
+      where
+        go : (a b : Bool) → cond a (Some UnknownWord) (cond b (Some UnbornHead) None) ≡ None → cond a (Some UnknownWord) (cond b (Some UnbornHead) Placed) ≡ Placed
+        go true b e = cc
+        go false true e = cc
+        go false false e = refl
+
+    pub refused_by_path : words_cause (meanings_in ends) ≡ None → list_any is_bad_path order.paths ≡ true → first_cause r (Log order) ≡ Some BadPath
+    refused_by_path none bad = told_by_path none ∙ ap (λ b. cond b (Some BadPath) Ordered) bad
+
+    pub told_by_order : words_cause (meanings_in ends) ≡ None → list_any is_bad_path order.paths ≡ false → first_cause r (Log order) ≡ Ordered
+    told_by_order none good = told_by_path none ∙ ap (λ b. cond b (Some BadPath) Ordered) good
+
+-- ---- the commits that words read as
+
+module _ (r : Repository) (o : IsOffered r) (w : HasWholeNames r) where
+  pub ids_told : (meanings : List own.WordMeaning) (words : List Bytes) → map meaning_of meanings ≡ map (word_meaning r) words → map id_of (filter_map commit_in meanings) ≡ filter_map (commit_of r) words
+  ids_told [] [] e = refl
+  ids_told [] (word ∷ words) e = let z : ⊥ = cc in absurd z
+  ids_told (m ∷ meanings) [] e = let z : ⊥ = cc in absurd z
+  ids_told (m ∷ meanings) (word ∷ words) e =
+      let head : meaning_of m ≡ word_meaning r word = cc in
+      let tail : map meaning_of meanings ≡ map (word_meaning r) words = cc in
+      let rest = ids_told meanings words tail in
+      let reads : commit_of r word ≡ read_id (meaning_of m) = words_stand_for_theirs r word o w ∙ ap read_id (sym head) in
+      go m reads rest
+    where
+      go : (m : own.WordMeaning) → commit_of r word ≡ read_id (meaning_of m) → map id_of (filter_map commit_in meanings) ≡ filter_map (commit_of r) words → map id_of (filter_map commit_in (m ∷ meanings)) ≡ filter_map (commit_of r) (word ∷ words)
+      go (read.Commit id) reads rest = rw (reads, rest) refl
+      go read.Unborn reads rest = rw (reads, rest) refl
+      go read.Unknown reads rest = rw (reads, rest) refl
+
+  -- each is stored
+  pub ids_hold : (meanings : List own.WordMeaning) (words : List Bytes) → map meaning_of meanings ≡ map (word_meaning r) words → (x : ObjectId) → Contains (filter_map commit_in meanings) x → HoldsCommit r (id_of x)
+  ids_hold meanings words e x c = let (k, a) = at_from_contains (filter_map commit_in meanings) x c in go meanings words e k a
+    where
+      held : (word : Bytes) (id : Id) → word_meaning r word ≡ model.ReadsAs id → HoldsCommit r id
+      held word id e =
+          let (name, at) = words_read_names r word id e in
+          let (commit, there) = names_hold_commits r name id o w at in
+          subst (λ found. IsSome (option_and_then as_commit found)) (sym there) refl
+
+      go : (meanings : List own.WordMeaning) (words : List Bytes) → map meaning_of meanings ≡ map (word_meaning r) words → (k : ℕ) → At (filter_map commit_in meanings) k x → HoldsCommit r (id_of x)
+      go [] words e k a = let z : ⊥ = cc in absurd z
+      go (m ∷ meanings) [] e k a = let z : ⊥ = cc in absurd z
+      go (m ∷ meanings) (word ∷ words) e k a =
+          let head : meaning_of m ≡ word_meaning r word = cc in
+          let tail : map meaning_of meanings ≡ map (word_meaning r) words = cc in
+          by_meaning m head k a (λ j b. go meanings words tail j b)
+        where
+          by_meaning : (m : own.WordMeaning) → meaning_of m ≡ word_meaning r word → (k : ℕ) → At (filter_map commit_in (m ∷ meanings)) k x → ((j : ℕ) → At (filter_map commit_in meanings) j x → HoldsCommit r (id_of x)) → HoldsCommit r (id_of x)
+          by_meaning (read.Commit id) head zero a rest = let same : id ≡ x = cc in held word (id_of x) (sym head ∙ ap (λ y. model.ReadsAs (id_of y)) same)
+          by_meaning (read.Commit id) head (suc k) a rest = rest k a
+          by_meaning read.Unborn head k a rest = rest k a
+          by_meaning read.Unknown head k a rest = rest k a
+
+-- ---- the walk
+
+abbrev asks : List Id → List Id → Parents → Option ℤ → WalkRequest Id
+asks tips hidden parents since = record {
+  tips = tips;
+  hidden = hidden;
+  parents = parents;
+  since = since;
+  accepts = λ _. true;
+}
+
+pub walk_told : (line : Order) (first : Bool) (made : walks.Order) → IsOrderOf line first made → (g : Commits Id) (tips hidden ids : List Id) → IsInOrder made g (walk_from made tips hidden) ids
+    → IsWalk line g (asks tips hidden (followed first) (option_map pos (since_of line))) ids
+walk_told Breadth first (walk.Breadth parents) is g tips hidden ids h = subst (λ p. InBreadth g (asks tips hidden p None) ids) is h
+walk_told Newest first (walk.Newest since) is g tips hidden ids h = subst (λ b. ByNewest g (asks tips hidden (followed b) None) ids) (sym is.1) (subst (λ s. ByNewest g (asks tips hidden All s) ids) is.0 h)
+walk_told Oldest first (walk.Oldest since) is g tips hidden ids h = subst (λ b. ByOldest g (asks tips hidden (followed b) None) ids) (sym is.1) (subst (λ s. ByOldest g (asks tips hidden All s) ids) is.0 h)
+walk_told (NewestSince word) first (walk.Newest since) is g tips hidden ids h = subst (λ b. ByNewest g (asks tips hidden (followed b) (Some (pos (digits_value word)))) ids) (sym is.1) (subst (λ s. ByNewest g (asks tips hidden All s) ids) is.0 h)
+walk_told (OldestSince word) first (walk.Oldest since) is g tips hidden ids h = subst (λ b. ByOldest g (asks tips hidden (followed b) (Some (pos (digits_value word)))) ids) (sym is.1) (subst (λ s. ByOldest g (asks tips hidden All s) ids) is.0 h)
+walk_told Date first (walk.Date parents) is g tips hidden ids h = subst (λ p. InDate g (asks tips hidden p None) ids) is h
+walk_told Topological first (walk.Topological parents) is g tips hidden ids h = subst (λ p. InTopological g (asks tips hidden p None) ids) is h
+walk_told line first made is g tips hidden ids h = absurd is
+
+-- ---- the walk's answers
+
+-- a fault of reading is no refusal
+pub walk_fault : (MayFail : Type 0) (r : Repository) (order : LogCommand) (stopped : Stopped) → IsReadingFault MayFail stopped → Walks MayFail r order (Err stopped)
+walk_fault MayFail r order (Refused cause) h = absurd h
+walk_fault MayFail r order (Fault fault) h = h
+
+-- what a call stopped for is handed on
+pub walk_stops : (MayFail : Type 0) (r : Repository) (order : LogCommand) (result : Result (Vec ObjectId Global) Stopped) (stopped : Stopped) → IsErrAnd result (λ other. other ≡ stopped) → Walks MayFail r order (Err stopped) → Walks MayFail r order result
+walk_stops MayFail r order (Ok ids) stopped same h = absurd same
+walk_stops MayFail r order (Err other) stopped same h = subst (λ (x : Stopped). Walks MayFail r order (Err x)) (sym same) h
+
+-- where no walk is given, its cause is the log's
+pub unwalked : (MayFail : Type 0) (r : Repository) (order : LogCommand) (stopped : Stopped) → Walks MayFail r order (Err stopped) → OnlyAnswers MayFail r (Log order) (Err stopped)
+unwalked MayFail r order (Refused cause) h = h
+unwalked MayFail r order (Fault fault) h = h
+
+module _ (r : Repository) (order : LogCommand) (o : IsOffered r) (w : HasWholeNames r) (ends : Ends) (are : AreEnds r order.items ends) where
+  -- the walk that was asked for is the log's
+  walk_of : (request : Request) (ids : Vec ObjectId Global) → IsOrderOf order.order order.first_parents request.order → request.tips.items ≡ filter_map commit_in ends.tips.items → request.hidden.items ≡ filter_map commit_in ends.hidden.items
+      → IsLogged r request ids → IsWalk order.order (commits_of r) (walk_request r order) (map id_of ids.items)
+  walk_of request ids is_order tips_are hidden_are walked =
+      let starts = filter_map (commit_of r) (filter_map tip_word order.items) in
+      let stops = filter_map (commit_of r) (filter_map hidden_word order.items) in
+      let from_tips : map id_of request.tips.items ≡ starts = ap (map id_of) tips_are ∙ ids_told r o w ends.tips.items (filter_map tip_word order.items) are.tips in
+      let from_hidden : map id_of request.hidden.items ≡ stops = ap (map id_of) hidden_are ∙ ids_told r o w ends.hidden.items (filter_map hidden_word order.items) are.hidden in
+      walk_told order.order order.first_parents request.order is_order (commits_of r) starts stops (map id_of ids.items)
+      (subst (λ (tips : List Id). IsInOrder request.order (commits_of r) (walk_from request.order tips stops) (map id_of ids.items)) from_tips
+      (subst (λ (hidden : List Id). IsInOrder request.order (commits_of r) (walk_from request.order (map id_of request.tips.items) hidden) (map id_of ids.items)) from_hidden walked))
+
+  pub walk_given : (MayFail : Type 0) (request : Request) (store : IsWholeStore r) (written : IsWritten r) (result : Result (Vec ObjectId Global) Stopped) → words_cause (meanings_in ends) ≡ None → list_any is_bad_path order.paths ≡ false
+      → order_cause order.order order.first_parents (list_any is_hidden order.items) ≡ None → IsOrderOf order.order order.first_parents request.order
+      → request.tips.items ≡ filter_map commit_in ends.tips.items → request.hidden.items ≡ filter_map commit_in ends.hidden.items → AllHold r request.tips.items → GivesMeant MayFail (IsLogged r request) result → Walks MayFail r order result
+  walk_given MayFail request store written (Ok ids) read good suits is_order tips_are hidden_are hold walked = (
+    told_by_order r order o w ends are read good ∙ suits,
+    record { walk = walk_of request ids is_order tips_are hidden_are walked; hold = logged_hold r store written request ids walked hold },
+  )
+  walk_given MayFail request store written (Err stopped) read good suits is_order tips_are hidden_are hold fault = walk_fault MayFail r order stopped fault
+
+-- ---- the path
+
+pub no_path : (paths : List Bytes) → ArePaths None paths → paths ≡ []
+no_path paths (None, same, keeps) = same
+no_path paths (Some path, same, keeps) = absurd keeps
+
+-- a good path is kept whole
+pub one_path : (field : Field) (paths : List Bytes) → ArePaths (Some field) paths → list_any is_bad_path paths ≡ false → paths ≡ kept_bytes field ∷ []
+one_path field paths (None, same, keeps) good = absurd keeps
+one_path field paths (Some path, same, keeps) good =
+    let fine = (or_parts (is_bad_path path) false (sym (ap (list_any is_bad_path) same) ∙ good)).0 in
+    same ∙ ap (λ p. p ∷ []) (sym (whole_path field path keeps fine))
+
+-- ---- the reply
+
+pub log_answered : (MayFail : Type 0) (r : Repository) (order : LogCommand) (walked listed : List ObjectId) (text : Vec ℕ Global) → first_cause r (Log order) ≡ None → IsWalkOf r order walked → map id_of listed ≡ kept r order.paths (map id_of walked)
+    → text.items ≡ reply_text (LogIs (map id_of listed)) → OnlyAnswers MayFail r (Log order) (Ok text)
+log_answered MayFail r order walked listed text accepted is kept_are written = (LogIs (map id_of listed), written, accepted, (map id_of listed, (map id_of walked, is.walk, kept_are), refl))

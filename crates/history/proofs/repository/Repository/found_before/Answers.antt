@@ -1,0 +1,17 @@
+use Rattle.std.proofs.Common.{subst, map}
+use Rattle.gix_hash_id.specs.Id.{id_of}
+use Rattle.history_model.specs.Meaning.{first_files}
+use Rattle.history.specs.Files.{IsTreeBefore}
+use Rattle.history.proofs.DifferingLemmas.{nothing_before, tree_there}
+use Rattle.history.proofs.repository.Repository.found_before.Goals as goal
+
+pub returns-in-Some : goal.returns-in-Some
+returns-in-Some g c = λ r s hold.
+    let ids = map id_of c.args.parents.now in
+    let tree = subst (IsTreeBefore r ids) c.in-Some.is (c.in_ok-tree.ensures r s hold) in
+    c.found_below.ensures r (first_files r ids) s.stands (tree_there r ids c.in-Some.tree tree)
+
+pub returns-in-None : goal.returns-in-None
+returns-in-None g c = λ r s hold.
+    let ids = map id_of c.args.parents.now in
+    nothing_before r ids c.args.path.now (subst (IsTreeBefore r ids) c.in-None.is (c.in_ok-tree.ensures r s hold))

@@ -1,0 +1,146 @@
+//! What a line of `log` says.
+
+ghost use Rattle.std.specs.Prelude.{◌≡◌, ◌≢◌, [], Option, Some, IfSome, IfNone};
+ghost use Rattle.history_model.specs.Bytes.{Bytes};
+ghost use Rattle.history_model.specs.Commands as model;
+ghost use Rattle.history_model.specs.Spelling.{item_target};
+ghost use Rattle.history_word.specs.Commands.{IsPath, IsLog, IsLogItem};
+ghost use Rattle.history_word.specs.LineTable.{order_of, first_parents_of, item_of, items_of, log_of_words};
+ghost use Rattle.history_word.specs.Drafts.{IsLogLine, SaysLog, SaysOrder, SaysItems, item_with, with_path};
+ghost use Rattle.history_word.specs.Words.{left};
+
+use crate::command::{Field, LogCommand, LogItem, Order};
+use crate::draft::pushed;
+use crate::heading::kept;
+use crate::words::{Words, number};
+use std::alloc::Global;
+
+/// A line of `log`, and the size of the path that follows it where one does. The order or the items are `None` where they
+/// found no memory.
+#[derive(Debug, Drop)]
+pub(crate) struct LogLine {
+    order: Option<Order>,
+    first_parents: bool,
+    items: Option<Vec<LogItem>>,
+    pub(crate) path: Option<u64>,
+}
+
+impl LogLine {
+    /// What follows `log`: `<order> <all or first> <items>`, or these and `path <size>`.
+    pub(crate) fn new(alloc: Global, words: &mut Words) -> Option<Self>
+        ensures { SaysLog result (log_of_words (left words.old)) }
+    {
+        let order = order(alloc, words)?;
+        let first_parents = first_parents(words.next()?)?;
+        let (items, path) = items(alloc, words)?;
+        Some(LogLine {
+            order,
+            first_parents,
+            items,
+            path,
+        })
+    }
+
+    /// The command with this path or none, if each of the line's words found memory.
+    pub(crate) fn finish(self, path: Option<Field>) -> Option<LogCommand>
+        ensures { (order : model.LogCommand) (p : Option Bytes) → IsLogLine self order
+            → IsPath path p → IfSome result (λ log. IsLog log (with_path order p)) }
+    {
+        Some(LogCommand {
+            order: self.order?,
+            first_parents: self.first_parents,
+            items: self.items?,
+            path,
+        })
+    }
+}
+
+/// A word for an order, and the seconds behind it where it has some. It is `Some(None)` where these found no memory.
+fn order(alloc: Global, words: &mut Words) -> Option<Option<Order>>
+    ensures { SaysOrder result (order_of (left words.old)) (left words.new) }
+{
+    let first = words.next()?;
+    if first == b"breadth".as_slice() {
+        Some(Some(Order::Breadth))
+    } else if first == b"newest".as_slice() {
+        Some(Some(Order::Newest))
+    } else if first == b"oldest".as_slice() {
+        Some(Some(Order::Oldest))
+    } else if first == b"newest-since".as_slice() {
+        let seconds = words.next()?;
+        Some(kept(alloc, seconds).map(Order::NewestSince))
+    } else if first == b"oldest-since".as_slice() {
+        let seconds = words.next()?;
+        Some(kept(alloc, seconds).map(Order::OldestSince))
+    } else if first == b"date".as_slice() {
+        Some(Some(Order::Date))
+    } else if first == b"topological".as_slice() {
+        Some(Some(Order::Topological))
+    } else {
+        None
+    }
+}
+
+/// Whether the first parents alone are followed: `first` or `all`.
+fn first_parents(word: &[u8]) -> Option<bool>
+    ensures { result ≡ first_parents_of word.now }
+{
+    if word == b"first".as_slice() {
+        Some(true)
+    } else if word == b"all".as_slice() {
+        Some(false)
+    } else {
+        None
+    }
+}
+
+/// The words that are left: items, of which at least one is a tip, and the size behind the word `path` where that ends
+/// them. The items are `None` where they found no memory.
+fn items(alloc: Global, words: &mut Words) -> Option<(Option<Vec<LogItem>>, Option<u64>)>
+    ensures { SaysItems result (items_of (left words.old)) }
+{
+    let mut items = Some(Vec::new(alloc));
+    let mut has_tip = false;
+    let mut path = None;
+    while let Some(word) = words.next() {
+        if word == b"path".as_slice() {
+            path = Some(number(words.last()?)?);
+            break;
+        }
+        let (is_tip, target) = item(word)?;
+        has_tip |= is_tip;
+        items = pushed(items, log_item(alloc, is_tip, target));
+    }
+    if has_tip { Some((items, path)) } else { None }
+}
+
+/// Whether the item is a tip, and its target: `+` and a word, or `-` and one.
+fn item(word: &[u8]) -> Option<(bool, &[u8])>
+    ensures found { IfSome result (λ item. item_of word.now ≡ Some (item_with item.0 item.1.now)) }
+    ensures nonempty { IfSome result (λ item. item.1.now ≢ []) }
+    ensures none { IfNone result ((item : model.LogItem)
+        → item_of word.now ≡ Some item → item_target item ≡ []) }
+{
+    let (sign, target) = word.split_first()?;
+    if target.is_empty() {
+        None
+    } else if *sign == b'+' {
+        Some((true, target))
+    } else if *sign == b'-' {
+        Some((false, target))
+    } else {
+        None
+    }
+}
+
+/// A tip or a hidden word, if there is memory for it.
+fn log_item(alloc: Global, is_tip: bool, target: &[u8]) -> Option<LogItem>
+    ensures { IfSome result (λ item. IsLogItem item (item_with is_tip target.now)) }
+{
+    let word = kept(alloc, target)?;
+    Some(if is_tip {
+        LogItem::Tip(word)
+    } else {
+        LogItem::Hidden(word)
+    })
+}
