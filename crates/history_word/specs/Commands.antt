@@ -14,6 +14,8 @@ use Rattle.history_word.specs.declared.command.Edit.{Edit}
 use Rattle.history_word.specs.declared.command.Edit.TheVariants.{Put, Remove, RemoveFile}
 use Rattle.history_word.specs.declared.command.ActorLine.{ActorLine}
 use Rattle.history_word.specs.declared.command.CommitCommand.{CommitCommand}
+use Rattle.history_word.specs.declared.command.To.{To}
+use Rattle.history_word.specs.declared.command.MoveCommand.{MoveCommand}
 use Rattle.history_word.specs.declared.command.Order.{Order}
 use Rattle.history_word.specs.declared.command.Order.TheVariants.{Breadth, Newest, Oldest, NewestSince, OldestSince, Date, Topological}
 use Rattle.history_word.specs.declared.command.LogItem.{LogItem}
@@ -55,6 +57,19 @@ pub record IsCommit (commit : CommitCommand) (order : model.CommitCommand) : Typ
   pub committer : IsActor commit.committer order.committer
   pub message : Keeps max_content commit.message order.message
 
+pub record IsTo (to : To) (line : model.To) : Type 0 where
+  pub name : to.name.items ≡ line.name
+  pub expect : IsExpect to.expect line.expect
+  pub word : to.word.items ≡ line.word
+
+abbrev pub AreTos : List To → List model.To → Type 0
+AreTos = AllZip IsTo
+
+pub record IsMove (move : MoveCommand) (order : model.MoveCommand) : Type 0 where
+  pub to : AreTos move.to.items order.to
+  pub actor : IsActor move.actor order.actor
+  pub message : Keeps max_content move.message order.message
+
 abbrev pub IsPath : Option Field → Option Bytes → Type 0
 IsPath (Some field) (Some path) = Keeps max_path field path
 IsPath None None = ⊤
@@ -88,6 +103,7 @@ pub record IsLog (log : LogCommand) (line : model.LogCommand) : Type 0 where
 -- the command that was read is this one, but for the bytes of fields over their limits
 abbrev pub IsCommandOf : Command → model.Command → Type 0
 IsCommandOf (command.Commit commit) (model.Commit order) = IsCommit commit order
+IsCommandOf (command.Move move) (model.Move order) = IsMove move order
 IsCommandOf (command.Files word) (model.Files bytes) = word.items ≡ bytes
 IsCommandOf (command.Show show) (model.Show word path) =
     (show.word.items ≡ word) × IsPath show.path path

@@ -67,6 +67,22 @@ pub struct CommitCommand {
     pub message: Field,
 }
 
+/// One name of a move: what is expected of it, and the word of the commit where it goes.
+#[derive(Debug, Drop)]
+pub struct To {
+    pub name: Vec<u8>,
+    pub expect: Expect,
+    pub word: Vec<u8>,
+}
+
+/// Moves one or more names, all of them or none. The message has at most 16,777,216 bytes.
+#[derive(Debug, Drop)]
+pub struct MoveCommand {
+    pub to: Vec<To>,
+    pub actor: ActorLine,
+    pub message: Field,
+}
+
 /// Shows a commit, or what stands at a path of its files. The path has at most 4,096 bytes.
 #[derive(Debug, Drop)]
 pub struct Show {
@@ -112,6 +128,7 @@ pub struct LogCommand {
 #[derive(Debug, Drop)]
 pub enum Command {
     Commit(CommitCommand),
+    Move(MoveCommand),
     /// Lists the files of this word's commit.
     Files(Vec<u8>),
     Show(Show),
