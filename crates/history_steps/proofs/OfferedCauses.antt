@@ -1,13 +1,13 @@
 -- The causes that may be the first for a command of this stage.
 use Rattle.std.proofs.Common.{◌≡◌, Bool, true, false, cond, List, [], ◌∷◌, ◌++◌, map, refl, Option, Some, None, option_map, is_some, is_none, unwrap_or, find}
-use Rattle.std.specs.List.{list_any}
+use Rattle.std.specs.List.{flat_map, list_any}
 use Rattle.std.specs.FinMap.{get}
 use Rattle.history_model.specs.Bytes.{Bytes}
 use Rattle.history_model.specs.Objects.{Value, StoredCommit, StoredTag, StoredBytes, StoredFolder}
 use Rattle.gix_hash_id.specs.Id.{Id}
 use Rattle.history_model.specs.Repository.{Repository, HasWholeNames, id_at, peeled, is_tag, is_tag_value}
 use Rattle.history_model.specs.Words.{WordMeaning, ReadsAs, Unborn, Unknown, Ambiguous, word_meaning}
-use Rattle.history_model.specs.Commands.{Commit, Tag, Move, Rename, Delete, Switch, Pack, Index, Names, Files, Past, Log, Show, CommitCommand, LogCommand}
+use Rattle.history_model.specs.Commands.{Commit, Tag, Move, Rename, Delete, Switch, Pack, Index, Names, Files, Past, Log, Show, CommitCommand, LogCommand, MoveCommand}
 use Rattle.history_model.specs.CommandParts.{at_word}
 use Rattle.history_model.specs.Spelling.{item_target}
 use Rattle.history_model.specs.Meaning.{branch_or_name}
@@ -22,11 +22,9 @@ use Rattle.std.proofs.lemmas.Bool.{or_from}
 
 -- these don't hold
 record RuledOut (p : Cause → Bool) : Type 0 where
-  name_twice : p NameTwice ≡ false
   ambiguous : p AmbiguousWord ≡ false
   no_commit : p NotACommit ≡ false
   holds_tag : p HoldsTag ≡ false
-  moves_nothing : p NothingMoves ≡ false
 
 drop : (b : Bool) (x : Cause) (rest want : Option Cause) → b ≡ false → rest ≡ want → cond b (Some x) rest ≡ want
 drop true x rest want e same = cc
@@ -38,12 +36,11 @@ keep false x rest want same = same refl
 
 first_of_few : (p : Cause → Bool) → RuledOut p → find p in_order ≡ find p offered_causes
 first_of_few p out =
-    keep (p BadName) _ _ _ (λ n. keep (p PrivateName) _ _ _ (λ n. drop _ _ _ _ out.name_twice
-    (keep (p UnknownWord) _ _ _ (λ u. drop _ _ _ _ out.ambiguous (keep (p UnbornHead) _ _ _ (λ n. drop _ _ _ _ out.no_commit
+    keep (p BadName) _ _ _ (λ n. keep (p PrivateName) _ _ _ (λ n. keep (p NameTwice) _ _ _ (λ t.
+    keep (p UnknownWord) _ _ _ (λ u. drop _ _ _ _ out.ambiguous (keep (p UnbornHead) _ _ _ (λ n. drop _ _ _ _ out.no_commit
     (keep (p NoSuchName) _ _ _ (λ s. keep (p Taken) _ _ _ (λ t. keep (p NotExpected) _ _ _ (λ e. keep (p Collides) _ _ _ (λ c. drop _ _ _ _ out.holds_tag
     (keep (p TooManyParents) _ _ _ (λ m. keep (p DuplicateParent) _ _ _ (λ d. keep (p BadPath) _ _ _ (λ b. keep (p IsFolder) _ _ _ (λ f.
-    keep (p NoSuchPath) _ _ _ (λ s. keep (p BadActor) _ _ _ (λ a. keep (p BadTime) _ _ _ (λ t. keep (p BadMessage) _ _ _ (λ m. keep (p TooLarge) _ _ _ (λ l.
-    drop _ _ _ _ out.moves_nothing refl)))))))))))))))))))))
+    keep (p NoSuchPath) _ _ _ (λ s. keep (p BadActor) _ _ _ (λ a. keep (p BadTime) _ _ _ (λ t. keep (p BadMessage) _ _ _ (λ m. keep (p TooLarge) _ _ _ (λ l. refl)))))))))))))))))))))
 
 -- ---- lists
 
@@ -94,62 +91,59 @@ module _ (r : Repository) (o : IsOffered r) (w : HasWholeNames r) where
 
   commit_out : (c : CommitCommand) → RuledOut (λ cause. holds cause r (Commit c))
   commit_out c = record {
-    name_twice = refl;
     ambiguous = none_passes (λ word. is_ambiguous (word_meaning r word)) (at_word c.expect ++ c.parents) not_ambiguous;
     no_commit = none_passes (λ word. is_no_commit r (word_meaning r word)) (at_word c.expect ++ c.parents) is_commit;
     holds_tag = no_tag (branch_or_name r c.name);
-    moves_nothing = refl;
   }
+
+  move_out : (c : MoveCommand) → RuledOut (λ cause. holds cause r (Move c))
+  move_out c =
+      let words = flat_map (λ to. at_word to.expect ++ to.word ∷ []) c.to in
+      record {
+        ambiguous = none_passes (λ word. is_ambiguous (word_meaning r word)) words not_ambiguous;
+        no_commit = none_passes (λ word. is_no_commit r (word_meaning r word)) words is_commit;
+        holds_tag = refl;
+      }
 
   files_out : (word : Bytes) → RuledOut (λ cause. holds cause r (Files word))
   files_out word = record {
-    name_twice = refl;
     ambiguous = or_from _ false (not_ambiguous word) refl;
     no_commit = or_from _ false (is_commit word) refl;
     holds_tag = refl;
-    moves_nothing = refl;
   }
 
   names_out : (folder : Option Bytes) → RuledOut (λ cause. holds cause r (Names folder))
   names_out folder = record {
-    name_twice = refl;
     ambiguous = refl;
     no_commit = refl;
     holds_tag = refl;
-    moves_nothing = refl;
   }
 
   past_out : (word : Bytes) → RuledOut (λ cause. holds cause r (Past word))
   past_out word = record {
-    name_twice = refl;
     ambiguous = refl;
     no_commit = refl;
     holds_tag = refl;
-    moves_nothing = refl;
   }
 
   log_out : (c : LogCommand) → RuledOut (λ cause. holds cause r (Log c))
   log_out c = record {
-    name_twice = refl;
     ambiguous = none_passes (λ word. is_ambiguous (word_meaning r word)) (map item_target c.items) not_ambiguous;
     no_commit = none_passes (λ word. is_no_commit r (word_meaning r word)) (map item_target c.items) is_commit;
     holds_tag = refl;
-    moves_nothing = refl;
   }
 
   show_out : (word : Bytes) (path : Option Bytes) → RuledOut (λ cause. holds cause r (Show word path))
   show_out word path = record {
-    name_twice = refl;
     ambiguous = or_from _ false (not_ambiguous word) refl;
     no_commit = or_from _ false (is_commit word) refl;
     holds_tag = refl;
-    moves_nothing = refl;
   }
 
 pub first_offered_cause : FirstOfferedCause
 first_offered_cause r (Commit c) o w offered = first_of_few (λ cause. holds cause r (Commit c)) (commit_out r o w c)
 first_offered_cause r (Tag c) o w offered = cc
-first_offered_cause r (Move c) o w offered = cc
+first_offered_cause r (Move c) o w offered = first_of_few (λ cause. holds cause r (Move c)) (move_out r o w c)
 first_offered_cause r (Rename from to) o w offered = cc
 first_offered_cause r (Delete name at) o w offered = cc
 first_offered_cause r (Switch name) o w offered = cc
