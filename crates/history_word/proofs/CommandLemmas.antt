@@ -9,6 +9,7 @@ use Rattle.history_word.specs.LineTable as table
 use Rattle.history_word.specs.TableRuns.{at, reached}
 use Rattle.history_word.proofs.TableLaws.{parts_fit}
 use Rattle.history_word.specs.Drafts.{IsDraft, place_of}
+use Rattle.history_word.specs.Come.{HasEnough}
 use Rattle.history_word.specs.declared.place.Place.{Place}
 use Rattle.history_word.specs.declared.place.Place.TheVariants as place
 use Rattle.history_word.specs.declared.draft.Draft.{Draft}
@@ -19,22 +20,22 @@ pub live : (p : Place) → p ≢ place.Done → place_of p ≢ table.Done
 live place.Done h e = h refl
 live p h e = cc
 
-is_enough : (d : Draft) (order : model.Command) → IsDraft d order → (has_enough order ≡ true) × (is_spoken order ≡ true)
-is_enough (draft.Commit c) (model.Commit order) h = (refl, refl)
-is_enough (draft.Files w) (model.Files word) h = (refl, refl)
-is_enough (draft.Show s) (model.Show word path) h = (refl, refl)
-is_enough draft.Names (model.Names None) h = (refl, refl)
-is_enough (draft.NamesIn f) (model.Names (Some folder)) h = (refl, refl)
-is_enough (draft.Past w) (model.Past word) h = (refl, refl)
-is_enough (draft.Log l) (model.Log log) h = (h.0, refl)
-is_enough d order h = absurd h
+spoken : (d : Draft) (order : model.Command) → IsDraft d order → is_spoken order ≡ true
+spoken (draft.Commit c) (model.Commit order) h = refl
+spoken (draft.Move c) (model.Move order) h = refl
+spoken (draft.Files w) (model.Files word) h = refl
+spoken (draft.Show s) (model.Show word path) h = refl
+spoken draft.Names (model.Names None) h = refl
+spoken (draft.NamesIn f) (model.Names (Some folder)) h = refl
+spoken (draft.Past w) (model.Past word) h = refl
+spoken (draft.Log l) (model.Log log) h = refl
+spoken d order h = absurd h
 
 -- at the end, the parts are those of the command that the draft has
-pub spells : (parts : List Part) (p : table.Place) (d : Draft) (order : model.Command) → reached parts ≡ Some (at [] p) → parts ≡ parts_of order → IsDraft d order → Spells (parts_text parts) order
+pub spells : (parts : List Part) (p : table.Place) (d : Draft) (order : model.Command) → reached parts ≡ Some (at [] p) → parts ≡ parts_of order → HasEnough d order → Spells (parts_text parts) order
 spells parts p d order e is h =
-    let fit = parts_fit opens parts [] table.Start (at [] p) refl e in
-    let enough = is_enough d order h in (
+    let fit = parts_fit opens parts [] table.Start (at [] p) refl e in (
       and_from (list_all is_part (parts_of order) && has_enough order) (is_spoken order)
-          (and_from (list_all is_part (parts_of order)) (has_enough order) (subst (λ ps. list_all is_part ps ≡ true) is fit.0) enough.0) enough.1,
+          (and_from (list_all is_part (parts_of order)) (has_enough order) (subst (λ ps. list_all is_part ps ≡ true) is fit.0) h.enough) (spoken d order h.has),
       ap parts_text is,
     )

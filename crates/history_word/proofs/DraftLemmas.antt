@@ -1,34 +1,47 @@
--- What a draft has after each line.
-use Rattle.std.proofs.Common.{◌≡◌, ℕ, ◌<◌, true, List, [], ◌∷◌, ◌++◌, length, map, Option, Some, None, if◌then◌else◌, ◌⊎◌, inl, inr, refl, sym, ap, subst, ◌∙◌, arith, flat_map}
+-- What a line and the fields behind it leave in the draft.
+use Rattle.std.proofs.Common.{◌≡◌, ℕ, ◌<◌, true, not, List, [], ◌∷◌, ◌++◌, length, nat_le, map, Option, Some, None, option_map, if◌then◌else◌, ◌⊎◌, inl, inr, refl, sym, ap, subst, ◌∙◌, append_assoc, arith, codes, flat_map}
+use Rattle.std.specs.Prelude.{IfSome}
 use Rattle.std.specs.List.{join_with_byte}
-use Rattle.std.proofs.lemmas.List.{append-nil, length-append}
-use Rattle.history_model.specs.Bytes.{Bytes, line}
+use Rattle.std.proofs.Common.{Vec, Global}
+use Rattle.std.proofs.lemmas.Grind.{flat_map-append}
+use Rattle.std.proofs.lemmas.List.{append-nil, length-append, map-append}
+use Rattle.std.proofs.lemmas.Bool.{and_from}
+use Rattle.std.proofs.lemmas.Option.{same_Some}
+use Rattle.history_model.specs.Bytes.{Bytes, line, is_empty}
 use Rattle.history_model.specs.Commands as model
 use Rattle.history_model.specs.Spelling as spelling
 use Rattle.history_model.specs.Lines as lines
 use Rattle.history_word.specs.LineTable as table
 use Rattle.history_word.specs.TableRuns.{at, run_from, next_offered}
-use Rattle.history_word.specs.Drafts.{place_of, edit_heading, to_parents, HasCome, TakesLine, TakesParts}
+use Rattle.history_word.specs.Commands.{IsExpect, IsTo}
+use Rattle.history_word.specs.Drafts.{role_of, place_of, to_of, log_of, IsEditHeading, IsOpening, IsHeading, IsDraft, with_parent, with_to, with_edit, with_actor, with_message, with_path}
+use Rattle.history_word.specs.Come.{to_parents, to_committer, to_targets, to_mover, before_message, to_message, HasEnough, HasCome, edit_heading, edit_fields, parts_with, TakesLine, TakesEdit, TakesLog, TakesActor, TakesOpening, TakesFields, TakesParts}
+use Rattle.history_word.specs.declared.command.Expect.{Expect}
+use Rattle.history_word.specs.declared.command.To.{To}
+use Rattle.history_word.specs.declared.command.Edit.{Edit}
+use Rattle.history_word.specs.declared.command.ActorLine.{ActorLine}
+use Rattle.history_word.specs.declared.command.LogCommand.{LogCommand}
+use Rattle.history_word.specs.declared.heading.Role.{Role}
+use Rattle.history_word.specs.declared.heading.Role.TheVariants.{Author, Committer, Mover}
+use Rattle.history_word.specs.declared.heading.EditHeading.{EditHeading}
+use Rattle.history_word.specs.declared.heading.EditHeading.TheVariants as edit
+use Rattle.history_word.specs.declared.heading.ActorHeading.{ActorHeading}
+use Rattle.history_word.specs.declared.heading.Opening.{Opening}
+use Rattle.history_word.specs.declared.heading.Opening.TheVariants as opening
 use Rattle.history_word.specs.declared.heading.Heading.{Heading}
+use Rattle.history_word.specs.declared.heading.Heading.TheVariants as heading
+use Rattle.history_word.specs.declared.logs.LogLine.{LogLine}
 use Rattle.history_word.specs.declared.place.Place.{Place}
 use Rattle.history_word.specs.declared.place.Place.TheVariants as place
 use Rattle.history_word.specs.declared.draft.Draft.{Draft}
+use Rattle.history_word.specs.declared.draft.Draft.TheVariants as draft
 use Rattle.history_word.proofs.ProgressLemmas.{leads_line, leads_field}
+use Rattle.history_word.proofs.LineEndLemmas.{heading_sizes_are, one_text}
+
+abbrev Word : Type 0
+Word = Option (Vec ℕ Global)
 
 -- ---- a line and the fields behind it
-
--- the line, with what it says told apart
-pub record TakesAs (p : Place) (h : lines.Heading) (q : Place) (xs : Bytes) : Type 0 where
-  pub spelled : xs ≡ spelling.part_text (spelling.Line (lines.words_of h))
-  pub known : spelling.is_part (spelling.Line (lines.words_of h)) ≡ true
-  pub sized : lines.are_sizes (lines.sizes h) ≡ true
-  pub stands : next_offered (place_of p) h ≡ Some (place_of q)
-
-pub as_said : (p q : Place) (said : Heading) (h : lines.Heading) (xs : Bytes) (t : TakesLine p said q xs) → t.heading ≡ h → TakesAs p h q xs
-as_said p q said h xs t e = subst (λ h. TakesAs p h q xs) e (record { spelled = t.spelled; known = t.known; sized = t.sized; stands = t.stands })
-
-abbrev pub parts_with : lines.Heading → List Bytes → List spelling.Part
-parts_with h fields = spelling.Line (lines.words_of h) ∷ map spelling.Field fields
 
 fields_text : (fields : List Bytes) → spelling.parts_text (map spelling.Field fields) ≡ flat_map line fields
 fields_text [] = refl
@@ -41,56 +54,193 @@ leads_fields (f ∷ fields) q = leads_field f (map length fields) q (map spellin
 line_some : (text : Bytes) → 0 < length (line text)
 line_some text = omega (arith, length-append text (10 ∷ []))
 
-pub leads_with : (p q : Place) (h : lines.Heading) (xs : Bytes) (fields : List Bytes) → TakesAs p h q xs → lines.sizes h ≡ map length fields
-    → run_from (at [] (place_of p)) (parts_with h fields) ≡ Some (at [] (place_of q))
-leads_with p q h xs fields t sizes =
-    leads_line (place_of p) (place_of q) h (map spelling.Field fields) t.stands t.known t.sized
-    ∙ ap (λ s. run_from (at s (place_of q)) (map spelling.Field fields)) sizes ∙ leads_fields fields (place_of q)
+pub takes_parts : (p q : Place) (said : Heading) (xs ys : Bytes) (old new : Draft) → TakesLine p said q xs → TakesFields said old new ys → TakesParts p old q new (xs ++ ys)
+takes_parts p q said xs ys old new t took =
+    let h = t.heading in
+    let sizes : lines.sizes h ≡ map length took.fields = heading_sizes_are said h t.is ∙ took.heads in
+    record {
+      parts = parts_with h took.fields;
+      spelled = ap (λ y. xs ++ y) took.spelled ∙ ap (λ x. x ++ flat_map line took.fields) t.spelled ∙ ap (λ t. spelling.part_text (spelling.Line (lines.words_of h)) ++ t) (sym (fields_text took.fields));
+      some = omega (arith, length-append xs ys, ap length t.spelled, line_some (join_with_byte 32 (lines.words_of h)));
+      leads = leads_line (place_of p) (place_of q) h (map spelling.Field took.fields) t.stands t.known t.sized
+          ∙ ap (λ s. run_from (at s (place_of q)) (map spelling.Field took.fields)) sizes ∙ leads_fields took.fields (place_of q);
+      come = took.come h t.is p q t.stands;
+    }
 
-pub takes_parts : (p q from to : Place) (old new : Draft) (h : lines.Heading) (xs taken : Bytes) (fields : List Bytes) → TakesAs p h q xs → lines.sizes h ≡ map length fields
-    → p ≡ from → q ≡ to → taken ≡ xs ++ flat_map line fields
-    → ((before : List spelling.Part) → HasCome from old before → HasCome to new (before ++ parts_with h fields)) → TakesParts p old q new taken
-takes_parts p q from to old new h xs taken fields t sizes is_from is_to split come = record {
-  parts = parts_with h fields;
-  spelled = split ∙ ap (λ t. t ++ flat_map line fields) t.spelled ∙ ap (λ t. spelling.part_text (spelling.Line (lines.words_of h)) ++ t) (sym (fields_text fields));
-  some = omega (arith, ap length split, length-append xs (flat_map line fields), ap length t.spelled, line_some (join_with_byte 32 (lines.words_of h)));
-  leads = leads_with p q h xs fields t sizes;
-  come = subst (λ a. (before : List spelling.Part) → HasCome a old before → HasCome q new (before ++ parts_with h fields)) (sym is_from)
-      (subst (λ b. (before : List spelling.Part) → HasCome from old before → HasCome b new (before ++ parts_with h fields)) (sym is_to) come);
-}
+-- ---- the line that a command begins with
+
+nobody : model.ActorLine
+nobody = record { name = []; email = []; seconds = []; offset = [] }
+
+commit_goes : (name : Word) (expect : Option Expect) (new : Draft)
+    → ((order : model.CommitCommand) → IfSome name (λ w. w.items ≡ order.name) → IfSome expect (λ x. IsExpect x order.expect) → order.parents ≡ [] → order.edits ≡ [] → IsDraft new (model.Commit order))
+    → (h : lines.Heading) → IsOpening (opening.Commit name expect) h → (q : Place) → next_offered table.Start h ≡ Some (place_of q) → HasCome q new (parts_with h [])
+commit_goes name expect new f (lines.CommitHeading n x) i place.Parents e =
+    let order : model.CommitCommand = record { name = n; expect = x; parents = []; edits = []; author = nobody; committer = nobody; message = [] } in
+    (order, refl, f order i.0 i.1 refl refl, refl)
+commit_goes name expect new f (lines.CommitHeading n x) i q e = cc
+commit_goes name expect new f h i q e = absurd i
+
+pub commit_opens : (name : Word) (expect : Option Expect) (new : Draft)
+    → ((order : model.CommitCommand) → IfSome name (λ w. w.items ≡ order.name) → IfSome expect (λ x. IsExpect x order.expect) → order.parents ≡ [] → order.edits ≡ [] → IsDraft new (model.Commit order))
+    → TakesOpening (opening.Commit name expect) new []
+commit_opens name expect new f = record { fields = []; heads = refl; spelled = refl; begins = commit_goes name expect new f }
+
+move_goes : (new : Draft) → ((order : model.MoveCommand) → order.to ≡ [] → IsDraft new (model.Move order))
+    → (h : lines.Heading) → IsOpening opening.Move h → (q : Place) → next_offered table.Start h ≡ Some (place_of q) → HasCome q new (parts_with h [])
+move_goes new f lines.MoveHeading i place.ToFirst e = let order : model.MoveCommand = record { to = []; actor = nobody; message = [] } in (order, refl, f order refl)
+move_goes new f lines.MoveHeading i q e = cc
+move_goes new f h i q e = absurd i
+
+pub move_opens : (new : Draft) → ((order : model.MoveCommand) → order.to ≡ [] → IsDraft new (model.Move order)) → TakesOpening opening.Move new []
+move_opens new f = record { fields = []; heads = refl; spelled = refl; begins = move_goes new f }
+
+-- a command of one line is done behind it
+done_come : (d : Draft) (order : model.Command) (parts : List spelling.Part) (q : Place) → Some table.Done ≡ Some (place_of q) → parts ≡ spelling.parts_of order → spelling.has_enough order ≡ true → IsDraft d order → HasCome q d parts
+done_come d order parts place.Done e spelled enough has = (order, spelled, record { enough = enough; has = has })
+done_come d order parts q e spelled enough has = cc
+
+files_goes : (word : Word) (h : lines.Heading) → IsOpening (opening.Files word) h → (q : Place) → next_offered table.Start h ≡ Some (place_of q) → HasCome q (draft.Files word) (parts_with h [])
+files_goes word (lines.FilesHeading w) i q e = done_come (draft.Files word) (model.Files w) _ q e refl refl i
+files_goes word h i q e = absurd i
+
+pub files_opens : (word : Word) → TakesOpening (opening.Files word) (draft.Files word) []
+files_opens word = record { fields = []; heads = refl; spelled = refl; begins = files_goes word }
+
+show_goes : (word : Word) (new : Draft) → ((w : Bytes) → IfSome word (λ x. x.items ≡ w) → IsDraft new (model.Show w None))
+    → (h : lines.Heading) → IsOpening (opening.Show word) h → (q : Place) → next_offered table.Start h ≡ Some (place_of q) → HasCome q new (parts_with h [])
+show_goes word new f (lines.ShowHeading w None) i q e = done_come new (model.Show w None) _ q e refl refl (f w i)
+show_goes word new f h i q e = absurd i
+
+pub show_opens : (word : Word) (new : Draft) → ((w : Bytes) → IfSome word (λ x. x.items ≡ w) → IsDraft new (model.Show w None)) → TakesOpening (opening.Show word) new []
+show_opens word new f = record { fields = []; heads = refl; spelled = refl; begins = show_goes word new f }
+
+path_goes : (word : Word) (n : ℕ) (a : Bytes) (new : Draft) → length a ≡ n → ((w : Bytes) → IfSome word (λ x. x.items ≡ w) → IsDraft new (model.Show w (Some a)))
+    → (h : lines.Heading) → IsOpening (opening.ShowPath word n) h → (q : Place) → next_offered table.Start h ≡ Some (place_of q) → HasCome q new (parts_with h (a ∷ []))
+path_goes word n a new l f (lines.ShowHeading w (Some m)) i q e =
+    done_come new (model.Show w (Some a)) _ q e (ap (λ k. parts_with (lines.ShowHeading w (Some k)) (a ∷ [])) (sym i.1 ∙ sym l)) refl (f w i.0)
+path_goes word n a new l f h i q e = absurd i
+
+pub path_opens : (word : Word) (n : ℕ) (ys : Bytes) (new : Draft) (a : Bytes) → length a ≡ n → ys ≡ line a → ((w : Bytes) → IfSome word (λ x. x.items ≡ w) → IsDraft new (model.Show w (Some a))) → TakesOpening (opening.ShowPath word n) new ys
+path_opens word n ys new a l y f = record { fields = a ∷ []; heads = ap (λ k. k ∷ []) (sym l); spelled = one_text ys a y; begins = path_goes word n a new l f }
+
+names_goes : (h : lines.Heading) → IsOpening opening.Names h → (q : Place) → next_offered table.Start h ≡ Some (place_of q) → HasCome q draft.Names (parts_with h [])
+names_goes (lines.NamesHeading None) i q e = done_come draft.Names (model.Names None) _ q e refl refl tt
+names_goes h i q e = absurd i
+
+pub names_opens : TakesOpening opening.Names draft.Names []
+names_opens = record { fields = []; heads = refl; spelled = refl; begins = names_goes }
+
+folder_goes : (folder : Word) (h : lines.Heading) → IsOpening (opening.NamesIn folder) h → (q : Place) → next_offered table.Start h ≡ Some (place_of q) → HasCome q (draft.NamesIn folder) (parts_with h [])
+folder_goes folder (lines.NamesHeading (Some f)) i q e = done_come (draft.NamesIn folder) (model.Names (Some f)) _ q e refl refl i
+folder_goes folder h i q e = absurd i
+
+pub folder_opens : (folder : Word) → TakesOpening (opening.NamesIn folder) (draft.NamesIn folder) []
+folder_opens folder = record { fields = []; heads = refl; spelled = refl; begins = folder_goes folder }
+
+past_goes : (word : Word) (h : lines.Heading) → IsOpening (opening.Past word) h → (q : Place) → next_offered table.Start h ≡ Some (place_of q) → HasCome q (draft.Past word) (parts_with h [])
+past_goes word (lines.PastHeading w) i q e = done_come (draft.Past word) (model.Past w) _ q e refl refl i
+past_goes word h i q e = absurd i
+
+pub past_opens : (word : Word) → TakesOpening (opening.Past word) (draft.Past word) []
+past_opens word = record { fields = []; heads = refl; spelled = refl; begins = past_goes word }
+
+-- ---- the parts of a log, the length of its path, and how many it has
 
 -- the line of a log, with a path of this length or none
-abbrev pub log_heading : model.LogCommand → Option ℕ → lines.Heading
+abbrev log_heading : model.LogCommand → Option ℕ → lines.Heading
 log_heading log path = lines.LogHeading log.order log.first_parents log.items path
 
--- ---- where each line stands, and what it leads to
+log_spelled : (log : model.LogCommand) (path : Option Bytes) → parts_with (log_heading log (option_map length path)) (spelling.option_list path) ≡ spelling.parts_of (model.Log (with_path log path))
+log_spelled log None = refl
+log_spelled log (Some path) = refl
 
-pub commit_place : (p q : Place) (n : Bytes) (x : model.Expect) → next_offered (place_of p) (lines.CommitHeading n x) ≡ Some (place_of q) → (p ≡ place.Start) × (q ≡ place.Parents)
-commit_place place.Start place.Parents n x e = (refl, refl)
-commit_place p q n x e = cc
+log_lengths : (path : Option Bytes) → spelling.option_list (option_map length path) ≡ map length (spelling.option_list path)
+log_lengths None = refl
+log_lengths (Some path) = refl
 
-pub parent_place : (p q : Place) (w : Bytes) → next_offered (place_of p) (lines.ParentHeading w) ≡ Some (place_of q) → (p ≡ place.Parents) × (q ≡ place.Parents)
-parent_place place.Parents place.Parents w e = (refl, refl)
-parent_place p q w e = cc
+one_path : (path : Option Bytes) → nat_le (length (spelling.option_list path)) 1 ≡ true
+one_path None = refl
+one_path (Some path) = refl
+
+log_goes : (said : LogLine) (log : Option LogCommand) (ys : Bytes) (took : TakesLog said log ys) (h : lines.Heading) → IsOpening (opening.Log said) h → (q : Place) → next_offered table.Start h ≡ Some (place_of q)
+    → HasCome q (draft.Log log) (parts_with h (spelling.option_list took.path))
+log_goes said log ys took (lines.LogHeading order first_parents items n) i q e =
+    let line = log_of order first_parents items in
+    let path = took.path in
+    let all = with_path line path in
+    done_come (draft.Log log) (model.Log all) _ q
+    (sym (ap (λ b. if b then Some table.Done else None) i.0.begins) ∙ e)
+    (ap (λ n. parts_with (log_heading line n) (spelling.option_list path)) (sym i.1 ∙ took.heads) ∙ log_spelled line path)
+    (and_from (spelling.are_items items) (nat_le (length all.paths) 1) i.0.begins (one_path path))
+    (took.is line i.0)
+log_goes said log ys took h i q e = absurd i
+
+pub log_opens : (said : LogLine) (log : Option LogCommand) (ys : Bytes) → TakesLog said log ys → TakesOpening (opening.Log said) (draft.Log log) ys
+log_opens said log ys took = record {
+  fields = spelling.option_list took.path;
+  heads = ap (λ p. spelling.option_list p) took.heads ∙ log_lengths took.path;
+  spelled = took.spelled;
+  begins = log_goes said log ys took;
+}
+
+-- such a line stands at the start alone
+
+at_start : (said : Opening) (h : lines.Heading) → IsOpening said h → (p q : Place) → next_offered (place_of p) h ≡ Some (place_of q) → p ≡ place.Start
+at_start (opening.Commit name expect) (lines.CommitHeading n x) i place.Start q e = refl
+at_start (opening.Commit name expect) (lines.CommitHeading n x) i p q e = cc
+at_start opening.Move lines.MoveHeading i place.Start q e = refl
+at_start opening.Move lines.MoveHeading i p q e = cc
+at_start (opening.Files word) (lines.FilesHeading w) i place.Start q e = refl
+at_start (opening.Files word) (lines.FilesHeading w) i p q e = cc
+at_start (opening.Show word) (lines.ShowHeading w None) i place.Start q e = refl
+at_start (opening.Show word) (lines.ShowHeading w None) i p q e = cc
+at_start (opening.ShowPath word n) (lines.ShowHeading w (Some m)) i place.Start q e = refl
+at_start (opening.ShowPath word n) (lines.ShowHeading w (Some m)) i p q e = cc
+at_start opening.Names (lines.NamesHeading None) i place.Start q e = refl
+at_start opening.Names (lines.NamesHeading None) i p q e = cc
+at_start (opening.NamesIn folder) (lines.NamesHeading (Some f)) i place.Start q e = refl
+at_start (opening.NamesIn folder) (lines.NamesHeading (Some f)) i p q e = cc
+at_start (opening.Past word) (lines.PastHeading w) i place.Start q e = refl
+at_start (opening.Past word) (lines.PastHeading w) i p q e = cc
+at_start (opening.Log said) (lines.LogHeading order first_parents items n) i place.Start q e = refl
+at_start (opening.Log said) (lines.LogHeading order first_parents items n) i p q e = cc
+at_start said h i p q e = absurd i
+
+pub opening_fields : (said : Opening) (old new : Draft) (ys : Bytes) → TakesOpening said new ys → TakesFields (heading.Opening said) old new ys
+opening_fields said old new ys took = record {
+  fields = took.fields;
+  heads = took.heads;
+  spelled = took.spelled;
+  come = λ h i p q e before come.
+      let start = at_start said h i p q e in
+      let none : before ≡ [] = subst (λ p. HasCome p old before) start come in
+      subst (λ b. HasCome q new (b ++ parts_with h took.fields)) (sym none) (took.begins h i q (subst (λ p. next_offered (place_of p) h ≡ Some (place_of q)) start e));
+}
+
+-- ---- the lines of a commit
+
+parent_goes : (word : Word) (old new : Draft) → ((order : model.CommitCommand) (w : Bytes) → IsDraft old (model.Commit order) → IfSome word (λ x. x.items ≡ w) → IsDraft new (model.Commit (with_parent order w)))
+    → (h : lines.Heading) → IsHeading (heading.Parent word) h → (p q : Place) → next_offered (place_of p) h ≡ Some (place_of q) → (before : List spelling.Part) → HasCome p old before → HasCome q new (before ++ parts_with h [])
+parent_goes word old new f (lines.ParentHeading w) i place.Parents place.Parents e before come =
+    let head = spelling.Line (codes "commit" ∷ come.0.name ∷ spelling.expect_words come.0.expect) in (
+      with_parent come.0 w,
+      ap (λ x. x ++ parts_with (lines.ParentHeading w) []) come.1 ∙ ap (λ ps. head ∷ ps) (sym (map-append spelling.parent_part come.0.parents (w ∷ []))),
+      f come.0 w come.2 i,
+      come.3,
+    )
+parent_goes word old new f (lines.ParentHeading w) i p q e before come = cc
+parent_goes word old new f h i p q e before come = absurd i
+
+pub parent_fields : (word : Word) (old new : Draft) → ((order : model.CommitCommand) (w : Bytes) → IsDraft old (model.Commit order) → IfSome word (λ x. x.items ≡ w) → IsDraft new (model.Commit (with_parent order w))) → TakesFields (heading.Parent word) old new []
+parent_fields word old new f = record { fields = []; heads = refl; spelled = refl; come = parent_goes word old new f }
 
 -- where an edit or the author may stand
-abbrev pub AtEdits : Place → Type 0
+abbrev AtEdits : Place → Type 0
 AtEdits p = (p ≡ place.Parents) ⊎ (p ≡ place.Edits)
 
-pub edit_place : (p q : Place) (l : model.EditLine) → next_offered (place_of p) (edit_heading l) ≡ Some (place_of q) → AtEdits p × (q ≡ place.Edits)
-edit_place place.Parents place.Edits l e = (inl refl, refl)
-edit_place place.Edits place.Edits l e = (inr refl, refl)
-edit_place p q (model.PutLine kind path content) e = cc
-edit_place p q (model.RemoveLine path) e = cc
-edit_place p q (model.RemoveFileLine path) e = cc
-
-pub author_place : (p q : Place) (m n : ℕ) (s o : Bytes) → next_offered (place_of p) (lines.ActorHeading lines.Author m n s o) ≡ Some (place_of q) → AtEdits p × (q ≡ place.Committer)
-author_place place.Parents place.Committer m n s o e = (inl refl, refl)
-author_place place.Edits place.Committer m n s o e = (inr refl, refl)
-author_place p q m n s o e = cc
-
 -- behind the parents no edit has come
-pub come_to_edits : (p : Place) (d : Draft) (before : List spelling.Part) → AtEdits p → HasCome p d before → HasCome place.Edits d before
+come_to_edits : (p : Place) (d : Draft) (before : List spelling.Part) → AtEdits p → HasCome p d before → HasCome place.Edits d before
 come_to_edits p d before (inl e) come = no_edits (subst (λ q. HasCome q d before) e come)
   where
     no_edits : HasCome place.Parents d before → HasCome place.Edits d before
@@ -101,42 +251,183 @@ come_to_edits p d before (inl e) come = no_edits (subst (λ q. HasCome q d befor
     )
 come_to_edits p d before (inr e) come = subst (λ q. HasCome q d before) e come
 
-pub committer_place : (p q : Place) (m n : ℕ) (s o : Bytes) → next_offered (place_of p) (lines.ActorHeading lines.Committer m n s o) ≡ Some (place_of q) → (p ≡ place.Committer) × (q ≡ place.Message)
-committer_place place.Committer place.Message m n s o e = (refl, refl)
-committer_place p q m n s o e = cc
+edit_place : (l : model.EditLine) (p q : Place) → next_offered (place_of p) (edit_heading l) ≡ Some (place_of q) → AtEdits p × (q ≡ place.Edits)
+edit_place l place.Parents place.Edits e = (inl refl, refl)
+edit_place l place.Edits place.Edits e = (inr refl, refl)
+edit_place (model.PutLine kind path content) p q e = cc
+edit_place (model.RemoveLine path) p q e = cc
+edit_place (model.RemoveFileLine path) p q e = cc
 
-pub message_place : (p q : Place) (n : ℕ) → next_offered (place_of p) (lines.MessageHeading n) ≡ Some (place_of q) → (p ≡ place.Message) × (q ≡ place.End)
-message_place place.Message place.End n e = (refl, refl)
-message_place p q n e = cc
+edit_spelled : (l : model.EditLine) → parts_with (edit_heading l) (edit_fields l) ≡ spelling.edit_parts l
+edit_spelled (model.PutLine kind path content) = refl
+edit_spelled (model.RemoveLine path) = refl
+edit_spelled (model.RemoveFileLine path) = refl
 
-pub end_place : (p q : Place) → next_offered (place_of p) lines.EndHeading ≡ Some (place_of q) → (p ≡ place.End) × (q ≡ place.Done)
-end_place place.End place.Done e = (refl, refl)
-end_place p q e = cc
+edit_lengths : (l : model.EditLine) → lines.sizes (edit_heading l) ≡ map length (edit_fields l)
+edit_lengths (model.PutLine kind path content) = refl
+edit_lengths (model.RemoveLine path) = refl
+edit_lengths (model.RemoveFileLine path) = refl
 
-pub files_place : (p q : Place) (w : Bytes) → next_offered (place_of p) (lines.FilesHeading w) ≡ Some (place_of q) → (p ≡ place.Start) × (q ≡ place.Done)
-files_place place.Start place.Done w e = (refl, refl)
-files_place p q w e = cc
+table_line : EditHeading → lines.Heading
+table_line (edit.Put kind m n) = lines.PutHeading kind m n
+table_line (edit.Remove n) = lines.RemoveHeading n
+table_line (edit.RemoveFile n) = lines.RemoveFileHeading n
 
-pub show_place : (p q : Place) (w : Bytes) → next_offered (place_of p) (lines.ShowHeading w None) ≡ Some (place_of q) → (p ≡ place.Start) × (q ≡ place.Done)
-show_place place.Start place.Done w e = (refl, refl)
-show_place p q w e = cc
+edit_line : (said : EditHeading) (h : lines.Heading) → IsEditHeading said h → h ≡ table_line said
+unfolding table_line
+edit_line (edit.Put kind m n) (lines.PutHeading k a b) e = λ i. lines.PutHeading (sym e.0 i) (sym e.1 i) (sym e.2 i)
+edit_line (edit.Remove n) (lines.RemoveHeading a) e = λ i. lines.RemoveHeading (sym e i)
+edit_line (edit.RemoveFile n) (lines.RemoveFileHeading a) e = λ i. lines.RemoveFileHeading (sym e i)
+edit_line said h e = absurd e
 
-pub path_place : (p q : Place) (w : Bytes) (n : ℕ) → next_offered (place_of p) (lines.ShowHeading w (Some n)) ≡ Some (place_of q) → (p ≡ place.Start) × (q ≡ place.Done)
-path_place place.Start place.Done w n e = (refl, refl)
-path_place p q w n e = cc
+edit_at : (l : model.EditLine) (old new : Draft) → ((order : model.CommitCommand) → IsDraft old (model.Commit order) → IsDraft new (model.Commit (with_edit order l)))
+    → (p q : Place) → next_offered (place_of p) (edit_heading l) ≡ Some (place_of q) → (before : List spelling.Part) → HasCome p old before → HasCome q new (before ++ parts_with (edit_heading l) (edit_fields l))
+edit_at l old new f p q e before here =
+    let places = edit_place l p q e in
+    let come = come_to_edits p old before places.0 here in
+    let c = come.0 in
+    subst (λ q. HasCome q new (before ++ parts_with (edit_heading l) (edit_fields l))) (sym places.1) (
+      with_edit c l,
+      ap (λ x. x ++ parts_with (edit_heading l) (edit_fields l)) come.1
+          ∙ append_assoc (to_parents c) (flat_map spelling.edit_parts c.edits) (parts_with (edit_heading l) (edit_fields l))
+          ∙ ap (λ ps. to_parents c ++ (flat_map spelling.edit_parts c.edits ++ ps)) (edit_spelled l ∙ sym (append-nil (spelling.edit_parts l)))
+          ∙ ap (λ ps. to_parents c ++ ps) (sym (flat_map-append spelling.edit_parts c.edits (l ∷ []))),
+      f c come.2,
+    )
 
-pub names_place : (p q : Place) (folder : Option Bytes) → next_offered (place_of p) (lines.NamesHeading folder) ≡ Some (place_of q) → (p ≡ place.Start) × (q ≡ place.Done)
-names_place place.Start place.Done folder e = (refl, refl)
-names_place p q folder e = cc
+pub edit_takes : (said : EditHeading) (edit : Option Edit) (ys : Bytes) (old new : Draft) → (t : TakesEdit said edit ys) → ((order : model.CommitCommand) → IsDraft old (model.Commit order) → IsDraft new (model.Commit (with_edit order t.line_is)))
+    → TakesFields (heading.Edit said) old new ys
+edit_takes said edit ys old new t f =
+    let l = t.line_is in
+    let line_said = edit_line said (edit_heading l) t.heads in
+    record {
+      fields = edit_fields l;
+      heads = sym (heading_sizes_are (heading.Edit said) (edit_heading l) t.heads) ∙ edit_lengths l;
+      spelled = t.spelled;
+      come = λ h i p q.
+          subst (λ h. next_offered (place_of p) h ≡ Some (place_of q) → (before : List spelling.Part) → HasCome p old before → HasCome q new (before ++ parts_with h (edit_fields l)))
+          (line_said ∙ sym (edit_line said h i)) (edit_at l old new f p q);
+    }
 
-pub past_place : (p q : Place) (w : Bytes) → next_offered (place_of p) (lines.PastHeading w) ≡ Some (place_of q) → (p ≡ place.Start) × (q ≡ place.Done)
-past_place place.Start place.Done w e = (refl, refl)
-past_place p q w e = cc
+-- ---- the lines of a move
 
-pub log_place : (p q : Place) (log : model.LogCommand) (path : Option ℕ) → spelling.are_items log.items ≡ true → next_offered (place_of p) (log_heading log path) ≡ Some (place_of q) → (p ≡ place.Start) × (q ≡ place.Done)
-log_place place.Start q log path begins e = done q (sym (ap (λ b. if b then Some table.Done else None) begins) ∙ e)
+some_more : (xs : List model.To) (x : model.To) → not (is_empty (xs ++ x ∷ [])) ≡ true
+some_more [] x = refl
+some_more (y ∷ xs) x = refl
+
+targets_then : (c : model.MoveCommand) (l : model.To) (before : List spelling.Part) → before ≡ to_targets c → before ++ spelling.to_part l ∷ [] ≡ to_targets (with_to c l)
+targets_then c l before e = ap (λ x. x ++ spelling.to_part l ∷ []) e ∙ ap (λ ps. spelling.Line (codes "move" ∷ []) ∷ ps) (sym (map-append spelling.to_part c.to (l ∷ [])))
+
+to_goes : (to : Option To) (old new : Draft) → ((order : model.MoveCommand) (l : model.To) → IsDraft old (model.Move order) → IfSome to (λ x. IsTo x l) → IsDraft new (model.Move (with_to order l)))
+    → (h : lines.Heading) → IsHeading (heading.To to) h → (p q : Place) → next_offered (place_of p) h ≡ Some (place_of q) → (before : List spelling.Part) → HasCome p old before → HasCome q new (before ++ parts_with h [])
+to_goes to old new f (lines.ToHeading n x w) i place.ToFirst place.ToMore e before come =
+    let l = to_of n x w in
+    (with_to come.0 l, targets_then come.0 l before come.1, record { enough = some_more come.0.to l; has = f come.0 l come.2 i })
+to_goes to old new f (lines.ToHeading n x w) i place.ToMore place.ToMore e before come =
+    let l = to_of n x w in
+    (with_to come.0 l, targets_then come.0 l before come.1, record { enough = some_more come.0.to l; has = f come.0 l come.2.has i })
+to_goes to old new f (lines.ToHeading n x w) i p q e before come = cc
+to_goes to old new f h i p q e before come = absurd i
+
+pub to_fields : (to : Option To) (old new : Draft) → ((order : model.MoveCommand) (l : model.To) → IsDraft old (model.Move order) → IfSome to (λ x. IsTo x l) → IsDraft new (model.Move (with_to order l))) → TakesFields (heading.To to) old new []
+to_fields to old new f = record { fields = []; heads = refl; spelled = refl; come = to_goes to old new f }
+
+-- ---- an actor
+
+author_place : (m n : ℕ) (s o : Bytes) (p q : Place) → next_offered (place_of p) (lines.ActorHeading lines.Author m n s o) ≡ Some (place_of q) → AtEdits p × (q ≡ place.Committer)
+author_place m n s o place.Parents place.Committer e = (inl refl, refl)
+author_place m n s o place.Edits place.Committer e = (inr refl, refl)
+author_place m n s o p q e = cc
+
+actor_at : (role : Role) (l : model.ActorLine) (old new : Draft)
+    → ((order : model.CommitCommand) → IsDraft old (model.Commit order) → IsDraft new (with_actor role (model.Commit order) l))
+    → ((order : model.MoveCommand) → IsDraft old (model.Move order) → IsDraft new (with_actor role (model.Move order) l))
+    → (p q : Place) → next_offered (place_of p) (lines.ActorHeading (role_of role) (length l.name) (length l.email) l.seconds l.offset) ≡ Some (place_of q) → (before : List spelling.Part) → HasCome p old before
+    → HasCome q new (before ++ parts_with (lines.ActorHeading (role_of role) (length l.name) (length l.email) l.seconds l.offset) (l.name ∷ l.email ∷ []))
+actor_at Author l old new commits moves p q e before here =
+    let places = author_place (length l.name) (length l.email) l.seconds l.offset p q e in
+    let come = come_to_edits p old before places.0 here in
+    let c = come.0 in
+    subst (λ q. HasCome q new (before ++ spelling.actor_parts (codes "author") l)) (sym places.1)
+    ((record c { author = l }, ap (λ x. x ++ spelling.actor_parts (codes "author") l) come.1, commits c come.2))
+actor_at Committer l old new commits moves place.Committer place.Message e before come =
+    let c = come.0 in
+    (model.Commit (record c { committer = l }), ap (λ x. Some (x ++ spelling.actor_parts (codes "committer") l)) (sym come.1), record { enough = refl; has = commits c come.2 })
+actor_at Committer l old new commits moves p q e before come = cc
+actor_at Mover l old new commits moves place.ToMore place.Message e before come =
+    let c = come.0 in
+    (model.Move (record c { actor = l }), ap (λ x. Some (x ++ spelling.actor_parts (codes "actor") l)) (sym come.1), record { enough = come.2.enough; has = moves c come.2.has })
+actor_at Mover l old new commits moves p q e before come = cc
+
+pub actor_takes : (said : ActorHeading) (actor : Option ActorLine) (ys : Bytes) (old new : Draft) (t : TakesActor said actor ys) → (A : model.ActorLine → Type 0)
+    → ((order : model.CommitCommand) (l : model.ActorLine) → IsDraft old (model.Commit order) → A l → IsDraft new (with_actor said.role (model.Commit order) l))
+    → ((order : model.MoveCommand) (l : model.ActorLine) → IsDraft old (model.Move order) → A l → IsDraft new (with_actor said.role (model.Move order) l))
+    → ((s o : Bytes) → IfSome said.seconds (λ w. w.items ≡ s) → IfSome said.offset (λ w. w.items ≡ o) → A (record { name = t.name; email = t.email; seconds = s; offset = o }))
+    → TakesFields (heading.Actor said) old new ys
+actor_takes said actor ys old new t A commits moves is = record {
+  fields = t.name ∷ t.email ∷ [];
+  heads = λ i. t.sized.0 i ∷ t.sized.1 i ∷ [];
+  spelled = t.spelled;
+  come = goes;
+}
   where
-    done : (q : Place) → Some table.Done ≡ Some (place_of q) → (place.Start ≡ place.Start) × (q ≡ place.Done)
-    done place.Done e = (refl, refl)
-    done q e = cc
-log_place p q log path begins e = cc
+    goes : (h : lines.Heading) → IsHeading (heading.Actor said) h → (p q : Place) → next_offered (place_of p) h ≡ Some (place_of q) → (before : List spelling.Part) → HasCome p old before
+        → HasCome q new (before ++ parts_with h (t.name ∷ t.email ∷ []))
+    goes (lines.ActorHeading r m n s o) e p q =
+        let l : model.ActorLine = record { name = t.name; email = t.email; seconds = s; offset = o } in
+        let a = is s o e.3 e.4 in
+        let same : lines.ActorHeading (role_of said.role) (length t.name) (length t.email) s o ≡ lines.ActorHeading r m n s o = λ i. lines.ActorHeading (e.0 i) ((sym t.sized.0 ∙ e.1) i) ((sym t.sized.1 ∙ e.2) i) s o in
+        subst (λ h. next_offered (place_of p) h ≡ Some (place_of q) → (before : List spelling.Part) → HasCome p old before → HasCome q new (before ++ parts_with h (t.name ∷ t.email ∷ []))) same
+        (actor_at said.role l old new (λ order d. commits order l d a) (λ order d. moves order l d a) p q)
+    goes h e p q = absurd e
+
+-- ---- the message, and the end
+
+message_then : (a : Bytes) (old new : Draft)
+    → ((order : model.CommitCommand) → IsDraft old (model.Commit order) → IsDraft new (with_message (model.Commit order) a))
+    → ((order : model.MoveCommand) → IsDraft old (model.Move order) → IsDraft new (with_message (model.Move order) a))
+    → (order : model.Command) (before : List spelling.Part) → before_message order ≡ Some before → HasEnough old order → (to_message (with_message order a) ≡ Some (before ++ spelling.message_parts a)) × HasEnough new (with_message order a)
+message_then a old new commits moves (model.Commit c) before e h = (ap (λ x. Some (x ++ spelling.message_parts a)) (same_Some (to_committer c) before e), record { enough = refl; has = commits c h.has })
+message_then a old new commits moves (model.Move c) before e h = (ap (λ x. Some (x ++ spelling.message_parts a)) (same_Some (to_mover c) before e), record { enough = h.enough; has = moves c h.has })
+message_then a old new commits moves order before e h = cc
+
+message_goes : (n : ℕ) (a : Bytes) (old new : Draft) → length a ≡ n
+    → ((order : model.CommitCommand) → IsDraft old (model.Commit order) → IsDraft new (with_message (model.Commit order) a))
+    → ((order : model.MoveCommand) → IsDraft old (model.Move order) → IsDraft new (with_message (model.Move order) a))
+    → (h : lines.Heading) → IsHeading (heading.Message n) h → (p q : Place) → next_offered (place_of p) h ≡ Some (place_of q) → (before : List spelling.Part) → HasCome p old before → HasCome q new (before ++ parts_with h (a ∷ []))
+message_goes n a old new l commits moves (lines.MessageHeading m) i place.Message place.End e before come =
+    let told = message_then a old new commits moves come.0 before come.1 come.2 in
+    let size : length a ≡ m = l ∙ i in
+    (with_message come.0 a, told.0 ∙ ap (λ k. Some (before ++ parts_with (lines.MessageHeading k) (a ∷ []))) size, told.1)
+message_goes n a old new l commits moves (lines.MessageHeading m) i p q e before come = cc
+message_goes n a old new l commits moves h i p q e before come = absurd i
+
+pub message_fields : (n : ℕ) (ys : Bytes) (old new : Draft) (a : Bytes) → length a ≡ n → ys ≡ line a
+    → ((order : model.CommitCommand) → IsDraft old (model.Commit order) → IsDraft new (with_message (model.Commit order) a))
+    → ((order : model.MoveCommand) → IsDraft old (model.Move order) → IsDraft new (with_message (model.Move order) a)) → TakesFields (heading.Message n) old new ys
+message_fields n ys old new a l y commits moves = record { fields = a ∷ []; heads = ap (λ k. k ∷ []) (sym l); spelled = one_text ys a y; come = message_goes n a old new l commits moves }
+
+whole : (head : spelling.Part) (ps e a c m z : List spelling.Part) → (((((head ∷ ps) ++ e) ++ a) ++ c) ++ m) ++ z ≡ head ∷ (ps ++ (e ++ (a ++ (c ++ (m ++ z)))))
+whole head ps e a c m z =
+    ap (λ t. head ∷ t) (append_assoc (((ps ++ e) ++ a) ++ c) m z ∙ append_assoc ((ps ++ e) ++ a) c (m ++ z) ∙ append_assoc (ps ++ e) a (c ++ (m ++ z)) ∙ append_assoc ps e (a ++ (c ++ (m ++ z))))
+
+whole_move : (head : spelling.Part) (ps a m z : List spelling.Part) → (((head ∷ ps) ++ a) ++ m) ++ z ≡ head ∷ (ps ++ (a ++ (m ++ z)))
+whole_move head ps a m z = ap (λ t. head ∷ t) (append_assoc (ps ++ a) m z ∙ append_assoc ps a (m ++ z))
+
+ended : (order : model.Command) (before : List spelling.Part) → to_message order ≡ Some before → before ++ spelling.end_part ≡ spelling.parts_of order
+ended (model.Commit c) before e =
+    ap (λ x. x ++ spelling.end_part) (sym (same_Some (to_committer c ++ spelling.message_parts c.message) before e))
+    ∙ whole (spelling.Line (codes "commit" ∷ c.name ∷ spelling.expect_words c.expect)) (map spelling.parent_part c.parents) (flat_map spelling.edit_parts c.edits) (spelling.actor_parts (codes "author") c.author)
+    (spelling.actor_parts (codes "committer") c.committer) (spelling.message_parts c.message) spelling.end_part
+ended (model.Move c) before e =
+    ap (λ x. x ++ spelling.end_part) (sym (same_Some (to_mover c ++ spelling.message_parts c.message) before e))
+    ∙ whole_move (spelling.Line (codes "move" ∷ [])) (map spelling.to_part c.to) (spelling.actor_parts (codes "actor") c.actor) (spelling.message_parts c.message) spelling.end_part
+ended order before e = cc
+
+end_goes : (d : Draft) (h : lines.Heading) → IsHeading heading.End h → (p q : Place) → next_offered (place_of p) h ≡ Some (place_of q) → (before : List spelling.Part) → HasCome p d before → HasCome q d (before ++ parts_with h [])
+end_goes d lines.EndHeading i place.End place.Done e before come = (come.0, ended come.0 before come.1, come.2)
+end_goes d lines.EndHeading i p q e before come = cc
+end_goes d h i p q e before come = absurd i
+
+pub end_fields : (d : Draft) → TakesFields heading.End d d []
+end_fields d = record { fields = []; heads = refl; spelled = refl; come = end_goes d }

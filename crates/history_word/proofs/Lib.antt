@@ -13,6 +13,8 @@ pub mod SinkLemmas
 pub mod FieldLemmas
 pub mod LineLemmas
 pub mod UnofferedLemmas
+pub mod PushLemmas
+pub mod TargetLemmas
 pub mod LogLemmas
 pub mod ProgressLemmas
 pub mod DraftLemmas

@@ -18,7 +18,8 @@ use Rattle.history_word.specs.declared.heading.Heading.{Heading}
 use Rattle.history_word.specs.Held.{IsUnbroken}
 use Rattle.history_word.specs.Lines.{split_words, words_left, are_nonempty, IsCut}
 use Rattle.history_word.specs.declared.place.Place.{Place}
-use Rattle.history_word.specs.Drafts.{place_of, Says, IsLine}
+use Rattle.history_word.specs.Drafts.{place_of, Says}
+use Rattle.history_word.specs.Come.{IsLine}
 use Rattle.std.proofs.lemmas.Bool.{or_parts, and_parts}
 
 -- a line that is cut at its first space has the word before it, and then the others

@@ -13,6 +13,7 @@ use Rattle.history_word.specs.Drafts.{SaysLog, SaysOrder, SaysItems, item_with}
 use Rattle.history_word.specs.declared.command.Order.{Order}
 use Rattle.history_word.specs.declared.command.LogItem.{LogItem}
 use Rattle.history_word.specs.declared.logs.LogLine.{LogLine}
+use Rattle.history_word.proofs.PushLemmas.{pushed_zip}
 use Rattle.history_word.proofs.UnofferedLemmas.{nowhere}
 use Rattle.std.proofs.lemmas.Bool.{and_from, and_parts}
 
@@ -76,20 +77,6 @@ tip_of : (tip : Bool) (word : Bytes) → word ≢ [] → is_tip (item_with tip w
 tip_of true word some = some_word word some
 tip_of false word some = refl
 
-push : (own : List LogItem) (done : List model.LogItem) (x : LogItem) (item : model.LogItem) → AllZip IsLogItem own done → IsLogItem x item → AllZip IsLogItem (own ++ x ∷ []) (done ++ item ∷ [])
-push [] [] x item h k = (k, tt)
-push [] (i ∷ done) x item h k = absurd h
-push (o ∷ own) [] x item h k = absurd h
-push (o ∷ own) (i ∷ done) x item h k = (h.0, push own done x item h.1 k)
-
-pushed_item : (old all : Option (Vec LogItem Global)) (x : Option LogItem) (done : List model.LogItem) (item : model.LogItem)
-    → IfSome all (λ now. MatchOption old ⊥ (λ own. MatchOption x ⊥ (λ it. now.items ≡ own.items ++ it ∷ [])))
-    → IfSome old (λ own. AllZip IsLogItem own.items done) → IfSome x (λ it. IsLogItem it item) → IfSome all (λ own. AllZip IsLogItem own.items (done ++ item ∷ []))
-pushed_item old None x done item pushed h k = tt
-pushed_item None (Some all) x done item pushed h k = absurd pushed
-pushed_item (Some own) (Some all) None done item pushed h k = absurd pushed
-pushed_item (Some own) (Some all) (Some it) done item pushed h k = subst (λ its. AllZip IsLogItem its (done ++ item ∷ [])) (sym pushed) (push own.items done it item h k)
-
 said_more : (done : List model.LogItem) (item : model.LogItem) (word : Bytes) (words : List Bytes) → item_of word ≡ Some item → before done (items_of (word ∷ words)) ≡ before (done ++ item ∷ []) (items_of words)
 said_more done item word words e = ap (λ o. before done (with_item o (items_of words) (path_of (word ∷ words)))) e ∙ go (items_of words)
   where
@@ -105,7 +92,7 @@ one_more all words left word old new x has_tip tip target h split e some is push
   said = h.said ∙ ap (λ ws. before h.done (items_of ws)) split ∙ said_more h.done (item_with tip target) word left e;
   whole = all_with h.done (item_with tip target) h.whole (target_of tip target some);
   begins = any_with h.done (item_with tip target) ∙ (λ i. h.begins i || tip_of tip target some i);
-  kept = pushed_item old new x h.done (item_with tip target) pushed h.kept is;
+  kept = pushed_zip IsLogItem old new x h.done (item_with tip target) pushed h.kept is;
 }
 
 -- ---- at the end, or at a word that is no item
@@ -204,7 +191,7 @@ no_words order left e = subst (λ ws. SaysLog None (walk_of_words order ws)) (sy
 pub no_items : (order : model.Order) (first : Bool) (said : Option Items) → SaysItems None said → SaysLog None (option_map (λ items. lines.LogHeading order first items.0 items.1) said)
 no_items order first None says = tt
 no_items order first (Some (is, path)) says =
-    nowhere (lines.LogHeading order first is path) (ap (λ b. if b then Some table.Done else None) says) refl refl refl refl refl
+    nowhere (lines.LogHeading order first is path) (ap (λ b. if b then Some table.Done else None) says) refl refl refl refl refl refl refl
 
 pub whole_line : (order : model.Order) (own : Option Order) (first : Bool) (items : Option (Vec LogItem Global)) (path : Option ℕ) (said : Option Items) → IfSome own (λ x. IsOrder x order) → SaysItems (Some (items, path)) said
     → SaysLog (Some (record { order = own; first_parents = first; items = items; path = path })) (option_map (λ items. lines.LogHeading order first items.0 items.1) said)

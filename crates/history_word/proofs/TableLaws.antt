@@ -6,7 +6,7 @@ use Rattle.history_model.specs.Grammar.{is_command, RestBeginsOrHasCause}
 use Rattle.history_word.specs.TableRuns.{all_lines, TableTellsStops}
 use Rattle.history_word.proofs.TableRests as rests
 use Rattle.history_word.proofs.TableStops as stops
-pub use Rattle.history_word.proofs.TableLines.{words_are_headings, heading_told, heading_reads, number_decimal, decimal_number}
+pub use Rattle.history_word.proofs.TableLines.{words_are_headings, expect_told, expect_reads, target_reads, heading_told, heading_reads, number_decimal, decimal_number}
 pub use Rattle.history_word.proofs.TableRunLemmas.{LineStep, line_step, line_goes, field_step, field_goes, run_append, parts_fit}
 pub use Rattle.history_word.proofs.TableReaches.{run_on, step_on, step_of}
 pub use Rattle.history_word.proofs.TableRests.{line_words, line_words_of, heading_words, some_words, text_on}

@@ -92,7 +92,7 @@ kind_told w kind e =
     either_way (bytes_eq w (codes "exec")) (Some Exec) _ kind e (λ b f. one_text w (codes "exec") b ∙ ap kind_word (some_same f)) (λ e.
     either_way (bytes_eq w (codes "link")) (Some Link) None kind e (λ b f. one_text w (codes "link") b ∙ ap kind_word (some_same f)) (λ e. cc)))
 
-expect_told : (words : List Bytes) (expect : Expect) → expect_of words ≡ Some expect → words ≡ expect_words expect
+pub expect_told : (words : List Bytes) (expect : Expect) → expect_of words ≡ Some expect → words ≡ expect_words expect
 expect_told (first ∷ []) expect e =
     either_way (bytes_eq first (codes "any")) (Some Any) _ expect e (λ b f. ap (λ w. w ∷ []) (one_text first (codes "any") b) ∙ ap expect_words (some_same f)) (λ e.
     either_way (bytes_eq first (codes "new")) (Some New) None expect e (λ b f. ap (λ w. w ∷ []) (one_text first (codes "new") b) ∙ ap expect_words (some_same f)) (λ e. cc))
@@ -315,12 +315,12 @@ kind_reads File = refl
 kind_reads Exec = refl
 kind_reads Link = refl
 
-expect_reads : (expect : Expect) → expect_of (expect_words expect) ≡ Some expect
+pub expect_reads : (expect : Expect) → expect_of (expect_words expect) ≡ Some expect
 expect_reads Any = refl
 expect_reads New = refl
 expect_reads (At word) = refl
 
-target_reads : (g : Bytes → Expect → Bytes → Heading) (name : Bytes) (expect : Expect) (word : Bytes) → target_of_words g (name ∷ (expect_words expect ++ word ∷ [])) ≡ Some (g name expect word)
+pub target_reads : (g : Bytes → Expect → Bytes → Heading) (name : Bytes) (expect : Expect) (word : Bytes) → target_of_words g (name ∷ (expect_words expect ++ word ∷ [])) ≡ Some (g name expect word)
 target_reads g name Any word = refl
 target_reads g name New word = refl
 target_reads g name (At at) word = refl

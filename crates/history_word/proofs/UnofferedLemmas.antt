@@ -16,15 +16,17 @@ abbrev pub Nowhere : lines.Heading → Type 0
 Nowhere h = (p : Place) → next_offered (place_of p) h ≡ None
 
 -- it stands at none of the places, one by one
-pub nowhere : (h : lines.Heading) → next_offered table.Start h ≡ None → next_offered table.Parents h ≡ None → next_offered table.Edits h ≡ None → next_offered table.ToCommitter h ≡ None → next_offered table.ToMessage h ≡ None
-    → next_offered table.ToEnd h ≡ None → Nowhere h
-nowhere h start parents edits committer message end place.Start = start
-nowhere h start parents edits committer message end place.Parents = parents
-nowhere h start parents edits committer message end place.Edits = edits
-nowhere h start parents edits committer message end place.Committer = committer
-nowhere h start parents edits committer message end place.Message = message
-nowhere h start parents edits committer message end place.End = end
-nowhere h start parents edits committer message end place.Done = refl
+pub nowhere : (h : lines.Heading) → next_offered table.Start h ≡ None → next_offered table.Parents h ≡ None → next_offered table.Edits h ≡ None → next_offered table.ToCommitter h ≡ None → next_offered table.ToFirst h ≡ None
+    → next_offered table.ToMore h ≡ None → next_offered table.ToMessage h ≡ None → next_offered table.ToEnd h ≡ None → Nowhere h
+nowhere h start parents edits committer first more message end place.Start = start
+nowhere h start parents edits committer first more message end place.Parents = parents
+nowhere h start parents edits committer first more message end place.Edits = edits
+nowhere h start parents edits committer first more message end place.Committer = committer
+nowhere h start parents edits committer first more message end place.ToFirst = first
+nowhere h start parents edits committer first more message end place.ToMore = more
+nowhere h start parents edits committer first more message end place.Message = message
+nowhere h start parents edits committer first more message end place.End = end
+nowhere h start parents edits committer first more message end place.Done = refl
 
 -- ---- words that say such a line, or none
 
@@ -60,12 +62,12 @@ no_actor role none (name ∷ email ∷ seconds ∷ offset ∷ []) =
 no_actor role none words = tt
 
 no_rename : (words : List Bytes) → Says None (rename_of_words words)
-no_rename (old ∷ new ∷ []) = nowhere (lines.RenameHeading old new) refl refl refl refl refl refl
+no_rename (old ∷ new ∷ []) = nowhere (lines.RenameHeading old new) refl refl refl refl refl refl refl refl
 no_rename words = tt
 
 no_delete : (words : List Bytes) → Says None (delete_of_words words)
-no_delete (name ∷ any ∷ []) = either (bytes_eq any (codes "any")) (Some (lines.DeleteHeading name None)) None (nowhere (lines.DeleteHeading name None) refl refl refl refl refl refl) tt
-no_delete (name ∷ at ∷ word ∷ []) = either (bytes_eq at (codes "at")) (Some (lines.DeleteHeading name (Some word))) None (nowhere (lines.DeleteHeading name (Some word)) refl refl refl refl refl refl) tt
+no_delete (name ∷ any ∷ []) = either (bytes_eq any (codes "any")) (Some (lines.DeleteHeading name None)) None (nowhere (lines.DeleteHeading name None) refl refl refl refl refl refl refl refl) tt
+no_delete (name ∷ at ∷ word ∷ []) = either (bytes_eq at (codes "at")) (Some (lines.DeleteHeading name (Some word))) None (nowhere (lines.DeleteHeading name (Some word)) refl refl refl refl refl refl refl refl) tt
 no_delete words = tt
 
 -- ---- by the first word
@@ -100,18 +102,19 @@ said_behind said first words commit parent put remove remove_file author committ
     passed said (bytes_eq first (codes "show")) _ _ show names))))))))))
 
 -- a line whose first word is none of those that are read
-pub no_line_of : (first : Bytes) (words : List Bytes) → bytes_eq first (codes "names") ≡ false → bytes_eq first (codes "past") ≡ false → bytes_eq first (codes "log") ≡ false → Says None (name_heading_of first words)
-no_line_of first words names past log =
-    either (bytes_eq first (codes "tag")) (target_of_words lines.TagHeading words) _ (no_target lines.TagHeading (λ n x w. nowhere (lines.TagHeading n x w) refl refl refl refl refl refl) words) (
-    either (bytes_eq first (codes "tagger")) (actor_of_words lines.Tagger words) _ (no_actor lines.Tagger (λ m n s o. nowhere (lines.ActorHeading lines.Tagger m n s o) refl refl refl refl refl refl) words) (
-    either (bytes_eq first (codes "move")) (end_of_words lines.MoveHeading words) _ (no_end lines.MoveHeading (nowhere lines.MoveHeading refl refl refl refl refl refl) words) (
-    either (bytes_eq first (codes "to")) (target_of_words lines.ToHeading words) _ (no_target lines.ToHeading (λ n x w. nowhere (lines.ToHeading n x w) refl refl refl refl refl refl) words) (
-    either (bytes_eq first (codes "actor")) (actor_of_words lines.Mover words) _ (no_actor lines.Mover (λ m n s o. nowhere (lines.ActorHeading lines.Mover m n s o) refl refl refl refl refl refl) words) (
+pub no_line_of : (first : Bytes) (words : List Bytes) → bytes_eq first (codes "move") ≡ false → bytes_eq first (codes "to") ≡ false → bytes_eq first (codes "actor") ≡ false
+    → bytes_eq first (codes "names") ≡ false → bytes_eq first (codes "past") ≡ false → bytes_eq first (codes "log") ≡ false → Says None (name_heading_of first words)
+no_line_of first words move to actor names past log =
+    either (bytes_eq first (codes "tag")) (target_of_words lines.TagHeading words) _ (no_target lines.TagHeading (λ n x w. nowhere (lines.TagHeading n x w) refl refl refl refl refl refl refl refl) words) (
+    either (bytes_eq first (codes "tagger")) (actor_of_words lines.Tagger words) _ (no_actor lines.Tagger (λ m n s o. nowhere (lines.ActorHeading lines.Tagger m n s o) refl refl refl refl refl refl refl refl) words) (
+    passed None (bytes_eq first (codes "move")) _ _ move (
+    passed None (bytes_eq first (codes "to")) _ _ to (
+    passed None (bytes_eq first (codes "actor")) _ _ actor (
     either (bytes_eq first (codes "rename")) (rename_of_words words) _ (no_rename words) (
     either (bytes_eq first (codes "delete")) (delete_of_words words) _ (no_delete words) (
-    either (bytes_eq first (codes "switch")) (word_of_words lines.SwitchHeading words) _ (no_word lines.SwitchHeading (λ w. nowhere (lines.SwitchHeading w) refl refl refl refl refl refl) words) (
-    either (bytes_eq first (codes "pack")) (end_of_words lines.PackHeading words) _ (no_end lines.PackHeading (nowhere lines.PackHeading refl refl refl refl refl refl) words) (
-    either (bytes_eq first (codes "index")) (end_of_words lines.IndexHeading words) _ (no_end lines.IndexHeading (nowhere lines.IndexHeading refl refl refl refl refl refl) words) (
+    either (bytes_eq first (codes "switch")) (word_of_words lines.SwitchHeading words) _ (no_word lines.SwitchHeading (λ w. nowhere (lines.SwitchHeading w) refl refl refl refl refl refl refl refl) words) (
+    either (bytes_eq first (codes "pack")) (end_of_words lines.PackHeading words) _ (no_end lines.PackHeading (nowhere lines.PackHeading refl refl refl refl refl refl refl refl) words) (
+    either (bytes_eq first (codes "index")) (end_of_words lines.IndexHeading words) _ (no_end lines.IndexHeading (nowhere lines.IndexHeading refl refl refl refl refl refl refl refl) words) (
     passed None (bytes_eq first (codes "names")) _ _ names (
     passed None (bytes_eq first (codes "past")) _ _ past (
     passed None (bytes_eq first (codes "log")) _ _ log tt))))))))))))

@@ -8,6 +8,7 @@ pub mod Words
 pub mod Fields
 pub mod Commands
 pub mod Drafts
+pub mod Come
 pub mod Progress
 pub mod Reading
 pub mod StdStream

@@ -6,11 +6,11 @@ ghost use Rattle.history_model.specs.Commands as model;
 ghost use Rattle.history_model.specs.Forms.{max_path, max_actor_part, max_content};
 ghost use Rattle.history_model.specs.Stops.{is_changing};
 ghost use Rattle.history_word.specs.Fields.{Keeps};
-ghost use Rattle.history_word.specs.Commands.{IsExpect, IsEdit, IsActor, IsCommit, IsCommandOf};
-ghost use Rattle.history_word.specs.Drafts.{IsCommitDraft, IsDraft, with_parent, with_actor, with_edit, with_message};
+ghost use Rattle.history_word.specs.Commands.{IsExpect, IsEdit, IsActor, IsCommit, IsTo, IsMove, IsCommandOf};
+ghost use Rattle.history_word.specs.Drafts.{IsCommitDraft, IsMoveDraft, IsDraft, with_parent, with_edit, with_to, with_actor, with_message};
 
 use crate::command::{
-    ActorLine, Command, CommitCommand, Edit, Expect, Field, LogCommand, Put, Show,
+    ActorLine, Command, CommitCommand, Edit, Expect, Field, LogCommand, MoveCommand, Put, Show, To,
 };
 use crate::heading::Role;
 use history_model::FileKind;
@@ -28,11 +28,20 @@ pub(crate) struct CommitDraft {
     message: Option<Field>,
 }
 
+/// A move as far as it has come. A part is `None` before it comes, and where it found no memory.
+#[derive(Debug, Drop)]
+pub(crate) struct MoveDraft {
+    to: Option<Vec<To>>,
+    actor: Option<ActorLine>,
+    message: Option<Field>,
+}
+
 /// A command as far as it has come.
 #[derive(Debug, Drop)]
 pub(crate) enum Draft {
     Empty,
     Commit(CommitDraft),
+    Move(MoveDraft),
     Files(Option<Vec<u8>>),
     Show(Option<Show>),
     Names,
@@ -91,6 +100,37 @@ impl CommitDraft {
     }
 }
 
+impl MoveDraft {
+    fn new(alloc: Global) -> Self
+        ensures { (order : model.MoveCommand) → order.to ≡ [] → IsMoveDraft result order }
+    {
+        MoveDraft {
+            to: Some(Vec::new(alloc)),
+            actor: None,
+            message: None,
+        }
+    }
+
+    fn add_to(&mut self, to: Option<To>)
+        ensures { (order : model.MoveCommand) (line : model.To)
+            → IsMoveDraft self.old order → IfSome to (λ x. IsTo x line)
+            → IsMoveDraft self.new (with_to order line) }
+    {
+        self.to = pushed(self.to.take(), to);
+    }
+
+    fn finish(self) -> Option<MoveCommand>
+        ensures { (order : model.MoveCommand) → IsMoveDraft self order
+            → IfSome result (λ found. IsMove found order) }
+    {
+        Some(MoveCommand {
+            to: self.to?,
+            actor: self.actor?,
+            message: self.message?,
+        })
+    }
+}
+
 impl Draft {
     pub(crate) fn commit(alloc: Global, name: Option<Vec<u8>>, expect: Option<Expect>) -> Self
         ensures { (order : model.CommitCommand) → IfSome name (λ word. word.items ≡ order.name)
@@ -99,6 +139,12 @@ impl Draft {
             → IsDraft result (model.Commit order) }
     {
         Draft::Commit(CommitDraft::new(alloc, name, expect))
+    }
+
+    pub(crate) fn moves(alloc: Global) -> Self
+        ensures { (order : model.MoveCommand) → order.to ≡ [] → IsDraft result (model.Move order) }
+    {
+        Draft::Move(MoveDraft::new(alloc))
     }
 
     pub(crate) fn show(word: Option<Vec<u8>>) -> Self
@@ -141,26 +187,44 @@ impl Draft {
         }
     }
 
-    pub(crate) fn set_actor(&mut self, role: Role, actor: Option<ActorLine>)
-        ensures { (order : model.CommitCommand) (line : model.ActorLine)
-            → IsDraft self.old (model.Commit order) → IfSome actor (λ x. IsActor x line)
-            → IsDraft self.new (model.Commit (with_actor role order line)) }
+    pub(crate) fn add_to(&mut self, to: Option<To>)
+        ensures { (order : model.MoveCommand) (line : model.To)
+            → IsDraft self.old (model.Move order) → IfSome to (λ x. IsTo x line)
+            → IsDraft self.new (model.Move (with_to order line)) }
     {
-        if let Draft::Commit(commit) = self {
-            match role {
-                Role::Author => commit.author = actor,
-                Role::Committer => commit.committer = actor,
-            }
+        if let Draft::Move(order) = self {
+            order.add_to(to);
+        }
+    }
+
+    pub(crate) fn set_actor(&mut self, role: Role, actor: Option<ActorLine>)
+        ensures commit { (order : model.CommitCommand) (line : model.ActorLine)
+            → IsDraft self.old (model.Commit order) → IfSome actor (λ x. IsActor x line)
+            → IsDraft self.new (with_actor role (model.Commit order) line) }
+        ensures moves { (order : model.MoveCommand) (line : model.ActorLine)
+            → IsDraft self.old (model.Move order) → IfSome actor (λ x. IsActor x line)
+            → IsDraft self.new (with_actor role (model.Move order) line) }
+    {
+        match (self, role) {
+            (Draft::Commit(commit), Role::Author) => commit.author = actor,
+            (Draft::Commit(commit), Role::Committer) => commit.committer = actor,
+            (Draft::Move(order), Role::Mover) => order.actor = actor,
+            _ => {}
         }
     }
 
     pub(crate) fn set_message(&mut self, message: Option<Field>)
-        ensures { (order : model.CommitCommand) (m : Bytes) → IsDraft self.old (model.Commit order)
-            → IfSome message (λ x. Keeps max_content x m)
-            → IsDraft self.new (model.Commit (with_message order m)) }
+        ensures commit { (order : model.CommitCommand) (m : Bytes)
+            → IsDraft self.old (model.Commit order) → IfSome message (λ x. Keeps max_content x m)
+            → IsDraft self.new (with_message (model.Commit order) m) }
+        ensures moves { (order : model.MoveCommand) (m : Bytes)
+            → IsDraft self.old (model.Move order) → IfSome message (λ x. Keeps max_content x m)
+            → IsDraft self.new (with_message (model.Move order) m) }
     {
-        if let Draft::Commit(commit) = self {
-            commit.message = message;
+        match self {
+            Draft::Commit(commit) => commit.message = message,
+            Draft::Move(order) => order.message = message,
+            _ => {}
         }
     }
 
@@ -168,7 +232,7 @@ impl Draft {
     pub(crate) fn is_changing(&self) -> bool
         ensures { (order : model.Command) → IsDraft self.now order → result ≡ is_changing order }
     {
-        matches!(self, Draft::Commit(_))
+        matches!(self, Draft::Commit(_) | Draft::Move(_))
     }
 
     /// The command, if each of its parts found memory.
@@ -179,6 +243,7 @@ impl Draft {
         match self {
             Draft::Empty => None,
             Draft::Commit(commit) => Some(Command::Commit(commit.finish()?)),
+            Draft::Move(order) => Some(Command::Move(order.finish()?)),
             Draft::Files(word) => Some(Command::Files(word?)),
             Draft::Show(show) => Some(Command::Show(show?)),
             Draft::Names => Some(Command::Names(None)),

@@ -1,18 +1,20 @@
 //! What the first line of a part says.
 
 ghost use Rattle.std.specs.Prelude.{◌≡◌, ◌∷◌, ◌≤◌, length, IfSome, IfNone, OnSome, IsTrue};
-ghost use Rattle.history_model.specs.Lines.{ParentHeading, RemoveHeading, RemoveFileHeading, MessageHeading, EndHeading, FilesHeading, PastHeading};
-ghost use Rattle.history_word.specs.LineTable.{heading_of, expect_of, end_of_words, word_of_words, size_of_words, commit_of_words, put_of_words, actor_of_words, show_of_words, names_of_words, log_of_words, name_heading_of};
+ghost use Rattle.history_model.specs.Lines.{ParentHeading, RemoveHeading, RemoveFileHeading, MessageHeading, EndHeading, MoveHeading, FilesHeading, PastHeading};
+ghost use Rattle.history_word.specs.LineTable.{heading_of, end_of_words, word_of_words, size_of_words, commit_of_words, put_of_words, actor_of_words, show_of_words, names_of_words, log_of_words, name_heading_of};
 ghost use Rattle.history_model.specs.Spelling.{max_line};
 ghost use Rattle.history_word.specs.TableRuns.{IsLineAt};
 ghost use Rattle.history_word.specs.Held.{IsUnbroken};
 ghost use Rattle.history_word.specs.Lines.{split_words};
 ghost use Rattle.history_word.specs.Words.{left};
-ghost use Rattle.history_word.specs.Drafts.{role_of, place_of, Says, SaysExpect, IsLine};
+ghost use Rattle.history_word.specs.Drafts.{role_of, place_of, Says};
+ghost use Rattle.history_word.specs.Come.{IsLine};
 ghost use Rattle.history_word.specs.declared.place.Place.{Place};
 
-use crate::command::Expect;
+use crate::command::{Expect, To};
 use crate::logs::LogLine;
+use crate::targets::{expect, to};
 use crate::words::{Words, are_words, file_kind, number};
 use history_model::FileKind;
 use std::alloc::Global;
@@ -22,6 +24,8 @@ use std::alloc::Global;
 pub(crate) enum Role {
     Author,
     Committer,
+    /// Of a move.
+    Mover,
 }
 
 /// What an edit's line says. A number is the size of a field that follows the line.
@@ -40,28 +44,26 @@ pub(crate) enum EditHeading {
     },
 }
 
-/// What a line says. A number is the size of a field that follows the line; a word is `None` where it found no memory.
+/// What an actor's line says. The name and the email are the sizes of fields that follow the line; a word is `None` where
+/// it found no memory.
 #[derive(Debug, Drop)]
-pub(crate) enum Heading {
+pub(crate) struct ActorHeading {
+    pub(crate) role: Role,
+    pub(crate) name: u64,
+    pub(crate) email: u64,
+    pub(crate) seconds: Option<Vec<u8>>,
+    pub(crate) offset: Option<Vec<u8>>,
+}
+
+/// What the line says that a command begins with. A path is the size of a field that follows the line; a word is `None`
+/// where it found no memory.
+#[derive(Debug, Drop)]
+pub(crate) enum Opening {
     Commit {
         name: Option<Vec<u8>>,
         expect: Option<Expect>,
     },
-    Parent {
-        word: Option<Vec<u8>>,
-    },
-    Edit(EditHeading),
-    Actor {
-        role: Role,
-        name: u64,
-        email: u64,
-        seconds: Option<Vec<u8>>,
-        offset: Option<Vec<u8>>,
-    },
-    Message {
-        size: u64,
-    },
-    End,
+    Move,
     Files {
         word: Option<Vec<u8>>,
     },
@@ -82,32 +84,23 @@ pub(crate) enum Heading {
     Log(LogLine),
 }
 
+/// What a line says. A number is the size of a field that follows the line; a word is `None` where it found no memory.
+#[derive(Debug, Drop)]
+pub(crate) enum Heading {
+    Opening(Opening),
+    Parent { word: Option<Vec<u8>> },
+    To(Option<To>),
+    Edit(EditHeading),
+    Actor(ActorHeading),
+    Message { size: u64 },
+    End,
+}
+
 /// A word of its own, if there is memory for it.
 pub(crate) fn kept(alloc: Global, word: &[u8]) -> Option<Vec<u8>>
     ensures { IfSome result (λ own. own.items ≡ word.now) }
 {
     Vec::from_slice(alloc, word).ok()
-}
-
-/// `any`, `new` or `at <word>`. It is `Some(None)` where the word found no memory.
-fn expect(alloc: Global, words: &mut Words) -> Option<Option<Expect>>
-    ensures { SaysExpect result (expect_of (left words.old)) }
-{
-    let first = words.next()?;
-    if first == b"at".as_slice() {
-        let word = words.last()?;
-        return Some(kept(alloc, word).map(Expect::At));
-    }
-    if !words.is_done() {
-        return None;
-    }
-    if first == b"any".as_slice() {
-        Some(Some(Expect::Any))
-    } else if first == b"new".as_slice() {
-        Some(Some(Expect::New))
-    } else {
-        None
-    }
 }
 
 /// What follows `commit`: `<name> <expect>`.
@@ -116,10 +109,13 @@ fn commit(alloc: Global, words: &mut Words) -> Option<Heading>
 {
     let name = words.next()?;
     let expect = expect(alloc, words)?;
-    Some(Heading::Commit {
+    if !words.is_done() {
+        return None;
+    }
+    Some(Heading::Opening(Opening::Commit {
         name: kept(alloc, name),
         expect,
-    })
+    }))
 }
 
 /// What follows `parent`: `<word>`.
@@ -170,13 +166,13 @@ fn actor(alloc: Global, role: Role, words: &mut Words) -> Option<Heading>
     let email = number(words.next()?)?;
     let seconds = words.next()?;
     let offset = words.last()?;
-    Some(Heading::Actor {
+    Some(Heading::Actor(ActorHeading {
         role,
         name,
         email,
         seconds: kept(alloc, seconds),
         offset: kept(alloc, offset),
-    })
+    }))
 }
 
 /// What follows `message`: `<size>`.
@@ -203,9 +199,9 @@ fn files(alloc: Global, words: &mut Words) -> Option<Heading>
     ensures { Says result (word_of_words FilesHeading (left words.old)) }
 {
     let word = words.last()?;
-    Some(Heading::Files {
+    Some(Heading::Opening(Opening::Files {
         word: kept(alloc, word),
-    })
+    }))
 }
 
 /// What follows `show`: `<word>`, or `<word> path <size>`.
@@ -214,18 +210,18 @@ fn show(alloc: Global, words: &mut Words) -> Option<Heading>
 {
     let word = words.next()?;
     if words.is_done() {
-        return Some(Heading::Show {
+        return Some(Heading::Opening(Opening::Show {
             word: kept(alloc, word),
-        });
+        }));
     }
     if words.next()? != b"path".as_slice() {
         return None;
     }
     let path = number(words.last()?)?;
-    Some(Heading::ShowPath {
+    Some(Heading::Opening(Opening::ShowPath {
         word: kept(alloc, word),
         path,
-    })
+    }))
 }
 
 /// What follows `names`: nothing, or `<folder>`.
@@ -233,12 +229,12 @@ fn names(alloc: Global, words: &mut Words) -> Option<Heading>
     ensures { Says result (names_of_words (left words.old)) }
 {
     if words.is_done() {
-        return Some(Heading::Names);
+        return Some(Heading::Opening(Opening::Names));
     }
     let folder = words.last()?;
-    Some(Heading::NamesIn {
+    Some(Heading::Opening(Opening::NamesIn {
         folder: kept(alloc, folder),
-    })
+    }))
 }
 
 /// What follows `past`: `<word>`.
@@ -246,9 +242,9 @@ fn past(alloc: Global, words: &mut Words) -> Option<Heading>
     ensures { Says result (word_of_words PastHeading (left words.old)) }
 {
     let word = words.last()?;
-    Some(Heading::Past {
+    Some(Heading::Opening(Opening::Past {
         word: kept(alloc, word),
-    })
+    }))
 }
 
 /// What follows `log`.
@@ -256,14 +252,31 @@ fn log(alloc: Global, words: &mut Words) -> Option<Heading>
     ensures { Says result (log_of_words (left words.old)) }
 {
     let line = LogLine::new(alloc, words)?;
-    Some(Heading::Log(line))
+    Some(Heading::Opening(Opening::Log(line)))
+}
+
+/// What follows `move`: nothing.
+fn moves(words: &Words) -> Option<Heading>
+    ensures { Says result (end_of_words MoveHeading (left words.now)) }
+{
+    if words.is_done() {
+        Some(Heading::Opening(Opening::Move))
+    } else {
+        None
+    }
 }
 
 /// What the words of a line say that begins with this word and is about names or a log.
 fn said_of_names(alloc: Global, first: &[u8], words: &mut Words) -> Option<Heading>
     ensures { Says result (name_heading_of first.now (left words.old)) }
 {
-    if first == b"names".as_slice() {
+    if first == b"move".as_slice() {
+        moves(words)
+    } else if first == b"to".as_slice() {
+        to(alloc, words)
+    } else if first == b"actor".as_slice() {
+        actor(alloc, Role::Mover, words)
+    } else if first == b"names".as_slice() {
         names(alloc, words)
     } else if first == b"past".as_slice() {
         past(alloc, words)

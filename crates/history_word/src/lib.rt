@@ -12,6 +12,7 @@ mod place;
 mod reader;
 mod stream;
 mod streams;
+mod targets;
 mod words;
 
 pub use buffer::Buffer;

@@ -1,11 +1,13 @@
 //! Which line may stand next.
 
-ghost use Rattle.std.specs.Prelude.{◌≡◌, option_map};
+ghost use Rattle.std.specs.Prelude.{◌≡◌, ℕ, Some, option_map};
+ghost use Rattle.history_model.specs.Bytes.{Bytes};
 ghost use Rattle.history_model.specs.Lines as lines;
+ghost use Rattle.history_word.specs.LineTable as table;
 ghost use Rattle.history_word.specs.TableRuns.{next_offered};
-ghost use Rattle.history_word.specs.Drafts.{place_of, IsHeading};
+ghost use Rattle.history_word.specs.Drafts.{place_of, role_of, IsOpening, IsHeading};
 
-use crate::heading::{Heading, Role};
+use crate::heading::{ActorHeading, Heading, Opening, Role};
 
 /// Where the next line of a command stands.
 #[derive(Clone, Copy, Debug, PartialEq, Eq)]
@@ -14,6 +16,10 @@ pub(crate) enum Place {
     Parents,
     Edits,
     Committer,
+    /// Behind `move`.
+    ToFirst,
+    /// Behind a line `to`.
+    ToMore,
     Message,
     End,
     Done,
@@ -26,32 +32,43 @@ impl Place {
             → option_map place_of result ≡ next_offered (place_of self) h }
     {
         match (self, heading) {
-            (Place::Start, Heading::Commit { .. }) => Some(Place::Parents),
-            (Place::Start, Heading::Files { .. }) => Some(Place::Done),
-            (Place::Start, Heading::Show { .. }) => Some(Place::Done),
-            (Place::Start, Heading::ShowPath { .. }) => Some(Place::Done),
-            (Place::Start, Heading::Names) => Some(Place::Done),
-            (Place::Start, Heading::NamesIn { .. }) => Some(Place::Done),
-            (Place::Start, Heading::Past { .. }) => Some(Place::Done),
-            (Place::Start, Heading::Log(_)) => Some(Place::Done),
+            (Place::Start, Heading::Opening(opening)) => Some(opening.next()),
             (Place::Parents, Heading::Parent { .. }) => Some(Place::Parents),
             (Place::Parents | Place::Edits, Heading::Edit(_)) => Some(Place::Edits),
-            (
-                Place::Parents | Place::Edits,
-                Heading::Actor {
-                    role: Role::Author,
-                    ..
-                },
-            ) => Some(Place::Committer),
-            (
-                Place::Committer,
-                Heading::Actor {
-                    role: Role::Committer,
-                    ..
-                },
-            ) => Some(Place::Message),
+            (Place::ToFirst | Place::ToMore, Heading::To(_)) => Some(Place::ToMore),
+            (_, Heading::Actor(line)) => line.role.next(self),
             (Place::Message, Heading::Message { .. }) => Some(Place::End),
             (Place::End, Heading::End) => Some(Place::Done),
+            _ => None,
+        }
+    }
+}
+
+impl Opening {
+    /// The place behind the line that a command begins with.
+    pub(crate) fn next(&self) -> Place
+        ensures { (h : lines.Heading) → IsOpening self.now h
+            → next_offered table.Start h ≡ Some (place_of result) }
+    {
+        match self {
+            Opening::Commit { .. } => Place::Parents,
+            Opening::Move => Place::ToFirst,
+            _ => Place::Done,
+        }
+    }
+}
+
+impl Role {
+    /// The place behind an actor's line that may stand at this place.
+    pub(crate) fn next(self, place: Place) -> Option<Place>
+        ensures { (name email : ℕ) (seconds offset : Bytes) → option_map place_of result
+            ≡ next_offered (place_of place)
+            (lines.ActorHeading (role_of self) name email seconds offset) }
+    {
+        match (self, place) {
+            (Role::Author, Place::Parents | Place::Edits) => Some(Place::Committer),
+            (Role::Committer, Place::Committer) => Some(Place::Message),
+            (Role::Mover, Place::ToMore) => Some(Place::Message),
             _ => None,
         }
     }

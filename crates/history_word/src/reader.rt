@@ -1,6 +1,6 @@
 //! Reads one command: its lines and its fields.
 
-ghost use Rattle.std.specs.Prelude.{◌≡◌, ◌≢◌, ◌<◌, ℕ, List, [], ◌++◌, length, IfSome};
+ghost use Rattle.std.specs.Prelude.{◌≡◌, ◌≢◌, ◌<◌, ℕ, List, [], ◌∷◌, ◌++◌, length, IfSome};
 ghost use Rattle.history_model.specs.Bytes.{Bytes, line};
 ghost use Rattle.history_model.specs.Commands as model;
 ghost use Rattle.history_model.specs.Spelling.{spelling, option_list};
@@ -11,16 +11,17 @@ ghost use Rattle.history_word.specs.Held.{IsLineOf};
 ghost use Rattle.history_word.specs.Buffer.{unread};
 ghost use Rattle.history_word.specs.Fields.{KeepsFront, Keeps};
 ghost use Rattle.history_word.specs.Commands.{IsReceived};
-ghost use Rattle.history_word.specs.Drafts.{place_of, edit_sizes, TakesLine, TakesEdit, TakesLog, TakesParts};
+ghost use Rattle.history_word.specs.Drafts.{place_of};
+ghost use Rattle.history_word.specs.Come.{edit_sizes, opening_sizes, heading_sizes, TakesLine, TakesEdit, TakesLog, TakesActor, TakesOpening, TakesFields, TakesParts};
 ghost use Rattle.history_word.specs.Progress.{IsEndless, IsNoField, StopsFrom, IsCauseOf};
 ghost use Rattle.history_word.specs.Reading.{Reads};
 ghost use Rattle.history_word.specs.Taking.{AsksForMore};
 ghost use Rattle.history_word.specs.declared.reader.Stop.TheVariants.{Broken as broken};
 
 use crate::buffer::Buffer;
-use crate::command::{Command, Edit, Field, LogCommand};
+use crate::command::{ActorLine, Command, Edit, Field, LogCommand};
 use crate::draft::{Draft, actor_line, put};
-use crate::heading::{EditHeading, Heading, parse};
+use crate::heading::{ActorHeading, EditHeading, Heading, Opening, parse};
 use crate::logs::LogLine;
 use crate::place::Place;
 use crate::streams::{Broken, Source};
@@ -197,6 +198,84 @@ fn read_log<R: Source>(
     Ok(line.finish(Some(path)))
 }
 
+/// Takes the fields of an actor's line. The actor is `None` where a part of it found no memory.
+fn read_actor<R: Source>(
+    alloc: Global,
+    buffer: &mut Buffer,
+    source: &mut R,
+    heading: ActorHeading,
+) -> Result<Option<ActorLine>, Stop>
+    ensures { Reads R.left R.has_failed R.readings source.old buffer.old source.new buffer.new
+        (λ actor taken. TakesActor heading actor taken
+        × AsksForMore source.old buffer.old source.new taken)
+        (λ bytes cause. (place : table.Place)
+        → StopsFrom (heading.name ∷ heading.email ∷ []) place bytes cause) result }
+{
+    let name = read_field(alloc, buffer, source, heading.name, MAX_ACTOR_PART)?;
+    let email = read_field(alloc, buffer, source, heading.email, MAX_ACTOR_PART)?;
+    Ok(actor_line(name, email, heading.seconds, heading.offset))
+}
+
+/// Takes the fields of the line that a command begins with, and says what of the command has come.
+fn read_opening<R: Source>(
+    alloc: Global,
+    buffer: &mut Buffer,
+    source: &mut R,
+    opening: Opening,
+) -> Result<Draft, Stop>
+    ensures { Reads R.left R.has_failed R.readings source.old buffer.old source.new buffer.new
+        (λ draft taken. TakesOpening opening draft taken
+        × AsksForMore source.old buffer.old source.new taken)
+        (λ bytes cause. (place : table.Place)
+        → StopsFrom (opening_sizes opening) place bytes cause) result }
+{
+    match opening {
+        Opening::Commit { name, expect } => Ok(Draft::commit(alloc, name, expect)),
+        Opening::Move => Ok(Draft::moves(alloc)),
+        Opening::Files { word } => Ok(Draft::Files(word)),
+        Opening::Show { word } => Ok(Draft::show(word)),
+        Opening::ShowPath { word, path } => {
+            let path = read_field(alloc, buffer, source, path, MAX_PATH)?;
+            Ok(Draft::show_path(word, path))
+        }
+        Opening::Names => Ok(Draft::Names),
+        Opening::NamesIn { folder } => Ok(Draft::NamesIn(folder)),
+        Opening::Past { word } => Ok(Draft::Past(word)),
+        Opening::Log(line) => Ok(Draft::Log(read_log(alloc, buffer, source, line)?)),
+    }
+}
+
+/// Takes the fields of a line into the draft.
+fn read_fields<R: Source>(
+    alloc: Global,
+    buffer: &mut Buffer,
+    source: &mut R,
+    heading: Heading,
+    draft: &mut Draft,
+) -> Result<(), Stop>
+    ensures { Reads R.left R.has_failed R.readings source.old buffer.old source.new buffer.new
+        (λ _ taken. TakesFields heading draft.old draft.new taken
+        × AsksForMore source.old buffer.old source.new taken)
+        (λ bytes cause. (place : table.Place)
+        → StopsFrom (heading_sizes heading) place bytes cause) result }
+{
+    match heading {
+        Heading::Opening(line) => *draft = read_opening(alloc, buffer, source, line)?,
+        Heading::Parent { word } => draft.add_parent(word),
+        Heading::To(to) => draft.add_to(to),
+        Heading::Edit(line) => draft.add_edit(read_edit(alloc, buffer, source, line)?),
+        Heading::Actor(line) => {
+            let role = line.role;
+            draft.set_actor(role, read_actor(alloc, buffer, source, line)?);
+        }
+        Heading::Message { size } => {
+            draft.set_message(read_field(alloc, buffer, source, size, MAX_CONTENT)?);
+        }
+        Heading::End => {}
+    }
+    Ok(())
+}
+
 /// Takes a line and its fields into the draft, and says where the next line stands.
 fn read_part<R: Source>(
     alloc: Global,
@@ -212,39 +291,7 @@ fn read_part<R: Source>(
         (StopsFrom [] (place_of place)) result }
 {
     let (heading, next) = read_heading(alloc, buffer, source, place)?;
-    match heading {
-        Heading::Commit { name, expect } => *draft = Draft::commit(alloc, name, expect),
-        Heading::Parent { word } => draft.add_parent(word),
-        Heading::Edit(heading) => {
-            let edit = read_edit(alloc, buffer, source, heading)?;
-            draft.add_edit(edit);
-        }
-        Heading::Actor {
-            role,
-            name,
-            email,
-            seconds,
-            offset,
-        } => {
-            let name = read_field(alloc, buffer, source, name, MAX_ACTOR_PART)?;
-            let email = read_field(alloc, buffer, source, email, MAX_ACTOR_PART)?;
-            draft.set_actor(role, actor_line(name, email, seconds, offset));
-        }
-        Heading::Message { size } => {
-            draft.set_message(read_field(alloc, buffer, source, size, MAX_CONTENT)?);
-        }
-        Heading::End => {}
-        Heading::Files { word } => *draft = Draft::Files(word),
-        Heading::Show { word } => *draft = Draft::show(word),
-        Heading::ShowPath { word, path } => {
-            let path = read_field(alloc, buffer, source, path, MAX_PATH)?;
-            *draft = Draft::show_path(word, path);
-        }
-        Heading::Names => *draft = Draft::Names,
-        Heading::NamesIn { folder } => *draft = Draft::NamesIn(folder),
-        Heading::Past { word } => *draft = Draft::Past(word),
-        Heading::Log(line) => *draft = Draft::Log(read_log(alloc, buffer, source, line)?),
-    }
+    read_fields(alloc, buffer, source, heading, draft)?;
     Ok(next)
 }
 

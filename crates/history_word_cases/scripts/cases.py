@@ -21,6 +21,28 @@ def field(name, data, limit):
     return f"{name}:{word(data)}" if len(data) <= limit else f"{name}:{word(data[:1025])}..."
 
 
+def expect_text(expect):
+    return b"at " + expect[1] if expect[0] == "at" else expect[0].encode()
+
+
+def expect_words(expect):
+    return "at:" + word(expect[1]) if expect[0] == "at" else expect[0]
+
+
+def actor_lines(who, actor):
+    name, email, seconds, offset = actor
+    return [b"%s %d %d %s %s" % (who.encode(), len(name), len(email), seconds, offset), name, email]
+
+
+def actor_words(who, actor):
+    name, email, seconds, offset = actor
+    return [field(who, name, 512), field("email", email, 512), "seconds:" + word(seconds), "offset:" + word(offset)]
+
+
+def message_lines(message):
+    return [b"message %d" % len(message), message, b"end", b""]
+
+
 class Commit:
     """A commit's value, its text, and its words."""
 
@@ -29,25 +51,38 @@ class Commit:
         self.author, self.committer, self.message = author, committer, message
 
     def text(self):
-        expect = b"at " + self.expect[1] if self.expect[0] == "at" else self.expect[0].encode()
-        lines = [b"commit %s %s" % (self.name, expect)] + [b"parent " + parent for parent in self.parents]
+        lines = [b"commit %s %s" % (self.name, expect_text(self.expect))] + [b"parent " + parent for parent in self.parents]
         for kind, path, *content in self.edits:
             if content:
                 lines += [b"put %s %d %d" % (kind.encode(), len(path), len(content[0])), path, content[0]]
             else:
                 lines += [b"%s %d" % (kind.encode(), len(path)), path]
-        for who, (name, email, seconds, offset) in (("author", self.author), ("committer", self.committer)):
-            lines += [b"%s %d %d %s %s" % (who.encode(), len(name), len(email), seconds, offset), name, email]
-        return b"\n".join(lines + [b"message %d" % len(self.message), self.message, b"end", b""])
+        lines += actor_lines("author", self.author) + actor_lines("committer", self.committer)
+        return b"\n".join(lines + message_lines(self.message))
 
     def words(self):
-        expect = "at:" + word(self.expect[1]) if self.expect[0] == "at" else self.expect[0]
-        found = ["commit:" + word(self.name), expect] + ["parent:" + word(parent) for parent in self.parents]
+        found = ["commit:" + word(self.name), expect_words(self.expect)] + ["parent:" + word(parent) for parent in self.parents]
         for kind, path, *content in self.edits:
             found += [field(kind, path, 4096)] + ([field("content", content[0], 2 ** 24)] if content else [])
-        for who, (name, email, seconds, offset) in (("author", self.author), ("committer", self.committer)):
-            found += [field(who, name, 512), field("email", email, 512), "seconds:" + word(seconds), "offset:" + word(offset)]
+        found += actor_words("author", self.author) + actor_words("committer", self.committer)
         return " ".join(found + [field("message", self.message, 2 ** 24)])
+
+
+class Move:
+    """A move's value, its text, and its words. Each of its names comes with what is expected of it, and a word."""
+
+    def __init__(self, names, actor, message):
+        self.names, self.actor, self.message = names, actor, message
+
+    def text(self):
+        lines = [b"move"] + [b"to %s %s %s" % (name, expect_text(expect), target) for name, expect, target in self.names]
+        return b"\n".join(lines + actor_lines("actor", self.actor) + message_lines(self.message))
+
+    def words(self):
+        found = ["move"]
+        for name, expect, target in self.names:
+            found += ["to:" + word(name), expect_words(expect), "word:" + word(target)]
+        return " ".join(found + actor_words("actor", self.actor) + [field("message", self.message, 2 ** 24)])
 
 
 A = (b"A", b"a@b", b"1", b"+0000")
@@ -55,6 +90,11 @@ COMMIT = Commit(b"refs/heads/s", ("new",), [b"m", b"refs/heads/t"], [("file", b"
                 ("remove-file", b"d/x")], A, A, b"one")
 COMMIT_TEXT = (b"commit refs/heads/s new\nparent m\nparent refs/heads/t\nput file 1 5\na\nhello\nremove 1\nd\nremove-file 3\nd/x\n"
                b"author 1 3 1 +0000\nA\na@b\ncommitter 1 3 1 +0000\nA\na@b\nmessage 3\none\nend\n")
+
+MOVE = Move([(b"refs/heads/s", ("new",), b"main"), (b"refs/heads/t", ("at", b"s"), b"s"), (b"refs/heads/u", ("any",), b"HEAD")], A,
+            b"one")
+MOVE_TEXT = (b"move\nto refs/heads/s new main\nto refs/heads/t at s s\nto refs/heads/u any HEAD\nactor 1 3 1 +0000\nA\na@b\n"
+             b"message 3\none\nend\n")
 
 
 def cut(text, words):
@@ -70,6 +110,7 @@ def cut(text, words):
 def commands():
     assert COMMIT.text() == COMMIT_TEXT
     cut(COMMIT_TEXT, COMMIT.words())
+    moves()
     row("read", b"files main\n", "more files:main end")
     row("read", b"show HEAD\n", "more show:HEAD end")
     row("read", b"show HEAD path 2\na\n\n", f"more show:HEAD path:{word(b'a' + bytes([10]))} end")
@@ -100,6 +141,18 @@ def commands():
     row("write", b"", "written:-")
 
 
+def moves():
+    assert MOVE.text() == MOVE_TEXT
+    cut(MOVE_TEXT, MOVE.words())
+    row("stream", MOVE_TEXT + b"move", f"more {MOVE.words()} more")
+    nobody = (b"", b"", b"s", b"o")
+    for names in [[(b"at", ("at", b"at"), b"at"), (b"new", ("new",), b"new"), (b"any", ("any",), b"any")],
+                  [(b"to", ("any",), b"actor")], [(b"a", ("at", b"b"), b"c")] * 200]:
+        move = Move(names, nobody, b"")
+        row("read", move.text(), f"more {move.words()} end")
+    row("read", MOVE_TEXT.replace(b"one", b"\n\nx"), "more " + MOVE.words().replace("message:one", "message:%0a%0ax") + " end")
+
+
 def log_paths():
     cut(b"log newest first +a -b path 3\na/b\n", "log newest first tip:a hidden:b path:a/b")
     row("read", b"log newest-since 17 all +main path 1\na\n", "more log newest-since:17 all tip:main path:a end")
@@ -120,6 +173,7 @@ def limits():
     row("read", "show%20a%20path%204096%0a+x*4096+%0a", "more show:a path:" + "x" * 4096 + " end")
     row("read", "show%20a%20path%204097%0a+x*4096+%0a", "more Truncated")
     row("read", "show%20a%20path%204097%0a+x*4096+%0a%0a", "more show:a path:" + "x" * 1025 + "... end")
+    move_limits()
     log, words = "log%20breadth%20all%20%2ba%20path%20", "more log breadth all tip:a path:"
     row("read", log + "4096%0a+x*4096+%0a", words + "x" * 4096 + " end")
     row("read", log + "4097%0a+x*4096+%0a", "more Truncated")
@@ -127,6 +181,17 @@ def limits():
     row("read", log + "4097%0a+x*4096+%0axlog", "more Syntax")
     row("read", "log%20breadth%20all%20%2b+x*4072+%20path%200%0a%0a", "more log breadth all tip:" + "x" * 4072 + " path:- end")
     row("read", "log%20breadth%20all%20%2b+x*4073+%20path%200%0a%0a", "more LineTooLong")
+
+
+def move_limits():
+    to, rest = "move%0ato%20a%20new%20+x*", "+%0aactor%200%200%20s%20o%0a%0a%0amessage%200%0a%0aend%0a"
+    row("read", to + "4087" + rest, "more move to:a new word:" + "x" * 4087 + " actor:- email:- seconds:s offset:o message:- end")
+    row("read", to + "4088" + rest, "more LineTooLong")
+    for name, email in [(512, 512), (513, 0), (0, 513), (2000, 2000)]:
+        move = Move([(b"a", ("any",), b"b")], (b"n" * name, b"e" * email, b"s", b"o"), b"")
+        row("read", move.text(), f"more {move.words()} end")
+    row("read", b"move\nto a any b\nactor 513 0 s o\n" + b"n" * 513, "more Truncated")
+    row("read", b"move\nto a any b\nactor 513 0 s o\n" + b"n" * 514, "more Syntax")
 
 
 LINES = [
@@ -147,11 +212,28 @@ LINES = [
     b"log breadth all +a paths 1\n", b"log breadth all +a 1\n", b"log breadth all + path 1\n", b"log breadth path 1 +a\n",
     b"log depth all +a\n", b"log newest-since all +a\n", b"log newest 1 all +a\n", b"log breadth +a all\n", b"log breadth all all +a\n",
     b"commit HEAD new\nnames\n", b"commit HEAD new\npast a\n", b"commit HEAD new\nlog breadth all +a\n",
-    b"switch main\n", b"delete main any\n", b"rename a b\n", b"tag a new b\n", b"move\n", b"pack\n", b"index\n",
+    b"switch main\n", b"delete main any\n", b"rename a b\n", b"tag a new b\n", b"pack\n", b"index\n",
+    b"move a\n", b"move \n", b"to a new b\n", b"actor 0 0 s o\n",
+]
+# Behind `move`, behind a line `to`, behind the actor and behind the message, and what may not stand there.
+TO, ACTOR, MESSAGE = b"to a new b\n", b"actor 0 0 s o\n\n\n", b"message 0\n\n"
+FIRST, MORE, SIGNED, TOLD = b"move\n", b"move\n" + TO, b"move\n" + TO + ACTOR, b"move\n" + TO + ACTOR + MESSAGE
+WRONG = [
+    (FIRST, [b"move\n", b"actor 0 0 s o\n", b"message 0\n", b"end\n", b"names\n", b"to\n", b"to a\n", b"to a new\n", b"to a any\n",
+             b"to a at b\n", b"to a old b\n", b"to a new b c\n", b"to a any b c\n", b"to a at b c d\n", b"to a at\n", b"to  new b\n",
+             b"To a new b\n", b"\n", b"parent a\n"]),
+    (MORE, [b"move\n", b"message 0\n", b"end\n", b"author 0 0 s o\n", b"committer 0 0 s o\n", b"tagger 0 0 s o\n", b"parent a\n",
+            b"remove 0\n", b"to a new\n", b"actor 0 0 s\n", b"actor 0 0 s o p\n", b"actor 01 0 s o\n", b"actor 0 +1 s o\n",
+            b"actor 18446744073709551616 0 s o\n", b"actor 1 0 s o\nab\n", b"actor 0 1 s o\n\nab\n", b"files main\n"]),
+    (SIGNED, [TO, ACTOR, b"end\n", b"message\n", b"message 01\n", b"message 0 0\n", b"message 0\na\n", b"committer 0 0 s o\n"]),
+    (TOLD, [TO, ACTOR, MESSAGE, b"end end\n", b"move\n"]),
+    (b"commit HEAD new\n", [TO, ACTOR, b"move\n"]), (b"commit HEAD new\nremove 0\n\n", [TO, ACTOR]),
+    (b"commit HEAD new\nauthor 0 0 s o\n\n\n", [ACTOR, TO]),
 ]
 # Where a line may stand, and the input ends behind it.
 BEGINNINGS = [b"commit nowhere new\n", b"commit at any\nparent parent\n",
               b"commit HEAD new\nparent end\nremove 0\n\nremove-file 1\n\n\n", b"commit HEAD new\nremove 18446744073709551615\n",
+              FIRST, MORE, SIGNED, TOLD, MORE + b"actor 18446744073709551615 0 s o\n", SIGNED + b"message 18446744073709551615\n",
               b"show a path 18446744073709551615\n", b"log breadth all +a path 18446744073709551615\n"]
 
 
@@ -160,33 +242,55 @@ def lines():
         row("read", line, "more Truncated")
     for line in LINES:
         row("read", line, "more Syntax")
+    for before, wrong in WRONG:
+        for line in wrong:
+            row("read", before + line, "more Syntax")
     row("read", b"show a path 0\n\n", "more show:a path:- end")
 
 
-def by_chance(chance):
-    """A commit by chance, of which all is read, or which is cut, or has another command behind it."""
-    def data(longest):
-        return bytes(chance.choice([0, 9, 10, 32, 37, 43, 45, 47, 97, 98, 255]) for _ in range(chance.randrange(longest)))
+def data(chance, longest):
+    return bytes(chance.choice([0, 9, 10, 32, 37, 43, 45, 47, 97, 98, 255]) for _ in range(chance.randrange(longest)))
 
-    def name():
-        return data(6).translate(None, b" \n") or b"x"
 
+def name(chance):
+    return data(chance, 6).translate(None, b" \n") or b"x"
+
+
+def expected(chance):
+    return chance.choice([("any",), ("new",), ("at", name(chance))])
+
+
+def actor(chance):
+    return data(chance, 600 if chance.random() < 0.1 else 6), data(chance, 6), name(chance), name(chance)
+
+
+def commit_by_chance(chance):
     def edit():
         kind = chance.choice(["file", "exec", "link", "remove", "remove-file"])
-        return (kind, data(9), *([data(30)] if kind in ("file", "exec", "link") else []))
+        return (kind, data(chance, 9), *([data(chance, 30)] if kind in ("file", "exec", "link") else []))
 
-    expect = chance.choice([("any",), ("new",), ("at", name())])
-    actors = [(data(600 if chance.random() < 0.1 else 6), data(6), name(), name()) for _ in range(2)]
-    commit = Commit(name(), expect, [name() for _ in range(chance.randrange(4))], [edit() for _ in range(chance.randrange(5))],
-                    *actors, data(40))
+    expect = expected(chance)
+    actors = [actor(chance) for _ in range(2)]
+    return Commit(name(chance), expect, [name(chance) for _ in range(chance.randrange(4))], [edit() for _ in range(chance.randrange(5))],
+                  *actors, data(chance, 40))
+
+
+def move_by_chance(chance):
+    names = [(name(chance), expected(chance), name(chance)) for _ in range(chance.randrange(1, 5))]
+    return Move(names, actor(chance), data(chance, 40))
+
+
+def by_chance(chance, make):
+    """A command by chance, of which all is read, or which is cut, or has another command behind it."""
+    command = make(chance)
     how = chance.randrange(4)
     if how == 0:
-        end = chance.randrange(1, len(commit.text()))
-        row("read", commit.text()[:end], "more Truncated")
+        end = chance.randrange(1, len(command.text()))
+        row("read", command.text()[:end], "more Truncated")
     elif how == 1:
-        row("stream", commit.text() + b"f", f"more {commit.words()} more")
+        row("stream", command.text() + b"f", f"more {command.words()} more")
     else:
-        row("read" if how == 2 else "drops", commit.text(), f"more {commit.words()} end")
+        row("read" if how == 2 else "drops", command.text(), f"more {command.words()} end")
 
 
 if __name__ == "__main__":
@@ -195,5 +299,8 @@ if __name__ == "__main__":
     lines()
     chance = random.Random(23)
     for _ in range(200):
-        by_chance(chance)
+        by_chance(chance, commit_by_chance)
+    chance = random.Random(29)
+    for _ in range(100):
+        by_chance(chance, move_by_chance)
     write(Path(__file__), ROWS)

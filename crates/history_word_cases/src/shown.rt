@@ -3,8 +3,8 @@
 use case_words::Page;
 use history_model::{Cause, FileKind};
 use history_word::{
-    ActorLine, Command, CommitCommand, Edit, Expect, Field, LogCommand, LogItem, Order, Put,
-    Received, Show, Stop,
+    ActorLine, Command, CommitCommand, Edit, Expect, Field, LogCommand, LogItem, MoveCommand,
+    Order, Put, Received, Show, Stop,
 };
 
 /// What reading a command ended with.
@@ -33,6 +33,7 @@ fn cause_name(cause: Cause) -> &'static str {
 fn show_command(command: &Command, page: &mut Page) {
     match command {
         Command::Commit(commit) => show_commit(commit, page),
+        Command::Move(order) => show_move(order, page),
         Command::Files(word) => page.named("files", word),
         Command::Show(show) => show_show(show, page),
         Command::Names(None) => page.word("names"),
@@ -81,11 +82,7 @@ fn show_path(path: &Option<Field>, page: &mut Page) {
 
 fn show_commit(commit: &CommitCommand, page: &mut Page) {
     page.named("commit", &commit.name);
-    match &commit.expect {
-        Expect::Any => page.word("any"),
-        Expect::New => page.word("new"),
-        Expect::At(word) => page.named("at", word),
-    }
+    show_expect(&commit.expect, page);
     for parent in &commit.parents {
         page.named("parent", parent);
     }
@@ -95,6 +92,25 @@ fn show_commit(commit: &CommitCommand, page: &mut Page) {
     show_actor("author", &commit.author, page);
     show_actor("committer", &commit.committer, page);
     show_field("message", &commit.message, page);
+}
+
+fn show_move(order: &MoveCommand, page: &mut Page) {
+    page.word("move");
+    for to in &order.to {
+        page.named("to", &to.name);
+        show_expect(&to.expect, page);
+        page.named("word", &to.word);
+    }
+    show_actor("actor", &order.actor, page);
+    show_field("message", &order.message, page);
+}
+
+fn show_expect(expect: &Expect, page: &mut Page) {
+    match expect {
+        Expect::Any => page.word("any"),
+        Expect::New => page.word("new"),
+        Expect::At(word) => page.named("at", word),
+    }
 }
 
 fn show_edit(edit: &Edit, page: &mut Page) {

@@ -11,21 +11,39 @@ use Rattle.history_word.proofs.heading.said_of_names.Goals as goal
 pub returns-then-eq : goal.returns-then-eq
 returns-then-eq c =
     let name = (slice_eq-Decides Decides-eqb _ _ _ c.eq.ensures).0 c.if-eq.true ∙ c.as_slice.ensures in
-    subst (λ first. Says c.names.result (name_heading_of first (left c.args.words.now))) (sym name) c.names.ensures
+    subst (λ first. Says c.moves.result (name_heading_of first (left c.args.words.now))) (sym name) c.moves.ensures
 
 pub returns-then-eq-2 : goal.returns-then-eq-2
 returns-then-eq-2 c =
     let name = (slice_eq-Decides Decides-eqb _ _ _ c.eq-else-eq.ensures).0 c.if-eq-2.true ∙ c.as_slice-else-eq.ensures in
-    subst (λ first. Says c.past.result (name_heading_of first (left c.args.words.now))) (sym name) c.past.ensures
+    subst (λ first. Says c.to.result (name_heading_of first (left c.args.words.now))) (sym name) c.to.ensures
 
 pub returns-then-eq-3 : goal.returns-then-eq-3
 returns-then-eq-3 c =
     let name = (slice_eq-Decides Decides-eqb _ _ _ c.eq-else-eq-2.ensures).0 c.if-eq-3.true ∙ c.as_slice-else-eq-2.ensures in
+    subst (λ first. Says c.actor.result (name_heading_of first (left c.args.words.now))) (sym name) c.actor.ensures
+
+pub returns-then-eq-4 : goal.returns-then-eq-4
+returns-then-eq-4 c =
+    let name = (slice_eq-Decides Decides-eqb _ _ _ c.eq-else-eq-3.ensures).0 c.if-eq-4.true ∙ c.as_slice-else-eq-3.ensures in
+    subst (λ first. Says c.names.result (name_heading_of first (left c.args.words.now))) (sym name) c.names.ensures
+
+pub returns-then-eq-5 : goal.returns-then-eq-5
+returns-then-eq-5 c =
+    let name = (slice_eq-Decides Decides-eqb _ _ _ c.eq-else-eq-4.ensures).0 c.if-eq-5.true ∙ c.as_slice-else-eq-4.ensures in
+    subst (λ first. Says c.past.result (name_heading_of first (left c.args.words.now))) (sym name) c.past.ensures
+
+pub returns-then-eq-6 : goal.returns-then-eq-6
+returns-then-eq-6 c =
+    let name = (slice_eq-Decides Decides-eqb _ _ _ c.eq-else-eq-5.ensures).0 c.if-eq-6.true ∙ c.as_slice-else-eq-5.ensures in
     subst (λ first. Says c.log.result (name_heading_of first (left c.args.words.now))) (sym name) c.log.ensures
 
-pub returns-else-eq-3 : goal.returns-else-eq-3
-returns-else-eq-3 c =
+pub returns-else-eq-6 : goal.returns-else-eq-6
+returns-else-eq-6 c =
     no_line_of c.args.first.now (left c.args.words.now)
-    (is_other c.args.first.now _ (codes "names") _ (slice_eq-Decides Decides-eqb _ _ _ c.eq.ensures).1 c.as_slice.ensures c.if-eq.false)
-    (is_other c.args.first.now _ (codes "past") _ (slice_eq-Decides Decides-eqb _ _ _ c.eq-else-eq.ensures).1 c.as_slice-else-eq.ensures c.if-eq-2.false)
-    (is_other c.args.first.now _ (codes "log") _ (slice_eq-Decides Decides-eqb _ _ _ c.eq-else-eq-2.ensures).1 c.as_slice-else-eq-2.ensures c.if-eq-3.false)
+    (is_other c.args.first.now _ (codes "move") _ (slice_eq-Decides Decides-eqb _ _ _ c.eq.ensures).1 c.as_slice.ensures c.if-eq.false)
+    (is_other c.args.first.now _ (codes "to") _ (slice_eq-Decides Decides-eqb _ _ _ c.eq-else-eq.ensures).1 c.as_slice-else-eq.ensures c.if-eq-2.false)
+    (is_other c.args.first.now _ (codes "actor") _ (slice_eq-Decides Decides-eqb _ _ _ c.eq-else-eq-2.ensures).1 c.as_slice-else-eq-2.ensures c.if-eq-3.false)
+    (is_other c.args.first.now _ (codes "names") _ (slice_eq-Decides Decides-eqb _ _ _ c.eq-else-eq-3.ensures).1 c.as_slice-else-eq-3.ensures c.if-eq-4.false)
+    (is_other c.args.first.now _ (codes "past") _ (slice_eq-Decides Decides-eqb _ _ _ c.eq-else-eq-4.ensures).1 c.as_slice-else-eq-4.ensures c.if-eq-5.false)
+    (is_other c.args.first.now _ (codes "log") _ (slice_eq-Decides Decides-eqb _ _ _ c.eq-else-eq-5.ensures).1 c.as_slice-else-eq-5.ensures c.if-eq-6.false)

@@ -7,7 +7,8 @@ use Rattle.history_model.specs.Stage.{opens}
 use Rattle.history_word.proofs.TableLaws.{run_on}
 use Rattle.history_word.specs.Taking.{Took, AsksForMore}
 use Rattle.history_word.specs.Progress.{StopsFrom, IsCauseOf}
-use Rattle.history_word.specs.Drafts.{place_of, HasCome}
+use Rattle.history_word.specs.Drafts.{place_of}
+use Rattle.history_word.specs.Come.{HasCome}
 use Rattle.history_word.specs.declared.place.Place.TheVariants as place
 use Rattle.history_word.proofs.TakingLemmas.{asks_then, took_then, took_none}
 use Rattle.history_word.proofs.StopLemmas.{stops_then}
@@ -47,11 +48,11 @@ returns-in-Some g c =
     let i = c.loop-alloc.invariant in
     let done : c.loop-alloc.place ≡ place.Done = search rules in
     let come = subst (λ p. HasCome p c.loop-alloc.draft i.0) done i.3 in
-    (parts_text i.0, i.1, (come.0, spells i.0 (place_of c.loop-alloc.place) c.loop-alloc.draft come.0 i.2 come.1 come.2, c.in-Some.ensures come.0 come.2, i.4))
+    (parts_text i.0, i.1, (come.0, spells i.0 (place_of c.loop-alloc.place) c.loop-alloc.draft come.0 i.2 come.1 come.2, c.in-Some.ensures come.0 come.2.has, i.4))
 
 pub returns-in-None : goal.returns-in-None
 returns-in-None g c =
     let i = c.loop-alloc.invariant in
     let done : c.loop-alloc.place ≡ place.Done = search rules in
     let come = subst (λ p. HasCome p c.loop-alloc.draft i.0) done i.3 in
-    (parts_text i.0, i.1, (come.0, spells i.0 (place_of c.loop-alloc.place) c.loop-alloc.draft come.0 i.2 come.1 come.2, c.is_changing-is_changing.ensures come.0 come.2, i.4))
+    (parts_text i.0, i.1, (come.0, spells i.0 (place_of c.loop-alloc.place) c.loop-alloc.draft come.0 i.2 come.1 come.2, c.is_changing-is_changing.ensures come.0 come.2.has, i.4))

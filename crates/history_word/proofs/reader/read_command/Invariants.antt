@@ -3,7 +3,8 @@ use Rattle.history_model.specs.Spelling.{Part, parts_text}
 use Rattle.history_word.specs.TableRuns.{at, reached}
 use Rattle.history_word.specs.Buffer.{work}
 use Rattle.history_word.specs.Taking.{Took, AsksForMore}
-use Rattle.history_word.specs.Drafts.{place_of, HasCome}
+use Rattle.history_word.specs.Drafts.{place_of}
+use Rattle.history_word.specs.Come.{HasCome}
 use Rattle.history_word.proofs.reader.read_command.Given as goal
 
 abbrev pub invariant-loop-alloc : goal.invariant-loop-alloc

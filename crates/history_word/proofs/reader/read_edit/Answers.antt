@@ -13,7 +13,7 @@ use Rattle.history_word.specs.declared.command.Edit.TheVariants.{Remove, RemoveF
 use Rattle.history_word.specs.Progress.{IsNoField, StopsFrom}
 use Rattle.history_word.proofs.TakingLemmas.{asks_then, took_then, took_none}
 use Rattle.history_word.proofs.StopLemmas.{stops_then}
-use Rattle.history_word.proofs.LineEndLemmas.{field_first_stops, field_second_stops, one_text, two_line_texts}
+use Rattle.history_word.proofs.LineEndLemmas.{field_first_stops, field_second_stops, one_text, two_texts}
 use Rattle.history_word.proofs.reader.read_edit.Goals as goal
 
 -- a path that found memory is made an edit
@@ -67,7 +67,7 @@ returns-in_ok-content-in-Put g c =
         record {
           line_is = model.PutLine c.in-Put.kind a.2.0 b.2.0;
           heads = (refl, sym a.2.1, sym b.2.1);
-          spelled = two_line_texts a.0 b.0 a.2.0 b.2.0 a.2.2 b.2.2;
+          spelled = two_texts a.0 b.0 a.2.0 b.2.0 a.2.2 b.2.2;
           is = c.put.ensures a.2.0 b.2.0 a.2.3 b.2.3;
         },
         asks_then g.R.Source.left g.R.Source.readings _ _ _ _ _ a.0 b.0 a.1 a.2.4 b.2.4,
@@ -84,7 +84,7 @@ returns-in_ok-path-in-Remove g c =
         record {
           line_is = model.RemoveLine a.2.0;
           heads = sym a.2.1;
-          spelled = one_text [] a.0 a.2.0 a.2.2;
+          spelled = one_text a.0 a.2.0 a.2.2;
           is = edit_of Remove c.in_ok-path-in-Remove.path c.map.result a.2.0 (model.RemoveLine a.2.0) c.map.ensures.cases a.2.3 (λ x k. k);
         },
         a.2.4,
@@ -101,7 +101,7 @@ returns-in_ok-path-in-RemoveFile g c =
         record {
           line_is = model.RemoveFileLine a.2.0;
           heads = sym a.2.1;
-          spelled = one_text [] a.0 a.2.0 a.2.2;
+          spelled = one_text a.0 a.2.0 a.2.2;
           is = edit_of RemoveFile c.in_ok-path-in-RemoveFile.path c.map-in-RemoveFile.result a.2.0 (model.RemoveFileLine a.2.0) c.map-in-RemoveFile.ensures.cases a.2.3 (λ x k. k);
         },
         a.2.4,

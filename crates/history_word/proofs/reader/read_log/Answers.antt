@@ -27,7 +27,7 @@ returns-in_default-2 g c =
     let a = c.in_ok-path.ensures in (
       a.0,
       a.1,
-      (record { path = Some a.2.0; heads = c.in-Some.is ∙ ap Some (sym a.2.1); spelled = one_text [] a.0 a.2.0 a.2.2; is = λ order h. tt }, a.2.4),
+      (record { path = Some a.2.0; heads = c.in-Some.is ∙ ap Some (sym a.2.1); spelled = one_text a.0 a.2.0 a.2.2; is = λ order h. tt }, a.2.4),
     )
 
 pub returns : goal.returns
@@ -39,7 +39,7 @@ returns g c =
         record {
           path = Some a.2.0;
           heads = c.in-Some.is ∙ ap Some (sym a.2.1);
-          spelled = one_text [] a.0 a.2.0 a.2.2;
+          spelled = one_text a.0 a.2.0 a.2.2;
           is = λ order h. c.finish-2.ensures order (Some a.2.0) h (rw c.in-Some-2.is at a.2.3);
         },
         a.2.4,
