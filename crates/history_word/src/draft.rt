@@ -141,7 +141,7 @@ impl Draft {
         Draft::Commit(CommitDraft::new(alloc, name, expect))
     }
 
-    pub(crate) fn moves(alloc: Global) -> Self
+    pub(crate) fn new_move(alloc: Global) -> Self
         ensures { (order : model.MoveCommand) → order.to ≡ [] → IsDraft result (model.Move order) }
     {
         Draft::Move(MoveDraft::new(alloc))

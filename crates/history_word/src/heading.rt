@@ -256,7 +256,7 @@ fn log(alloc: Global, words: &mut Words) -> Option<Heading>
 }
 
 /// What follows `move`: nothing.
-fn moves(words: &Words) -> Option<Heading>
+fn move_line(words: &Words) -> Option<Heading>
     ensures { Says result (end_of_words MoveHeading (left words.now)) }
 {
     if words.is_done() {
@@ -271,7 +271,7 @@ fn said_of_names(alloc: Global, first: &[u8], words: &mut Words) -> Option<Headi
     ensures { Says result (name_heading_of first.now (left words.old)) }
 {
     if first == b"move".as_slice() {
-        moves(words)
+        move_line(words)
     } else if first == b"to".as_slice() {
         to(alloc, words)
     } else if first == b"actor".as_slice() {

@@ -231,7 +231,7 @@ fn read_opening<R: Source>(
 {
     match opening {
         Opening::Commit { name, expect } => Ok(Draft::commit(alloc, name, expect)),
-        Opening::Move => Ok(Draft::moves(alloc)),
+        Opening::Move => Ok(Draft::new_move(alloc)),
         Opening::Files { word } => Ok(Draft::Files(word)),
         Opening::Show { word } => Ok(Draft::show(word)),
         Opening::ShowPath { word, path } => {

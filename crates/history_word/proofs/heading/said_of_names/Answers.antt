@@ -11,7 +11,7 @@ use Rattle.history_word.proofs.heading.said_of_names.Goals as goal
 pub returns-then-eq : goal.returns-then-eq
 returns-then-eq c =
     let name = (slice_eq-Decides Decides-eqb _ _ _ c.eq.ensures).0 c.if-eq.true ∙ c.as_slice.ensures in
-    subst (λ first. Says c.moves.result (name_heading_of first (left c.args.words.now))) (sym name) c.moves.ensures
+    subst (λ first. Says c.move_line.result (name_heading_of first (left c.args.words.now))) (sym name) c.move_line.ensures
 
 pub returns-then-eq-2 : goal.returns-then-eq-2
 returns-then-eq-2 c =

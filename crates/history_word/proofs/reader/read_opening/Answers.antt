@@ -13,7 +13,7 @@ pub returns-in-Commit : goal.returns-in-Commit
 returns-in-Commit g c = rw (c.in-Commit.is) ([], took_none g.R.Source.left g.R.Source.readings c.args.source.now c.args.buffer.now, (commit_opens c.in-Commit.name c.in-Commit.expect _ c.commit.ensures, λ _. refl))
 
 pub returns-in-Move : goal.returns-in-Move
-returns-in-Move g c = rw (c.in-Move.is) ([], took_none g.R.Source.left g.R.Source.readings c.args.source.now c.args.buffer.now, (move_opens _ c.moves.ensures, λ _. refl))
+returns-in-Move g c = rw (c.in-Move.is) ([], took_none g.R.Source.left g.R.Source.readings c.args.source.now c.args.buffer.now, (move_opens _ c.new_move.ensures, λ _. refl))
 
 pub returns-in-Files : goal.returns-in-Files
 returns-in-Files g c = rw (c.in-Files.is) ([], took_none g.R.Source.left g.R.Source.readings c.args.source.now c.args.buffer.now, (files_opens c.in-Files.word, λ _. refl))
