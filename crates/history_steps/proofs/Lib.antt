@@ -13,3 +13,4 @@ pub mod PassedMoves
 pub mod PassedNames
 pub mod PassedStates
 pub mod PassedMoments
+pub mod MoveLines

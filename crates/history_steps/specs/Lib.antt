@@ -5,3 +5,4 @@ pub mod CommitSteps
 pub mod Passing
 pub mod Offered
 pub mod OfferedWords
+pub mod MoveSteps

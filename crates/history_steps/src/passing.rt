@@ -1,6 +1,7 @@
 //! Laws on what the two parts pass through while a command is acted on, over the definitions alone.
 
 ghost use Rattle.history_steps.specs.Passing.{PutsPass, CommitsStoreWhole, StoringStops, MovesPass, MovingStops, ActsLater, ActsThen, SomeStops, FirstAreSome, NamesPass, NamesBegin};
+ghost use Rattle.history_steps.specs.MoveSteps.{LinesFit, LinesMove, LinesPass};
 
 /// While a value is put that takes no id, the values that stood are there once recovered, and the value whole or not at all.
 pub fn puts_pass()
@@ -56,4 +57,19 @@ pub fn names_pass()
 /// Files that stand for a repository are at the beginning of the way of each command.
 pub fn names_begin()
     ensures { NamesBegin }
+{}
+
+/// Where the names of a move's first lines have moved, the name of the next may come to stand.
+pub fn lines_fit()
+    ensures { LinesFit }
+{}
+
+/// The move of its files moves it.
+pub fn lines_move()
+    ensures { LinesMove }
+{}
+
+/// Meanwhile each name, once recovered, is as before the command or as after it.
+pub fn lines_pass()
+    ensures { LinesPass }
 {}
