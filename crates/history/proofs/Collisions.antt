@@ -29,7 +29,7 @@ none_any p (x ∷ xs) h = go (p x) h (none_any p xs)
     go true h rest = cc
     go false h rest = rest h
 
-all_not : {X : Type 0} (p : X → Bool) (xs : List X) → list_any p xs ≡ false → list_all (λ x. not (p x)) xs ≡ true
+pub all_not : {X : Type 0} (p : X → Bool) (xs : List X) → list_any p xs ≡ false → list_all (λ x. not (p x)) xs ≡ true
 all_not p [] h = refl
 all_not p (x ∷ xs) h = go (p x) h (all_not p xs)
   where
@@ -52,6 +52,13 @@ below_itself name = go name
 
 pub above_it : (place path : Bytes) → is_below place path ≡ true → IsAbove place path
 above_it place path h = (drop (length (place ++ 47 ∷ [])) path, begins_parts (place ++ 47 ∷ []) path h ∙ append_assoc place (47 ∷ []) (drop (length (place ++ 47 ∷ [])) path))
+
+-- a name that collides with none that stands may stand beside them
+pub fits_free : (r : plain.Repository) (name : Bytes) → is_name name ≡ true → list_any (do_collide name) (keys r.names) ≡ false → FitsAmong r name
+fits_free r name formed none = record {
+  named = formed;
+  apart = λ other there. not-true (do_collide name other) (each_key (λ k. not (do_collide name k)) r.names (all_not (do_collide name) (keys r.names) none) other there);
+}
 
 module _ (r : plain.Repository) (order : CommitCommand) where
   abbrev name : Bytes
@@ -80,7 +87,7 @@ module _ (r : plain.Repository) (order : CommitCommand) where
     where
       by_standing_name : (s : Bool) → stands r name ≡ s → (other : Bytes) → stands r other ≡ true → do_collide name other ≡ false
       by_standing_name true is other there = or_from (is_below name other) (is_below other name) (whole.apart name other is there) (whole.apart other name there is)
-      by_standing_name false is other there = not-true (do_collide name other) (each_key (λ k. not (do_collide name k)) r.names (all_not (do_collide name) (keys r.names) (sym (new_collides is) ∙ none)) other there)
+      by_standing_name false is other there = (fits_free r name formed (sym (new_collides is) ∙ none)).apart other there
 
   pub place_told : (found : Bool) → some_collide r (Commit order) ≡ found → first_among place_causes r (Commit order) ≡ cond found (Some Collides) None
   place_told found is = ap (λ b. cond b (Some Collides) None) is

@@ -54,7 +54,7 @@ moved_is_name r order written none =
     named_so r order written (passed _ BadName _ None bad.0 (passed _ PrivateName None None private.0 refl))
 
 -- a name that stands is one
-name_formed : (r : plain.Repository) → IsWritten r → (name : Bytes) → stands r name ≡ true → is_name name ≡ true
+pub name_formed : (r : plain.Repository) → IsWritten r → (name : Bytes) → stands r name ≡ true → is_name name ≡ true
 name_formed r written name stood = of_ref (get r.names name) refl stood
   where
     of_ref : (o : Option Reference) → get r.names name ≡ o → is_some o ≡ true → is_name name ≡ true

@@ -22,16 +22,16 @@ use Rattle.history.specs.Stands.{pair_of}
 use Rattle.history.specs.Serving.{Serves}
 use Rattle.history.specs.Halves.{NamesStand}
 use Rattle.history.specs.declared.repository.Repository.{Repository}
-use Rattle.history.proofs.Collisions.{none_any, above_it, new_collides, fits_so}
+use Rattle.std.specs.List.{list_any}
+use Rattle.history.proofs.Collisions.{none_any, above_it, fits_free, new_collides}
 use Rattle.history.proofs.Commits.{names_stand}
-use Rattle.history.proofs.Moving.{way}
+use Rattle.history.proofs.MovedNames.{way}
 use Rattle.history.proofs.NameReads.{file_stands}
 use Rattle.std.proofs.lemmas.Bool.{or_from}
 
 -- ---- a repository with its files
 
-module _ {F : Type 0} (IsHonest : F → Type 0) (history : F → History) (repository : Repository F) (r : plain.Repository) (order : CommitCommand) (stand : Serves IsHonest history repository r)
-    (formed : is_name (branch_or_name r order.name) ≡ true) (new : stands r (branch_or_name r order.name) ≡ false) where
+module _ {F : Type 0} (IsHonest : F → Type 0) (history : F → History) (repository : Repository F) (r : plain.Repository) (stand : Serves IsHonest history repository r) (name : Bytes) (formed : is_name name ≡ true) where
   abbrev tree : Tree
   tree = (history (names_part repository)).tree
 
@@ -42,31 +42,44 @@ module _ {F : Type 0} (IsHonest : F → Type 0) (history : F → History) (repos
   no_file path there none = absurd (cc (sym there ∙ ap is_some none))
 
   -- a file that stands in the way is another name's
-  pub collision : TellsCollision (branch_or_name r order.name) tree true → some_collide r (Commit order) ≡ true
-  collision (other, beside, there) = go (some_collide r (Commit order)) refl
+  in_the_way : TellsCollision name tree true → list_any (do_collide name) (keys r.names) ≡ true
+  in_the_way (other, beside, there) = go (list_any (do_collide name) (keys r.names)) refl
     where
-      in_the_way : {A : Type 0} → HasWay (branch_or_name r order.name) tree → (IsAbove other (branch_or_name r order.name) ⊎ IsAbove (branch_or_name r order.name) other) → A
-      in_the_way clear (inl above) = no_file other there (clear.above other above)
-      in_the_way clear (inr below) = no_file other there (clear.below other below)
+      barred : {A : Type 0} → HasWay name tree → (IsAbove other name ⊎ IsAbove name other) → A
+      barred clear (inl above) = no_file other there (clear.above other above)
+      barred clear (inr below) = no_file other there (clear.below other below)
 
-      go : (b : Bool) → some_collide r (Commit order) ≡ b → some_collide r (Commit order) ≡ true
+      go : (b : Bool) → list_any (do_collide name) (keys r.names) ≡ b → list_any (do_collide name) (keys r.names) ≡ true
       go true is = is
-      go false is = in_the_way (way r tree parts.holds parts.named (branch_or_name r order.name) (fits_so r order stand.stands.whole.whole.names formed is)) beside
+      go false is = barred (way r tree parts.holds parts.named name (fits_free r name formed is)) beside
 
   -- with a clear way there is no such name
-  pub no_collision : HasWay (branch_or_name r order.name) tree → some_collide r (Commit order) ≡ false
-  no_collision clear = new_collides r order new ∙ none_any (do_collide (branch_or_name r order.name)) (keys r.names) (all_keys (λ k. not (do_collide (branch_or_name r order.name) k)) r.names (λ k there. ap not (apart k there)))
+  clear_way : HasWay name tree → list_any (do_collide name) (keys r.names) ≡ false
+  clear_way clear = none_any (do_collide name) (keys r.names) (all_keys (λ k. not (do_collide name k)) r.names (λ k there. ap not (apart k there)))
     where
       has_file : (k : Bytes) → contains_key r.names k ≡ true → {A : Type 0} → file_at tree k ≡ None → A
       has_file k there none = let f = file_stands (pair_of history repository) r stand.stands.whole.stands stand.stage.unpacked k there in absurd (cc (sym none ∙ f.1))
 
-      apart : (k : Bytes) → contains_key r.names k ≡ true → do_collide (branch_or_name r order.name) k ≡ false
-      apart k there = or_from _ _ (below (is_below (branch_or_name r order.name) k) refl) (above (is_below k (branch_or_name r order.name)) refl)
+      apart : (k : Bytes) → contains_key r.names k ≡ true → do_collide name k ≡ false
+      apart k there = or_from _ _ (below (is_below name k) refl) (above (is_below k name) refl)
         where
-          below : (b : Bool) → is_below (branch_or_name r order.name) k ≡ b → is_below (branch_or_name r order.name) k ≡ false
+          below : (b : Bool) → is_below name k ≡ b → is_below name k ≡ false
           below false is = is
-          below true is = has_file k there (clear.below k (above_it (branch_or_name r order.name) k is))
+          below true is = has_file k there (clear.below k (above_it name k is))
 
-          above : (b : Bool) → is_below k (branch_or_name r order.name) ≡ b → is_below k (branch_or_name r order.name) ≡ false
+          above : (b : Bool) → is_below k name ≡ b → is_below k name ≡ false
           above false is = is
-          above true is = has_file k there (clear.above k (above_it k (branch_or_name r order.name) is))
+          above true is = has_file k there (clear.above k (above_it k name is))
+
+  pub collision_told : (found : Bool) → TellsCollision name tree found → list_any (do_collide name) (keys r.names) ≡ found
+  collision_told true told = in_the_way told
+  collision_told false told = clear_way told
+
+-- of the name of a commit
+module _ {F : Type 0} (IsHonest : F → Type 0) (history : F → History) (repository : Repository F) (r : plain.Repository) (order : CommitCommand) (stand : Serves IsHonest history repository r)
+    (formed : is_name (branch_or_name r order.name) ≡ true) (new : stands r (branch_or_name r order.name) ≡ false) where
+  pub collision : TellsCollision (branch_or_name r order.name) (history (names_part repository)).tree true → some_collide r (Commit order) ≡ true
+  collision told = new_collides r order new ∙ collision_told IsHonest history repository r stand (branch_or_name r order.name) formed true told
+
+  pub no_collision : HasWay (branch_or_name r order.name) (history (names_part repository)).tree → some_collide r (Commit order) ≡ false
+  no_collision clear = new_collides r order new ∙ collision_told IsHonest history repository r stand (branch_or_name r order.name) formed false clear

@@ -1,6 +1,7 @@
 -- Where a message's title ends, and what its first 1,025 bytes tell of it.
-use Rattle.std.proofs.Common.{◌≡◌, ℕ, zero, suc, ◌<◌, Bool, true, false, cond, not, ◌||◌, [], ◌∷◌, length, take, refl, sym, ◌∙◌, ap, nat_lt, ◌==◌, Some, None, arith, length-take}
+use Rattle.std.proofs.Common.{◌≡◌, ℕ, zero, suc, ◌<◌, ◌≤◌, Bool, true, false, cond, not, ◌||◌, [], ◌∷◌, length, take, refl, sym, ◌∙◌, ap, nat_lt, ◌==◌, Some, None, arith, length-take}
 use Rattle.std.specs.List.{list_any, position, position_or_len}
+use Rattle.std.proofs.lemmas.Bool.{or_parts}
 use Rattle.std.proofs.lemmas.List.{take_all}
 use Rattle.std.proofs.lemmas.List.Sums.{take_while-cons}
 use borrow.Author.Tests.{ltb-true, ltb-false}
@@ -61,6 +62,40 @@ bad_front text = by_test (nat_lt max_kept (length text)) refl
 pub bad_kept : (limit : ℕ) (field : Field) (message : Bytes) → Keeps limit field message → is_bad_title (title (kept_bytes field)) ≡ is_bad_title (title message)
 bad_kept limit (Whole kept) message h = ap (λ m. is_bad_title (title m)) h.1
 bad_kept limit (TooLong kept) message h = ap (λ m. is_bad_title (title m)) h.1 ∙ ap is_bad_title (title_front max_kept message) ∙ bad_front (title message)
+
+-- ---- messages of one line
+
+one_line : (message : Bytes) → has_byte 10 message ≡ false → title message ≡ message
+one_line [] none = refl
+one_line (b ∷ message) none =
+    let parts = or_parts (b == 10) (has_byte 10 message) none in
+    take_while-cons (λ c. not (c == 10)) b message ∙ ap (λ t. cond (not t) (b ∷ title message) []) parts.0 ∙ ap (λ rest. b ∷ rest) (one_line message parts.1)
+
+-- a second line is bad, and without one the whole message is the title
+line_told : (message : Bytes) → (is_bad_title (title message) || has_byte 10 message) ≡ (is_bad_title message || has_byte 10 message)
+line_told message = go (has_byte 10 message) refl
+  where
+    or_true : (b : Bool) → (b || true) ≡ true
+    or_true true = refl
+    or_true false = refl
+
+    go : (b : Bool) → has_byte 10 message ≡ b → (is_bad_title (title message) || has_byte 10 message) ≡ (is_bad_title message || has_byte 10 message)
+    go true e = (λ i. is_bad_title (title message) || e i) ∙ or_true (is_bad_title (title message)) ∙ sym ((λ i. is_bad_title message || e i) ∙ or_true (is_bad_title message))
+    go false e = ap (λ t. is_bad_title t || has_byte 10 message) (one_line message e)
+
+-- What is kept of a message tells whether it is one line that can be a title.
+pub bad_line_kept : (limit : ℕ) (field : Field) (message : Bytes) → max_title ≤ limit → Keeps limit field message → (is_bad_title (kept_bytes field) || has_byte 10 (kept_bytes field)) ≡ (is_bad_title (title message) || has_byte 10 message)
+bad_line_kept limit (Whole kept) message wide h = ap (λ m. is_bad_title m || has_byte 10 m) h.1 ∙ sym (line_told message)
+bad_line_kept limit (TooLong kept) message wide h =
+    ap (λ m. is_bad_title m || has_byte 10 m) h.1
+    ∙ ap (λ b. b || has_byte 10 (take max_kept message)) (bad_front message ∙ too_long message (omega (arith, wide, h.0)))
+    ∙ sym (line_told message ∙ ap (λ b. b || has_byte 10 message) (too_long message (omega (arith, wide, h.0))))
+
+-- and so a message that is none is kept whole
+pub good_line_kept : (limit : ℕ) (field : Field) (message : Bytes) → max_title ≤ limit → Keeps limit field message → (is_bad_title (title message) || has_byte 10 message) ≡ false → kept_bytes field ≡ message
+good_line_kept limit (Whole kept) message wide h good = h.1
+good_line_kept limit (TooLong kept) message wide h good =
+    let bad = line_told message ∙ ap (λ b. b || has_byte 10 message) (too_long message (omega (arith, wide, h.0))) in absurd (cc (sym good ∙ bad))
 
 -- ---- bytes that stand in no title
 

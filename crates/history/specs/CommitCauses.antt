@@ -50,16 +50,23 @@ abbrev pub form_causes : List Cause
 form_causes = path_causes ++ (NoSuchPath ∷ BadActor ∷ BadTime ∷ BadMessage ∷ [])
 
 -- the first of these causes that holds is told, or a fault was met
+abbrev pub IsToldOf : Type 0 → List Cause → plain.Repository → Command → Stopped → Type 0
+IsToldOf MayFail causes r command (Refused cause) = first_among causes r command ≡ Some cause
+IsToldOf MayFail causes r command (Fault fault) = IsReadingFault MayFail (Fault fault)
+
 abbrev pub IsToldBy : Type 0 → List Cause → plain.Repository → CommitCommand → Stopped → Type 0
-IsToldBy MayFail causes r order (Refused cause) = first_among causes r (Commit order) ≡ Some cause
-IsToldBy MayFail causes r order (Fault fault) = IsReadingFault MayFail (Fault fault)
+IsToldBy MayFail causes r order = IsToldOf MayFail causes r (Commit order)
 
 -- None of these causes holds, and this is what is meant; or the first is told, or a fault was met.
+abbrev pub TestsOf : {T : Type 0} → Type 0 → List Cause → plain.Repository → Command
+    → (T → Type 0) → Result T Stopped → Type 0
+TestsOf MayFail causes r command IsMeant (Ok value) =
+    (first_among causes r command ≡ None) × IsMeant value
+TestsOf MayFail causes r command IsMeant (Err stopped) = IsToldOf MayFail causes r command stopped
+
 abbrev pub Tests : {T : Type 0} → Type 0 → List Cause → plain.Repository → CommitCommand
     → (T → Type 0) → Result T Stopped → Type 0
-Tests MayFail causes r order IsMeant (Ok value) =
-    (first_among causes r (Commit order) ≡ None) × IsMeant value
-Tests MayFail causes r order IsMeant (Err stopped) = IsToldBy MayFail causes r order stopped
+Tests MayFail causes r order = TestsOf MayFail causes r (Commit order)
 
 -- why a repository can't hold a name
 abbrev pub form_cause : Bytes → Option Cause

@@ -39,7 +39,7 @@ pub(crate) struct Base {
 
 /// What is expected of a name, its word read.
 #[derive(Clone, Copy, Debug, PartialEq, Eq)]
-enum Expected {
+pub(crate) enum Expected {
     Any,
     New,
     At(WordMeaning),
@@ -88,7 +88,7 @@ impl Expected {
 }
 
 /// Tests that the words read: an unknown one is told before HEAD without a commit.
-fn test_words(expected: Expected, parents: &[WordMeaning]) -> Result<(), Cause>
+pub(crate) fn test_words(expected: Expected, parents: &[WordMeaning]) -> Result<(), Cause>
     ensures { MatchResult result
         (λ _. words_cause (expected_meanings expected ++ map meaning_of parents.now) ≡ None)
         (λ cause. words_cause (expected_meanings expected ++ map meaning_of parents.now)
@@ -147,8 +147,8 @@ fn test_parents(parents: &[ObjectId]) -> Result<(), Cause>
 }
 
 impl<F: Files> Repository<F> {
-    /// What is expected of a commit's name, its word read.
-    fn read_expected(&self, alloc: Global, expect: &Expect) -> Result<Expected, Stopped>
+    /// What is expected of a name, its word read.
+    pub(crate) fn read_expected(&self, alloc: Global, expect: &Expect) -> Result<Expected, Stopped>
         ensures { (r : plain.Repository) (order : orders.Expect)
             → Serves F.is_honest F.history self.now r → IsExpect expect.now order
             → GivesMeant F.reading_may_fail (IsExpected r order) result }

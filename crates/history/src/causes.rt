@@ -29,7 +29,7 @@ pub(crate) struct Times {
 }
 
 /// Whether a title is empty, over its limit, or holds a byte that can't stand in a log's line.
-fn is_bad_title(title: &[u8]) -> bool
+pub(crate) fn is_bad_title(title: &[u8]) -> bool
     ensures { result ≡ is_bad_title title.now }
 {
     title.is_empty()

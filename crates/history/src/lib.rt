@@ -15,6 +15,7 @@ mod fields;
 mod listed;
 mod listing;
 mod log;
+mod moving;
 mod naming;
 mod open;
 mod past;

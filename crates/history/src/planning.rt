@@ -153,7 +153,7 @@ fn read_actors(
 }
 
 /// The move of a name from one id to another, of which its log tells with this actor and message.
-fn moves_to(
+pub(crate) fn moves_to(
     name: Vec<u8>,
     before: ObjectId,
     after: ObjectId,

@@ -10,8 +10,9 @@ from pathlib import Path
 sys.path.insert(0, str(Path(__file__).resolve().parents[3] / "scripts"))
 sys.path.insert(0, str(Path(__file__).resolve().parent))
 import by_git
+from git_moves import Moved
 from case_words import word, write
-from plain import Plain
+from plain import Plain, Reader
 
 ROWS = []
 KINDS = {"sha1": by_git.SHA1, "sha256": by_git.SHA256}
@@ -187,6 +188,92 @@ def of_names():
                (b"past nosuch", "BadName"), (b"past refs/heads/nosuch", "NoSuchName"), (b"past refs/heads", "NoSuchName"),
                (b"past refs/bisect/x", "PrivateName"), (b"past x", "BadName"), (b"past a..b", "BadName"), (b"past refs/a..b", "BadName")]
     runs((made,), *((line + b"\n", cause) for line, cause in refused), (b"names\n",), by_git_alone=False)
+
+
+BY = b"actor 1 3 %d +0000\nA\na@b\nmessage %d\n%s\nend\n"
+
+
+def move(*lines, seconds=9, message=b"all"):
+    return b"move\n" + b"".join(b"to %s\n" % line for line in lines) + BY % (seconds, len(message), message)
+
+
+def as_git_moves(kind, made, command):
+    """Stops where git makes of a move's transaction other names or logs, or where git makes it and the plain repository doesn't."""
+    plain = Plain(kind)
+    plain.run(made)
+    git = Moved(plain)
+    _, lines, actor, message = Reader(command).command()
+    held = {b"any": lambda name, more: plain.names.get(name, plain.null), b"new": lambda name, more: plain.null,
+            b"at": lambda name, more: plain.resolve(more[0])}
+    told_ = [(name, held[how](name, more), plain.resolve(target)) for name, (how, *more), target in lines]
+    _, ((reply, _),) = plain.run(command)
+    assert git.move(told_, actor, message) == (reply == b"ok move\n"), (command, reply)
+    assert git.holds(plain), command
+
+
+def moves():
+    """One name and several, new, expected and not, and what their logs tell then; each cause, and which of two is told."""
+    main, x, y, v = b"refs/heads/main", b"refs/heads/x", b"refs/heads/y", b"refs/tags/v"
+    made = branch(main + b" new", 1) + branch(x + b" new", 2, b"parent main\n") + branch(main + b" any", 3) + branch(y + b" new", 4)
+    accepted = [
+        move(v + b" new main"), move(v + b" any main"), move(v + b" any HEAD"), move(x + b" any main"), move(x + b" at x y"),
+        move(x + b" at refs/heads/x HEAD", message=b"m" * 1024), move(x + b" any main", y + b" any main", v + b" new main"),
+        # Each word reads as before the command, whatever the lines before it move.
+        move(x + b" any y", y + b" any x"), move(main + b" at main x", x + b" at x main"), move(x + b" any y", v + b" new x"),
+        move(y + b" any x", x + b" any main", main + b" any y", v + b" new HEAD"), move(main + b" any y", v + b" new HEAD"),
+        move(v + b"/w new y", b"refs/x any y", b"refs/a/b/c any main", b"refs/a/b/d new x"),
+        move(b"refs/heads/x0 new x", b"refs/heads/x.y new y", b"refs/heads/x-y any main")]
+    for command in accepted:
+        plain = Plain("sha1")
+        plain.run(made + command)
+        runs((made,), (command,), (b"names\n",), *((b"past %s\n" % name,) for name in sorted(plain.names)), by_git_alone=False)
+        for kind in KINDS:
+            as_git_moves(kind, made, command)
+    runs((made,), *((accepted[number],) for number in (0, 3, 7)), (b"past x\n",), (b"log breadth all +x\n",), by_git_alone=False)
+    git_refuses = [
+        (move(b"refs/heads/t at x main"), "NoSuchName"), (move(x + b" new main"), "Taken"), (move(x + b" at main y"), "NotExpected"),
+        (move(x + b"/z any main"), "Collides"), (move(b"refs/heads any main"), "Collides"),
+        (move(b"refs/t any main", b"refs/t/u any x"), "Collides"), (move(b"refs/t/u new main", b"refs/t new x"), "Collides"),
+        (move(x + b" any main", x + b"/z new y"), "Collides"), (move(v + b" any main", v + b" any x"), "NameTwice"),
+        (move(v + b" new main", x + b" new main"), "Taken"), (move(v + b" new main", x + b" at main y"), "NotExpected"),
+        (move(x + b" any y", y + b" at x main"), "NotExpected")]
+    for command, cause in git_refuses:
+        runs((made,), (command, cause), (b"names\n",), by_git_alone=False)
+        for kind in KINDS:
+            as_git_moves(kind, made, command)
+    refused_moves(made)
+
+
+def refused_moves(made):
+    """The causes of a move, each where it is the first of two that hold, on one line or on two, and nothing is changed."""
+    main, x, y, v = b"refs/heads/main", b"refs/heads/x", b"refs/heads/y", b"refs/tags/v"
+    bad = b"actor 0 3 9 +0000\n\na@b\nmessage 0\n\nend\n"
+    late = b"actor 1 3 9 +0060\nA\na@b\nmessage 0\n\nend\n"
+    refused = [
+        (move(v + b" new main", v + b"2 new nosuch"), "UnknownWord"), (move(main + b" any main"), "NothingMoves"),
+        (move(b"HEAD any x"), "BadName"), (move(b"x any main"), "BadName"), (move(b"refs/bisect/x any nosuch", b"x any nosuch"), "BadName"),
+        (move(b"refs/bisect/x any nosuch", b"refs/bisect/x any nosuch"), "PrivateName"),
+        (move(x + b" any nosuch", x + b" any nosuch"), "NameTwice"), (move(x + b" at nosuch x", y + b" new main"), "UnknownWord"),
+        (move(y + b" new main", x + b" at x nosuch"), "UnknownWord"), (move(y + b" new main", x + b" at nosuch x"), "UnknownWord"),
+        (move(v + b" at main x", y + b" new main"), "NoSuchName"), (move(y + b" new main", v + b" at main x"), "NoSuchName"),
+        (move(y + b" at x main", v + b" at main x"), "NoSuchName"), (move(y + b" at x main", x + b" new main"), "Taken"),
+        (move(x + b"/z any main", y + b" at x main"), "NotExpected"), (move(v + b" any main", v + b"/w any main", y + b" new x"), "Taken"),
+        (b"move\nto " + x + b"/z any main\n" + bad, "Collides"), (b"move\nto " + x + b" any main\n" + bad, "BadActor"),
+        (b"move\nto " + x + b" any main\n" + late, "BadTime"), (move(x + b" any x", message=b""), "BadMessage"),
+        (move(x + b" any x", message=b"a\nb"), "BadMessage"), (move(x + b" any y", message=b"a\n"), "BadMessage"),
+        (move(x + b" any y", message=b"\na"), "BadMessage"), (move(x + b" any y", message=b"a\tb"), "BadMessage"),
+        (move(x + b" any y", message=b"a\rb"), "BadMessage"), (move(x + b" any y", message=b"a\0b"), "BadMessage"),
+        (move(x + b" any y", message=b"m" * 1025), "BadMessage"), (move(x + b" any y", message=b"m" * 1024 + b"\n"), "BadMessage"),
+        (move(x + b" any y", y + b" any y"), "NothingMoves"), (move(y + b" any y", x + b" any y"), "NothingMoves"),
+        (move(main + b" at main HEAD", x + b" any y"), "NothingMoves")]
+    for command, cause in refused:
+        runs((made,), (command, cause), (b"names\n",), (b"past x\n",), by_git_alone=False)
+    runs((made,), *refused, (b"names\n",), by_git_alone=False)
+    answer(move(b"refs/heads/x new HEAD") + move(b"refs/heads/x at HEAD main"), "UnbornHead", "UnknownWord")
+    for text in (b"move x\n", b"move\nend\n", b"move\nto refs/heads/x any\n", b"move\nto refs/heads/x at main\n",
+                 b"move\nto refs/heads/x new a b\n", b"move\nto refs/heads/x any main\nmessage 1\n", b"move\nto refs/heads/x any main\nend\n"):
+        answer(PUT_HELLO + text, "Syntax", end="Refused")
+    answer(PUT_HELLO + b"move\nto refs/heads/x any main\n", "Truncated", end="Refused")
 
 
 def as_git_lists(made):
@@ -459,6 +546,30 @@ def stops():
         creation(kind)
 
 
+def move_stops():
+    """A run of two commits and a move of two names that is stopped at each call, or of which each call fails: a stopped move leaves its
+    first name as before, or with its log's line alone, or moved; and then the second, whose log is none's where it doesn't stand."""
+    second = branch(b"refs/heads/x new", 2, b"parent main\n")
+    moving = move(b"refs/heads/main at main x", b"refs/tags/v new main")
+    one_alone = move(b"refs/heads/main at main x")
+    fault = b"fault File\n"
+    for kind in KINDS:
+        plain, first, both, logged, one = (Plain(kind) for _ in range(5))
+        _, replies = plain.run(PUT_HELLO + second + moving)
+        for state, stream in ((first, PUT_HELLO), (both, PUT_HELLO + second), (logged, PUT_HELLO + second + one_alone),
+                              (one, PUT_HELLO + second + one_alone)):
+            state.run(stream)
+        logged.names = both.names
+        ends = [f"created opened Fault:{word(b''.join(reply for reply, _ in replies[:count]) + fault)} " for count in range(3)]
+        closed, whole = f"created File closed {left(plain, 0, False)}", f"created opened {told('Input', replies)} {left(plain)}"
+        for how, kept in [*(("stop", kept) for kept in ["-", 0, 3, 20, 50, 1000]), ("fail", "-")]:
+            made = kept != "-"
+            states = [ends[0] + left(plain, 0, False), ends[0] + left(plain, 3, False), *([ends[0] + left(first)] if made else [])]
+            states += [ends[1] + left_with(plain, first, 3), ends[1] + left_with(plain, first, 4), *([ends[1] + left(both)] if made else [])]
+            states += [ends[2] + left(both), ends[2] + left(logged), ends[2] + left(one), *([ends[2] + left(plain)] if made else [])]
+            each(120, kind, f"create names:{how}:#:{kept} open run:{word(PUT_HELLO + second + moving)} left", [closed, *states, whole])
+
+
 def left_with(plain, first, count):
     """The first so many objects of one repository, under the names of another."""
     return left(plain, count).partition(" names")[0] + " names" + left(first).partition(" names")[2]
@@ -516,8 +627,8 @@ def by_chance(chance, kind):
 
 
 if __name__ == "__main__":
-    for part in (rows, first_causes, two_branches, of_names, logs, path_logs, removals, nested, limits, opening, readings, readers, faults,
-                 log_faults, stops):
+    for part in (rows, first_causes, two_branches, of_names, moves, logs, path_logs, removals, nested, limits, opening, readings, readers, faults,
+                 log_faults, move_stops, stops):
         part()
     chance = random.Random(23)
     for number in range(200):

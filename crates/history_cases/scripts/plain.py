@@ -55,9 +55,21 @@ class Reader:
             return ("show", words[1], self.fields(words[3:])[0])
         if words[0] in (b"names", b"past", b"log"):
             return getattr(self, words[0].decode())(words[1:])
+        if words == [b"move"]:
+            return self.move()
         refuse_where(words[0] != b"commit" or len(words) not in (3, 4), "Syntax")
         refuse_where((len(words) == 4) != (words[2] == b"at") or words[2] not in (b"at", b"any", b"new"), "Syntax")
         return self.commit(words[1], words[2:])
+
+    def move(self):
+        lines, words = [], self.line()
+        while words[0] == b"to" or not lines:
+            refuse_where(len(words) not in (4, 5) or words[0] != b"to" or words[2] not in (b"at", b"any", b"new"), "Syntax")
+            refuse_where((len(words) == 5) != (words[2] == b"at"), "Syntax")
+            lines.append((words[1], words[2:-1], words[-1]))
+            words = self.line()
+        actor, message = self.actor(b"actor", words), self.message()
+        return ("move", lines, actor, message)
 
     def names(self, words):
         refuse_where(len(words) > 1, "Syntax")
@@ -94,11 +106,15 @@ class Reader:
                 break
             words = self.line()
         author, words = self.actor(b"author", words), self.line()
-        committer, words = self.actor(b"committer", words), self.line()
+        committer, message = self.actor(b"committer", words), self.message()
+        return ("commit", name, expect, parents, edits, author, committer, message)
+
+    def message(self):
+        words = self.line()
         refuse_where(words[0] != b"message" or len(words) != 2, "Syntax")
         message = self.fields(words[1:])[0]
         refuse_where(self.line() != [b"end"], "Syntax")
-        return ("commit", name, expect, parents, edits, author, committer, message)
+        return message
 
     def actor(self, who, words):
         refuse_where(words[0] != who or len(words) != 5, "Syntax")
@@ -131,6 +147,10 @@ def is_part(part):
 def is_time(seconds, offset):
     good = re.fullmatch(rb"0|[1-9]\d*", seconds) and int(seconds) < 2 ** 63 and re.fullmatch(rb"[+-]\d\d[0-5]\d", offset)
     return bool(good) and offset != b"-0000"
+
+
+def is_title(title):
+    return 0 < len(title) <= 1024 and not re.search(rb"[\t\r\0]", title)
 
 
 class Walk:
@@ -239,8 +259,7 @@ class Plain:
         refuse_where(wanted and not stands, "NoSuchName")
         refuse_where(expect == [b"new"] and stands, "Taken")
         refuse_where(wanted and wanted != stands, "NotExpected")
-        refuse_where(not stands and any((it + b"/").startswith(name + b"/") or (name + b"/").startswith(it + b"/")
-                                        for it in self.names), "Collides")
+        refuse_where(self.in_the_way(name), "Collides")
         parents = ([stands] if stands else []) + at
         refuse_where(len(parents) > 64, "TooManyParents")
         refuse_where(len(set(parents)) < len(parents), "DuplicateParent")
@@ -265,7 +284,7 @@ class Plain:
         refuse_where(any(it[0] == b"" or not is_part(it[0]) or not is_part(it[1]) for it in (author, committer)), "BadActor")
         refuse_where(any(not is_time(*it[2:]) for it in (author, committer)), "BadTime")
         title = message.partition(b"\n")[0]
-        refuse_where(not title or len(title) > 1024 or re.search(rb"[\t\r\0]", title), "BadMessage")
+        refuse_where(not is_title(title), "BadMessage")
         for _, _, *content in edits:
             for it in content:
                 self.put(b"blob", it)
@@ -274,12 +293,41 @@ class Plain:
         found = self.put(b"commit", b"\n".join(lines) + b"\n\n" + message)
         self.commits[found] = {"files": files, "tree": lines[0][5:], "parents": parents, "author": author, "committer": committer,
                                "message": message}
-        before = self.names.get(name, self.null)
-        if found != before:
-            line = b"%s %s %s <%s> %s %s\t%s\n" % (before, found, *committer, title)
-            self.logs[name] = self.logs.get(name, b"") + line
-        self.names[name] = found
+        self.hold(name, found, committer, title)
         return b"ok commit %s\n" % found
+
+    def hold(self, name, digits, actor, title):
+        """The name holds this id from now on, and its log tells so."""
+        before = self.names.get(name, self.null)
+        if digits != before:
+            line = b"%s %s %s <%s> %s %s\t%s\n" % (before, digits, *actor, title)
+            self.logs[name] = self.logs.get(name, b"") + line
+        self.names[name] = digits
+
+    def move(self, lines, actor, message):
+        names = [name for name, _, _ in lines]
+        refuse_where(not all(is_name(name) for name in names), "BadName")
+        refuse_where(any(name.startswith(PRIVATE) for name in names), "PrivateName")
+        refuse_where(len(set(names)) < len(names), "NameTwice")
+        self.resolved([it for _, expect, target in lines for it in expect[1:] + [target]])
+        wanted = [(name, self.resolve(expect[1])) for name, expect, _ in lines if expect[1:]]
+        refuse_where(any(name not in self.names for name, _ in wanted), "NoSuchName")
+        refuse_where(any(name in self.names for name, expect, _ in lines if expect == [b"new"]), "Taken")
+        refuse_where(any(self.names[name] != digits for name, digits in wanted), "NotExpected")
+        refuse_where(any(self.in_the_way(name, names) for name in names), "Collides")
+        refuse_where(actor[0] == b"" or not is_part(actor[0]) or not is_part(actor[1]), "BadActor")
+        refuse_where(not is_time(*actor[2:]), "BadTime")
+        refuse_where(not is_title(message) or b"\n" in message, "BadMessage")
+        targets = [(name, self.resolve(target)) for name, _, target in lines]
+        refuse_where(any(self.names.get(name) == digits for name, digits in targets), "NothingMoves")
+        for name, digits in targets:
+            self.hold(name, digits, actor, message)
+        return b"ok move\n"
+
+    def in_the_way(self, name, more=()):
+        """Whether a name that doesn't stand is a folder of one that stands, or of one of these, or the other way round."""
+        return name not in self.names and any((it + b"/").startswith(name + b"/") or (name + b"/").startswith(it + b"/")
+                                              for it in [*self.names, *more] if it != name)
 
     def files(self, word):
         files = self.commits[self.resolve(word)]["files"]

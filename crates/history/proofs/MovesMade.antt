@@ -1,0 +1,293 @@
+-- The names of a move's lines move, one after another.
+use Rattle.std.proofs.Common.{◌≡◌, ◌⊎◌, inl, inr, ℕ, zero, suc, ◌+◌, ◌<◌, ◌≤◌, List, [], ◌∷◌, ◌++◌, length, take, get_or, refl, sym, ◌∙◌, ap, subst, arith, None, codes}
+use Rattle.std.specs.Prelude.{Result, Err, Vec}
+use Rattle.std.specs.declared.alloc.Global.{Global}
+use Rattle.std.specs.List.{AllZip}
+use Rattle.std.specs.FinMap.{contains_key}
+use Rattle.std.proofs.lemmas.List.{append-nil, take_all}
+use Rattle.gix_ref_file.specs.History.{History, Adds}
+use Rattle.gix_ref_file.proofs.Histories.{adds_joined, adds_nothing, adds_weaker}
+use Rattle.history_model.specs.Bytes.{Bytes}
+use Rattle.history_model.specs.Repository as plain
+use Rattle.history_model.specs.Repository.{stands}
+use Rattle.history_model.specs.Commands.{Move, MoveCommand, To}
+use Rattle.history_model.specs.Meaning.{after}
+use Rattle.history_model.specs.Causes.{first_cause}
+use Rattle.history_model.specs.Replies.{Moved, reply_text}
+use Rattle.history_model.specs.Spelling.{Line as TextLine, part_text}
+use Rattle.history_model.specs.Steps.{Accepts}
+use Rattle.history_model.specs.Places.{Pair, file_at, packed_place}
+use Rattle.history_model.specs.Moments.{LeavesStopped}
+use Rattle.history_model.specs.Recovery.{recovered_objects}
+use Rattle.history_model.specs.StandsFor.{StandsFor}
+use Rattle.history_model.specs.Wholeness.{IsSound}
+use Rattle.history_model.specs.declared.Fault.TheVariants.{Memory, File, IdTaken}
+use Rattle.history_model.proofs.WholeSteps.{steps_keep_sound}
+use Rattle.history_steps.specs.MoveSteps.{FitsThen, IsAtLine, after_lines, line_entry}
+use Rattle.history_steps.specs.Passing.{HoldsBetween, MovesOnTheWay}
+use Rattle.history_steps.specs.TreeHalves.{HoldsValues}
+use Rattle.history_steps.specs.TreeSteps.{MovesName}
+use Rattle.history_steps.proofs.MoveLines.{lines_fit, lines_move, lines_pass}
+use Rattle.history_steps.proofs.OfferedSteps.{offered_stays}
+use Rattle.history_steps.proofs.PassedNames.{moving_stops, nothing_stops, values_recover}
+use Rattle.history_steps.proofs.TreeMoves.{packed_apart, packed_no_log}
+use Rattle.history_steps.proofs.TreePuts.{halves_stand}
+use Rattle.history_store.specs.Face.{ids_of_objects}
+use Rattle.history_store.specs.Formats.{entry_of}
+use Rattle.history.specs.Acts.{Acts, CountsRise, KeepsCounts}
+use Rattle.history.specs.Face.{objects_part, names_part, KeepsAllButNames}
+use Rattle.history.specs.Halves.{FitsAmong, MovesNames, NamesStand, names_tree, objects_tree}
+use Rattle.history.specs.Moments.{GoesLater, NamesPass, StoodOnTheWay}
+use Rattle.history.specs.Moving.{AskedMoves, IsLineMove, LeavesMoved}
+use Rattle.history.specs.Serving.{Serves}
+use Rattle.history.specs.Stands.{pair_of}
+use Rattle.history.specs.declared.planning.Moves.{Moves}
+use Rattle.history.specs.declared.repository.Repository.{Repository}
+use Rattle.history.specs.declared.stopped.Stopped.{Stopped}
+use Rattle.history.specs.declared.stopped.Stopped.TheVariants.{Refused, Fault}
+use Rattle.history.proofs.Commits.{name_formed}
+use Rattle.history.proofs.Counts.{counts_joined, counts_same, stay_joined, stay_same}
+use Rattle.history.proofs.Stood.{adds_later, adds_same, stands_now, stood_between_then, stood_then}
+
+-- ---- lists side by side
+
+pub next_of : {A B : Type 0} (R : A → B → Type 0) (xs : List A) (ys : List B) → AllZip R xs ys → (i : ℕ) (y : B) → i < length ys → y ≡ get_or ys i y
+    → (x : A) × R x y × (rest : List A) × (xs ≡ take i xs ++ x ∷ rest) × ((n : ℕ) → n ≡ suc i → take n xs ≡ take i xs ++ x ∷ [])
+next_of R [] [] all i y less at = absurd (omega arith)
+next_of R [] (z ∷ ys) all i y less at = absurd all
+next_of R (x ∷ xs) [] all i y less at = absurd all
+next_of R (x ∷ xs) (z ∷ ys) all zero y less at = (x, subst (R x) (sym at) all.0, xs, refl, λ n e. ap (λ m. take m (x ∷ xs)) e)
+next_of R (x ∷ xs) (z ∷ ys) all (suc i) y less at =
+    let n = next_of R xs ys all.1 i y (omega (arith, less)) at in
+    (n.0, n.1, n.2, ap (λ t. x ∷ t) n.3, λ m e. ap (λ k. take k (x ∷ xs)) e ∙ ap (λ t. x ∷ t) (n.4 (suc i) refl))
+
+pub long_zip : {A B : Type 0} (R : A → B → Type 0) (xs : List A) (ys : List B) → AllZip R xs ys → length xs ≡ length ys
+long_zip R [] [] all = refl
+long_zip R [] (y ∷ ys) all = absurd all
+long_zip R (x ∷ xs) [] all = absurd all
+long_zip R (x ∷ xs) (y ∷ ys) all = ap suc (long_zip R xs ys all.1)
+
+-- an accepted move
+pub accepted : (r : plain.Repository) (order : MoveCommand) → first_cause r (Move order) ≡ None → Accepts r (Move order) Moved (after r (Move order))
+accepted r order none = record { no_cause = none; not_taken = refl; answer = refl; result = refl }
+
+pub sound_after : (r : plain.Repository) (order : MoveCommand) → IsSound r → first_cause r (Move order) ≡ None → IsSound (after r (Move order))
+sound_after r order sound none = steps_keep_sound r (after r (Move order)) (Move order) Moved (accepted r order none) sound
+
+-- its reply
+pub moved_text : (before text ok word : Bytes) → before ≡ [] → ok ≡ codes "ok" → word ≡ codes "move" → text ≡ before ++ part_text (TextLine (ok ∷ word ∷ [])) → text ≡ reply_text Moved
+moved_text before text ok word none is_ok is_word is =
+    is ∙ (λ i. none i ++ part_text (TextLine (is_ok i ∷ is_word i ∷ []))) ∙ sym (append-nil (part_text (TextLine (codes "ok" ∷ codes "move" ∷ []))))
+
+module _ {F : Type 0} (IsHonest : F → Type 0) (history : F → History) (failures : F → ℕ) where
+  -- what stands where the names of the lines so far have moved
+  pub record MovedSo (old now : Repository F) (i : ℕ) (r : plain.Repository) (order : MoveCommand) : Type 0 where
+    pub stands : StandsFor r.kind (pair_of history now) (after_lines r order (take i order.to))
+    pub unpacked : file_at (names_tree history now) packed_place ≡ None
+    pub passes : Adds (HoldsBetween r (Move order)) (history (names_part old)) (history (names_part now))
+
+  -- the names of a loop's turns have moved, and all else is as it was
+  pub record HasMovedSome (moves : List Moves) (i : ℕ) (old now : Repository F) : Type 0 where
+    pub kept : KeepsAllButNames old now
+    pub counts : CountsRise failures old now
+    pub unfailed : KeepsCounts failures old now
+    pub honest : IsHonest (names_part old) → IsHonest (names_part now)
+    pub kind : now.names.kind ≡ old.names.kind
+    pub lines : (r : plain.Repository) (order : MoveCommand) → AskedMoves IsHonest history old moves r order → MovedSo old now i r order
+
+  pub none_moved : (moves : List Moves) (old : Repository F) → HasMovedSome moves 0 old old
+  none_moved moves old = record {
+    kept = record { objects = refl; branch = refl; failed = refl };
+    counts = counts_same failures old;
+    unfailed = stay_same failures old old refl;
+    honest = λ honest. honest;
+    kind = refl;
+    lines = λ r order asked. record {
+      stands = asked.serves.stands.whole.stands;
+      unpacked = asked.serves.stage.unpacked;
+      passes = adds_nothing (history (names_part old));
+    };
+  }
+
+  pub kept_then : (old mid new : Repository F) → KeepsAllButNames old mid → KeepsAllButNames mid new → KeepsAllButNames old new
+  kept_then old mid new h k = record { objects = k.objects ∙ h.objects; branch = k.branch ∙ h.branch; failed = k.failed ∙ h.failed }
+
+  module _ (moves : List Moves) (i : ℕ) (one : Moves) (within : i < length moves) (at : one ≡ get_or moves i one) (old mid new : Repository F) (h : HasMovedSome moves i old mid) where
+    module _ (r : plain.Repository) (order : MoveCommand) (asked : AskedMoves IsHonest history old moves r order) where
+      next : (to : To) × IsLineMove r order to one × (rest : List To) × (order.to ≡ take i order.to ++ to ∷ rest) × ((n : ℕ) → n ≡ suc i → take n order.to ≡ take i order.to ++ to ∷ [])
+      next = next_of (IsLineMove r order) order.to moves asked.moves_are i one within at
+
+      abbrev then : plain.Repository
+      then = after_lines r order (take i order.to)
+
+      so_far : MovedSo old mid i r order
+      so_far = h.lines r order asked
+
+      line_at : IsAtLine r order (take i order.to) next.2 next.0 (pair_of history mid)
+      line_at = record {
+        sound = record { whole = asked.serves.stands.whole.whole; written = asked.serves.stands.whole.written };
+        none = asked.none;
+        lines = next.3;
+        stands = so_far.stands;
+        unpacked = so_far.unpacked;
+      }
+
+      fits : FitsThen then (next.0).name
+      fits = lines_fit r order (take i order.to) next.2 next.0 (pair_of history mid) line_at
+
+      pub stand_then : NamesStand IsHonest history mid then
+      stand_then = record {
+        honest = h.honest asked.serves.stands.honest_names;
+        holds = ((halves_stand r.kind (pair_of history mid) then).0 so_far.stands).2;
+        named = fits.all_named;
+        unpacked = so_far.unpacked;
+      }
+
+      pub fits_then : FitsAmong then one.name.items
+      fits_then = subst (FitsAmong then) (sym (next.1).name) (record { named = fits.named; apart = fits.apart })
+
+      line_moves : MovesName one.name.items (entry_of one.entry) (names_tree history mid) (names_tree history new) → MovesName (next.0).name (line_entry r order next.0) (names_tree history mid) (names_tree history new)
+      line_moves moved = subst (λ entry. MovesName (next.0).name entry (names_tree history mid) (names_tree history new)) (next.1).entry
+          (subst (λ n. MovesName n (entry_of one.entry) (names_tree history mid) (names_tree history new)) (next.1).name moved)
+
+      line_passes : NamesPass history one mid new → Adds (HoldsBetween r (Move order)) (history (names_part mid)) (history (names_part new))
+      line_passes pass = adds_weaker (history (names_part mid)) (history (names_part new)) pass (λ tree may.
+          lines_pass r order (take i order.to) next.2 next.0 (pair_of history mid) tree line_at
+          (subst (λ entry. MovesOnTheWay (next.0).name entry (names_tree history mid) tree) (next.1).entry
+          (subst (λ n. MovesOnTheWay n (entry_of one.entry) (names_tree history mid) tree) (next.1).name may)))
+
+      pub passes_then : NamesPass history one mid new → Adds (HoldsBetween r (Move order)) (history (names_part old)) (history (names_part new))
+      passes_then pass = adds_joined (history (names_part old)) (history (names_part mid)) (history (names_part new)) so_far.passes (line_passes pass)
+
+      pub line_moved : KeepsAllButNames mid new → MovesName one.name.items (entry_of one.entry) (names_tree history mid) (names_tree history new) → NamesPass history one mid new → MovedSo old new (i + 1) r order
+      line_moved kept moved pass =
+          let moves_so = line_moves moved in
+          record {
+            stands = subst (λ lines. StandsFor r.kind (pair_of history new) (after_lines r order lines)) (sym (next.4 (i + 1) (omega arith)))
+                (subst (λ objects. StandsFor r.kind (record { objects = (history objects.files).tree; names = names_tree history new }) (after_lines r order (take i order.to ++ next.0 ∷ []))) (sym kept.objects)
+                (lines_move r order (take i order.to) next.2 next.0 (pair_of history mid) (names_tree history new) line_at moves_so));
+            unpacked = moves_so.others packed_place (packed_apart (next.0).name fits.named) (packed_no_log (next.0).name) ∙ so_far.unpacked;
+            passes = passes_then pass;
+          }
+
+    -- one name more has moved
+    pub name_moved : KeepsAllButNames mid new → CountsRise failures mid new → KeepsCounts failures mid new → (IsHonest (names_part mid) → IsHonest (names_part new)) → new.names.kind ≡ mid.names.kind
+        → ((r : plain.Repository) → NamesStand IsHonest history mid r → FitsAmong r one.name.items → MovesName one.name.items (entry_of one.entry) (names_tree history mid) (names_tree history new))
+        → ((r : plain.Repository) → NamesStand IsHonest history mid r → FitsAmong r one.name.items → NamesPass history one mid new) → HasMovedSome moves (i + 1) old new
+    name_moved kept counts unfailed honest kind moved pass = record {
+      kept = kept_then old mid new h.kept kept;
+      counts = counts_joined failures old mid new h.counts counts;
+      unfailed = stay_joined failures old mid new h.unfailed unfailed;
+      honest = λ first. honest (h.honest first);
+      kind = kind ∙ h.kind;
+      lines = λ r order asked. line_moved r order asked kept (moved (then r order asked) (stand_then r order asked) (fits_then r order asked)) (pass (then r order asked) (stand_then r order asked) (fits_then r order asked));
+    }
+
+    -- or the move of a name stops, and so do all
+    pub names_stopped : (C D M : Type 0) (result ends : Result (Unit {0}) Stopped) (stopped : Stopped) → result ≡ Err stopped → ends ≡ Err stopped → (C → D)
+        → ((r : plain.Repository) → NamesStand IsHonest history mid r → FitsAmong r one.name.items → MovesNames C (names_tree history mid) (names_tree history new) one result)
+        → (r : plain.Repository) (order : MoveCommand) → AskedMoves IsHonest history old moves r order → LeavesMoved D M ends
+    names_stopped C D M result ends stopped was is_end keep moved r order asked =
+        subst (LeavesMoved D M) (sym is_end) (by_case stopped
+        (subst (MovesNames C (names_tree history mid) (names_tree history new) one) was (moved (then r order asked) (stand_then r order asked) (fits_then r order asked))))
+      where
+        by_case : (stopped : Stopped) → MovesNames C (names_tree history mid) (names_tree history new) one (Err stopped) → LeavesMoved D M (Err stopped)
+        by_case (Refused cause) k = absurd k
+        by_case (Fault Memory) k = tt
+        by_case (Fault File) k = keep k
+        by_case (Fault IdTaken) k = absurd k
+
+    pub names_passed : ((r : plain.Repository) → NamesStand IsHonest history mid r → FitsAmong r one.name.items → NamesPass history one mid new)
+        → (r : plain.Repository) (order : MoveCommand) → AskedMoves IsHonest history old moves r order → Adds (HoldsBetween r (Move order)) (history (names_part old)) (history (names_part new))
+    names_passed pass r order asked = passes_then r order asked (pass (then r order asked) (stand_then r order asked) (fits_then r order asked))
+
+  -- at the end all have moved
+  module _ (moves : List Moves) (i : ℕ) (old new : Repository F) (past : length moves ≤ i) (h : HasMovedSome moves i old new) (r : plain.Repository) (order : MoveCommand) (asked : AskedMoves IsHonest history old moves r order) where
+    stands_after : StandsFor r.kind (pair_of history new) (after r (Move order))
+    stands_after = subst (λ lines. StandsFor r.kind (pair_of history new) (after_lines r order lines))
+        (take_all i order.to (omega (arith, past, long_zip (IsLineMove r order) order.to moves asked.moves_are))) (h.lines r order asked).stands
+
+    pub all_moved : NamesStand IsHonest history new (after r (Move order))
+    all_moved = record {
+      honest = h.honest asked.serves.stands.honest_names;
+      holds = ((halves_stand r.kind (pair_of history new) (after r (Move order))).0 stands_after).2;
+      named = λ name stood. name_formed (after r (Move order))
+          (sound_after r order (record { whole = asked.serves.stands.whole.whole; written = asked.serves.stands.whole.written }) asked.none).written name stood;
+      unpacked = (h.lines r order asked).unpacked;
+    }
+
+  -- ---- the command
+
+  module _ (old new : Repository F) (r : plain.Repository) (order : MoveCommand) (h : Serves IsHonest history old r) (none : first_cause r (Move order) ≡ None) (kept : KeepsAllButNames old new) where
+    sound : IsSound r
+    sound = record { whole = h.stands.whole.whole; written = h.stands.whole.written }
+
+    values_old : HoldsValues r.kind (objects_tree history old) r.objects
+    values_old = ((halves_stand r.kind (pair_of history old) r).0 h.stands.whole.stands).1
+
+    values_new : HoldsValues r.kind (objects_tree history new) r.objects
+    values_new = subst (λ objects. HoldsValues r.kind (history objects.files).tree r.objects) (sym kept.objects) values_old
+
+    pub move_serves : new.names.kind ≡ old.names.kind → NamesStand IsHonest history new (after r (Move order)) → Serves IsHonest history new (after r (Move order))
+    move_serves kind stand = record {
+      stands = record {
+        honest_objects = subst (λ objects. IsHonest objects.files) (sym kept.objects) h.stands.honest_objects;
+        honest_names = stand.honest;
+        whole = record {
+          stands = (halves_stand r.kind (pair_of history new) (after r (Move order))).1 (refl, values_new, stand.holds);
+          written = (sound_after r order sound none).written;
+          whole = (sound_after r order sound none).whole;
+        };
+        objects_kind = ap (λ objects. objects.kind) kept.objects ∙ h.stands.objects_kind;
+        names_kind = kind ∙ h.stands.names_kind;
+        branch = ap (λ branch. branch.items) kept.branch ∙ h.stands.branch;
+        known = λ id. ap (λ objects. contains_key (ids_of_objects objects) id) kept.objects ∙ h.stands.known id;
+      };
+      stage = record { offered = offered_stays r (Move order) h.stage.offered refl none; unpacked = stand.unpacked };
+    }
+
+    module _ (pass : Adds (HoldsBetween r (Move order)) (history (names_part old)) (history (names_part new))) where
+      objects_stay : Adds (λ t. ⊥) (history (objects_part old)) (history (objects_part new))
+      objects_stay = adds_same _ _ (ap (λ o. history o.files) kept.objects)
+
+      nothing : (pair : Pair) → pair.objects ≡ objects_tree history old → pair.names ≡ names_tree history old → LeavesStopped r (Move order) pair
+      nothing pair objects names = subst (LeavesStopped r (Move order)) (λ i. record { objects = sym objects i; names = sym names i }) (nothing_stops r (Move order) (pair_of history old) h.stands.whole)
+
+      moving : (pair : Pair) → pair.objects ≡ objects_tree history old → HoldsBetween r (Move order) pair.names → LeavesStopped r (Move order) pair
+      moving pair objects held = moving_stops r (Move order) pair sound refl none refl
+          (subst (λ tree. HoldsValues r.kind (recovered_objects tree) r.objects) (sym objects) (values_recover r.kind (objects_tree history old) r.objects (h.stands.whole.whole.store).own_ids values_old)) held
+
+      or_never : {A : Type 0} → A ⊎ ⊥ → A
+      or_never (inl a) = a
+      or_never (inr never) = absurd never
+
+      pub move_stops : (pair : Pair) → StoodOnTheWay history failures old new pair → LeavesStopped r (Move order) pair
+      move_stops pair (inl (objects, names)) =
+          nothing pair (or_never (stood_between_then (history (objects_part old)) (history (objects_part new)) pair.objects objects_stay objects)) (stood_then (history (names_part old)) (history (names_part new)) pair.names pass names)
+      move_stops pair (inr (objects, names)) = by_names (stood_between_then (history (names_part old)) (history (names_part new)) pair.names pass names)
+        where
+          now : pair.objects ≡ objects_tree history old
+          now = stands_now (history (objects_part new)) pair.objects objects ∙ ap (λ o. (history o.files).tree) kept.objects
+
+          by_names : (pair.names ≡ names_tree history old) ⊎ HoldsBetween r (Move order) pair.names → LeavesStopped r (Move order) pair
+          by_names (inl same) = nothing pair now same
+          by_names (inr held) = moving pair now held
+
+      pub move_later : GoesLater history failures old new
+      move_later = (
+        adds_later (history (objects_part old)) (history (objects_part new)) objects_stay,
+        adds_later (history (names_part old)) (history (names_part new)) pass,
+        (objects_stay.during, objects_stay.added),
+        (pass.during, pass.added),
+      )
+
+-- where the moves stop, so does the command
+pub acts_stopped : (C M : Type 0) (StandsNow : plain.Repository → Type 0) (r : plain.Repository) (order : MoveCommand) (result : Result (Unit {0}) Stopped) (ends : Result (Vec ℕ Global) Stopped) (stopped : Stopped)
+    → result ≡ Err stopped → ends ≡ Err stopped → LeavesMoved C M result → Acts C StandsNow r (Move order) ends
+acts_stopped C M StandsNow r order result ends stopped was is_end h = subst (Acts C StandsNow r (Move order)) (sym is_end) (by_case stopped (subst (LeavesMoved C M) was h))
+  where
+    by_case : (stopped : Stopped) → LeavesMoved C M (Err stopped) → Acts C StandsNow r (Move order) (Err stopped)
+    by_case (Refused cause) k = absurd k
+    by_case (Fault Memory) k = tt
+    by_case (Fault File) k = k
+    by_case (Fault IdTaken) k = absurd k

@@ -1,0 +1,42 @@
+"""Moves of names as git makes them: the rows of moves are held against `git update-ref --stdin`, one transaction for each command, and
+against the logs that git writes then."""
+import os
+import subprocess
+import sys
+from pathlib import Path
+
+sys.path.insert(0, str(Path(__file__).resolve().parents[3] / "scripts"))
+from git_repository import Git
+
+
+class Moved(Git):
+    """A repository of git with the objects, names and logs of a plain one."""
+
+    def __init__(self, plain):
+        super().__init__(plain.kind)
+        self.folder = Path(self.env["GIT_DIR"])
+        for text in plain.objects.values():
+            header, _, content = text.partition(b"\0")
+            self.run("hash-object", "-w", "-t", header.split()[0].decode(), "--stdin", data=content)
+        for name, digits in plain.names.items():
+            for front, text in ((b"", digits + b"\n"), (b"logs/", plain.logs[name])):
+                path = self.folder / (front + name).decode()
+                path.parent.mkdir(parents=True, exist_ok=True)
+                path.write_bytes(text)
+
+    def move(self, lines, actor, message):
+        """Whether git makes a transaction of these: a name, the id that it must hold or none, and the id that it is to hold."""
+        name, email, seconds, offset = actor
+        env = dict(self.env, GIT_COMMITTER_NAME=name.decode(), GIT_COMMITTER_EMAIL=email.decode(),
+                   GIT_COMMITTER_DATE=f"@{seconds.decode()} {offset.decode()}")
+        text = b"".join(b"update %s\0%s\0%s\0" % (name, new, old) for name, old, new in lines)
+        made = subprocess.run(["git", "update-ref", "--create-reflog", "-m", message, "-z", "--stdin"], input=text,
+                              capture_output=True, env=env)
+        return made.returncode == 0
+
+    def holds(self, plain):
+        """Whether the names and logs are those of the plain repository."""
+        found = self.run("for-each-ref", "--format=%(refname) %(objectname)").split(b"\n")[:-1]
+        names = dict(line.split() for line in found)
+        logs = {name: (self.folder / b"logs".decode() / name.decode()).read_bytes() for name in names}
+        return names == plain.names and logs == plain.logs
