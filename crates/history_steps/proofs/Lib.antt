@@ -14,3 +14,4 @@ pub mod PassedNames
 pub mod PassedStates
 pub mod PassedMoments
 pub mod MoveLines
+pub mod Deletions

@@ -1,5 +1,6 @@
 -- The causes that may be the first for a command of this stage.
 use Rattle.std.proofs.Common.{◌≡◌, Bool, true, false, cond, List, [], ◌∷◌, ◌++◌, map, refl, Option, Some, None, option_map, is_some, is_none, unwrap_or, find}
+use Rattle.std.specs.Prelude.{option_to_list}
 use Rattle.std.specs.List.{flat_map, list_any}
 use Rattle.std.specs.FinMap.{get}
 use Rattle.history_model.specs.Bytes.{Bytes}
@@ -105,6 +106,13 @@ module _ (r : Repository) (o : IsOffered r) (w : HasWholeNames r) where
         holds_tag = refl;
       }
 
+  delete_out : (name : Bytes) (at : Option Bytes) → RuledOut (λ cause. holds cause r (Delete name at))
+  delete_out name at = record {
+    ambiguous = none_passes (λ word. is_ambiguous (word_meaning r word)) (option_to_list at) not_ambiguous;
+    no_commit = none_passes (λ word. is_no_commit r (word_meaning r word)) (option_to_list at) is_commit;
+    holds_tag = refl;
+  }
+
   files_out : (word : Bytes) → RuledOut (λ cause. holds cause r (Files word))
   files_out word = record {
     ambiguous = or_from _ false (not_ambiguous word) refl;
@@ -145,7 +153,7 @@ first_offered_cause r (Commit c) o w offered = first_of_few (λ cause. holds cau
 first_offered_cause r (Tag c) o w offered = cc
 first_offered_cause r (Move c) o w offered = first_of_few (λ cause. holds cause r (Move c)) (move_out r o w c)
 first_offered_cause r (Rename from to) o w offered = cc
-first_offered_cause r (Delete name at) o w offered = cc
+first_offered_cause r (Delete name at) o w offered = first_of_few (λ cause. holds cause r (Delete name at)) (delete_out r o w name at)
 first_offered_cause r (Switch name) o w offered = cc
 first_offered_cause r Pack o w offered = cc
 first_offered_cause r Index o w offered = cc

@@ -109,7 +109,7 @@ offered_stays r (Commit c) o offered none = commit_stays r c o
 offered_stays r (Tag c) o offered none = cc
 offered_stays r (Move c) o offered none = record { untagged = o.untagged; branch = o.branch }
 offered_stays r (Rename from to) o offered none = cc
-offered_stays r (Delete name at) o offered none = cc
+offered_stays r (Delete name at) o offered none = record { untagged = o.untagged; branch = o.branch }
 offered_stays r (Switch name) o offered none = cc
 offered_stays r Pack o offered none = cc
 offered_stays r Index o offered none = cc

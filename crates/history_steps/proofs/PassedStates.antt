@@ -417,7 +417,7 @@ module _ (old : Repository) (command : Command) (pair : Pair) (s : StandsFor old
             | inr k ↦ k
           ]
 
-  reads_begin : (name : Bytes) → name_state old.kind tree name ≡ reads_as (id_at old name)
+  pub reads_begin : (name : Bytes) → name_state old.kind tree name ≡ reads_as (id_at old name)
   reads_begin name = elim (plain_begin name) [
     | inl (id, e) ↦ e ∙ ap reads_as (sym ((s.names name id).0 e))
     | inr e ↦ go (id_at old name) refl e

@@ -6,3 +6,4 @@ pub mod Passing
 pub mod Offered
 pub mod OfferedWords
 pub mod MoveSteps
+pub mod DeleteSteps

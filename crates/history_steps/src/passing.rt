@@ -2,6 +2,7 @@
 
 ghost use Rattle.history_steps.specs.Passing.{PutsPass, CommitsStoreWhole, StoringStops, MovesPass, MovingStops, ActsLater, ActsThen, SomeStops, FirstAreSome, NamesPass, NamesBegin};
 ghost use Rattle.history_steps.specs.MoveSteps.{LinesFit, LinesMove, LinesPass};
+ghost use Rattle.history_steps.specs.DeleteSteps.{DeletionsStand, DeletionsPass};
 
 /// While a value is put that takes no id, the values that stood are there once recovered, and the value whole or not at all.
 pub fn puts_pass()
@@ -72,4 +73,14 @@ pub fn lines_move()
 /// Meanwhile each name, once recovered, is as before the command or as after it.
 pub fn lines_pass()
     ensures { LinesPass }
+{}
+
+/// Where the files of a deleted name are gone, what stands stands for the repository after its deletion.
+pub fn deletions_stand()
+    ensures { DeletionsStand }
+{}
+
+/// While they go, each name is as before the command or as after it.
+pub fn deletions_pass()
+    ensures { DeletionsPass }
 {}
