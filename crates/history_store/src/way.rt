@@ -60,8 +60,8 @@ fn clear_way<F: Files>(alloc: Global, files: &mut F, place: &[u8]) -> Result<(),
     files.remove_empty_folder(alloc, place)
 }
 
-// Whether a file stands at the path.
-fn is_file<F: Files>(files: &F, path: &[u8]) -> Result<bool, FileError>
+/// Whether a file stands at the path.
+pub fn is_file<F: Files>(files: &F, path: &[u8]) -> Result<bool, FileError>
     ensures found { Finds F.is_honest F.history files.now
         (λ tree. IfOk result (λ found. found ≡ is_file_at tree path.now)) }
     ensures failed { IsErrOf result Failed → F.reading_may_fail }

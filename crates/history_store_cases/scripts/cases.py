@@ -303,6 +303,26 @@ def names():
         each(99, kind, f"names:fail:#:- move:{main}:{zero}:{hello}:{ONE}:one names:sound names:read:{main}",
              "failed none:so%20", "moved " + read(hello.encode() + b"\n"))
         lists(kind)
+        deletions(kind)
+
+
+def deletions(kind):
+    zero, hello, main, other = null(kind), oid(kind, "blob", b"hello"), "refs/heads/main", "refs/heads/other"
+    text, log = hello.encode() + b"\n", line(zero, hello)
+    row(kind, moved(main, zero, hello), moved(other, zero, hello), (f"delete:{main}", "deleted"), (f"name:{main}", "none"),
+        (f"names:read:logs/{main}", read(None)), (f"names:read:{other}", read(text)), (f"names:read:logs/{other}", read(log)),
+        (f"delete:{main}", "failed"), moved(main, zero, hello), (f"names:read:logs/{main}", read(log)),
+        (f"delete:{other}", "deleted"), (f"delete:{main}", "deleted"), ("list:refs", "names"), ("names:kind:refs/heads", "folder"),
+        ("names:kind:logs/refs/heads", "folder"))
+    # A name without a log, a log without a name, and folders in the place of either.
+    row(kind, *folders("names", "refs refs/heads"), (f"names:write:{main}:{word(text)}", "done"), (f"delete:{main}", "deleted"),
+        (f"names:read:{main}", read(None)), (f"delete:{main}", "failed"), ("delete:refs/heads", "failed"), ("names:kind:refs/heads", "folder"))
+    row(kind, *folders("names", "logs logs/refs logs/refs/heads"), (f"names:write:logs/{main}:{word(log)}", "done"),
+        (f"delete:{main}", "failed"), (f"names:read:logs/{main}", read(None)))
+    row(kind, *folders("names", f"refs refs/heads logs logs/refs logs/refs/heads logs/{main}"), (f"names:write:{main}:{word(text)}", "done"),
+        (f"delete:{main}", "deleted"), (f"names:kind:logs/{main}", "folder"))
+    each(9, kind, f"move:{main}:{zero}:{hello}:{ONE}:one names:fail:#:- delete:{main} names:sound names:read:{main} names:read:logs/{main}",
+         f"moved failed {read(text)} {read(log)}", f"moved failed {read(text)} {read(None)}", f"moved deleted {read(None)} {read(None)}")
 
 
 # In the order in which `git for-each-ref` printed them.

@@ -1,4 +1,4 @@
-//! Names that are read, listed and moved.
+//! Names that are read, listed, moved and deleted.
 
 use crate::objects::show_id;
 use crate::session::Parts;
@@ -31,6 +31,10 @@ pub fn act(
         "collides" => match parts.names.collides(alloc, &name) {
             Ok(true) => page.word("collides"),
             Ok(false) => page.word("free"),
+            Err(_) => page.word("failed"),
+        },
+        "delete" => match parts.names.remove_name(alloc, &name) {
+            Ok(()) => page.word("deleted"),
             Err(_) => page.word("failed"),
         },
         _ => {
