@@ -31,6 +31,7 @@ is_last_fault None = false
 abbrev pub changes_files : read_commands.Command → Bool
 changes_files (command.Commit commit) = true
 changes_files (command.Move move) = true
+changes_files (command.Delete delete) = true
 changes_files (command.Files word) = false
 changes_files (command.Show show) = false
 changes_files (command.Names folder) = false

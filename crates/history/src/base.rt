@@ -69,7 +69,7 @@ impl Expected {
     }
 
     /// Tests what the name holds.
-    fn test(self, held: Option<ObjectId>) -> Result<(), Cause>
+    pub(crate) fn test(self, held: Option<ObjectId>) -> Result<(), Cause>
         ensures { MatchResult result (λ _. held_cause self (option_map id_of held) ≡ None)
             (λ cause. held_cause self (option_map id_of held) ≡ Some cause) }
     {

@@ -9,6 +9,7 @@ mod actors;
 mod base;
 mod causes;
 mod commit;
+mod deleting;
 mod differing;
 mod editing;
 mod fields;

@@ -98,7 +98,8 @@ def left(plain, objects=None, names=True):
     named = {b"HEAD": HEAD}
     for name, digits in plain.names.items() if names else ():
         named[name] = digits + b"\n"
-        named[b"logs/" + name] = plain.logs[name]
+        if name in plain.logs:
+            named[b"logs/" + name] = plain.logs[name]
     return f"objects{listed(stored)} names{listed(named)}"
 
 
@@ -274,6 +275,73 @@ def refused_moves(made):
                  b"move\nto refs/heads/x new a b\n", b"move\nto refs/heads/x any main\nmessage 1\n", b"move\nto refs/heads/x any main\nend\n"):
         answer(PUT_HELLO + text, "Syntax", end="Refused")
     answer(PUT_HELLO + b"move\nto refs/heads/x any main\n", "Truncated", end="Refused")
+
+
+def as_git_deletes(kind, made, command):
+    """Stops where git deletes a name that the plain repository doesn't, or the other way, or where it leaves other names or logs."""
+    plain = Plain(kind)
+    plain.run(made)
+    git = Moved(plain)
+    _, name, (how, *more) = Reader(command).command()
+    held = plain.resolve(more[0]) if how == b"at" else plain.names.get(name, plain.null)
+    _, ((reply, _),) = plain.run(command)
+    assert (name in git.names() and git.delete(name, held)) == (reply == b"ok delete\n"), (command, reply)
+    assert git.holds(plain), command
+    assert name in plain.names or not (git.folder / "logs" / name.decode()).is_file(), command
+
+
+def deletions():
+    """Names that go with their logs, HEAD's branch too, and come anew; what is in nobody's way then; each cause, and which of two is told."""
+    main, x, y, v = b"refs/heads/main", b"refs/heads/x", b"refs/heads/x/y", b"refs/tags/v"
+    made = branch(main + b" new", 1) + branch(x + b" new", 2, b"parent main\n") + branch(main + b" any", 3) + branch(v + b" new", 4)
+    deleted = [b"delete %s\n" % it for it in (x + b" any", x + b" at x", x + b" at refs/heads/x", v + b" at v", main + b" any",
+                                              main + b" at HEAD", main + b" at main")]
+    for command in deleted:
+        runs((made,), (command,), (b"names\n",), by_git_alone=False)
+        for kind in KINDS:
+            as_git_deletes(kind, made, command)
+    again = branch(x + b" new", 5)
+    runs((made,), (b"delete %s any\n" % x, ), (b"past %s\n" % x, "NoSuchName"), (b"show x\n", "UnknownWord"), (again,), (b"past x\n",),
+         (b"delete %s at x\n" % x,), (branch(y + b" new", 6),), (b"names\n",), (b"past %s\n" % y,), by_git_alone=False)
+    runs((made,), (b"delete %s any\n" % main,), (b"show HEAD\n", "UnbornHead"), (b"delete %s any\n" % main, "NoSuchName"),
+         (b"names\n",), (branch(b"HEAD new", 7),), (b"past HEAD\n",), by_git_alone=False)
+    git_refuses = [(b"delete %s at main\n" % x, "NotExpected"), (b"delete refs/heads/z any\n", "NoSuchName"),
+                   (b"delete refs/heads any\n", "NoSuchName"), (b"delete %s/z at x\n" % x, "NoSuchName")]
+    for command, cause in git_refuses:
+        runs((made,), (command, cause), (b"names\n",), by_git_alone=False)
+        for kind in KINDS:
+            as_git_deletes(kind, made, command)
+    refused = [(b"delete HEAD any\n", "BadName"), (b"delete x any\n", "BadName"), (b"delete x at nosuch\n", "BadName"),
+               (b"delete refs/heads/a..b any\n", "BadName"), (b"delete refs/bisect/x any\n", "PrivateName"),
+               (b"delete refs/worktree/x at nosuch\n", "PrivateName"), (b"delete refs/heads/z at nosuch\n", "UnknownWord"),
+               (b"delete %s at nosuch\n" % x, "UnknownWord"), (b"delete refs/heads/z at main\n", "NoSuchName")]
+    runs((made,), *refused, (b"names\n",), (b"past x\n",), by_git_alone=False)
+    answer(b"delete refs/heads/z at HEAD\n", "UnbornHead")
+    for text in (b"delete\n", b"delete refs/heads/main\n", b"delete refs/heads/main new\n", b"delete refs/heads/main at\n",
+                 b"delete refs/heads/main any any\n", b"delete refs/heads/main at main x\n", b"delete refs/heads/main to main\n"):
+        answer(PUT_HELLO + text, "Syntax", end="Refused")
+    answer(PUT_HELLO + b"delete refs/heads/main any", "Truncated", end="Refused")
+
+
+def delete_stops():
+    """A run of two commits and a deletion that is stopped at each call, or of which each call fails: a stopped deletion leaves the name
+    as before, or without its log, or gone."""
+    second, deleting = branch(b"refs/heads/x new", 2, b"parent main\n"), b"delete refs/heads/x at x\n"
+    fault = b"fault File\n"
+    for kind in KINDS:
+        plain, first, both, unlogged = (Plain(kind) for _ in range(4))
+        _, replies = plain.run(PUT_HELLO + second + deleting)
+        for state, stream in ((first, PUT_HELLO), (both, PUT_HELLO + second), (unlogged, PUT_HELLO + second)):
+            state.run(stream)
+        del unlogged.logs[b"refs/heads/x"]
+        ends = [f"created opened Fault:{word(b''.join(reply for reply, _ in replies[:count]) + fault)} " for count in range(3)]
+        closed, whole = f"created File closed {left(plain, 0, False)}", f"created opened {told('Input', replies)} {left(plain)}"
+        for how, kept in [*(("stop", kept) for kept in ["-", 0, 3, 50, 1000]), ("fail", "-")]:
+            made = kept != "-"
+            states = [ends[0] + left(plain, 0, False), ends[0] + left(plain, 3, False), *([ends[0] + left(first)] if made else [])]
+            states += [ends[1] + left_with(plain, first, 3), ends[1] + left_with(plain, first, 4), *([ends[1] + left(both)] if made else [])]
+            states += [ends[2] + left(both), ends[2] + left(unlogged), *([ends[2] + left(plain)] if made else [])]
+            each(120, kind, f"create names:{how}:#:{kept} open run:{word(PUT_HELLO + second + deleting)} left", [closed, *states, whole])
 
 
 def as_git_lists(made):
@@ -627,8 +695,8 @@ def by_chance(chance, kind):
 
 
 if __name__ == "__main__":
-    for part in (rows, first_causes, two_branches, of_names, moves, logs, path_logs, removals, nested, limits, opening, readings, readers, faults,
-                 log_faults, move_stops, stops):
+    for part in (rows, first_causes, two_branches, of_names, moves, deletions, logs, path_logs, removals, nested, limits, opening, readings, readers, faults,
+                 log_faults, move_stops, delete_stops, stops):
         part()
     chance = random.Random(23)
     for number in range(200):

@@ -1,5 +1,5 @@
-"""Moves of names as git makes them: the rows of moves are held against `git update-ref --stdin`, one transaction for each command, and
-against the logs that git writes then."""
+"""Names as git moves and deletes them: the rows of moves are held against `git update-ref --stdin`, one transaction for each command, and
+against the logs that git writes then; those of deletions against `git update-ref -d`."""
 import os
 import subprocess
 import sys
@@ -34,9 +34,18 @@ class Moved(Git):
                               capture_output=True, env=env)
         return made.returncode == 0
 
+    def delete(self, name, held):
+        """Whether git deletes a name that must hold this id, or any."""
+        made = subprocess.run(["git", "update-ref", "-d", name.decode(), *([held.decode()] if held else [])], capture_output=True,
+                              env=self.env)
+        return made.returncode == 0
+
+    def names(self):
+        found = self.run("for-each-ref", "--format=%(refname) %(objectname)").split(b"\n")[:-1]
+        return dict(line.split() for line in found)
+
     def holds(self, plain):
         """Whether the names and logs are those of the plain repository."""
-        found = self.run("for-each-ref", "--format=%(refname) %(objectname)").split(b"\n")[:-1]
-        names = dict(line.split() for line in found)
+        names = self.names()
         logs = {name: (self.folder / b"logs".decode() / name.decode()).read_bytes() for name in names}
         return names == plain.names and logs == plain.logs

@@ -57,6 +57,9 @@ class Reader:
             return getattr(self, words[0].decode())(words[1:])
         if words == [b"move"]:
             return self.move()
+        if words[0] == b"delete":
+            refuse_where(words[2:3] != ([b"any"] if len(words) == 3 else [b"at"]) or len(words) > 4, "Syntax")
+            return ("delete", words[1], words[2:])
         refuse_where(words[0] != b"commit" or len(words) not in (3, 4), "Syntax")
         refuse_where((len(words) == 4) != (words[2] == b"at") or words[2] not in (b"at", b"any", b"new"), "Syntax")
         return self.commit(words[1], words[2:])
@@ -303,6 +306,15 @@ class Plain:
             line = b"%s %s %s <%s> %s %s\t%s\n" % (before, digits, *actor, title)
             self.logs[name] = self.logs.get(name, b"") + line
         self.names[name] = digits
+
+    def delete(self, name, expect):
+        refuse_where(not is_name(name), "BadName")
+        refuse_where(name.startswith(PRIVATE), "PrivateName")
+        wanted = self.resolved(expect[1:])
+        refuse_where(name not in self.names, "NoSuchName")
+        refuse_where(wanted not in ([], [self.names[name]]), "NotExpected")
+        del self.names[name], self.logs[name]
+        return b"ok delete\n"
 
     def move(self, lines, actor, message):
         names = [name for name, _, _ in lines]

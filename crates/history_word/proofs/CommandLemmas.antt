@@ -23,6 +23,7 @@ live p h e = cc
 spoken : (d : Draft) (order : model.Command) → IsDraft d order → is_spoken order ≡ true
 spoken (draft.Commit c) (model.Commit order) h = refl
 spoken (draft.Move c) (model.Move order) h = refl
+spoken (draft.Delete d) (model.Delete name at) h = refl
 spoken (draft.Files w) (model.Files word) h = refl
 spoken (draft.Show s) (model.Show word path) h = refl
 spoken draft.Names (model.Names None) h = refl

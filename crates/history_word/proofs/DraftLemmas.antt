@@ -8,6 +8,7 @@ use Rattle.std.proofs.lemmas.List.{append-nil, length-append, map-append}
 use Rattle.std.proofs.lemmas.Bool.{and_from}
 use Rattle.std.proofs.lemmas.Option.{same_Some}
 use Rattle.history_model.specs.Bytes.{Bytes, line, is_empty}
+use Rattle.history_model.specs.CommandParts.{option_expect}
 use Rattle.history_model.specs.Commands as model
 use Rattle.history_model.specs.Spelling as spelling
 use Rattle.history_model.specs.Lines as lines
@@ -100,6 +101,15 @@ done_come : (d : Draft) (order : model.Command) (parts : List spelling.Part) (q 
 done_come d order parts place.Done e spelled enough has = (order, spelled, record { enough = enough; has = has })
 done_come d order parts q e spelled enough has = cc
 
+delete_goes : (name : Word) (expect : Option Expect) (new : Draft) → ((n : Bytes) (at : Option Bytes) → IfSome name (λ x. x.items ≡ n) → IfSome expect (λ x. IsExpect x (option_expect at)) → IsDraft new (model.Delete n at))
+    → (h : lines.Heading) → IsOpening (opening.Delete name expect) h → (q : Place) → next_offered table.Start h ≡ Some (place_of q) → HasCome q new (parts_with h [])
+delete_goes name expect new f (lines.DeleteHeading n at) i q e = done_come new (model.Delete n at) _ q e refl refl (f n at i.0 i.1)
+delete_goes name expect new f h i q e = absurd i
+
+pub delete_opens : (name : Word) (expect : Option Expect) (new : Draft) → ((n : Bytes) (at : Option Bytes) → IfSome name (λ x. x.items ≡ n) → IfSome expect (λ x. IsExpect x (option_expect at)) → IsDraft new (model.Delete n at))
+    → TakesOpening (opening.Delete name expect) new []
+delete_opens name expect new f = record { fields = []; heads = refl; spelled = refl; begins = delete_goes name expect new f }
+
 files_goes : (word : Word) (h : lines.Heading) → IsOpening (opening.Files word) h → (q : Place) → next_offered table.Start h ≡ Some (place_of q) → HasCome q (draft.Files word) (parts_with h [])
 files_goes word (lines.FilesHeading w) i q e = done_come (draft.Files word) (model.Files w) _ q e refl refl i
 files_goes word h i q e = absurd i
@@ -191,6 +201,8 @@ at_start (opening.Commit name expect) (lines.CommitHeading n x) i place.Start q 
 at_start (opening.Commit name expect) (lines.CommitHeading n x) i p q e = cc
 at_start opening.Move lines.MoveHeading i place.Start q e = refl
 at_start opening.Move lines.MoveHeading i p q e = cc
+at_start (opening.Delete name expect) (lines.DeleteHeading n at) i place.Start q e = refl
+at_start (opening.Delete name expect) (lines.DeleteHeading n at) i p q e = cc
 at_start (opening.Files word) (lines.FilesHeading w) i place.Start q e = refl
 at_start (opening.Files word) (lines.FilesHeading w) i p q e = cc
 at_start (opening.Show word) (lines.ShowHeading w None) i place.Start q e = refl

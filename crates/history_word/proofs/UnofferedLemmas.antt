@@ -5,7 +5,7 @@ use Rattle.history_model.specs.Bytes.{Bytes}
 use Rattle.history_model.specs.Commands.{Expect}
 use Rattle.history_model.specs.Lines as lines
 use Rattle.history_word.specs.LineTable as table
-use Rattle.history_word.specs.LineTable.{expect_of, number_of, end_of_words, word_of_words, actor_of_words, target_of_words, rename_of_words, delete_of_words, name_heading_of, heading_of}
+use Rattle.history_word.specs.LineTable.{expect_of, number_of, end_of_words, word_of_words, actor_of_words, target_of_words, rename_of_words, name_heading_of, heading_of}
 use Rattle.history_word.specs.TableRuns.{next_offered}
 use Rattle.history_word.specs.declared.heading.Heading.{Heading}
 use Rattle.history_word.specs.declared.place.Place.{Place}
@@ -65,11 +65,6 @@ no_rename : (words : List Bytes) → Says None (rename_of_words words)
 no_rename (old ∷ new ∷ []) = nowhere (lines.RenameHeading old new) refl refl refl refl refl refl refl refl
 no_rename words = tt
 
-no_delete : (words : List Bytes) → Says None (delete_of_words words)
-no_delete (name ∷ any ∷ []) = either (bytes_eq any (codes "any")) (Some (lines.DeleteHeading name None)) None (nowhere (lines.DeleteHeading name None) refl refl refl refl refl refl refl refl) tt
-no_delete (name ∷ at ∷ word ∷ []) = either (bytes_eq at (codes "at")) (Some (lines.DeleteHeading name (Some word))) None (nowhere (lines.DeleteHeading name (Some word)) refl refl refl refl refl refl refl refl) tt
-no_delete words = tt
-
 -- ---- by the first word
 
 -- the first word isn't this one, where a test of them fails
@@ -103,15 +98,15 @@ said_behind said first words commit parent put remove remove_file author committ
 
 -- a line whose first word is none of those that are read
 pub no_line_of : (first : Bytes) (words : List Bytes) → bytes_eq first (codes "move") ≡ false → bytes_eq first (codes "to") ≡ false → bytes_eq first (codes "actor") ≡ false
-    → bytes_eq first (codes "names") ≡ false → bytes_eq first (codes "past") ≡ false → bytes_eq first (codes "log") ≡ false → Says None (name_heading_of first words)
-no_line_of first words move to actor names past log =
+    → bytes_eq first (codes "delete") ≡ false → bytes_eq first (codes "names") ≡ false → bytes_eq first (codes "past") ≡ false → bytes_eq first (codes "log") ≡ false → Says None (name_heading_of first words)
+no_line_of first words move to actor delete names past log =
     either (bytes_eq first (codes "tag")) (target_of_words lines.TagHeading words) _ (no_target lines.TagHeading (λ n x w. nowhere (lines.TagHeading n x w) refl refl refl refl refl refl refl refl) words) (
     either (bytes_eq first (codes "tagger")) (actor_of_words lines.Tagger words) _ (no_actor lines.Tagger (λ m n s o. nowhere (lines.ActorHeading lines.Tagger m n s o) refl refl refl refl refl refl refl refl) words) (
     passed None (bytes_eq first (codes "move")) _ _ move (
     passed None (bytes_eq first (codes "to")) _ _ to (
     passed None (bytes_eq first (codes "actor")) _ _ actor (
     either (bytes_eq first (codes "rename")) (rename_of_words words) _ (no_rename words) (
-    either (bytes_eq first (codes "delete")) (delete_of_words words) _ (no_delete words) (
+    passed None (bytes_eq first (codes "delete")) _ _ delete (
     either (bytes_eq first (codes "switch")) (word_of_words lines.SwitchHeading words) _ (no_word lines.SwitchHeading (λ w. nowhere (lines.SwitchHeading w) refl refl refl refl refl refl refl refl) words) (
     either (bytes_eq first (codes "pack")) (end_of_words lines.PackHeading words) _ (no_end lines.PackHeading (nowhere lines.PackHeading refl refl refl refl refl refl refl refl) words) (
     either (bytes_eq first (codes "index")) (end_of_words lines.IndexHeading words) _ (no_end lines.IndexHeading (nowhere lines.IndexHeading refl refl refl refl refl refl refl refl) words) (

@@ -2,6 +2,7 @@
 use Rattle.std.specs.Prelude.{◌≡◌, ⊤, List, map, Option, Some, None, option_map}
 use Rattle.std.specs.List.{AllZip}
 use Rattle.history_model.specs.Bytes.{Bytes}
+use Rattle.history_model.specs.CommandParts.{option_expect}
 use Rattle.history_model.specs.Commands as model
 use Rattle.history_model.specs.Forms.{max_path, max_actor_part, max_content}
 use Rattle.history_model.specs.Spelling.{option_list}
@@ -16,6 +17,7 @@ use Rattle.history_word.specs.declared.command.ActorLine.{ActorLine}
 use Rattle.history_word.specs.declared.command.CommitCommand.{CommitCommand}
 use Rattle.history_word.specs.declared.command.To.{To}
 use Rattle.history_word.specs.declared.command.MoveCommand.{MoveCommand}
+use Rattle.history_word.specs.declared.command.Delete.{Delete}
 use Rattle.history_word.specs.declared.command.Order.{Order}
 use Rattle.history_word.specs.declared.command.Order.TheVariants.{Breadth, Newest, Oldest, NewestSince, OldestSince, Date, Topological}
 use Rattle.history_word.specs.declared.command.LogItem.{LogItem}
@@ -70,6 +72,11 @@ pub record IsMove (move : MoveCommand) (order : model.MoveCommand) : Type 0 wher
   pub actor : IsActor move.actor order.actor
   pub message : Keeps max_content move.message order.message
 
+-- the name is this one, and is to be at the word's commit, if there is a word
+pub record IsDelete (delete : Delete) (name : Bytes) (at : Option Bytes) : Type 0 where
+  pub name_is : delete.name.items ≡ name
+  pub expect : IsExpect delete.expect (option_expect at)
+
 abbrev pub IsPath : Option Field → Option Bytes → Type 0
 IsPath (Some field) (Some path) = Keeps max_path field path
 IsPath None None = ⊤
@@ -104,6 +111,7 @@ pub record IsLog (log : LogCommand) (line : model.LogCommand) : Type 0 where
 abbrev pub IsCommandOf : Command → model.Command → Type 0
 IsCommandOf (command.Commit commit) (model.Commit order) = IsCommit commit order
 IsCommandOf (command.Move move) (model.Move order) = IsMove move order
+IsCommandOf (command.Delete delete) (model.Delete name at) = IsDelete delete name at
 IsCommandOf (command.Files word) (model.Files bytes) = word.items ≡ bytes
 IsCommandOf (command.Show show) (model.Show word path) =
     (show.word.items ≡ word) × IsPath show.path path

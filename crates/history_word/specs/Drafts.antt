@@ -3,13 +3,14 @@ use Rattle.std.specs.Prelude.{◌≡◌, ℕ, ⊤, Bool, true, false, IsTrue, Is
 use Rattle.std.specs.List.{AllZip}
 use Rattle.std.specs.declared.alloc.Global.{Global}
 use Rattle.history_model.specs.Bytes.{Bytes}
+use Rattle.history_model.specs.CommandParts.{option_expect}
 use Rattle.history_model.specs.Commands as model
 use Rattle.history_model.specs.Spelling as spelling
 use Rattle.history_model.specs.Lines as lines
 use Rattle.history_word.specs.LineTable as table
 use Rattle.history_word.specs.TableRuns as runs
 use Rattle.history_word.specs.Fields.{Keeps}
-use Rattle.history_word.specs.Commands.{IsExpect, AreEdits, IsActor, AreTos, IsTo, IsPath, IsOrder, IsLogItem, IsLog}
+use Rattle.history_word.specs.Commands.{IsDelete, IsExpect, AreEdits, IsActor, AreTos, IsTo, IsPath, IsOrder, IsLogItem, IsLog}
 use Rattle.history_model.specs.Forms.{max_content}
 use Rattle.history_word.specs.declared.command.Expect.{Expect}
 use Rattle.history_word.specs.declared.command.Order.{Order}
@@ -83,6 +84,8 @@ abbrev pub IsOpening : Opening → lines.Heading → Type 0
 IsOpening (opening.Commit name expect) (lines.CommitHeading n e) =
     IfSome name (λ word. word.items ≡ n) × IfSome expect (λ x. IsExpect x e)
 IsOpening opening.Move lines.MoveHeading = ⊤
+IsOpening (opening.Delete name expect) (lines.DeleteHeading n at) =
+    IfSome name (λ word. word.items ≡ n) × IfSome expect (λ x. IsExpect x (option_expect at))
 IsOpening (opening.Files word) (lines.FilesHeading w) = IfSome word (λ x. x.items ≡ w)
 IsOpening (opening.Show word) (lines.ShowHeading w None) = IfSome word (λ x. x.items ≡ w)
 IsOpening (opening.ShowPath word path) (lines.ShowHeading w (Some n)) =
@@ -161,6 +164,7 @@ pub record IsMoveDraft (draft : MoveDraft) (order : model.MoveCommand) : Type 0 
 abbrev pub IsDraft : Draft → model.Command → Type 0
 IsDraft (draft.Commit commit) (model.Commit order) = IsCommitDraft commit order
 IsDraft (draft.Move move) (model.Move order) = IsMoveDraft move order
+IsDraft (draft.Delete delete) (model.Delete name at) = IfSome delete (λ x. IsDelete x name at)
 IsDraft (draft.Files word) (model.Files bytes) = IfSome word (λ x. x.items ≡ bytes)
 IsDraft (draft.Show show) (model.Show word path) =
     IfSome show (λ x. (x.word.items ≡ word) × IsPath x.path path)

@@ -83,6 +83,13 @@ pub struct MoveCommand {
     pub message: Field,
 }
 
+/// Deletes a name with its log. What is expected of the name is nothing, or that it is at a word's commit.
+#[derive(Debug, Drop)]
+pub struct Delete {
+    pub name: Vec<u8>,
+    pub expect: Expect,
+}
+
 /// Shows a commit, or what stands at a path of its files. The path has at most 4,096 bytes.
 #[derive(Debug, Drop)]
 pub struct Show {
@@ -129,6 +136,7 @@ pub struct LogCommand {
 pub enum Command {
     Commit(CommitCommand),
     Move(MoveCommand),
+    Delete(Delete),
     /// Lists the files of this word's commit.
     Files(Vec<u8>),
     Show(Show),

@@ -1,7 +1,8 @@
 //! A command that is being read: the parts that it has so far.
 
-ghost use Rattle.std.specs.Prelude.{◌≡◌, [], ◌∷◌, ◌++◌, None, Some, IfSome, MatchOption};
+ghost use Rattle.std.specs.Prelude.{◌≡◌, [], ◌∷◌, ◌++◌, None, Some, IfSome, MatchOption, Option};
 ghost use Rattle.history_model.specs.Bytes.{Bytes};
+ghost use Rattle.history_model.specs.CommandParts.{option_expect};
 ghost use Rattle.history_model.specs.Commands as model;
 ghost use Rattle.history_model.specs.Forms.{max_path, max_actor_part, max_content};
 ghost use Rattle.history_model.specs.Stops.{is_changing};
@@ -10,7 +11,8 @@ ghost use Rattle.history_word.specs.Commands.{IsExpect, IsEdit, IsActor, IsCommi
 ghost use Rattle.history_word.specs.Drafts.{IsCommitDraft, IsMoveDraft, IsDraft, with_parent, with_edit, with_to, with_actor, with_message};
 
 use crate::command::{
-    ActorLine, Command, CommitCommand, Edit, Expect, Field, LogCommand, MoveCommand, Put, Show, To,
+    ActorLine, Command, CommitCommand, Delete, Edit, Expect, Field, LogCommand, MoveCommand, Put,
+    Show, To,
 };
 use crate::heading::Role;
 use history_model::FileKind;
@@ -42,6 +44,7 @@ pub(crate) enum Draft {
     Empty,
     Commit(CommitDraft),
     Move(MoveDraft),
+    Delete(Option<Delete>),
     Files(Option<Vec<u8>>),
     Show(Option<Show>),
     Names,
@@ -147,6 +150,17 @@ impl Draft {
         Draft::Move(MoveDraft::new(alloc))
     }
 
+    pub(crate) fn delete(name: Option<Vec<u8>>, expect: Option<Expect>) -> Self
+        ensures { (n : Bytes) (at : Option Bytes) → IfSome name (λ x. x.items ≡ n)
+            → IfSome expect (λ x. IsExpect x (option_expect at))
+            → IsDraft result (model.Delete n at) }
+    {
+        let (Some(name), Some(expect)) = (name, expect) else {
+            return Draft::Delete(None);
+        };
+        Draft::Delete(Some(Delete { name, expect }))
+    }
+
     pub(crate) fn show(word: Option<Vec<u8>>) -> Self
         ensures { (w : Bytes) → IfSome word (λ x. x.items ≡ w)
             → IsDraft result (model.Show w None) }
@@ -232,7 +246,7 @@ impl Draft {
     pub(crate) fn is_changing(&self) -> bool
         ensures { (order : model.Command) → IsDraft self.now order → result ≡ is_changing order }
     {
-        matches!(self, Draft::Commit(_) | Draft::Move(_))
+        matches!(self, Draft::Commit(_) | Draft::Move(_) | Draft::Delete(_))
     }
 
     /// The command, if each of its parts found memory.
@@ -244,6 +258,7 @@ impl Draft {
             Draft::Empty => None,
             Draft::Commit(commit) => Some(Command::Commit(commit.finish()?)),
             Draft::Move(order) => Some(Command::Move(order.finish()?)),
+            Draft::Delete(delete) => Some(Command::Delete(delete?)),
             Draft::Files(word) => Some(Command::Files(word?)),
             Draft::Show(show) => Some(Command::Show(show?)),
             Draft::Names => Some(Command::Names(None)),

@@ -2,7 +2,7 @@
 
 ghost use Rattle.std.specs.Prelude.{◌≡◌, ◌∷◌, ◌≤◌, length, IfSome, IfNone, OnSome, IsTrue};
 ghost use Rattle.history_model.specs.Lines.{ParentHeading, RemoveHeading, RemoveFileHeading, MessageHeading, EndHeading, MoveHeading, FilesHeading, PastHeading};
-ghost use Rattle.history_word.specs.LineTable.{heading_of, end_of_words, word_of_words, size_of_words, commit_of_words, put_of_words, actor_of_words, show_of_words, names_of_words, log_of_words, name_heading_of};
+ghost use Rattle.history_word.specs.LineTable.{heading_of, end_of_words, word_of_words, size_of_words, commit_of_words, put_of_words, actor_of_words, show_of_words, names_of_words, log_of_words, name_heading_of, delete_of_words};
 ghost use Rattle.history_model.specs.Spelling.{max_line};
 ghost use Rattle.history_word.specs.TableRuns.{IsLineAt};
 ghost use Rattle.history_word.specs.Held.{IsUnbroken};
@@ -64,6 +64,10 @@ pub(crate) enum Opening {
         expect: Option<Expect>,
     },
     Move,
+    Delete {
+        name: Option<Vec<u8>>,
+        expect: Option<Expect>,
+    },
     Files {
         word: Option<Vec<u8>>,
     },
@@ -266,6 +270,31 @@ fn move_line(words: &Words) -> Option<Heading>
     }
 }
 
+/// What follows `delete`: `<name> any`, or `<name> at <word>`.
+fn delete(alloc: Global, words: &mut Words) -> Option<Heading>
+    ensures { Says result (delete_of_words (left words.old)) }
+{
+    let name = words.next()?;
+    let first = words.next()?;
+    if words.is_done() {
+        if first != b"any".as_slice() {
+            return None;
+        }
+        return Some(Heading::Opening(Opening::Delete {
+            name: kept(alloc, name),
+            expect: Some(Expect::Any),
+        }));
+    }
+    if first != b"at".as_slice() {
+        return None;
+    }
+    let word = words.last()?;
+    Some(Heading::Opening(Opening::Delete {
+        name: kept(alloc, name),
+        expect: kept(alloc, word).map(Expect::At),
+    }))
+}
+
 /// What the words of a line say that begins with this word and is about names or a log.
 fn said_of_names(alloc: Global, first: &[u8], words: &mut Words) -> Option<Heading>
     ensures { Says result (name_heading_of first.now (left words.old)) }
@@ -276,6 +305,8 @@ fn said_of_names(alloc: Global, first: &[u8], words: &mut Words) -> Option<Headi
         to(alloc, words)
     } else if first == b"actor".as_slice() {
         actor(alloc, Role::Mover, words)
+    } else if first == b"delete".as_slice() {
+        delete(alloc, words)
     } else if first == b"names".as_slice() {
         names(alloc, words)
     } else if first == b"past".as_slice() {

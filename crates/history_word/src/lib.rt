@@ -17,8 +17,8 @@ mod words;
 
 pub use buffer::Buffer;
 pub use command::{
-    ActorLine, Command, CommitCommand, Edit, Expect, Field, LogCommand, LogItem, MoveCommand,
-    Order, Put, Show, To,
+    ActorLine, Command, CommitCommand, Delete, Edit, Expect, Field, LogCommand, LogItem,
+    MoveCommand, Order, Put, Show, To,
 };
 pub use memory::{Bytes, Collected};
 pub use reader::{Received, Stop, read_command};

@@ -232,6 +232,7 @@ fn read_opening<R: Source>(
     match opening {
         Opening::Commit { name, expect } => Ok(Draft::commit(alloc, name, expect)),
         Opening::Move => Ok(Draft::new_move(alloc)),
+        Opening::Delete { name, expect } => Ok(Draft::delete(name, expect)),
         Opening::Files { word } => Ok(Draft::Files(word)),
         Opening::Show { word } => Ok(Draft::show(word)),
         Opening::ShowPath { word, path } => {

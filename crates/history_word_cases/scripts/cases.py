@@ -111,6 +111,7 @@ def commands():
     assert COMMIT.text() == COMMIT_TEXT
     cut(COMMIT_TEXT, COMMIT.words())
     moves()
+    deletions()
     row("read", b"files main\n", "more files:main end")
     row("read", b"show HEAD\n", "more show:HEAD end")
     row("read", b"show HEAD path 2\na\n\n", f"more show:HEAD path:{word(b'a' + bytes([10]))} end")
@@ -151,6 +152,14 @@ def moves():
         move = Move(names, nobody, b"")
         row("read", move.text(), f"more {move.words()} end")
     row("read", MOVE_TEXT.replace(b"one", b"\n\nx"), "more " + MOVE.words().replace("message:one", "message:%0a%0ax") + " end")
+
+
+def deletions():
+    cut(b"delete refs/heads/s at main\n", "delete:refs/heads/s at:main")
+    cut(b"delete refs/heads/s any\n", "delete:refs/heads/s any")
+    row("read", b"delete any any\n", "more delete:any any end")
+    row("read", b"delete at at at\n", "more delete:at at:at end")
+    row("stream", b"delete a any\ndelete a at new\n", "more delete:a any more")
 
 
 def log_paths():
@@ -212,14 +221,16 @@ LINES = [
     b"log breadth all +a paths 1\n", b"log breadth all +a 1\n", b"log breadth all + path 1\n", b"log breadth path 1 +a\n",
     b"log depth all +a\n", b"log newest-since all +a\n", b"log newest 1 all +a\n", b"log breadth +a all\n", b"log breadth all all +a\n",
     b"commit HEAD new\nnames\n", b"commit HEAD new\npast a\n", b"commit HEAD new\nlog breadth all +a\n",
-    b"switch main\n", b"delete main any\n", b"rename a b\n", b"tag a new b\n", b"pack\n", b"index\n",
+    b"switch main\n", b"delete\n", b"delete main\n", b"delete main new\n", b"delete main at\n",
+    b"delete main any any\n", b"delete main at a b\n", b"delete main anyone\n", b"delete main to a\n", b"delete  any\n", b"delete main a\n",
+    b"commit HEAD new\ndelete main any\n", b"delete main any \n", b"Delete main any\n", b"rename a b\n", b"tag a new b\n", b"pack\n", b"index\n",
     b"move a\n", b"move \n", b"to a new b\n", b"actor 0 0 s o\n",
 ]
 # Behind `move`, behind a line `to`, behind the actor and behind the message, and what may not stand there.
 TO, ACTOR, MESSAGE = b"to a new b\n", b"actor 0 0 s o\n\n\n", b"message 0\n\n"
 FIRST, MORE, SIGNED, TOLD = b"move\n", b"move\n" + TO, b"move\n" + TO + ACTOR, b"move\n" + TO + ACTOR + MESSAGE
 WRONG = [
-    (FIRST, [b"move\n", b"actor 0 0 s o\n", b"message 0\n", b"end\n", b"names\n", b"to\n", b"to a\n", b"to a new\n", b"to a any\n",
+    (FIRST, [b"move\n", b"delete main any\n", b"actor 0 0 s o\n", b"message 0\n", b"end\n", b"names\n", b"to\n", b"to a\n", b"to a new\n", b"to a any\n",
              b"to a at b\n", b"to a old b\n", b"to a new b c\n", b"to a any b c\n", b"to a at b c d\n", b"to a at\n", b"to  new b\n",
              b"To a new b\n", b"\n", b"parent a\n"]),
     (MORE, [b"move\n", b"message 0\n", b"end\n", b"author 0 0 s o\n", b"committer 0 0 s o\n", b"tagger 0 0 s o\n", b"parent a\n",

@@ -3,8 +3,8 @@
 use case_words::Page;
 use history_model::{Cause, FileKind};
 use history_word::{
-    ActorLine, Command, CommitCommand, Edit, Expect, Field, LogCommand, LogItem, MoveCommand,
-    Order, Put, Received, Show, Stop,
+    ActorLine, Command, CommitCommand, Delete, Edit, Expect, Field, LogCommand, LogItem,
+    MoveCommand, Order, Put, Received, Show, Stop,
 };
 
 /// What reading a command ended with.
@@ -34,6 +34,7 @@ fn show_command(command: &Command, page: &mut Page) {
     match command {
         Command::Commit(commit) => show_commit(commit, page),
         Command::Move(order) => show_move(order, page),
+        Command::Delete(delete) => show_delete(delete, page),
         Command::Files(word) => page.named("files", word),
         Command::Show(show) => show_show(show, page),
         Command::Names(None) => page.word("names"),
@@ -103,6 +104,11 @@ fn show_move(order: &MoveCommand, page: &mut Page) {
     }
     show_actor("actor", &order.actor, page);
     show_field("message", &order.message, page);
+}
+
+fn show_delete(delete: &Delete, page: &mut Page) {
+    page.named("delete", &delete.name);
+    show_expect(&delete.expect, page);
 }
 
 fn show_expect(expect: &Expect, page: &mut Page) {

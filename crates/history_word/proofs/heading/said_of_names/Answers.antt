@@ -26,24 +26,30 @@ returns-then-eq-3 c =
 pub returns-then-eq-4 : goal.returns-then-eq-4
 returns-then-eq-4 c =
     let name = (slice_eq-Decides Decides-eqb _ _ _ c.eq-else-eq-3.ensures).0 c.if-eq-4.true ∙ c.as_slice-else-eq-3.ensures in
-    subst (λ first. Says c.names.result (name_heading_of first (left c.args.words.now))) (sym name) c.names.ensures
+    subst (λ first. Says c.delete.result (name_heading_of first (left c.args.words.now))) (sym name) c.delete.ensures
 
 pub returns-then-eq-5 : goal.returns-then-eq-5
 returns-then-eq-5 c =
     let name = (slice_eq-Decides Decides-eqb _ _ _ c.eq-else-eq-4.ensures).0 c.if-eq-5.true ∙ c.as_slice-else-eq-4.ensures in
-    subst (λ first. Says c.past.result (name_heading_of first (left c.args.words.now))) (sym name) c.past.ensures
+    subst (λ first. Says c.names.result (name_heading_of first (left c.args.words.now))) (sym name) c.names.ensures
 
 pub returns-then-eq-6 : goal.returns-then-eq-6
 returns-then-eq-6 c =
     let name = (slice_eq-Decides Decides-eqb _ _ _ c.eq-else-eq-5.ensures).0 c.if-eq-6.true ∙ c.as_slice-else-eq-5.ensures in
+    subst (λ first. Says c.past.result (name_heading_of first (left c.args.words.now))) (sym name) c.past.ensures
+
+pub returns-then-eq-7 : goal.returns-then-eq-7
+returns-then-eq-7 c =
+    let name = (slice_eq-Decides Decides-eqb _ _ _ c.eq-else-eq-6.ensures).0 c.if-eq-7.true ∙ c.as_slice-else-eq-6.ensures in
     subst (λ first. Says c.log.result (name_heading_of first (left c.args.words.now))) (sym name) c.log.ensures
 
-pub returns-else-eq-6 : goal.returns-else-eq-6
-returns-else-eq-6 c =
+pub returns-else-eq-7 : goal.returns-else-eq-7
+returns-else-eq-7 c =
     no_line_of c.args.first.now (left c.args.words.now)
     (is_other c.args.first.now _ (codes "move") _ (slice_eq-Decides Decides-eqb _ _ _ c.eq.ensures).1 c.as_slice.ensures c.if-eq.false)
     (is_other c.args.first.now _ (codes "to") _ (slice_eq-Decides Decides-eqb _ _ _ c.eq-else-eq.ensures).1 c.as_slice-else-eq.ensures c.if-eq-2.false)
     (is_other c.args.first.now _ (codes "actor") _ (slice_eq-Decides Decides-eqb _ _ _ c.eq-else-eq-2.ensures).1 c.as_slice-else-eq-2.ensures c.if-eq-3.false)
-    (is_other c.args.first.now _ (codes "names") _ (slice_eq-Decides Decides-eqb _ _ _ c.eq-else-eq-3.ensures).1 c.as_slice-else-eq-3.ensures c.if-eq-4.false)
-    (is_other c.args.first.now _ (codes "past") _ (slice_eq-Decides Decides-eqb _ _ _ c.eq-else-eq-4.ensures).1 c.as_slice-else-eq-4.ensures c.if-eq-5.false)
-    (is_other c.args.first.now _ (codes "log") _ (slice_eq-Decides Decides-eqb _ _ _ c.eq-else-eq-5.ensures).1 c.as_slice-else-eq-5.ensures c.if-eq-6.false)
+    (is_other c.args.first.now _ (codes "delete") _ (slice_eq-Decides Decides-eqb _ _ _ c.eq-else-eq-3.ensures).1 c.as_slice-else-eq-3.ensures c.if-eq-4.false)
+    (is_other c.args.first.now _ (codes "names") _ (slice_eq-Decides Decides-eqb _ _ _ c.eq-else-eq-4.ensures).1 c.as_slice-else-eq-4.ensures c.if-eq-5.false)
+    (is_other c.args.first.now _ (codes "past") _ (slice_eq-Decides Decides-eqb _ _ _ c.eq-else-eq-5.ensures).1 c.as_slice-else-eq-5.ensures c.if-eq-6.false)
+    (is_other c.args.first.now _ (codes "log") _ (slice_eq-Decides Decides-eqb _ _ _ c.eq-else-eq-6.ensures).1 c.as_slice-else-eq-6.ensures c.if-eq-7.false)

@@ -6,7 +6,7 @@ use Rattle.history_word.specs.Progress.{IsNoField, StopsFrom}
 use Rattle.history_word.proofs.TakingLemmas.{took_none}
 use Rattle.history_word.proofs.StopLemmas.{stops_then}
 use Rattle.history_word.proofs.LineEndLemmas.{field_first_stops}
-use Rattle.history_word.proofs.DraftLemmas.{commit_opens, move_opens, files_opens, show_opens, path_opens, names_opens, folder_opens, past_opens, log_opens}
+use Rattle.history_word.proofs.DraftLemmas.{commit_opens, move_opens, delete_opens, files_opens, show_opens, path_opens, names_opens, folder_opens, past_opens, log_opens}
 use Rattle.history_word.proofs.reader.read_opening.Goals as goal
 
 pub returns-in-Commit : goal.returns-in-Commit
@@ -14,6 +14,9 @@ returns-in-Commit g c = rw (c.in-Commit.is) ([], took_none g.R.Source.left g.R.S
 
 pub returns-in-Move : goal.returns-in-Move
 returns-in-Move g c = rw (c.in-Move.is) ([], took_none g.R.Source.left g.R.Source.readings c.args.source.now c.args.buffer.now, (move_opens _ c.new_move.ensures, λ _. refl))
+
+pub returns-in-Delete : goal.returns-in-Delete
+returns-in-Delete g c = rw (c.in-Delete.is) ([], took_none g.R.Source.left g.R.Source.readings c.args.source.now c.args.buffer.now, (delete_opens c.in-Delete.name c.in-Delete.expect _ c.delete.ensures, λ _. refl))
 
 pub returns-in-Files : goal.returns-in-Files
 returns-in-Files g c = rw (c.in-Files.is) ([], took_none g.R.Source.left g.R.Source.readings c.args.source.now c.args.buffer.now, (files_opens c.in-Files.word, λ _. refl))

@@ -1,0 +1,303 @@
+-- A name goes: what a `delete` is refused for, and what its files pass through.
+use Rattle.std.proofs.Common.{◌≡◌, ℕ, Bool, true, false, cond, not, ◌||◌, List, [], ◌∷◌, ◌++◌, refl, sym, ◌∙◌, ap, subst, Option, Some, None, option_map, is_some, unwrap_or, codes}
+use Rattle.std.specs.Prelude.{Result, Err, Vec, IsErrOf}
+use Rattle.std.specs.declared.alloc.Global.{Global}
+use Rattle.std.specs.FinMap.{get}
+use Rattle.std.proofs.lemmas.List.{append-nil}
+use Rattle.gix_hash_id.specs.Id.{Id, id_of}
+use Rattle.gix_hash_id.specs.Order.{id_eq}
+use Rattle.gix_hash_id.specs.declared.kind.Kind.{Kind}
+use Rattle.gix_hash_id.specs.declared.object_id.ObjectId.{ObjectId}
+use Rattle.gix_ref_file.specs.Tree.{Tree}
+use Rattle.gix_ref_file.specs.Changes.{is_file_at}
+use Rattle.gix_ref_file.specs.History.{History, Adds}
+use Rattle.gix_ref_file.specs.declared.files.FileError.{FileError}
+use Rattle.gix_ref_file.specs.declared.files.FileError.TheVariants as files
+use Rattle.gix_ref_file.proofs.Histories.{adds_both, adds_weaker}
+use Rattle.history_model.specs.Bytes.{Bytes}
+use Rattle.history_model.specs.Repository as plain
+use Rattle.history_model.specs.Repository.{HasWholeNames, Reference, stands}
+use Rattle.history_model.specs.Forms.{is_name, is_private}
+use Rattle.history_model.specs.Words.{WordMeaning, ReadsAs, Unborn, Unknown, Ambiguous}
+use Rattle.history_model.specs.Commands.{At, Command, Delete}
+use Rattle.history_model.specs.CommandParts.{option_expect}
+use Rattle.history_model.specs.Meaning.{after}
+use Rattle.history_model.specs.Causes.{first_cause, holds, is_elsewhere, same_id}
+use Rattle.history_model.specs.Replies.{Deleted, reply_text}
+use Rattle.history_model.specs.Spelling.{Line as TextLine, part_text}
+use Rattle.history_model.specs.Places.{file_at, packed_place}
+use Rattle.history_model.specs.Steps.{Accepts}
+use Rattle.history_model.specs.NameStates.{NameState, Holds, Absent, loose_state, name_state, packed_text_state}
+use Rattle.history_model.specs.StandsFor.{StandsFor}
+use Rattle.history_model.specs.declared.Cause.{Cause}
+use Rattle.history_model.specs.declared.Cause.TheVariants.{BadName, PrivateName, NoSuchName, NotExpected}
+use Rattle.history_model.specs.declared.Fault.TheVariants.{Memory, File, IdTaken}
+use Rattle.history_steps.specs.DeleteSteps.{DeletesName, DeletesOnTheWay}
+use Rattle.history_steps.specs.Offered.{IsOffered}
+use Rattle.history_steps.specs.OfferedWords.{read_id}
+use Rattle.history_steps.specs.Passing.{HoldsBetween}
+use Rattle.history_steps.specs.TreeHalves.{HoldsNames}
+use Rattle.history_steps.proofs.Deletions.{deletions_pass, deletions_stand}
+use Rattle.history_steps.proofs.OfferedCauses.{first_offered_cause}
+use Rattle.history_steps.proofs.OfferedReads.{names_stand_for_theirs, words_stand_for_theirs}
+use Rattle.history_steps.proofs.PassedStates.{names_pass}
+use Rattle.history_steps.proofs.TreeMoves.{packed_apart, packed_no_log}
+use Rattle.history_steps.proofs.TreePuts.{halves_stand}
+use Rattle.history_store.specs.References.{IsGone, MayGo, NameHolds, SameFolders}
+use Rattle.history.specs.Acts.{Acts, IsReadingFault}
+use Rattle.history.specs.Bases.{IsExpected, expected_meanings, reads_as, words_cause}
+use Rattle.history.specs.CommitCauses.{first_among, form_cause, held_causes, name_form_causes, word_causes}
+use Rattle.history.specs.Deleting.{DeletesFiles, TestsAll, delete_causes, gone_cause}
+use Rattle.history.specs.Face.{KeepsAllButNames, names_part}
+use Rattle.history.specs.Faults.{file_fault}
+use Rattle.history.specs.Halves.{NamesStand, names_tree}
+use Rattle.history.specs.Meanings.{meaning_of}
+use Rattle.history.specs.Serving.{Serves}
+use Rattle.history.specs.Stands.{pair_of}
+use Rattle.history.specs.declared.base.Expected.{Expected}
+use Rattle.history.specs.declared.base.Expected.TheVariants as expected
+use Rattle.history.specs.declared.repository.Repository as own
+use Rattle.history.specs.declared.stopped.Stopped.{Stopped}
+use Rattle.history.specs.declared.stopped.Stopped.TheVariants as why
+use Rattle.history.proofs.Commits.{name_formed}
+use Rattle.history.proofs.FirstCauses.{find_after_none, find_in_front}
+use Rattle.history.proofs.NameReads.{held, refs_front}
+use Rattle.history.proofs.NamesAlone.{ChangesNames}
+use Rattle.history.proofs.WordReads.{stands_so}
+
+-- ---- what the name, the word and the files tell of the causes
+
+pub formed_name : (name : Bytes) → form_cause name ≡ None → is_name name ≡ true
+formed_name name none = go (is_name name) _ none
+  where
+    go : (b : Bool) (rest : Option Cause) → cond (not b) (Some BadName) rest ≡ None → b ≡ true
+    go true rest e = refl
+    go false rest e = cc
+
+module _ (r : plain.Repository) (name : Bytes) where
+  form_told : (at : Option Bytes) → first_among name_form_causes r (Delete name at) ≡ form_cause name
+  form_told at = two (not (is_name name)) (is_private name)
+    where
+      two : (a b : Bool) → cond ((a || false) || false) (Some BadName) (cond (b || false) (Some PrivateName) None) ≡ cond a (Some BadName) (cond b (Some PrivateName) None)
+      two true b = refl
+      two false true = refl
+      two false false = refl
+
+  pub words_told : (at : Option Bytes) (what : Expected) → IsExpected r (option_expect at) what → first_among word_causes r (Delete name at) ≡ words_cause (expected_meanings what ++ [])
+  words_told None expected.Any is = refl
+  words_told (Some word) (expected.At meaning) is = λ i. words_cause (sym is i ∷ [])
+  words_told None expected.New is = absurd is
+  words_told None (expected.At meaning) is = absurd is
+  words_told (Some word) expected.Any is = absurd is
+  words_told (Some word) expected.New is = absurd is
+
+  module _ (o : IsOffered r) (w : HasWholeNames r) where
+    compared : (id : Id) (x : WordMeaning) → cond (not (same_id (Some id) (read_id x)) || false) (Some NotExpected) None ≡ reads_as id x
+    compared id (ReadsAs other) = go (id_eq id other)
+      where
+        go : (b : Bool) → cond (not b || false) (Some NotExpected) None ≡ cond b None (Some NotExpected)
+        go true = refl
+        go false = refl
+    compared id Unborn = refl
+    compared id Unknown = refl
+    compared id Ambiguous = refl
+
+    pub held_told : (at : Option Bytes) (what : Expected) (held : Option Id) → IsExpected r (option_expect at) what → plain.id_at r name ≡ held → first_among held_causes r (Delete name at) ≡ gone_cause what held
+    held_told None expected.Any None is at = ap (λ s. cond (not s || false) (Some NoSuchName) None) (stands_so r name None at)
+    held_told None expected.Any (Some id) is at = ap (λ s. cond (not s || false) (Some NoSuchName) None) (stands_so r name (Some id) at)
+    held_told (Some word) (expected.At meaning) None is at =
+        ap (λ s. cond (not s || false) (Some NoSuchName) (cond (is_elsewhere r (name, At word) || false) (Some NotExpected) None)) (stands_so r name None at)
+    held_told (Some word) (expected.At meaning) (Some id) is at =
+        ap (λ s. cond (not s || false) (Some NoSuchName) (cond (is_elsewhere r (name, At word) || false) (Some NotExpected) None)) (stands_so r name (Some id) at)
+        ∙ (λ i. cond (not (same_id ((names_stand_for_theirs r name o w ∙ at) i) ((words_stand_for_theirs r word o w ∙ ap read_id (sym is)) i)) || false) (Some NotExpected) None)
+        ∙ compared id (meaning_of meaning)
+    held_told None expected.New held is at = absurd is
+    held_told None (expected.At meaning) held is at = absurd is
+    held_told (Some word) expected.Any held is at = absurd is
+    held_told (Some word) expected.New held is at = absurd is
+
+    -- ---- the first of the causes
+
+    module _ (at : Option Bytes) where
+      abbrev Tells : List Cause → Option Cause
+      Tells causes = first_among causes r (Delete name at)
+
+      abbrev P : Cause → Bool
+      P cause = holds cause r (Delete name at)
+
+      first_told : first_cause r (Delete name at) ≡ Tells delete_causes
+      first_told = first_offered_cause r (Delete name at) o w refl
+
+      pub by_form : (cause : Cause) → form_cause name ≡ Some cause → first_cause r (Delete name at) ≡ Some cause
+      by_form cause e = first_told ∙ find_in_front P name_form_causes (word_causes ++ held_causes) cause (form_told at ∙ e)
+
+      module _ (named : form_cause name ≡ None) where
+        past_form : first_cause r (Delete name at) ≡ Tells (word_causes ++ held_causes)
+        past_form = first_told ∙ find_after_none P name_form_causes (word_causes ++ held_causes) (form_told at ∙ named)
+
+        pub by_words : (cause : Cause) → Tells word_causes ≡ Some cause → first_cause r (Delete name at) ≡ Some cause
+        by_words cause e = past_form ∙ find_in_front P word_causes held_causes cause e
+
+        pub by_held : Tells word_causes ≡ None → (first : Option Cause) → Tells held_causes ≡ first → first_cause r (Delete name at) ≡ first
+        by_held words first e = past_form ∙ find_after_none P word_causes held_causes words ∙ e
+
+-- ---- what is told
+
+pub refusal_told : (MayFail : Type 0) (r : plain.Repository) (command : Command) (ends : Result (Unit {0}) Stopped) (cause : Cause) → ends ≡ Err (why.Refused cause) → first_cause r command ≡ Some cause → TestsAll MayFail r command ends
+refusal_told MayFail r command ends cause is_end first = subst (TestsAll MayFail r command) (sym is_end) first
+
+pub fault_told : (MayFail : Type 0) (r : plain.Repository) (command : Command) (ends : Result (Unit {0}) Stopped) (stopped : Stopped) → ends ≡ Err stopped → IsReadingFault MayFail stopped → TestsAll MayFail r command ends
+fault_told MayFail r command ends stopped is_end told = subst (TestsAll MayFail r command) (sym is_end) (by_case stopped told)
+  where
+    by_case : (stopped : Stopped) → IsReadingFault MayFail stopped → TestsAll MayFail r command (Err stopped)
+    by_case (why.Refused cause) h = absurd h
+    by_case (why.Fault fault) h = h
+
+pub file_told : {A : Type 0} (MayFail : Type 0) (r : plain.Repository) (command : Command) (result : Result A FileError) (ends : Result (Unit {0}) Stopped) (error : FileError)
+    → result ≡ Err error → ends ≡ Err (why.Fault (file_fault error)) → (IsErrOf result files.Failed → MayFail) → TestsAll MayFail r command ends
+file_told {A} MayFail r command result ends error was is_end failed =
+    subst (TestsAll MayFail r command) (sym is_end) (by_error error (subst (λ (x : Result A FileError). IsErrOf x files.Failed → MayFail) was failed))
+  where
+    by_error : (error : FileError) → (IsErrOf {T = A} (Err error) files.Failed → MayFail) → IsReadingFault MayFail (why.Fault (file_fault error))
+    by_error files.Failed may = may refl
+    by_error files.Memory may = tt
+
+-- where the tests stop, so does the command
+pub acts_tested : (MayFail C : Type 0) (StandsNow : plain.Repository → Type 0) → (MayFail → C) → (r : plain.Repository) (command : Command) (result : Result (Unit {0}) Stopped) (ends : Result (Vec ℕ Global) Stopped) (stopped : Stopped)
+    → result ≡ Err stopped → ends ≡ Err stopped → TestsAll MayFail r command result → Acts C StandsNow r command ends
+acts_tested MayFail C StandsNow may r command result ends stopped was is_end h = subst (Acts C StandsNow r command) (sym is_end) (by_case stopped (subst (TestsAll MayFail r command) was h))
+  where
+    by_case : (stopped : Stopped) → TestsAll MayFail r command (Err stopped) → Acts C StandsNow r command (Err stopped)
+    by_case (why.Refused cause) k = k
+    by_case (why.Fault Memory) k = tt
+    by_case (why.Fault File) k = may k
+    by_case (why.Fault IdTaken) k = absurd k
+
+-- ---- the name's files
+
+read_so : Kind → Bytes → Bool → Option Bytes → Option Bytes → NameState
+read_so kind name named own packed = cond named (unwrap_or (option_map (loose_state kind) own) (unwrap_or (option_map (packed_text_state kind name) packed) Absent)) Absent
+
+-- a name that stands has a file
+pub file_there : (r : plain.Repository) (tree : Tree) (name : Bytes) → HoldsNames tree r → file_at tree packed_place ≡ None → stands r name ≡ true → is_file_at tree name ≡ true
+unfolding read_so
+file_there r tree name holds unpacked stood = by_ref (get r.names name) refl stood
+  where
+    by_file : (id : Id) → name_state r.kind tree name ≡ Holds id → (o : Option Bytes) → file_at tree name ≡ o → is_some o ≡ true
+    by_file id reads (Some text) e = refl
+    by_file id reads None e = by_name (is_name name) ((λ i. read_so r.kind name (is_name name) (sym e i) (sym unpacked i)) ∙ reads)
+      where
+        by_name : (b : Bool) → cond b Absent Absent ≡ Holds id → false ≡ true
+        by_name true wrong = cc
+        by_name false wrong = cc
+
+    by_ref : (o : Option Reference) → get r.names name ≡ o → is_some o ≡ true → is_file_at tree name ≡ true
+    by_ref None e h = cc
+    by_ref (Some ref) e h = by_file ref.id ((holds.names name ref.id).1 (ap (option_map (λ (x : Reference). x.id)) e)) (file_at tree name) refl
+
+pub goes_on_the_way : (r : plain.Repository) (name : Bytes) (old new : History) → HoldsNames old.tree r → Adds (MayGo name old.tree) old new → Adds (SameFolders old.tree) old new → Adds (DeletesOnTheWay name old.tree) old new
+goes_on_the_way r name old new holds may same = adds_weaker old new (adds_both old new may same) (λ tree both.
+    record { log = (both.0).log; here = (both.0).here; others = (both.0).others; folders = λ path is. holds.folders path ((both.1 path).0 is) })
+
+pub files_gone : (r : plain.Repository) (name : Bytes) (old new : Tree) → HoldsNames old r → IsGone name old new → SameFolders old new → DeletesName name old new
+files_gone r name old new holds gone same = record { here = gone.here; log = gone.log; others = gone.others; folders = λ path is. holds.folders path ((same path).0 is) }
+
+stopped_delete : (C : Type 0) (old new : Tree) (name : Bytes) (error : FileError) → (error ≡ files.Failed → C) → DeletesFiles C old new name (Err (why.Fault (file_fault error)))
+stopped_delete C old new name files.Failed failed = failed refl
+stopped_delete C old new name files.Memory failed = tt
+
+pub delete_stopped : (C : Type 0) (old new : Tree) (name : Bytes) (error : FileError) (ends : Result (Unit {0}) Stopped) → ends ≡ Err (why.Fault (file_fault error)) → (error ≡ files.Failed → C) → DeletesFiles C old new name ends
+delete_stopped C old new name error ends is_end failed = subst (DeletesFiles C old new name) (sym is_end) (stopped_delete C old new name error failed)
+
+-- ---- the command
+
+accepted : (r : plain.Repository) (name : Bytes) (at : Option Bytes) → first_cause r (Delete name at) ≡ None → Accepts r (Delete name at) Deleted (after r (Delete name at))
+accepted r name at none = record { no_cause = none; not_taken = refl; answer = refl; result = refl }
+
+pub names_only : (r : plain.Repository) (name : Bytes) (at : Option Bytes) → first_cause r (Delete name at) ≡ None → ChangesNames r (Delete name at) Deleted
+names_only r name at none = record { changes = refl; spoken = refl; free = refl; values = refl; branch = refl; accepts = accepted r name at none; steps = accepted r name at none }
+
+-- its reply
+pub deleted_text : (before text ok word : Bytes) → before ≡ [] → ok ≡ codes "ok" → word ≡ codes "delete" → text ≡ before ++ part_text (TextLine (ok ∷ word ∷ [])) → text ≡ reply_text Deleted
+deleted_text before text ok word none is_ok is_word is =
+    is ∙ (λ i. none i ++ part_text (TextLine (is_ok i ∷ is_word i ∷ []))) ∙ sym (append-nil (part_text (TextLine (codes "ok" ∷ codes "delete" ∷ []))))
+
+-- where the removal stops, so does the command
+pub acts_stopped : (C : Type 0) (old new : Tree) (StandsNow : plain.Repository → Type 0) (r : plain.Repository) (name place : Bytes) (at : Option Bytes) (result : Result (Unit {0}) Stopped) (ends : Result (Vec ℕ Global) Stopped) (stopped : Stopped)
+    → result ≡ Err stopped → ends ≡ Err stopped → DeletesFiles C old new place result → Acts C StandsNow r (Delete name at) ends
+acts_stopped C old new StandsNow r name place at result ends stopped was is_end h = subst (Acts C StandsNow r (Delete name at)) (sym is_end) (by_case stopped (subst (DeletesFiles C old new place) was h))
+  where
+    by_case : (stopped : Stopped) → DeletesFiles C old new place (Err stopped) → Acts C StandsNow r (Delete name at) (Err stopped)
+    by_case (why.Refused cause) k = absurd k
+    by_case (why.Fault Memory) k = tt
+    by_case (why.Fault File) k = k
+    by_case (why.Fault IdTaken) k = absurd k
+
+module _ {F : Type 0} (IsHonest : F → Type 0) (history : F → History) (old : own.Repository F) (r : plain.Repository) (h : Serves IsHonest history old r) where
+  -- what the file of the name tells is what it holds
+  pub held_at : (name path : Bytes) → path ≡ name → is_name name ≡ true → (found : Option ObjectId) → NameHolds old.names.kind (history (names_part old)).tree path found → plain.id_at r name ≡ option_map id_of found
+  held_at name path same formed found tells =
+      ap (plain.id_at r) (sym same) ∙ sym (held IsHonest history old r h path (refs_front path (ap is_name same ∙ formed)) found
+      (subst (λ kind. NameHolds kind (history (names_part old)).tree path found) h.stands.names_kind tells))
+
+  pub stand_now : NamesStand IsHonest history old r
+  stand_now = record {
+    honest = h.stands.honest_names;
+    holds = ((halves_stand r.kind (pair_of history old) r).0 h.stands.whole.stands).2;
+    named = name_formed r h.stands.whole.written;
+    unpacked = h.stage.unpacked;
+  }
+
+  module _ (name path : Bytes) (at : Option Bytes) (same : path ≡ name) (none : first_cause r (Delete name at) ≡ None) where
+    -- no cause holds, so it is a name that stands
+    no_cause : (form_cause name ≡ None) × (stands r name ≡ true)
+    no_cause = (form, there)
+      where
+        o : IsOffered r
+        o = h.stage.offered
+
+        w : HasWholeNames r
+        w = h.stands.whole.whole.names
+
+        form : form_cause name ≡ None
+        form = by_cause (form_cause name) refl
+          where
+            by_cause : (found : Option Cause) → form_cause name ≡ found → found ≡ None
+            by_cause None e = refl
+            by_cause (Some cause) e = let wrong : None ≡ Some cause = sym none ∙ by_form r name o w at cause e in absurd (cc wrong)
+
+        words : first_among word_causes r (Delete name at) ≡ None
+        words = by_cause (first_among word_causes r (Delete name at)) refl
+          where
+            by_cause : (found : Option Cause) → first_among word_causes r (Delete name at) ≡ found → found ≡ None
+            by_cause None e = refl
+            by_cause (Some cause) e = let wrong : None ≡ Some cause = sym none ∙ by_words r name o w at form cause e in absurd (cc wrong)
+
+        there : stands r name ≡ true
+        there = by_stand (stands r name) _ (sym (by_held r name o w at form words (first_among held_causes r (Delete name at)) refl) ∙ none)
+          where
+            by_stand : (b : Bool) (rest : Option Cause) → cond (not b || false) (Some NoSuchName) rest ≡ None → b ≡ true
+            by_stand true rest e = refl
+            by_stand false rest e = cc
+
+    pub there_now : stands r path ≡ true
+    there_now = ap (stands r) same ∙ no_cause.1
+
+    formed : is_name name ≡ true
+    formed = formed_name name no_cause.0
+
+    pub passes_names : (new : own.Repository F) → Adds (DeletesOnTheWay path (names_tree history old)) (history (names_part old)) (history (names_part new)) → Adds (HoldsBetween r (Delete name at)) (history (names_part old)) (history (names_part new))
+    passes_names new pass = adds_weaker (history (names_part old)) (history (names_part new)) pass (λ tree may.
+        names_pass r (Delete name at) tree (record { whole = h.stands.whole.whole; written = h.stands.whole.written }) none
+        (deletions_pass r name at (pair_of history old) tree h.stands.whole.stands formed h.stage.unpacked (subst (λ n. DeletesOnTheWay n (names_tree history old) tree) same may)))
+
+    module _ (new : own.Repository F) (kept : KeepsAllButNames old new) (deleted : DeletesName path (names_tree history old) (names_tree history new)) where
+      gone_here : DeletesName name (names_tree history old) (names_tree history new)
+      gone_here = subst (λ n. DeletesName n (names_tree history old) (names_tree history new)) same deleted
+
+      pub stands_after : StandsFor r.kind (pair_of history new) (after r (Delete name at))
+      stands_after = subst (λ objects. StandsFor r.kind (record { objects = (history objects.files).tree; names = names_tree history new }) (after r (Delete name at))) (sym kept.objects)
+          (deletions_stand r name at (pair_of history old) (names_tree history new) h.stands.whole.stands formed h.stage.unpacked gone_here)
+
+      pub unpacked_after : file_at (names_tree history new) packed_place ≡ None
+      unpacked_after = gone_here.others packed_place (packed_apart name formed) (packed_no_log name) ∙ h.stage.unpacked

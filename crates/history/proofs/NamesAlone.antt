@@ -1,0 +1,103 @@
+-- Commands that change names alone: what their files pass through, and what they leave.
+use Rattle.std.proofs.Common.{◌≡◌, ◌⊎◌, inl, inr, ℕ, true, false, sym, ◌∙◌, ap, subst, None}
+use Rattle.std.specs.FinMap.{contains_key}
+use Rattle.gix_ref_file.specs.History.{History, Adds}
+use Rattle.history_model.specs.Repository as plain
+use Rattle.history_model.specs.Commands.{Command}
+use Rattle.history_model.specs.Meaning.{after, takes_id}
+use Rattle.history_model.specs.Replies.{Reply}
+use Rattle.history_model.specs.Stage.{is_spoken}
+use Rattle.history_model.specs.Steps.{Accepts, Step}
+use Rattle.history_model.specs.Stops.{is_changing}
+use Rattle.history_model.specs.Places.{Pair, file_at, packed_place}
+use Rattle.history_model.specs.Moments.{LeavesStopped}
+use Rattle.history_model.specs.Recovery.{recovered_objects}
+use Rattle.history_model.specs.StandsFor.{StandsFor}
+use Rattle.history_model.specs.Wholeness.{IsSound}
+use Rattle.history_model.proofs.WholeSteps.{steps_keep_sound}
+use Rattle.history_steps.specs.Passing.{HoldsBetween}
+use Rattle.history_steps.specs.TreeHalves.{HoldsValues}
+use Rattle.history_steps.proofs.OfferedSteps.{offered_stays}
+use Rattle.history_steps.proofs.PassedNames.{moving_stops, nothing_stops, values_recover}
+use Rattle.history_steps.proofs.TreePuts.{halves_stand}
+use Rattle.history_store.specs.Face.{ids_of_objects}
+use Rattle.history.specs.Face.{objects_part, names_part, KeepsAllButNames}
+use Rattle.history.specs.Halves.{names_tree, objects_tree}
+use Rattle.history.specs.Moments.{GoesLater, StoodOnTheWay}
+use Rattle.history.specs.Serving.{Serves}
+use Rattle.history.specs.Stands.{pair_of}
+use Rattle.history.specs.declared.repository.Repository.{Repository}
+use Rattle.history.proofs.Stood.{adds_later, adds_same, stands_now, stood_between_then, stood_then}
+
+-- The command stores nothing, and leaves HEAD's branch: it is accepted with this reply.
+pub record ChangesNames (r : plain.Repository) (order : Command) (reply : Reply) : Type 0 where
+  pub changes : is_changing order ≡ true
+  pub spoken : is_spoken order ≡ true
+  pub free : takes_id r order ≡ false
+  pub values : (after r order).objects ≡ r.objects
+  pub branch : (after r order).branch ≡ r.branch
+  pub accepts : Accepts r order reply (after r order)
+  pub steps : Step r order reply (after r order)
+
+module _ {F : Type 0} (IsHonest : F → Type 0) (history : F → History) (failures : F → ℕ) (old new : Repository F) (r : plain.Repository) (order : Command) (reply : Reply)
+    (h : Serves IsHonest history old r) (c : ChangesNames r order reply) (kept : KeepsAllButNames old new) where
+  sound : IsSound r
+  sound = record { whole = h.stands.whole.whole; written = h.stands.whole.written }
+
+  sound_after : IsSound (after r order)
+  sound_after = steps_keep_sound r (after r order) order reply c.steps sound
+
+  values_old : HoldsValues r.kind (objects_tree history old) r.objects
+  values_old = ((halves_stand r.kind (pair_of history old) r).0 h.stands.whole.stands).1
+
+  -- what the new names stand for is served
+  pub names_serve : IsHonest (names_part new) → StandsFor r.kind (pair_of history new) (after r order) → file_at (names_tree history new) packed_place ≡ None → new.names.kind ≡ old.names.kind → Serves IsHonest history new (after r order)
+  names_serve honest stands unpacked kind = record {
+    stands = record {
+      honest_objects = subst (λ objects. IsHonest objects.files) (sym kept.objects) h.stands.honest_objects;
+      honest_names = honest;
+      whole = record { stands = stands; written = sound_after.written; whole = sound_after.whole };
+      objects_kind = ap (λ objects. objects.kind) kept.objects ∙ h.stands.objects_kind;
+      names_kind = kind ∙ h.stands.names_kind;
+      branch = ap (λ branch. branch.items) kept.branch ∙ h.stands.branch ∙ sym c.branch;
+      known = λ id. ap (λ objects. contains_key (ids_of_objects objects) id) kept.objects ∙ h.stands.known id ∙ ap (λ (values : plain.Values). contains_key values id) (sym c.values);
+    };
+    stage = record { offered = offered_stays r order h.stage.offered c.spoken (c.accepts).no_cause; unpacked = unpacked };
+  }
+
+  module _ (pass : Adds (HoldsBetween r order) (history (names_part old)) (history (names_part new))) where
+    objects_stay : Adds (λ t. ⊥) (history (objects_part old)) (history (objects_part new))
+    objects_stay = adds_same _ _ (ap (λ o. history o.files) kept.objects)
+
+    nothing : (pair : Pair) → pair.objects ≡ objects_tree history old → pair.names ≡ names_tree history old → LeavesStopped r order pair
+    nothing pair objects names = subst (LeavesStopped r order) (λ i. record { objects = sym objects i; names = sym names i }) (nothing_stops r order (pair_of history old) h.stands.whole)
+
+    on_the_way : (pair : Pair) → pair.objects ≡ objects_tree history old → HoldsBetween r order pair.names → LeavesStopped r order pair
+    on_the_way pair objects held = moving_stops r order pair sound c.changes (c.accepts).no_cause c.free
+        (subst (λ (values : plain.Values). HoldsValues r.kind (recovered_objects pair.objects) values) (sym c.values)
+        (subst (λ tree. HoldsValues r.kind (recovered_objects tree) r.objects) (sym objects) (values_recover r.kind (objects_tree history old) r.objects (h.stands.whole.whole.store).own_ids values_old))) held
+
+    or_never : {A : Type 0} → A ⊎ ⊥ → A
+    or_never (inl a) = a
+    or_never (inr never) = absurd never
+
+    -- a stop on the way leaves what it may
+    pub names_stop : (pair : Pair) → StoodOnTheWay history failures old new pair → LeavesStopped r order pair
+    names_stop pair (inl (objects, names)) =
+        nothing pair (or_never (stood_between_then (history (objects_part old)) (history (objects_part new)) pair.objects objects_stay objects)) (stood_then (history (names_part old)) (history (names_part new)) pair.names pass names)
+    names_stop pair (inr (objects, names)) = by_names (stood_between_then (history (names_part old)) (history (names_part new)) pair.names pass names)
+      where
+        now : pair.objects ≡ objects_tree history old
+        now = stands_now (history (objects_part new)) pair.objects objects ∙ ap (λ o. (history o.files).tree) kept.objects
+
+        by_names : (pair.names ≡ names_tree history old) ⊎ HoldsBetween r order pair.names → LeavesStopped r order pair
+        by_names (inl same) = nothing pair now same
+        by_names (inr held) = on_the_way pair now held
+
+    pub names_later : GoesLater history failures old new
+    names_later = (
+      adds_later (history (objects_part old)) (history (objects_part new)) objects_stay,
+      adds_later (history (names_part old)) (history (names_part new)) pass,
+      (objects_stay.during, objects_stay.added),
+      (pass.during, pass.added),
+    )
