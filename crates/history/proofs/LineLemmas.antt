@@ -21,7 +21,7 @@ use Rattle.history_model.specs.Commands.{Expect, Any, New, At, Move, MoveCommand
 use Rattle.history_model.specs.CommandParts.{at_word, words_in}
 use Rattle.history_model.specs.Meaning.{read_actor}
 use Rattle.history_model.specs.Causes as model
-use Rattle.history_model.specs.Causes.{do_collide, first_cause, holds, is_at, is_unborn, is_unknown, same_id, some_collide}
+use Rattle.history_model.specs.Causes.{do_collide, first_cause, holds, is_at, is_unborn, is_unknown, same_id}
 use Rattle.history_model.specs.declared.Cause.{Cause}
 use Rattle.history_model.specs.declared.Cause.TheVariants.{BadActor, BadMessage, BadName, BadTime, UnknownWord, UnbornHead, NoSuchName, Taken, NotExpected, NothingMoves}
 use Rattle.history_model.specs.declared.Fault.TheVariants.{Memory, File, IdTaken}
@@ -42,7 +42,7 @@ use Rattle.history.specs.CommitCauses.{IsToldOf, TestsOf, first_among, held_caus
 use Rattle.history.specs.Face.{names_part}
 use Rattle.history.specs.Faults.{file_fault}
 use Rattle.history.specs.Meanings.{commit_in, meaning_of}
-use Rattle.history.specs.Moving.{AreLines, AreMoves, IsLine, IsLineMove, IsTeller, PlansMoves, bars, is_elsewhere, is_missing, is_new, is_taken, is_there, line_meanings, line_name, lines_cause, move_causes, names_cause, teller_causes, to_causes, to_name}
+use Rattle.history.specs.Moving.{AreLines, AreMoves, IsLine, IsLineMove, PlansMoves, TestsNames, bars, is_elsewhere, is_missing, is_new, is_taken, is_there, line_meanings, line_name, lines_cause, move_causes, names_cause, teller_causes, to_causes, to_name}
 use Rattle.history.specs.declared.base.Expected.{Expected}
 use Rattle.history.specs.declared.base.Expected.TheVariants as expected
 use Rattle.history.specs.declared.moving.Line.{Line}
@@ -140,7 +140,7 @@ same_there : (held : Option ObjectId) → is_some (option_map id_of held) ≡ is
 same_there None = refl
 same_there (Some id) = refl
 
-not_there : (held : Option ObjectId) → not (is_some held) ≡ is_none held
+pub not_there : (held : Option ObjectId) → not (is_some held) ≡ is_none held
 not_there None = refl
 not_there (Some id) = refl
 
@@ -312,13 +312,19 @@ line_names r [] (line ∷ lines) are = absurd are
 line_names r (order ∷ orders) [] are = absurd are
 line_names r (order ∷ orders) (line ∷ lines) are = λ i. (are.0).name i ∷ line_names r orders lines are.1 i
 
-pub collide_told : (r : plain.Repository) (order : MoveCommand) → some_collide r (Move order) ≡ list_any (bars r order.to) order.to
-collide_told r order =
-    let names = map name_of order.to in
-    let meets : Bytes → Bool = λ made. list_any (do_collide made) (keys r.names ++ names) in
-    any_filter meets (λ name. not (stands r name)) names ∙ any_map (λ name. not (stands r name) && meets name) name_of order.to
-
 -- ---- stops
+
+-- names that a move can't be of, and memory that ran out on the way
+pub names_planned : (r : plain.Repository) (o : IsOffered r) (w : HasWholeNames r) (order : MoveCommand) (MayFail : Type 0) (result : Result (Unit {0}) Stopped) (ends : Result (Vec Moves Global) Stopped) (stopped : Stopped)
+    → result ≡ Err stopped → ends ≡ Err stopped → TestsNames (map name_of order.to) result → PlansMoves MayFail r order ends
+names_planned r o w order MayFail result ends stopped was is_end tests =
+    subst (PlansMoves MayFail r order) (sym is_end) (by_case stopped (subst (TestsNames (map name_of order.to)) was tests))
+  where
+    by_case : (stopped : Stopped) → TestsNames (map name_of order.to) (Err stopped) → PlansMoves MayFail r order (Err stopped)
+    by_case (why.Refused cause) h = by_names r o w order cause (names_told r order ∙ h)
+    by_case (why.Fault Memory) h = tt
+    by_case (why.Fault File) h = absurd h
+    by_case (why.Fault IdTaken) h = absurd h
 
 pub fault_planned : (MayFail : Type 0) (r : plain.Repository) (order : MoveCommand) (stopped : Stopped) → IsReadingFault MayFail stopped → PlansMoves MayFail r order (Err stopped)
 fault_planned MayFail r order (why.Refused cause) h = absurd h
@@ -475,27 +481,12 @@ one_there p front back all x is here = ap (list_any p) is ∙ list_any-append p 
     last true = refl
     last false = refl
 
-module _ (r : plain.Repository) (orders : List To) (to : To) (line : Line) (is : IsLine r to line) where
-  pub standing_bars : is_some line.held ≡ true → false ≡ bars r orders to
-  standing_bars there = sym (ap (λ s. not s && list_any (do_collide to.name) (keys r.names ++ map name_of orders)) (sym (line_stands r to line is) ∙ there))
+module _ (r : plain.Repository) (to : To) (line : Line) (is : IsLine r to line) where
+  pub standing_bars : is_some line.held ≡ true → false ≡ bars r to
+  standing_bars there = sym (ap (λ s. not s && list_any (do_collide to.name) (keys r.names)) (sym (line_stands r to line is) ∙ there))
 
-  module _ (new : is_some line.held ≡ false) where
-    made_bars : bars r orders to ≡ (list_any (do_collide to.name) (keys r.names) || list_any (do_collide to.name) (map name_of orders))
-    made_bars = ap (λ s. not s && list_any (do_collide to.name) (keys r.names ++ map name_of orders)) (sym (line_stands r to line is) ∙ new) ∙ list_any-append (do_collide to.name) (keys r.names) (map name_of orders)
-
-    pub own_bars : list_any (do_collide to.name) (map name_of orders) ≡ true → true ≡ bars r orders to
-    own_bars own = sym (made_bars ∙ ap (λ b. list_any (do_collide to.name) (keys r.names) || b) own ∙ last (list_any (do_collide to.name) (keys r.names)))
-      where
-        last : (b : Bool) → (b || true) ≡ true
-        last true = refl
-        last false = refl
-
-    pub others_bar : (found : Bool) → list_any (do_collide to.name) (map name_of orders) ≡ false → list_any (do_collide to.name) (keys r.names) ≡ found → found ≡ bars r orders to
-    others_bar found own others = sym (made_bars ∙ (λ i. others i || own i) ∙ last found)
-      where
-        last : (b : Bool) → (b || false) ≡ b
-        last true = refl
-        last false = refl
+  pub new_bars : is_some line.held ≡ false → (found : Bool) → list_any (do_collide to.name) (keys r.names) ≡ found → found ≡ bars r to
+  new_bars new found others = sym (ap (λ s. not s && list_any (do_collide to.name) (keys r.names)) (sym (line_stands r to line is) ∙ new) ∙ others)
 
 -- ---- the actor and the message
 

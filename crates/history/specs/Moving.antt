@@ -1,5 +1,5 @@
 -- What a `move` asks of its names, and how they move.
-use Rattle.std.specs.Prelude.{◌≡◌, ⊤, Bool, true, false, not, ◌&&◌, List, [], ◌∷◌, ◌++◌, map, Option, Some, None, Result, Ok, Err, Vec, is_none, is_some, option_map, bytes_eq, if◌then◌else◌}
+use Rattle.std.specs.Prelude.{◌≡◌, ⊤, Bool, true, false, not, ◌&&◌, List, [], ◌∷◌, ◌++◌, Option, Some, None, Result, Ok, Err, Vec, is_none, is_some, option_map, bytes_eq, if◌then◌else◌}
 use Rattle.std.specs.declared.alloc.Global.{Global}
 use Rattle.std.specs.List.{AllZip, list_any}
 use Rattle.std.specs.FinMap.{keys}
@@ -62,6 +62,14 @@ names_cause names =
     else if has_twice bytes_eq names then Some NameTwice
     else None
 
+-- a move can be of these names; or why it can't is told, or no memory is left
+abbrev pub TestsNames : List Bytes → Result (Unit {0}) Stopped → Type 0
+TestsNames names (Ok done) = names_cause names ≡ None
+TestsNames names (Err (Refused cause)) = names_cause names ≡ Some cause
+TestsNames names (Err (Fault Memory)) = ⊤
+TestsNames names (Err (Fault File)) = ⊥
+TestsNames names (Err (Fault IdTaken)) = ⊥
+
 -- ---- lines that were read
 
 -- a line, its words read, and what its name holds
@@ -117,10 +125,9 @@ lines_cause lines =
     else if list_any is_elsewhere lines then Some NotExpected
     else None
 
--- whether the line's name is to be made, and collides with one that stands or with one of these lines
-abbrev pub bars : plain.Repository → List To → To → Bool
-bars r lines to = not (stands r to.name)
-    && list_any (do_collide to.name) (keys r.names ++ map (λ to. to.name) lines)
+-- whether the line's name is to be made, and collides with one that stands
+abbrev pub bars : plain.Repository → To → Bool
+bars r to = not (stands r to.name) && list_any (do_collide to.name) (keys r.names)
 
 -- ---- what their logs tell
 

@@ -6,6 +6,7 @@
 
 mod act;
 mod actors;
+mod apart;
 mod base;
 mod causes;
 mod commit;

@@ -4,11 +4,9 @@ ghost use Rattle.std.specs.Prelude.{◌≡◌, ◌++◌, None, Some, IfErr, IfOk
 ghost use Rattle.std.specs.List.{flat_map, list_all, list_any};
 ghost use Rattle.gix_hash_id.specs.Id.{id_of};
 ghost use Rattle.gix_ref_file.specs.History.{Adds};
-ghost use Rattle.history_model.specs.Bytes.{has_twice};
 ghost use Rattle.history_model.specs.Causes as model;
-ghost use Rattle.history_model.specs.Causes.{do_collide, first_cause};
+ghost use Rattle.history_model.specs.Causes.{first_cause};
 ghost use Rattle.history_model.specs.Commands as orders;
-ghost use Rattle.history_model.specs.FileMap.{is_below};
 ghost use Rattle.history_model.specs.Forms.{is_name, is_private, max_content};
 ghost use Rattle.history_model.specs.Meaning.{after, read_actor};
 ghost use Rattle.history_model.specs.Moments.{LeavesStopped};
@@ -24,12 +22,13 @@ ghost use Rattle.history.specs.Face.{KeepsAllButNames, has_failed, names_part};
 ghost use Rattle.history.specs.Faults.{IsFault, IsRefusal};
 ghost use Rattle.history.specs.Meanings.{meaning_of};
 ghost use Rattle.history.specs.Moments.{GoesLater, StoodOnTheWay};
-ghost use Rattle.history.specs.Moving.{AreLines, AreMoves, AskedMoves, IsLine, IsLineMove, IsTeller, LeavesMoved, PlansMoves, TellsTeller, bars, is_elsewhere, is_missing, is_taken, is_there, line_meanings, line_name, lines_cause, names_cause, to_name};
+ghost use Rattle.history.specs.Moving.{AreLines, AreMoves, AskedMoves, IsLine, IsLineMove, IsTeller, LeavesMoved, PlansMoves, TellsTeller, TestsNames, bars, is_elsewhere, is_missing, is_taken, is_there, line_meanings, lines_cause, to_name};
 ghost use Rattle.history.specs.CommitCauses.{TestsOf, place_causes};
 ghost use Rattle.history.specs.Halves.{NamesStand};
 ghost use Rattle.history.specs.Serving.{Serves};
 
 use crate::actors::{actor_at, has_good_names, time_of};
+use crate::apart::{do_lines_collide, have_twice};
 use crate::base::{Expected, test_words};
 use crate::causes::is_bad_title;
 use crate::fields::kept;
@@ -40,7 +39,6 @@ use crate::repository::Repository;
 use crate::stopped::Stopped;
 use crate::words::WordMeaning;
 use gix_hash::{Kind, ObjectId};
-use gix_object_lines::cut::strip_prefix;
 use gix_ref_file::Files;
 use history_model::Cause;
 use history_store::{Actor, is_name};
@@ -49,10 +47,10 @@ use std::alloc::{AllocError, Global};
 
 /// A line of a `move`: its name, what is expected of that, what it holds, and what the line's word reads as.
 #[derive(Drop)]
-struct Line {
-    name: Vec<u8>,
+pub(crate) struct Line {
+    pub(crate) name: Vec<u8>,
     expected: Expected,
-    held: Option<ObjectId>,
+    pub(crate) held: Option<ObjectId>,
     word: WordMeaning,
 }
 
@@ -136,40 +134,18 @@ fn have_private(to: &[To]) -> bool
     to.iter().any(|to| is_private(&to.name))
 }
 
-/// Whether a line is of this name.
-fn is_among(to: &[To], name: &[u8]) -> bool
-    ensures { result ≡ list_any (bytes_eq name.now) (map to_name to.now) }
-{
-    to.iter().any(|other| name == other.name.as_slice())
-}
-
-/// Whether two lines are of one name.
-fn have_twice(to: &[To]) -> bool
-    ensures { result ≡ has_twice bytes_eq (map to_name to.now) }
-{
-    let mut rest = to;
-    'lines: while let Some((to, others)) = rest.split_first() {
-        if is_among(others, &to.name) {
-            return true;
-        }
-        rest = others;
-    }
-    false
-}
-
 /// Tests the names by themselves: a repository may hold each, and none stands twice.
-fn test_names(to: &[To]) -> Result<(), Cause>
-    ensures { MatchResult result (λ _. names_cause (map to_name to.now) ≡ None)
-        (λ cause. names_cause (map to_name to.now) ≡ Some cause) }
+fn test_names(alloc: Global, to: &[To]) -> Result<(), Stopped>
+    ensures { TestsNames (map to_name to.now) result }
 {
     if have_bad_name(to) {
-        return Err(Cause::BadName);
+        return Err(Stopped::Refused(Cause::BadName));
     }
     if have_private(to) {
-        return Err(Cause::PrivateName);
+        return Err(Stopped::Refused(Cause::PrivateName));
     }
-    if have_twice(to) {
-        return Err(Cause::NameTwice);
+    if have_twice(alloc, to)? {
+        return Err(Stopped::Refused(Cause::NameTwice));
     }
     Ok(())
 }
@@ -268,30 +244,6 @@ fn test_held(lines: &[Line]) -> Result<(), Cause>
     Ok(())
 }
 
-/// Whether the path stands below the folder.
-fn is_below(folder: &[u8], path: &[u8]) -> bool
-    ensures { result ≡ is_below folder.now path.now }
-{
-    match strip_prefix(path, folder) {
-        Some(rest) => rest.starts_with(b"/"),
-        None => false,
-    }
-}
-
-/// Whether one of the two names is a folder of the other.
-fn do_collide(a: &[u8], b: &[u8]) -> bool
-    ensures { result ≡ do_collide a.now b.now }
-{
-    is_below(a, b) || is_below(b, a)
-}
-
-/// Whether a name collides with one of the lines' own.
-fn collides_among(name: &[u8], lines: &[Line]) -> bool
-    ensures { result ≡ list_any (do_collide name.now) (map line_name lines.now) }
-{
-    lines.iter().any(|line| do_collide(name, &line.name))
-}
-
 /// How the names of the lines move, in the order of the lines.
 fn moves_of(
     alloc: Global,
@@ -344,20 +296,32 @@ impl<F: Files> Repository<F> {
         Ok(lines)
     }
 
-    /// Whether a line's name is to be made, and collides with one that stands or with that of another line.
-    fn is_barred(&self, alloc: Global, line: &Line, lines: &[Line]) -> Result<bool, Stopped>
-        ensures { (r : plain.Repository) (tos : List orders.To) (to : orders.To)
-            → Serves F.is_honest F.history self.now r → AreLines r tos lines.now
+    /// Whether a line's name is to be made, and collides with one that stands.
+    fn is_barred(&self, alloc: Global, line: &Line) -> Result<bool, Stopped>
+        ensures { (r : plain.Repository) (to : orders.To)
+            → Serves F.is_honest F.history self.now r
             → IsLine r to line.now → IsTrue (is_name to.name)
-            → GivesMeant F.reading_may_fail (λ barred. barred ≡ bars r tos to) result }
+            → GivesMeant F.reading_may_fail (λ barred. barred ≡ bars r to) result }
     {
         if line.held.is_some() {
             return Ok(false);
         }
-        if collides_among(&line.name, lines) {
-            return Ok(true);
-        }
         Ok(self.names.collides(alloc, &line.name)?)
+    }
+
+    /// Whether one of the lines' names is to be made, and collides with one that stands.
+    fn have_barred(&self, alloc: Global, lines: &[Line]) -> Result<bool, Stopped>
+        ensures { (r : plain.Repository) (tos : List orders.To)
+            → Serves F.is_honest F.history self.now r → AreLines r tos lines.now
+            → IsTrue (list_all (λ to. is_name to.name) tos)
+            → GivesMeant F.reading_may_fail (λ barred. barred ≡ list_any (bars r) tos) result }
+    {
+        for line in lines {
+            if self.is_barred(alloc, line)? {
+                return Ok(true);
+            }
+        }
+        Ok(false)
     }
 
     /// Tests that each line's name stands, or may come to stand beside the others.
@@ -367,10 +331,11 @@ impl<F: Files> Repository<F> {
             → IsTrue (list_all (λ to. is_name to.name) order.to)
             → TestsOf F.reading_may_fail place_causes r (orders.Move order) (λ _. ⊤) result }
     {
-        for line in lines {
-            if self.is_barred(alloc, line, lines)? {
-                return Err(Stopped::Refused(Cause::Collides));
-            }
+        if do_lines_collide(alloc, lines)? {
+            return Err(Stopped::Refused(Cause::Collides));
+        }
+        if self.have_barred(alloc, lines)? {
+            return Err(Stopped::Refused(Cause::Collides));
         }
         Ok(())
     }
@@ -381,7 +346,7 @@ impl<F: Files> Repository<F> {
             → Serves F.is_honest F.history self.now r → IsMove command order
             → PlansMoves F.reading_may_fail r order result }
     {
-        test_names(&command.to)?;
+        test_names(alloc, &command.to)?;
         let lines = self.read_lines(alloc, command.to)?;
         test_words(Expected::Any, &meanings_in(alloc, &lines)?)?;
         test_held(&lines)?;

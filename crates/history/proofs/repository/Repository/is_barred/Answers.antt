@@ -1,36 +1,28 @@
 use Rattle.std.proofs.Common.{◌≡◌, ◌∙◌, ap, subst, sym, Err}
-use Rattle.std.specs.List.{list_any}
 use Rattle.std.proofs.lemmas.Result.{err_from_is_err_and}
 use Rattle.history_model.specs.Bytes.{Bytes}
-use Rattle.history_model.specs.Causes.{do_collide}
 use Rattle.history_model.specs.Forms.{is_name}
 use Rattle.history_store.specs.References.{TellsCollision}
 use Rattle.history.specs.Face.{names_part}
 use Rattle.history.specs.Moving.{bars}
-use Rattle.history.proofs.LineLemmas.{file_fails, gives_fault, line_names, others_bar, own_bars, standing_bars}
+use Rattle.history.proofs.LineLemmas.{file_fails, gives_fault, new_bars, standing_bars}
 use Rattle.history.proofs.PlaceLemmas.{collision_told}
 use Rattle.history.proofs.repository.Repository.is_barred.Goals as goal
 
 pub returns-then-is_some : goal.returns-then-is_some
-returns-then-is_some g c = λ r orders to h are is named. standing_bars r orders to c.args.line.now is (sym c.is_some.ensures ∙ c.if-is_some.true)
-
-pub returns-then-collides_among : goal.returns-then-collides_among
-returns-then-collides_among g c = λ r orders to h are is named.
-    let among = c.collides_among.ensures ∙ (λ i. list_any (do_collide ((c.deref.ensures.value ∙ is.name) i)) (line_names r orders c.args.lines.now are i)) in
-    own_bars r orders to c.args.line.now is (sym c.is_some.ensures ∙ c.if-is_some.false) (sym among ∙ c.if-collides_among.true)
+returns-then-is_some g c = λ r to h is named. standing_bars r to c.args.line.now is (sym c.is_some.ensures ∙ c.if-is_some.true)
 
 pub returns-in_err-collides : goal.returns-in_err-collides
-returns-in_err-collides g c = λ r orders to h are is named.
+returns-in_err-collides g c = λ r to h is named.
     let MayFail = g.F.Files.reading_may_fail in
     let stopped = err_from_is_err_and c.from_residual.result c.from_residual.ensures.1 in
-    gives_fault MayFail (λ barred. barred ≡ bars r orders to) c.from_residual.result _ (stopped.1 ∙ ap Err stopped.2)
+    gives_fault MayFail (λ barred. barred ≡ bars r to) c.from_residual.result _ (stopped.1 ∙ ap Err stopped.2)
     (file_fails MayFail c.collides.result c.in_err-collides.field-0.0 c.in_err-collides.was c.collides.ensures.failed)
 
 pub returns : goal.returns
-returns g c = λ r orders to h are is named.
-    let among = c.collides_among.ensures ∙ (λ i. list_any (do_collide ((c.deref.ensures.value ∙ is.name) i)) (line_names r orders c.args.lines.now are i)) in
-    let place : c.deref-2.result.now ≡ to.name = c.deref-2.ensures.value ∙ is.name in
+returns g c = λ r to h is named.
+    let place : c.deref.result.now ≡ to.name = c.deref.ensures.value ∙ is.name in
     let found = c.in_ok-collides.ensures.found (ap is_name place ∙ named) h.stands.honest_names in
-    others_bar r orders to c.args.line.now is (sym c.is_some.ensures ∙ c.if-is_some.false) c.in_ok-collides.field-0 (sym among ∙ c.if-collides_among.false)
+    new_bars r to c.args.line.now is (sym c.is_some.ensures ∙ c.if-is_some.false) c.in_ok-collides.field-0
     (collision_told g.F.Files.is_honest g.F.Files.history c.args.self.now r h to.name named c.in_ok-collides.field-0
     (subst (λ (n : Bytes). TellsCollision n (g.F.Files.history (names_part c.args.self.now)).tree c.in_ok-collides.field-0) place found))

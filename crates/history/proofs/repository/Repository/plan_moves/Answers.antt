@@ -3,17 +3,16 @@ use Rattle.std.specs.List.{flat_map, list_any}
 use Rattle.std.proofs.lemmas.Result.{err_from_is_err_and}
 use Rattle.history.specs.Bases.{words_cause}
 use Rattle.history.specs.Meanings.{meaning_of}
-use Rattle.history.specs.Moving.{AreLines, PlansMoves, is_there, line_meanings, lines_cause, names_cause, to_name}
-use Rattle.history.proofs.LineLemmas.{all_named, by_held, by_names, by_teller, by_there, by_words, each_named, fault_planned, gave_fault, held_told, name_of, names_sent, names_told, none_told, places_planned, refusal_planned, there_told, words_told}
+use Rattle.history.specs.Moving.{AreLines, PlansMoves, is_there, line_meanings, lines_cause, names_cause, to_name, TestsNames}
+use Rattle.history.proofs.LineLemmas.{all_named, by_held, by_teller, by_there, by_words, each_named, names_planned, fault_planned, gave_fault, held_told, name_of, names_sent, names_told, none_told, places_planned, refusal_planned, there_told, words_told}
 use Rattle.history.proofs.repository.Repository.plan_moves.Goals as goal
 
 pub returns-in_err-test_names : goal.returns-in_err-test_names
 returns-in_err-test_names g c = λ r order h is.
-    let o = h.stage.offered in
-    let w = h.stands.whole.whole.names in
-    let names = names_told r order ∙ ap names_cause (sym (names_sent c.args.command.to.items order.to is.to)) ∙ ap (λ tos. names_cause (map to_name tos)) (sym c.deref.ensures.value) in
+    let sent = names_sent c.args.command.to.items order.to is.to in
     let stopped = err_from_is_err_and c.from_residual.result c.from_residual.ensures.1 in
-    refusal_planned g.F.Files.reading_may_fail r order c.from_residual.result c.in_err-test_names.field-0.0 (stopped.1 ∙ ap Err stopped.2) (by_names r o w order c.in_err-test_names.field-0.0 (names ∙ c.in_err-test_names.ensures))
+    names_planned r h.stage.offered h.stands.whole.whole.names order g.F.Files.reading_may_fail c.test_names.result c.from_residual.result c.in_err-test_names.field-0.0 c.in_err-test_names.was (stopped.1 ∙ ap Err stopped.2)
+    (subst (λ names. TestsNames names c.test_names.result) (ap (map to_name) c.deref.ensures.value ∙ sent) c.test_names.ensures)
 
 pub returns-in_err-lines : goal.returns-in_err-lines
 returns-in_err-lines g c = λ r order h is.
