@@ -1,19 +1,19 @@
--- What `files` and `show` answer, by what their word reads as.
-use Rattle.std.proofs.Common.{◌≡◌, ℕ, Bool, true, false, cond, ◌||◌, List, map, refl, sym, ◌∙◌, ap, subst, Option, Some, None, option_map, option_and_then, option_to_list, unwrap_or, is_none, codes, Vec, Result, Ok, Err}
+-- What `files` and `show` answer, by what their word stands for.
+use Rattle.std.proofs.Common.{◌≡◌, ℕ, Bool, true, false, cond, ◌||◌, List, map, refl, sym, ◌∙◌, ap, subst, Option, Some, None, option_map, option_and_then, option_to_list, unwrap_or, is_none, is_some, codes, Vec, Result, Ok, Err}
 use Rattle.std.specs.FinMap.{get, entries, empty}
 use Rattle.std.specs.Result.{IsErrAnd}
 use Rattle.std.specs.declared.alloc.Global.{Global}
 use Rattle.history_model.specs.Bytes.{Bytes}
 use Rattle.history_model.specs.FileMap.{FileMap, Content, has_below, inside}
-use Rattle.history_model.specs.Objects.{CommitValue, StoredCommit, StoredBytes, StoredFolder, blob_id, entry_at, folder_id, mode_of}
+use Rattle.history_model.specs.Objects.{CommitValue, Value, StoredCommit, StoredTag, StoredBytes, StoredFolder, blob_id, entry_at, folder_id, mode_of}
 use Rattle.gix_hash_id.specs.Id.{Id, id_of}
-use Rattle.history_model.specs.Repository.{Repository, HasWholeNames, IsWholeStore, as_commit, peeled_value}
+use Rattle.history_model.specs.Repository.{Repository, IsWhole, IsWholeStore, as_commit}
 use Rattle.history_model.specs.Meaning.{first_files}
-use Rattle.history_model.specs.Words.{WordMeaning, ReadsAs, Unborn, Unknown, Ambiguous, word_meaning, commit_read}
+use Rattle.history_model.specs.Words.{word_meaning}
 use Rattle.history_model.specs.Commands.{Command, Files, Show}
 use Rattle.history_model.specs.Replies.{FilesAre, ShowsCommit, ShowsContent, reply_text}
 use Rattle.history_model.specs.Answers.{StandsForCommit, files_shown, commit_shown, content_shown}
-use Rattle.history_model.specs.Causes.{is_unknown, is_unborn, is_bad_path, word_files, first_cause}
+use Rattle.history_model.specs.Causes.{is_bad_path, word_files, first_cause}
 use Rattle.history_steps.specs.Offered.{IsOffered}
 use Rattle.history_model.specs.declared.FileKind.{FileKind}
 use Rattle.history_model.specs.declared.FileKind.TheVariants.{File, Exec, Link}
@@ -24,17 +24,19 @@ use Rattle.history_files.specs.declared.found.Found.TheVariants as found
 use Rattle.history_files.specs.declared.listing.File.{File as FoundFile}
 use Rattle.gix_hash_id.specs.declared.kind.Kind.{Kind}
 use Rattle.history_model.specs.declared.Cause.{Cause}
-use Rattle.history_model.specs.declared.Cause.TheVariants.{UnknownWord, UnbornHead, BadPath, IsFolder, NoSuchPath}
-use Rattle.history_steps.proofs.OfferedReads.{words_read_names, none_is_ambiguous, names_hold_commits}
+use Rattle.history_model.specs.declared.Cause.TheVariants.{BadPath, IsFolder, NoSuchPath}
+use Rattle.history_model.proofs.WholeReads.{read_holds}
 use Rattle.history_steps.proofs.OfferedCauses.{first_offered_cause}
 use Rattle.history_steps.proofs.OfferedFiles.{files_are_stored}
 use Rattle.history_model.proofs.WholeLists.{texts_differ}
 use Rattle.history_store.specs.Commits.{SaysCommit}
 use Rattle.gix_object_commit.specs.declared.commit.owned.Commit as commits
 use Rattle.gix_hash_id.specs.declared.object_id.ObjectId.{ObjectId}
-use Rattle.history.specs.Acts.{OnlyAnswers, GivesMeant, ReadsWord, IsReadingFault, word_cause}
+use Rattle.history.specs.Acts.{OnlyAnswers, GivesMeant, ReadsWord, IsReadingFault}
+use Rattle.history.specs.Meanings.{commit_or_cause}
 use Rattle.history.specs.Shown.{shown_commit, shown_content}
 use Rattle.history.specs.declared.stopped.Stopped.{Stopped}
+use Rattle.history.proofs.WordCauses.{by_word, commit_is, word_passes, word_refused}
 use Rattle.history.specs.declared.stopped.Stopped.TheVariants.{Refused, Fault}
 use Rattle.history_model.proofs.EntryLemmas.{same_mode}
 
@@ -44,7 +46,7 @@ reading_fault MayFail r order (Refused cause) h = absurd h
 reading_fault MayFail r order (Fault fault) h = h
 
 -- a word that stands for no commit is told by its cause
-pub unread : (MayFail : Type 0) (r : Repository) (order : Command) (word : Bytes) (stopped : Stopped) → ((cause : Cause) → word_cause (word_meaning r word) ≡ Some cause → first_cause r order ≡ Some cause)
+pub unread : (MayFail : Type 0) (r : Repository) (order : Command) (word : Bytes) (stopped : Stopped) → ((cause : Cause) → commit_or_cause r word ≡ Err cause → first_cause r order ≡ Some cause)
     → ReadsWord MayFail r word (Err stopped) → OnlyAnswers MayFail r order (Err stopped)
 unread MayFail r order word (Refused cause) told h = told cause h
 unread MayFail r order word (Fault fault) told h = h
@@ -59,92 +61,86 @@ pub given : (MayFail : Type 0) (P : Vec ℕ Global → Type 0) (r : Repository) 
 given MayFail P r order (Ok text) h answers = answers text h
 given MayFail P r order (Err stopped) h answers = reading_fault MayFail r order stopped h
 
--- by a word that reads so, or for another cause
-abbrev by_word : WordMeaning → Option Cause → Option Cause
-by_word x rest = cond (is_unknown x || false) (Some UnknownWord) (cond (is_unborn x || false) (Some UnbornHead) rest)
-
 -- by what a good path meets
 abbrev by_path : FileMap → Bytes → Option Cause
 by_path files path = cond (has_below files path || false) (Some IsFolder) (cond (is_none (get files path) || false) (Some NoSuchPath) None)
 
-module _ (r : Repository) (o : IsOffered r) (w : HasWholeNames r) where
+module _ (r : Repository) (o : IsOffered r) (w : IsWhole r) where
   -- ---- refused words
 
-  word_refused : (word : Bytes) (cause : Cause) (rest : Option Cause) → word_cause (word_meaning r word) ≡ Some cause → by_word (word_meaning r word) rest ≡ Some cause
-  word_refused word cause rest e = go (word_meaning r word) refl e
+  files_causes : (word : Bytes) → first_cause r (Files word) ≡ by_word r (word_meaning r word) None
+  files_causes word = first_offered_cause r (Files word) o w.names refl
+
+  commit_causes : (word : Bytes) → first_cause r (Show word None) ≡ by_word r (word_meaning r word) None
+  commit_causes word = first_offered_cause r (Show word None) o w.names refl
+
+  path_causes : (word path : Bytes) → first_cause r (Show word (Some path)) ≡ by_word r (word_meaning r word) (cond (is_bad_path path || false) (Some BadPath) (by_path (word_files r word) path))
+  path_causes word path = first_offered_cause r (Show word (Some path)) o w.names refl
+
+  pub files_refused : (word : Bytes) (cause : Cause) → commit_or_cause r word ≡ Err cause → first_cause r (Files word) ≡ Some cause
+  files_refused word cause e = files_causes word ∙ word_refused r word cause None e
+
+  pub show_refused : (word : Bytes) (path : Option Bytes) (cause : Cause) → commit_or_cause r word ≡ Err cause → first_cause r (Show word path) ≡ Some cause
+  show_refused word None cause e = commit_causes word ∙ word_refused r word cause None e
+  show_refused word (Some path) cause e = path_causes word path ∙ word_refused r word cause _ e
+
+  -- ---- the commit that a word stands for
+
+  pub reads_commit : (word : Bytes) (id : Id) → commit_or_cause r word ≡ Ok id → (commit : CommitValue) × (get r.objects id ≡ Some (StoredCommit commit))
+  reads_commit word id reads = go (get r.objects id) refl (read_holds r w.store (word_meaning r word) id (commit_is r word id reads))
     where
-      go : (x : WordMeaning) → word_meaning r word ≡ x → word_cause x ≡ Some cause → by_word x rest ≡ Some cause
-      go (ReadsAs id) is h = cc
-      go Unborn is h = h
-      go Unknown is h = h
-      go Ambiguous is h = absurd (none_is_ambiguous r word is)
+      go : (found : Option Value) → get r.objects id ≡ found → is_some (option_and_then as_commit found) ≡ true → (commit : CommitValue) × (get r.objects id ≡ Some (StoredCommit commit))
+      go None e h = cc
+      go (Some (StoredCommit c)) e h = (c, e)
+      go (Some (StoredTag t)) e h = cc
+      go (Some (StoredBytes b)) e h = cc
+      go (Some (StoredFolder f)) e h = cc
 
-  files_causes : (word : Bytes) → first_cause r (Files word) ≡ by_word (word_meaning r word) None
-  files_causes word = first_offered_cause r (Files word) o w refl
-
-  commit_causes : (word : Bytes) → first_cause r (Show word None) ≡ by_word (word_meaning r word) None
-  commit_causes word = first_offered_cause r (Show word None) o w refl
-
-  path_causes : (word path : Bytes) → first_cause r (Show word (Some path)) ≡ by_word (word_meaning r word) (cond (is_bad_path path || false) (Some BadPath) (by_path (word_files r word) path))
-  path_causes word path = first_offered_cause r (Show word (Some path)) o w refl
-
-  pub files_refused : (word : Bytes) (cause : Cause) → word_cause (word_meaning r word) ≡ Some cause → first_cause r (Files word) ≡ Some cause
-  files_refused word cause e = files_causes word ∙ word_refused word cause None e
-
-  pub show_refused : (word : Bytes) (path : Option Bytes) (cause : Cause) → word_cause (word_meaning r word) ≡ Some cause → first_cause r (Show word path) ≡ Some cause
-  show_refused word None cause e = commit_causes word ∙ word_refused word cause None e
-  show_refused word (Some path) cause e = path_causes word path ∙ word_refused word cause _ e
-
-  -- ---- the commit that a word reads as
-
-  pub reads_commit : (word : Bytes) (id : Id) → word_meaning r word ≡ ReadsAs id → (commit : CommitValue) × (get r.objects id ≡ Some (StoredCommit commit))
-  reads_commit word id reads = let held = words_read_names r word id reads in names_hold_commits r held.0 id o w held.1
-
-  stands_for : (word : Bytes) (id : Id) (commit : CommitValue) → word_meaning r word ≡ ReadsAs id → get r.objects id ≡ Some (StoredCommit commit) → StandsForCommit r word id commit
-  stands_for word id commit reads at = record { read = ap (commit_read r) reads ∙ ap (option_and_then (peeled_value id)) at; holds = ap (option_and_then as_commit) at }
+  stands_for : (word : Bytes) (id : Id) (commit : CommitValue) → commit_or_cause r word ≡ Ok id → get r.objects id ≡ Some (StoredCommit commit) → StandsForCommit r word id commit
+  stands_for word id commit reads at = record { read = commit_is r word id reads; holds = ap (option_and_then as_commit) at }
 
   -- ---- what is shown
 
-  pub files_answered : (MayFail : Type 0) (word : Bytes) (id : Id) (commit : CommitValue) (found : List FoundFile) (text : Vec ℕ Global) → word_meaning r word ≡ ReadsAs id → get r.objects id ≡ Some (StoredCommit commit)
+  pub files_answered : (MayFail : Type 0) (word : Bytes) (id : Id) (commit : CommitValue) (found : List FoundFile) (text : Vec ℕ Global) → commit_or_cause r word ≡ Ok id → get r.objects id ≡ Some (StoredCommit commit)
       → map line_of found ≡ map (file_line r.kind) (entries commit.files) → text.items ≡ reply_text (FilesAre (map line_of found)) → OnlyAnswers MayFail r (Files word) (Ok text)
   files_answered MayFail word id commit found text reads at are written = (
     FilesAre (files_shown r commit.files),
     written ∙ ap (λ files. reply_text (FilesAre files)) are,
-    files_causes word ∙ ap (λ x. by_word x None) reads,
+    files_causes word ∙ word_passes r word id None reads,
     (id, commit, stands_for word id commit reads at, refl),
   )
 
-  pub commit_answered : (MayFail : Type 0) (word : Bytes) (id : ObjectId) (value : CommitValue) (commit : commits.Commit) (text : Vec ℕ Global) → word_meaning r word ≡ ReadsAs (id_of id) → get r.objects (id_of id) ≡ Some (StoredCommit value)
+  pub commit_answered : (MayFail : Type 0) (word : Bytes) (id : ObjectId) (value : CommitValue) (commit : commits.Commit) (text : Vec ℕ Global) → commit_or_cause r word ≡ Ok (id_of id) → get r.objects (id_of id) ≡ Some (StoredCommit value)
       → SaysCommit r.kind commit value → text.items ≡ reply_text (ShowsCommit (shown_commit id commit)) → OnlyAnswers MayFail r (Show word None) (Ok text)
   commit_answered MayFail word id value commit text reads at is written =
       let shown : shown_commit id commit ≡ commit_shown r (id_of id) value = λ i. record { id = id_of id; tree = is.tree i; parents = is.parents i; author = is.author i; committer = is.committer i; message = is.message i } in (
         ShowsCommit (commit_shown r (id_of id) value),
         written ∙ ap (λ shown. reply_text (ShowsCommit shown)) shown,
-        commit_causes word ∙ ap (λ x. by_word x None) reads,
+        commit_causes word ∙ word_passes r word (id_of id) None reads,
         (id_of id, value, stands_for word (id_of id) value reads at, refl),
       )
 
   -- ---- what stands at a path
 
-  word_files_are : (word : Bytes) (id : Id) (commit : CommitValue) → word_meaning r word ≡ ReadsAs id → get r.objects id ≡ Some (StoredCommit commit) → word_files r word ≡ commit.files
+  word_files_are : (word : Bytes) (id : Id) (commit : CommitValue) → commit_or_cause r word ≡ Ok id → get r.objects id ≡ Some (StoredCommit commit) → word_files r word ≡ commit.files
   word_files_are word id commit reads at =
       let stands = stands_for word id commit reads at in
       ap (λ found. first_files r (option_to_list found)) stands.read ∙ ap (λ found. unwrap_or (option_map (λ commit. commit.files) found) empty) stands.holds
 
   -- the causes that are left to a word that reads
-  path_cause : (word path : Bytes) (id : Id) (commit : CommitValue) → word_meaning r word ≡ ReadsAs id → get r.objects id ≡ Some (StoredCommit commit)
+  path_cause : (word path : Bytes) (id : Id) (commit : CommitValue) → commit_or_cause r word ≡ Ok id → get r.objects id ≡ Some (StoredCommit commit)
       → first_cause r (Show word (Some path)) ≡ cond (is_bad_path path || false) (Some BadPath) (by_path commit.files path)
   path_cause word path id commit reads at =
       path_causes word path
-      ∙ ap (λ x. by_word x (cond (is_bad_path path || false) (Some BadPath) (by_path (word_files r word) path))) reads
+      ∙ word_passes r word id (cond (is_bad_path path || false) (Some BadPath) (by_path (word_files r word) path)) reads
       ∙ ap (λ files. cond (is_bad_path path || false) (Some BadPath) (by_path files path)) (word_files_are word id commit reads at)
 
-  pub bad_path_refused : (word path : Bytes) (id : Id) → word_meaning r word ≡ ReadsAs id → is_bad_path path ≡ true → first_cause r (Show word (Some path)) ≡ Some BadPath
+  pub bad_path_refused : (word path : Bytes) (id : Id) → commit_or_cause r word ≡ Ok id → is_bad_path path ≡ true → first_cause r (Show word (Some path)) ≡ Some BadPath
   bad_path_refused word path id reads bad =
       let found = reads_commit word id reads in
       path_cause word path id found.0 reads found.1 ∙ ap (λ b. cond (b || false) (Some BadPath) (by_path (found.0).files path)) bad
 
-  module _ (word path : Bytes) (id : Id) (commit : CommitValue) (reads : word_meaning r word ≡ ReadsAs id) (at : get r.objects id ≡ Some (StoredCommit commit)) (good : is_bad_path path ≡ false) where
+  module _ (word path : Bytes) (id : Id) (commit : CommitValue) (reads : commit_or_cause r word ≡ Ok id) (at : get r.objects id ≡ Some (StoredCommit commit)) (good : is_bad_path path ≡ false) where
     good_cause : first_cause r (Show word (Some path)) ≡ by_path commit.files path
     good_cause = path_cause word path id commit reads at ∙ ap (λ b. cond (b || false) (Some BadPath) (by_path commit.files path)) good
 

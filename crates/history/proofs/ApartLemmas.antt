@@ -23,7 +23,7 @@ use Rattle.history_store.specs.Stores.{IsAbove}
 use Rattle.history.specs.Apart.{HaveAll, do_lines_collide, is_made, made_names, names_in, reaches}
 use Rattle.history.specs.Moving.{AreLines, bars, line_name}
 use Rattle.history.specs.declared.moving.Line.{Line}
-use Rattle.history.proofs.BaseLemmas.{any_map}
+use Rattle.history.proofs.WordCauses.{any_map}
 use Rattle.history.proofs.Collisions.{above_it}
 use Rattle.history.proofs.LineLemmas.{any_filter, line_names, line_stands, name_of, not_there}
 use Rattle.history.proofs.MovedNames.{is_below_it}

@@ -2,35 +2,35 @@
 use Rattle.std.specs.declared.alloc.Global.{Global}
 use Rattle.std.specs.Prelude.{Vec, Result, IsErrOf}
 use Rattle.std.proofs.Common.{◌≡◌, ℕ, ◌+◌, ◌<◌, length, take, drop, get_or, Bool, true, false, cond, not, ◌||◌, ◌==◌, List, [], ◌∷◌, ◌++◌, map, filter, refl, sym, ◌∙◌, ap, subst, Option, Some, None, option_map, option_to_list, Err}
-use Rattle.std.specs.List.{list_any, filter_map, cons_option}
+use Rattle.std.specs.List.{list_any, filter_map}
 use Rattle.std.proofs.lemmas.List.{map-append, take_more}
 use Rattle.history_model.specs.Bytes.{Bytes, has_twice}
 use Rattle.gix_hash_id.specs.Id.{Id, id_of}
 use Rattle.gix_hash_id.specs.Order.{id_eq}
 use Rattle.history_model.specs.Repository.{Repository, HasWholeNames, id_at, stands}
-use Rattle.history_model.specs.Words.{WordMeaning, ReadsAs, Unborn, Unknown, Ambiguous, word_meaning, commit_of}
+use Rattle.history_model.specs.Words.{commit_of}
 use Rattle.history_model.specs.Commands.{Commit, CommitCommand, Expect, Any, New, At}
 use Rattle.history_model.specs.CommandParts.{at_word}
 use Rattle.history_model.specs.Meaning.{branch_or_name, name_commit, parents_of}
-use Rattle.history_model.specs.Causes.{is_new, is_at, is_elsewhere, same_id, is_unknown, is_unborn}
+use Rattle.history_model.specs.Causes.{is_new, is_at, is_elsewhere, same_id}
 use Rattle.history_steps.specs.Offered.{IsOffered}
-use Rattle.history_steps.specs.OfferedWords.{read_id}
 use Rattle.history_model.specs.declared.Cause.{Cause}
-use Rattle.history_model.specs.declared.Cause.TheVariants.{UnknownWord, UnbornHead, NoSuchName, Taken, NotExpected}
-use Rattle.history_steps.proofs.OfferedReads.{names_stand_for_theirs, words_stand_for_theirs}
+use Rattle.history_model.specs.declared.Cause.TheVariants.{NoSuchName, Taken, NotExpected}
+use Rattle.history_steps.proofs.OfferedReads.{names_stand_for_theirs}
 use Rattle.history_word.specs.Commands.{IsExpect}
 use Rattle.history_word.specs.declared.command.Expect.TheVariants as sent
 use Rattle.gix_hash_id.specs.declared.object_id.ObjectId.{ObjectId}
 use Rattle.history.specs.Acts.{IsReadingFault, GivesMeant}
 use Rattle.history.specs.Bases.{IsExpected, expected_meanings, words_cause, held_cause, reads_as, parents_cause}
 use Rattle.history.specs.CommitCauses.{first_among, word_causes, held_causes, parent_causes, IsToldBy, Tests}
-use Rattle.history.specs.Meanings.{meaning_of, commit_in}
+use Rattle.history.specs.Meanings.{commit_in, commit_or_cause, meaning_of}
 use Rattle.history.specs.declared.words.WordMeaning as own
 use Rattle.history.specs.declared.words.WordMeaning.TheVariants as read
 use Rattle.history.specs.declared.base.Expected.{Expected}
 use Rattle.history.specs.declared.base.Expected.TheVariants as expected
 use Rattle.history.specs.declared.stopped.Stopped.{Stopped}
 use Rattle.history.specs.declared.stopped.Stopped.TheVariants.{Refused, Fault}
+use Rattle.history.proofs.WordCauses.{any_map, commit_told, commits_told, words_told}
 use Rattle.history.proofs.WordReads.{stands_so}
 use Rattle.gix_ref_file.specs.History.{History}
 use Rattle.gix_ref_file.specs.declared.files.FileError.{FileError}
@@ -56,10 +56,10 @@ new_sent r Any h = absurd h
 new_sent r New h = tt
 new_sent r (At word) h = absurd h
 
-pub at_sent : (r : Repository) (word : Vec ℕ Global) (meaning : own.WordMeaning) (expect : Expect) → IsExpect (sent.At word) expect → meaning_of meaning ≡ word_meaning r word.items → IsExpected r expect (expected.At meaning)
+pub at_sent : (r : Repository) (word : Vec ℕ Global) (meaning : own.WordMeaning) (expect : Expect) → IsExpect (sent.At word) expect → meaning_of meaning ≡ commit_or_cause r word.items → IsExpected r expect (expected.At meaning)
 at_sent r word meaning Any h is = absurd h
 at_sent r word meaning New h is = absurd h
-at_sent r word meaning (At bytes) h is = is ∙ ap (word_meaning r) h
+at_sent r word meaning (At bytes) h is = is ∙ ap (commit_or_cause r) h
 
 -- a fault of reading is told whatever the causes
 pub fault_told : (MayFail : Type 0) (causes : List Cause) (r : Repository) (order : CommitCommand) (stopped : Stopped) → IsReadingFault MayFail stopped → IsToldBy MayFail causes r order stopped
@@ -71,17 +71,13 @@ gives_told {A} MayFail P causes r order result stopped was gives = fault_told Ma
 
 -- ---- words
 
-pub any_map : {X Y : Type 0} (p : Y → Bool) (f : X → Y) (xs : List X) → list_any p (map f xs) ≡ list_any (λ x. p (f x)) xs
-any_map p f [] = refl
-any_map p f (x ∷ xs) = ap (λ b. p (f x) || b) (any_map p f xs)
-
 module _ (r : Repository) (order : CommitCommand) where
-  words_told : first_among word_causes r (Commit order) ≡ words_cause (map (word_meaning r) (at_word order.expect ++ order.parents))
-  words_told = λ i.
+  all_told : first_among word_causes r (Commit order) ≡ words_cause (map (commit_or_cause r) (at_word order.expect ++ order.parents))
+  all_told =
       let words = at_word order.expect ++ order.parents in
-      cond (sym (any_map is_unknown (word_meaning r) words) i) (Some UnknownWord) (cond (sym (any_map is_unborn (word_meaning r) words) i) (Some UnbornHead) None)
+      words_told r words (map (commit_or_cause r) words) (λ test. any_map test (commit_or_cause r) words) None
 
-  at_meanings : (expect : Expect) (what : Expected) → IsExpected r expect what → expected_meanings what ≡ map (word_meaning r) (at_word expect)
+  at_meanings : (expect : Expect) (what : Expected) → IsExpected r expect what → expected_meanings what ≡ map (commit_or_cause r) (at_word expect)
   at_meanings Any expected.Any is = refl
   at_meanings New expected.New is = refl
   at_meanings (At word) (expected.At meaning) is = ap (λ x. x ∷ []) is
@@ -92,16 +88,16 @@ module _ (r : Repository) (order : CommitCommand) where
   at_meanings (At word) expected.Any is = absurd is
   at_meanings (At word) expected.New is = absurd is
 
-  -- what the parents' words read as
+  -- what the parents' words stand for
   pub parent_meanings : (words : List (Vec ℕ Global)) (meanings : List own.WordMeaning) → map (λ (word : Vec ℕ Global). word.items) words ≡ order.parents
-      → map meaning_of meanings ≡ map (λ (word : Vec ℕ Global). word_meaning r word.items) words → map meaning_of meanings ≡ map (word_meaning r) order.parents
-  parent_meanings words meanings are is = is ∙ sym (map_twice (word_meaning r) (λ (word : Vec ℕ Global). word.items) words) ∙ ap (map (word_meaning r)) are
+      → map meaning_of meanings ≡ map (λ (word : Vec ℕ Global). commit_or_cause r word.items) words → map meaning_of meanings ≡ map (commit_or_cause r) order.parents
+  parent_meanings words meanings are is = is ∙ sym (map_twice (commit_or_cause r) (λ (word : Vec ℕ Global). word.items) words) ∙ ap (map (commit_or_cause r)) are
 
-  pub words_so : (what : Expected) (meanings : List own.WordMeaning) → IsExpected r order.expect what → map meaning_of meanings ≡ map (word_meaning r) order.parents
+  pub words_so : (what : Expected) (meanings : List own.WordMeaning) → IsExpected r order.expect what → map meaning_of meanings ≡ map (commit_or_cause r) order.parents
       → first_among word_causes r (Commit order) ≡ words_cause (expected_meanings what ++ map meaning_of meanings)
   words_so what meanings is are =
-      words_told
-      ∙ ap words_cause (map-append (word_meaning r) (at_word order.expect) order.parents ∙ (λ i. sym (at_meanings order.expect what is) i ++ sym are i))
+      all_told
+      ∙ ap words_cause (map-append (commit_or_cause r) (at_word order.expect) order.parents ∙ (λ i. sym (at_meanings order.expect what is) i ++ sym are i))
 
 -- ---- what the name holds
 
@@ -115,15 +111,16 @@ module _ (r : Repository) (order : CommitCommand) (o : IsOffered r) (w : HasWhol
       (cond (list_any (stands r) (map (λ (e : Bytes × Expect). e.0) (filter (λ (e : Bytes × Expect). is_new e.1) ((name, expect) ∷ [])))) (Some Taken)
       (cond (list_any (is_elsewhere r) ((name, expect) ∷ [])) (Some NotExpected) None))
 
-  compared : (id : Id) (x : WordMeaning) → cond (not (same_id (Some id) (read_id x)) || false) (Some NotExpected) None ≡ reads_as id x
-  compared id (ReadsAs other) = go (id_eq id other)
+  compared : (id : Id) (meaning : own.WordMeaning) → cond (not (same_id (Some id) (option_map id_of (commit_in meaning))) || false) (Some NotExpected) None ≡ reads_as id (meaning_of meaning)
+  compared id (read.Commit other) = go (id_eq id (id_of other))
     where
       go : (b : Bool) → cond (not b || false) (Some NotExpected) None ≡ cond b None (Some NotExpected)
       go true = refl
       go false = refl
-  compared id Unborn = refl
-  compared id Unknown = refl
-  compared id Ambiguous = refl
+  compared id read.NoCommit = refl
+  compared id read.Unborn = refl
+  compared id read.Unknown = refl
+  compared id read.Ambiguous = refl
 
   by_expect : (expect : Expect) (what : Expected) (held : Option Id) → IsExpected r expect what → id_at r name ≡ held → of_expect expect ≡ held_cause what held
   by_expect Any expected.Any held is at = refl
@@ -133,8 +130,8 @@ module _ (r : Repository) (order : CommitCommand) (o : IsOffered r) (w : HasWhol
       ap (λ s. cond (not s || false) (Some NoSuchName) (cond (list_any (is_elsewhere r) ((name, At word) ∷ [])) (Some NotExpected) None)) (stands_so r name None at)
   by_expect (At word) (expected.At meaning) (Some id) is at =
       ap (λ s. cond (not s || false) (Some NoSuchName) (cond (list_any (is_elsewhere r) ((name, At word) ∷ [])) (Some NotExpected) None)) (stands_so r name (Some id) at)
-      ∙ (λ i. cond (not (same_id ((names_stand_for_theirs r name o w ∙ at) i) ((words_stand_for_theirs r word o w ∙ ap read_id (sym is)) i)) || false) (Some NotExpected) None)
-      ∙ compared id (meaning_of meaning)
+      ∙ (λ i. cond (not (same_id ((names_stand_for_theirs r name o w ∙ at) i) (commit_told r word meaning is i)) || false) (Some NotExpected) None)
+      ∙ compared id meaning
   by_expect Any expected.New held is at = absurd is
   by_expect Any (expected.At meaning) held is at = absurd is
   by_expect New expected.Any held is at = absurd is
@@ -147,17 +144,7 @@ module _ (r : Repository) (order : CommitCommand) (o : IsOffered r) (w : HasWhol
 
   -- ---- the parents
 
-  ids_read : (meanings : List own.WordMeaning) → map id_of (filter_map commit_in meanings) ≡ filter_map read_id (map meaning_of meanings)
-  ids_read [] = refl
-  ids_read (read.Commit id ∷ meanings) = ap (λ ids. id_of id ∷ ids) (ids_read meanings)
-  ids_read (read.Unborn ∷ meanings) = ids_read meanings
-  ids_read (read.Unknown ∷ meanings) = ids_read meanings
-
-  commits_read : (words : List Bytes) → filter_map (commit_of r) words ≡ filter_map read_id (map (word_meaning r) words)
-  commits_read [] = refl
-  commits_read (word ∷ words) = λ i. cons_option (words_stand_for_theirs r word o w i) (commits_read words i)
-
-  pub parents_told : (held : Option ObjectId) (meanings : List own.WordMeaning) (parents : List ObjectId) → option_map id_of held ≡ id_at r name → map meaning_of meanings ≡ map (word_meaning r) order.parents
+  pub parents_told : (held : Option ObjectId) (meanings : List own.WordMeaning) (parents : List ObjectId) → option_map id_of held ≡ id_at r name → map meaning_of meanings ≡ map (commit_or_cause r) order.parents
       → parents ≡ option_to_list held ++ filter_map commit_in meanings → map id_of parents ≡ parents_of r order
   parents_told held meanings parents at are is =
       ap (map id_of) is ∙ map-append id_of (option_to_list held) (filter_map commit_in meanings)
@@ -171,7 +158,7 @@ module _ (r : Repository) (order : CommitCommand) (o : IsOffered r) (w : HasWhol
       first = told held ∙ ap option_to_list (at ∙ sym (names_stand_for_theirs r name o w))
 
       second : map id_of (filter_map commit_in meanings) ≡ filter_map (commit_of r) order.parents
-      second = ids_read meanings ∙ ap (filter_map read_id) are ∙ sym (commits_read order.parents)
+      second = commits_told r meanings order.parents are
 
   pub parents_so : (parents : List ObjectId) → map id_of parents ≡ parents_of r order → first_among parent_causes r (Commit order) ≡ parents_cause (map id_of parents)
   parents_so parents is = ap parents_cause (sym is)
@@ -180,11 +167,11 @@ module _ (r : Repository) (order : CommitCommand) (o : IsOffered r) (w : HasWhol
 
 -- the meaning of one word more
 pub meaning_added : (r : Repository) (words : List (Vec ℕ Global)) (i : ℕ) (word : Vec ℕ Global) (meaning : own.WordMeaning) (meanings more : List own.WordMeaning) → i < length words → word ≡ get_or words i word
-    → meaning_of meaning ≡ word_meaning r word.items → map meaning_of meanings ≡ map (λ (word : Vec ℕ Global). word_meaning r word.items) (take i words) → more ≡ meanings ++ meaning ∷ []
-    → map meaning_of more ≡ map (λ (word : Vec ℕ Global). word_meaning r word.items) (take (i + 1) words)
+    → meaning_of meaning ≡ commit_or_cause r word.items → map meaning_of meanings ≡ map (λ (word : Vec ℕ Global). commit_or_cause r word.items) (take i words) → more ≡ meanings ++ meaning ∷ []
+    → map meaning_of more ≡ map (λ (word : Vec ℕ Global). commit_or_cause r word.items) (take (i + 1) words)
 meaning_added r words i word meaning meanings more less is read so_far added =
     ap (map meaning_of) added ∙ map-append meaning_of meanings (meaning ∷ []) ∙ (λ j. so_far j ++ read j ∷ [])
-    ∙ sym (ap (map (λ (word : Vec ℕ Global). word_meaning r word.items)) (take_more words i word less ∙ ap (λ (x : Vec ℕ Global). take i words ++ x ∷ []) (sym is)) ∙ map-append (λ (word : Vec ℕ Global). word_meaning r word.items) (take i words) (word ∷ []))
+    ∙ sym (ap (map (λ (word : Vec ℕ Global). commit_or_cause r word.items)) (take_more words i word less ∙ ap (λ (x : Vec ℕ Global). take i words ++ x ∷ []) (sym is)) ∙ map-append (λ (word : Vec ℕ Global). commit_or_cause r word.items) (take i words) (word ∷ []))
 
 -- ---- ids that stand twice
 

@@ -1,5 +1,5 @@
 -- A name goes: what a `delete` is refused for, and what its files pass through.
-use Rattle.std.proofs.Common.{◌≡◌, ℕ, Bool, true, false, cond, not, ◌||◌, List, [], ◌∷◌, ◌++◌, refl, sym, ◌∙◌, ap, subst, Option, Some, None, option_map, is_some, unwrap_or, codes}
+use Rattle.std.proofs.Common.{◌≡◌, ℕ, Bool, true, false, cond, not, ◌||◌, List, [], ◌∷◌, ◌++◌, map, refl, sym, ◌∙◌, ap, subst, Option, Some, None, option_map, is_some, unwrap_or, codes}
 use Rattle.std.specs.Prelude.{Result, Err, Vec, IsErrOf}
 use Rattle.std.specs.declared.alloc.Global.{Global}
 use Rattle.std.specs.FinMap.{get}
@@ -18,7 +18,6 @@ use Rattle.history_model.specs.Bytes.{Bytes}
 use Rattle.history_model.specs.Repository as plain
 use Rattle.history_model.specs.Repository.{HasWholeNames, Reference, stands}
 use Rattle.history_model.specs.Forms.{is_name, is_private}
-use Rattle.history_model.specs.Words.{WordMeaning, ReadsAs, Unborn, Unknown, Ambiguous}
 use Rattle.history_model.specs.Commands.{At, Command, Delete}
 use Rattle.history_model.specs.CommandParts.{option_expect}
 use Rattle.history_model.specs.Meaning.{after}
@@ -34,12 +33,11 @@ use Rattle.history_model.specs.declared.Cause.TheVariants.{BadName, PrivateName,
 use Rattle.history_model.specs.declared.Fault.TheVariants.{Memory, File, IdTaken}
 use Rattle.history_steps.specs.DeleteSteps.{DeletesName, DeletesOnTheWay}
 use Rattle.history_steps.specs.Offered.{IsOffered}
-use Rattle.history_steps.specs.OfferedWords.{read_id}
 use Rattle.history_steps.specs.Passing.{HoldsBetween}
 use Rattle.history_steps.specs.TreeHalves.{HoldsNames}
 use Rattle.history_steps.proofs.Deletions.{deletions_pass, deletions_stand}
 use Rattle.history_steps.proofs.OfferedCauses.{first_offered_cause}
-use Rattle.history_steps.proofs.OfferedReads.{names_stand_for_theirs, words_stand_for_theirs}
+use Rattle.history_steps.proofs.OfferedReads.{names_stand_for_theirs}
 use Rattle.history_steps.proofs.PassedStates.{names_pass}
 use Rattle.history_steps.proofs.TreeMoves.{packed_apart, packed_no_log}
 use Rattle.history_steps.proofs.TreePuts.{halves_stand}
@@ -51,18 +49,21 @@ use Rattle.history.specs.Deleting.{DeletesFiles, TestsAll, delete_causes, gone_c
 use Rattle.history.specs.Face.{KeepsAllButNames, names_part}
 use Rattle.history.specs.Faults.{file_fault}
 use Rattle.history.specs.Halves.{NamesStand, names_tree}
-use Rattle.history.specs.Meanings.{meaning_of}
+use Rattle.history.specs.Meanings.{commit_in, commit_or_cause, meaning_of}
 use Rattle.history.specs.Serving.{Serves}
 use Rattle.history.specs.Stands.{pair_of}
 use Rattle.history.specs.declared.base.Expected.{Expected}
 use Rattle.history.specs.declared.base.Expected.TheVariants as expected
 use Rattle.history.specs.declared.repository.Repository as own
+use Rattle.history.specs.declared.words.WordMeaning as meant
+use Rattle.history.specs.declared.words.WordMeaning.TheVariants as read
 use Rattle.history.specs.declared.stopped.Stopped.{Stopped}
 use Rattle.history.specs.declared.stopped.Stopped.TheVariants as why
 use Rattle.history.proofs.Commits.{name_formed}
 use Rattle.history.proofs.FirstCauses.{find_after_none, find_in_front}
 use Rattle.history.proofs.NameReads.{held, refs_front}
 use Rattle.history.proofs.NamesAlone.{ChangesNames}
+use Rattle.history.proofs.WordCauses.{any_map, commit_told, words_told as all_words_told}
 use Rattle.history.proofs.WordReads.{stands_so}
 
 -- ---- what the name, the word and the files tell of the causes
@@ -85,22 +86,26 @@ module _ (r : plain.Repository) (name : Bytes) where
 
   pub words_told : (at : Option Bytes) (what : Expected) → IsExpected r (option_expect at) what → first_among word_causes r (Delete name at) ≡ words_cause (expected_meanings what ++ [])
   words_told None expected.Any is = refl
-  words_told (Some word) (expected.At meaning) is = λ i. words_cause (sym is i ∷ [])
+  words_told (Some word) (expected.At meaning) is =
+      let words = word ∷ [] in
+      all_words_told r words (map (commit_or_cause r) words) (λ test. any_map test (commit_or_cause r) words) None
+      ∙ (λ i. words_cause (sym is i ∷ []))
   words_told None expected.New is = absurd is
   words_told None (expected.At meaning) is = absurd is
   words_told (Some word) expected.Any is = absurd is
   words_told (Some word) expected.New is = absurd is
 
   module _ (o : IsOffered r) (w : HasWholeNames r) where
-    compared : (id : Id) (x : WordMeaning) → cond (not (same_id (Some id) (read_id x)) || false) (Some NotExpected) None ≡ reads_as id x
-    compared id (ReadsAs other) = go (id_eq id other)
+    compared : (id : Id) (meaning : meant.WordMeaning) → cond (not (same_id (Some id) (option_map id_of (commit_in meaning))) || false) (Some NotExpected) None ≡ reads_as id (meaning_of meaning)
+    compared id (read.Commit other) = go (id_eq id (id_of other))
       where
         go : (b : Bool) → cond (not b || false) (Some NotExpected) None ≡ cond b None (Some NotExpected)
         go true = refl
         go false = refl
-    compared id Unborn = refl
-    compared id Unknown = refl
-    compared id Ambiguous = refl
+    compared id read.NoCommit = refl
+    compared id read.Unborn = refl
+    compared id read.Unknown = refl
+    compared id read.Ambiguous = refl
 
     pub held_told : (at : Option Bytes) (what : Expected) (held : Option Id) → IsExpected r (option_expect at) what → plain.id_at r name ≡ held → first_among held_causes r (Delete name at) ≡ gone_cause what held
     held_told None expected.Any None is at = ap (λ s. cond (not s || false) (Some NoSuchName) None) (stands_so r name None at)
@@ -109,8 +114,8 @@ module _ (r : plain.Repository) (name : Bytes) where
         ap (λ s. cond (not s || false) (Some NoSuchName) (cond (is_elsewhere r (name, At word) || false) (Some NotExpected) None)) (stands_so r name None at)
     held_told (Some word) (expected.At meaning) (Some id) is at =
         ap (λ s. cond (not s || false) (Some NoSuchName) (cond (is_elsewhere r (name, At word) || false) (Some NotExpected) None)) (stands_so r name (Some id) at)
-        ∙ (λ i. cond (not (same_id ((names_stand_for_theirs r name o w ∙ at) i) ((words_stand_for_theirs r word o w ∙ ap read_id (sym is)) i)) || false) (Some NotExpected) None)
-        ∙ compared id (meaning_of meaning)
+        ∙ (λ i. cond (not (same_id ((names_stand_for_theirs r name o w ∙ at) i) (commit_told r word meaning is i)) || false) (Some NotExpected) None)
+        ∙ compared id meaning
     held_told None expected.New held is at = absurd is
     held_told None (expected.At meaning) held is at = absurd is
     held_told (Some word) expected.Any held is at = absurd is

@@ -16,20 +16,19 @@ use Rattle.history_model.specs.Bytes.{Bytes}
 use Rattle.history_model.specs.Repository as plain
 use Rattle.history_model.specs.Repository.{HasWholeNames, id_at, stands}
 use Rattle.history_model.specs.Forms.{is_name, is_offset, is_seconds}
-use Rattle.history_model.specs.Words.{commit_of, word_meaning}
+use Rattle.history_model.specs.Words.{commit_of}
 use Rattle.history_model.specs.Commands.{Expect, Any, New, At, Move, MoveCommand, To}
 use Rattle.history_model.specs.CommandParts.{at_word, words_in}
 use Rattle.history_model.specs.Meaning.{read_actor}
 use Rattle.history_model.specs.Causes as model
-use Rattle.history_model.specs.Causes.{do_collide, first_cause, holds, is_at, is_unborn, is_unknown, same_id}
+use Rattle.history_model.specs.Causes.{do_collide, first_cause, holds, is_at, same_id}
 use Rattle.history_model.specs.declared.Cause.{Cause}
-use Rattle.history_model.specs.declared.Cause.TheVariants.{BadActor, BadMessage, BadName, BadTime, UnknownWord, UnbornHead, NoSuchName, Taken, NotExpected, NothingMoves}
+use Rattle.history_model.specs.declared.Cause.TheVariants.{BadActor, BadMessage, BadName, BadTime, NoSuchName, Taken, NotExpected, NothingMoves}
 use Rattle.history_model.specs.declared.Fault.TheVariants.{Memory, File, IdTaken}
 use Rattle.history_steps.specs.MoveSteps.{line_entry}
 use Rattle.history_steps.specs.Offered.{IsOffered}
-use Rattle.history_steps.specs.OfferedWords.{read_id}
 use Rattle.history_steps.proofs.OfferedCauses.{first_offered_cause}
-use Rattle.history_steps.proofs.OfferedReads.{names_stand_for_theirs, words_stand_for_theirs}
+use Rattle.history_steps.proofs.OfferedReads.{names_stand_for_theirs}
 use Rattle.history_store.specs.Formats.{actor_of, entry_of}
 use Rattle.history_store.specs.declared.log_entry.LogEntry.{LogEntry}
 use Rattle.history_word.specs.Commands.{AreTos, IsExpect, IsTo}
@@ -41,7 +40,7 @@ use Rattle.history.specs.Bases.{IsExpected, expected_meanings, words_cause}
 use Rattle.history.specs.CommitCauses.{IsToldOf, TestsOf, first_among, held_causes, place_causes, word_causes}
 use Rattle.history.specs.Face.{names_part}
 use Rattle.history.specs.Faults.{file_fault}
-use Rattle.history.specs.Meanings.{commit_in, meaning_of}
+use Rattle.history.specs.Meanings.{commit_in, commit_or_cause}
 use Rattle.history.specs.Moving.{AreLines, AreMoves, IsLine, IsLineMove, PlansMoves, TestsNames, bars, is_elsewhere, is_missing, is_new, is_taken, is_there, line_meanings, line_name, lines_cause, move_causes, names_cause, teller_causes, to_causes, to_name}
 use Rattle.history.specs.declared.base.Expected.{Expected}
 use Rattle.history.specs.declared.base.Expected.TheVariants as expected
@@ -52,11 +51,9 @@ use Rattle.history.specs.Serving.{Serves}
 use Rattle.history_store.specs.References.{NameHolds}
 use Rattle.history.specs.declared.stopped.Stopped.{Stopped}
 use Rattle.history.specs.declared.stopped.Stopped.TheVariants as why
-use Rattle.history.specs.declared.words.WordMeaning as own
-use Rattle.history.specs.declared.words.WordMeaning.TheVariants as read
-use Rattle.history.proofs.BaseLemmas.{any_map}
 use Rattle.history.proofs.FirstCauses.{find_after_none, find_in_front, here, passed}
 use Rattle.history.proofs.NameReads.{held, refs_front}
+use Rattle.history.proofs.WordCauses.{any_map, commit_told, words_told as all_words_told}
 use Rattle.history.proofs.WordReads.{stands_so}
 
 -- ---- lists
@@ -106,7 +103,7 @@ each_named (order ∷ orders) none = go (is_name order.name) none (each_named or
 
 -- ---- words
 
-at_meanings : (r : plain.Repository) (expect : Expect) (what : Expected) → IsExpected r expect what → expected_meanings what ≡ map (word_meaning r) (at_word expect)
+at_meanings : (r : plain.Repository) (expect : Expect) (what : Expected) → IsExpected r expect what → expected_meanings what ≡ map (commit_or_cause r) (at_word expect)
 at_meanings r Any expected.Any is = refl
 at_meanings r New expected.New is = refl
 at_meanings r (At word) (expected.At meaning) is = ap (λ x. x ∷ []) is
@@ -118,20 +115,20 @@ at_meanings r (At word) expected.Any is = absurd is
 at_meanings r (At word) expected.New is = absurd is
 
 pub meanings_are : (r : plain.Repository) (orders : List To) (lines : List Line) → AreLines r orders lines
-    → flat_map line_meanings lines ≡ map (word_meaning r) (flat_map (λ (to : To). at_word to.expect ++ to.word ∷ []) orders)
+    → flat_map line_meanings lines ≡ map (commit_or_cause r) (flat_map (λ (to : To). at_word to.expect ++ to.word ∷ []) orders)
 meanings_are r [] [] are = refl
 meanings_are r [] (line ∷ lines) are = absurd are
 meanings_are r (order ∷ orders) [] are = absurd are
 meanings_are r (order ∷ orders) (line ∷ lines) are =
     let words = flat_map (λ (to : To). at_word to.expect ++ to.word ∷ []) orders in
     (λ i. (at_meanings r order.expect line.expected (are.0).expected i ++ (are.0).word i ∷ []) ++ meanings_are r orders lines are.1 i)
-    ∙ sym (map-append (word_meaning r) (at_word order.expect ++ order.word ∷ []) words
-    ∙ ap (λ front. front ++ map (word_meaning r) words) (map-append (word_meaning r) (at_word order.expect) (order.word ∷ [])))
+    ∙ sym (map-append (commit_or_cause r) (at_word order.expect ++ order.word ∷ []) words
+    ∙ ap (λ front. front ++ map (commit_or_cause r) words) (map-append (commit_or_cause r) (at_word order.expect) (order.word ∷ [])))
 
 pub words_told : (r : plain.Repository) (order : MoveCommand) (lines : List Line) → AreLines r order.to lines → first_among word_causes r (Move order) ≡ words_cause (flat_map line_meanings lines)
 words_told r order lines are =
     let words = words_in (Move order) in
-    (λ i. cond (sym (any_map is_unknown (word_meaning r) words) i) (Some UnknownWord) (cond (sym (any_map is_unborn (word_meaning r) words) i) (Some UnbornHead) None))
+    all_words_told r words (map (commit_or_cause r) words) (λ test. any_map test (commit_or_cause r) words) None
     ∙ ap words_cause (sym (meanings_are r order.to lines are))
 
 -- ---- what the names hold
@@ -209,15 +206,6 @@ module _ (r : plain.Repository) where
       same_id (sym (are.0).held i) (sym (are.0).commit i) || there_told orders lines are.1 i
 
   module _ (o : IsOffered r) (w : HasWholeNames r) where
-    -- the commit that a word was read as is the one that it stands for
-    pub commit_read : (word : Bytes) (meaning : own.WordMeaning) → meaning_of meaning ≡ word_meaning r word → option_map id_of (commit_in meaning) ≡ commit_of r word
-    commit_read word meaning is = told meaning ∙ ap read_id is ∙ sym (words_stand_for_theirs r word o w)
-      where
-        told : (meaning : own.WordMeaning) → option_map id_of (commit_in meaning) ≡ read_id (meaning_of meaning)
-        told (read.Commit id) = refl
-        told read.Unborn = refl
-        told read.Unknown = refl
-
     elsewhere_told : (orders : List To) (lines : List Line) → AreLines r orders lines → list_any (model.is_elsewhere r) (map pair_of orders) ≡ list_any is_elsewhere lines
     elsewhere_told [] [] are = refl
     elsewhere_told [] (line ∷ lines) are = absurd are
@@ -227,7 +215,7 @@ module _ (r : plain.Repository) where
         one : (expect : Expect) (what : Expected) → IsExpected r expect what → model.is_elsewhere r (order.name, expect) ≡ Rattle.history.specs.Moving.is_apart line what
         one Any expected.Any is = refl
         one New expected.New is = refl
-        one (At word) (expected.At meaning) is = λ i. not (same_id ((names_stand_for_theirs r order.name o w ∙ sym (are.0).held) i) (sym (commit_read word meaning is) i))
+        one (At word) (expected.At meaning) is = λ i. not (same_id ((names_stand_for_theirs r order.name o w ∙ sym (are.0).held) i) (commit_told r word meaning is i))
         one Any expected.New is = absurd is
         one Any (expected.At meaning) is = absurd is
         one New expected.Any is = absurd is

@@ -1,4 +1,4 @@
--- The words of a log's items, and what they read as.
+-- The words of a log's items, and what they stand for.
 use Rattle.std.proofs.Common.{◌≡◌, ◌∙◌, ap, refl, sym, ℕ, ◌+◌, ◌<◌, length, List, [], ◌∷◌, ◌++◌, map, take, get_or, Option, Some, None, append-nil}
 use Rattle.std.specs.List.{filter_map, cons_option, AllZip}
 use Rattle.std.proofs.lemmas.List.{map-append, take_more}
@@ -7,11 +7,10 @@ use Rattle.history_model.specs.Answers.{hidden_word, tip_word}
 use Rattle.history_model.specs.Bytes.{Bytes}
 use Rattle.history_model.specs.Commands as model
 use Rattle.history_model.specs.Repository.{Repository}
-use Rattle.history_model.specs.Words.{word_meaning}
 use Rattle.history_word.specs.Commands.{IsLogItem}
 use Rattle.history_word.specs.declared.command.LogItem.{LogItem}
 use Rattle.history_word.specs.declared.command.LogItem.TheVariants.{Tip, Hidden}
-use Rattle.history.specs.Meanings.{meaning_of}
+use Rattle.history.specs.Meanings.{commit_or_cause, meaning_of}
 use Rattle.history.specs.declared.words.WordMeaning as own
 
 abbrev pub tip_in : LogItem → Option Bytes
@@ -47,13 +46,13 @@ module _ (r : Repository) (word_in : LogItem → Option Bytes) (items : List Log
       ap (filter_map word_in) (take_more items i item less) ∙ filter_map-append word_in (take i items) (get_or items i item ∷ [])
       ∙ ap (λ x. filter_map word_in (take i items) ++ cons_option (word_in x) []) (sym is)
 
-  pub another_kept : (meanings : List own.WordMeaning) → word_in item ≡ None → map meaning_of meanings ≡ map (word_meaning r) (filter_map word_in (take i items))
-      → map meaning_of meanings ≡ map (word_meaning r) (filter_map word_in (take (i + 1) items))
+  pub another_kept : (meanings : List own.WordMeaning) → word_in item ≡ None → map meaning_of meanings ≡ map (commit_or_cause r) (filter_map word_in (take i items))
+      → map meaning_of meanings ≡ map (commit_or_cause r) (filter_map word_in (take (i + 1) items))
   another_kept meanings none so_far =
-      so_far ∙ ap (map (word_meaning r)) (sym (words_more ∙ ap (λ o. filter_map word_in (take i items) ++ cons_option o []) none ∙ append-nil _))
+      so_far ∙ ap (map (commit_or_cause r)) (sym (words_more ∙ ap (λ o. filter_map word_in (take i items) ++ cons_option o []) none ∙ append-nil _))
 
-  pub word_added : (meanings more : List own.WordMeaning) (meaning : own.WordMeaning) (word : Bytes) → word_in item ≡ Some word → meaning_of meaning ≡ word_meaning r word → more ≡ meanings ++ meaning ∷ []
-      → map meaning_of meanings ≡ map (word_meaning r) (filter_map word_in (take i items)) → map meaning_of more ≡ map (word_meaning r) (filter_map word_in (take (i + 1) items))
+  pub word_added : (meanings more : List own.WordMeaning) (meaning : own.WordMeaning) (word : Bytes) → word_in item ≡ Some word → meaning_of meaning ≡ commit_or_cause r word → more ≡ meanings ++ meaning ∷ []
+      → map meaning_of meanings ≡ map (commit_or_cause r) (filter_map word_in (take i items)) → map meaning_of more ≡ map (commit_or_cause r) (filter_map word_in (take (i + 1) items))
   word_added meanings more meaning word some read added so_far =
       ap (map meaning_of) added ∙ map-append meaning_of meanings (meaning ∷ []) ∙ (λ j. so_far j ++ read j ∷ [])
-      ∙ sym (ap (map (word_meaning r)) (words_more ∙ ap (λ o. filter_map word_in (take i items) ++ cons_option o []) some) ∙ map-append (word_meaning r) (filter_map word_in (take i items)) (word ∷ []))
+      ∙ sym (ap (map (commit_or_cause r)) (words_more ∙ ap (λ o. filter_map word_in (take i items) ++ cons_option o []) some) ∙ map-append (commit_or_cause r) (filter_map word_in (take i items)) (word ∷ []))

@@ -15,19 +15,19 @@ use Rattle.gix_traverse_commit.specs.declared.parents.Parents.{Parents}
 use Rattle.gix_traverse_commit.specs.declared.parents.Parents.TheVariants.{All}
 use Rattle.history_model.specs.Answers.{IsWalk, commits_of, hidden_word, kept, since_of, tip_word, walk_request}
 use Rattle.history_model.specs.Bytes.{Bytes, digits_value}
-use Rattle.history_model.specs.Causes.{first_cause, is_bad_path, is_hidden, is_unborn, is_unknown}
+use Rattle.history_model.specs.Causes.{first_cause, is_ambiguous, is_bad_path, is_hidden, is_no_commit, is_unborn, is_unknown}
 use Rattle.history_model.specs.Commands.{Log, LogCommand, LogItem, Tip, Hidden, Order, Breadth, Newest, Oldest, NewestSince, OldestSince, Date, Topological}
 use Rattle.history_model.specs.Replies.{LogIs, reply_text}
 use Rattle.history_model.specs.Forms.{IsWritten}
-use Rattle.history_model.specs.Repository.{Repository, HasWholeNames, HoldsCommit, IsWholeStore, as_commit}
+use Rattle.history_model.specs.Repository.{Repository, HasWholeNames, HoldsCommit, IsWholeStore}
+use Rattle.history_model.proofs.WholeReads.{read_holds}
 use Rattle.history_model.specs.Spelling.{item_target}
 use Rattle.history_model.specs.Words as model
-use Rattle.history_model.specs.Words.{word_meaning, commit_of}
+use Rattle.history_model.specs.Words.{commit_of}
 use Rattle.history_model.specs.declared.Cause.{Cause}
-use Rattle.history_model.specs.declared.Cause.TheVariants.{UnknownWord, UnbornHead, BadPath}
+use Rattle.history_model.specs.declared.Cause.TheVariants.{UnknownWord, AmbiguousWord, UnbornHead, NotACommit, BadPath}
 use Rattle.history_steps.specs.Offered.{IsOffered}
 use Rattle.history_steps.proofs.OfferedCauses.{first_offered_cause}
-use Rattle.history_steps.proofs.OfferedReads.{names_hold_commits, words_read_names, words_stand_for_theirs}
 use Rattle.history_walks.specs.Asking.{IsInOrder, walk_from}
 use Rattle.history_walks.specs.declared.listing.Request.{Request}
 use Rattle.history_walks.specs.declared.listing.Order as walks
@@ -38,17 +38,16 @@ use Rattle.history.specs.Acts.{GivesMeant, IsReadingFault, OnlyAnswers}
 use Rattle.history.specs.Bases.{words_cause}
 use Rattle.history.specs.Fields.{kept_bytes}
 use Rattle.history.specs.Logs.{AreEnds, IsOrderOf, followed, meanings_in, order_cause}
-use Rattle.history.specs.Meanings.{commit_in, meaning_of}
+use Rattle.history.specs.Meanings.{commit_in, commit_or_cause, meaning_of}
 use Rattle.history.specs.Walked.{AllHold, IsLogged, IsWalkOf, Walks}
 use Rattle.history.specs.declared.log.Ends.{Ends}
 use Rattle.history.specs.declared.stopped.Stopped.{Stopped}
 use Rattle.history.specs.declared.stopped.Stopped.TheVariants.{Refused, Fault}
 use Rattle.history.specs.declared.words.WordMeaning as own
 use Rattle.history.specs.declared.words.WordMeaning.TheVariants as read
-use Rattle.history.proofs.BaseLemmas.{any_map}
+use Rattle.history.proofs.WordCauses.{any_map, by_words, commit_is, commits_told, passed, refused, told_by, words_told}
 use Rattle.history.proofs.CommitsWalked.{logged_hold}
 use Rattle.history.proofs.FieldLemmas.{whole_path}
-use Rattle.history_steps.specs.OfferedWords.{read_id}
 
 -- ---- words
 
@@ -69,12 +68,12 @@ any_end test (Tip word ∷ items) = or_first (test word) _ _ _ (any_end test ite
 any_end test (Hidden word ∷ items) = or_second (test word) (list_any test (filter_map tip_word items)) _ _ (any_end test items)
 
 module _ (r : Repository) (items : List LogItem) (ends : Ends) (are : AreEnds r items ends) where
-  any_meaning : (test : model.WordMeaning → Bool) → list_any test (meanings_in ends) ≡ list_any (λ word. test (word_meaning r word)) (map item_target items)
+  pub any_meaning : (test : Result Id Cause → Bool) → list_any test (meanings_in ends) ≡ list_any (λ word. test (commit_or_cause r word)) (map item_target items)
   any_meaning test =
       (λ i. list_any test (are.tips i ++ are.hidden i))
-      ∙ list_any-append test (map (word_meaning r) (filter_map tip_word items)) (map (word_meaning r) (filter_map hidden_word items))
-      ∙ (λ i. any_map test (word_meaning r) (filter_map tip_word items) i || any_map test (word_meaning r) (filter_map hidden_word items) i)
-      ∙ any_end (λ word. test (word_meaning r word)) items
+      ∙ list_any-append test (map (commit_or_cause r) (filter_map tip_word items)) (map (commit_or_cause r) (filter_map hidden_word items))
+      ∙ (λ i. any_map test (commit_or_cause r) (filter_map tip_word items) i || any_map test (commit_or_cause r) (filter_map hidden_word items) i)
+      ∙ any_end (λ word. test (commit_or_cause r word)) items
 
   -- some commit is hidden where an item says so
   pub hides_told : not (length ends.hidden.items == 0) ≡ list_any is_hidden items
@@ -83,7 +82,7 @@ module _ (r : Repository) (items : List LogItem) (ends : Ends) (are : AreEnds r 
       some : (n : ℕ) → (suc n == 0) ≡ false
       some n = grind (arith, tests)
 
-      go : (items : List LogItem) (meanings : List own.WordMeaning) → map meaning_of meanings ≡ map (word_meaning r) (filter_map hidden_word items) → not (length meanings == 0) ≡ list_any is_hidden items
+      go : (items : List LogItem) (meanings : List own.WordMeaning) → map meaning_of meanings ≡ map (commit_or_cause r) (filter_map hidden_word items) → not (length meanings == 0) ≡ list_any is_hidden items
       go [] [] e = refl
       go [] (m ∷ meanings) e = let z : ⊥ = cc in absurd z
       go (Tip word ∷ items) meanings e = go items meanings e
@@ -93,50 +92,39 @@ module _ (r : Repository) (items : List LogItem) (ends : Ends) (are : AreEnds r 
 -- ---- causes
 
 module _ (r : Repository) (order : LogCommand) (o : IsOffered r) (w : HasWholeNames r) where
-  abbrev Unread : Option Cause → Option Cause
-  Unread rest =
-      cond (list_any (λ word. is_unknown (word_meaning r word)) (map item_target order.items)) (Some UnknownWord)
-      (cond (list_any (λ word. is_unborn (word_meaning r word)) (map item_target order.items)) (Some UnbornHead) rest)
-
   abbrev Ordered : Option Cause
   Ordered = order_cause order.order order.first_parents (list_any is_hidden order.items)
 
   abbrev Placed : Option Cause
   Placed = cond (list_any is_bad_path order.paths) (Some BadPath) Ordered
 
-  first_told : first_cause r (Log order) ≡ Unread Placed
+  first_told : first_cause r (Log order) ≡ by_words r (map item_target order.items) Placed
   first_told = first_offered_cause r (Log order) o w refl
 
   -- an accepted log has no bad path
   pub good_paths : first_cause r (Log order) ≡ None → list_any is_bad_path order.paths ≡ false
-  good_paths none = go (list_any (λ word. is_unknown (word_meaning r word)) (map item_target order.items)) (list_any (λ word. is_unborn (word_meaning r word)) (map item_target order.items)) (list_any is_bad_path order.paths) (sym first_told ∙ none)
+  good_paths none = go
+      (list_any (λ word. is_unknown (model.word_meaning r word)) (map item_target order.items)) (list_any (λ word. is_ambiguous (model.word_meaning r word)) (map item_target order.items))
+      (list_any (λ word. is_unborn (model.word_meaning r word)) (map item_target order.items)) (list_any (λ word. is_no_commit r (model.word_meaning r word)) (map item_target order.items))
+      (list_any is_bad_path order.paths) (sym first_told ∙ none)
     where
-      go : (a b c : Bool) → cond a (Some UnknownWord) (cond b (Some UnbornHead) (cond c (Some BadPath) Ordered)) ≡ None → c ≡ false
-      go true b c e = cc
-      go false true c e = cc
-      go false false true e = cc
-      go false false false e = refl
+      go : (a b c d e : Bool) → cond a (Some UnknownWord) (cond b (Some AmbiguousWord) (cond c (Some UnbornHead) (cond d (Some NotACommit) (cond e (Some BadPath) Ordered)))) ≡ None → e ≡ false
+      go true b c d e h = cc
+      go false true c d e h = cc
+      go false false true d e h = cc
+      go false false false true e h = cc
+      go false false false false true h = cc
+      go false false false false false h = refl
 
   module _ (ends : Ends) (are : AreEnds r order.items ends) where
-    words_told : (rest : Option Cause) → Unread rest ≡ cond (list_any is_unknown (meanings_in ends)) (Some UnknownWord) (cond (list_any is_unborn (meanings_in ends)) (Some UnbornHead) rest)
-    words_told rest = λ i.
-        cond (sym (any_meaning r order.items ends are is_unknown) i) (Some UnknownWord) (cond (sym (any_meaning r order.items ends are is_unborn) i) (Some UnbornHead) rest)
+    told_so : (rest : Option Cause) → by_words r (map item_target order.items) rest ≡ told_by (meanings_in ends) rest
+    told_so rest = words_told r (map item_target order.items) (meanings_in ends) (any_meaning r order.items ends are) rest
 
     pub refused_by_word : (cause : Cause) → words_cause (meanings_in ends) ≡ Some cause → first_cause r (Log order) ≡ Some cause
-    refused_by_word cause is = first_told ∙ words_told Placed ∙ go (list_any is_unknown (meanings_in ends)) (list_any is_unborn (meanings_in ends)) is
-      where
-        go : (a b : Bool) → cond a (Some UnknownWord) (cond b (Some UnbornHead) None) ≡ Some cause → cond a (Some UnknownWord) (cond b (Some UnbornHead) Placed) ≡ Some cause
-        go true b e = e
-        go false true e = e
-        go false false e = cc
+    refused_by_word cause is = first_told ∙ told_so Placed ∙ refused (meanings_in ends) cause Placed is
 
     told_by_path : words_cause (meanings_in ends) ≡ None → first_cause r (Log order) ≡ Placed
-    told_by_path none = first_told ∙ words_told Placed ∙ go (list_any is_unknown (meanings_in ends)) (list_any is_unborn (meanings_in ends)) none
-      where
-        go : (a b : Bool) → cond a (Some UnknownWord) (cond b (Some UnbornHead) None) ≡ None → cond a (Some UnknownWord) (cond b (Some UnbornHead) Placed) ≡ Placed
-        go true b e = cc
-        go false true e = cc
-        go false false e = refl
+    told_by_path none = first_told ∙ told_so Placed ∙ passed (meanings_in ends) Placed none
 
     pub refused_by_path : words_cause (meanings_in ends) ≡ None → list_any is_bad_path order.paths ≡ true → first_cause r (Log order) ≡ Some BadPath
     refused_by_path none bad = told_by_path none ∙ ap (λ b. cond b (Some BadPath) Ordered) bad
@@ -144,48 +132,27 @@ module _ (r : Repository) (order : LogCommand) (o : IsOffered r) (w : HasWholeNa
     pub told_by_order : words_cause (meanings_in ends) ≡ None → list_any is_bad_path order.paths ≡ false → first_cause r (Log order) ≡ Ordered
     told_by_order none good = told_by_path none ∙ ap (λ b. cond b (Some BadPath) Ordered) good
 
--- ---- the commits that words read as
+-- ---- the commits that words stand for
 
-module _ (r : Repository) (o : IsOffered r) (w : HasWholeNames r) where
-  pub ids_told : (meanings : List own.WordMeaning) (words : List Bytes) → map meaning_of meanings ≡ map (word_meaning r) words → map id_of (filter_map commit_in meanings) ≡ filter_map (commit_of r) words
-  ids_told [] [] e = refl
-  ids_told [] (word ∷ words) e = let z : ⊥ = cc in absurd z
-  ids_told (m ∷ meanings) [] e = let z : ⊥ = cc in absurd z
-  ids_told (m ∷ meanings) (word ∷ words) e =
-      let head : meaning_of m ≡ word_meaning r word = cc in
-      let tail : map meaning_of meanings ≡ map (word_meaning r) words = cc in
-      let rest = ids_told meanings words tail in
-      let reads : commit_of r word ≡ read_id (meaning_of m) = words_stand_for_theirs r word o w ∙ ap read_id (sym head) in
-      go m reads rest
-    where
-      go : (m : own.WordMeaning) → commit_of r word ≡ read_id (meaning_of m) → map id_of (filter_map commit_in meanings) ≡ filter_map (commit_of r) words → map id_of (filter_map commit_in (m ∷ meanings)) ≡ filter_map (commit_of r) (word ∷ words)
-      go (read.Commit id) reads rest = rw (reads, rest) refl
-      go read.Unborn reads rest = rw (reads, rest) refl
-      go read.Unknown reads rest = rw (reads, rest) refl
-
-  -- each is stored
-  pub ids_hold : (meanings : List own.WordMeaning) (words : List Bytes) → map meaning_of meanings ≡ map (word_meaning r) words → (x : ObjectId) → Contains (filter_map commit_in meanings) x → HoldsCommit r (id_of x)
-  ids_hold meanings words e x c = let (k, a) = at_from_contains (filter_map commit_in meanings) x c in go meanings words e k a
-    where
-      held : (word : Bytes) (id : Id) → word_meaning r word ≡ model.ReadsAs id → HoldsCommit r id
-      held word id e =
-          let (name, at) = words_read_names r word id e in
-          let (commit, there) = names_hold_commits r name id o w at in
-          subst (λ found. IsSome (option_and_then as_commit found)) (sym there) refl
-
-      go : (meanings : List own.WordMeaning) (words : List Bytes) → map meaning_of meanings ≡ map (word_meaning r) words → (k : ℕ) → At (filter_map commit_in meanings) k x → HoldsCommit r (id_of x)
-      go [] words e k a = let z : ⊥ = cc in absurd z
-      go (m ∷ meanings) [] e k a = let z : ⊥ = cc in absurd z
-      go (m ∷ meanings) (word ∷ words) e k a =
-          let head : meaning_of m ≡ word_meaning r word = cc in
-          let tail : map meaning_of meanings ≡ map (word_meaning r) words = cc in
-          by_meaning m head k a (λ j b. go meanings words tail j b)
-        where
-          by_meaning : (m : own.WordMeaning) → meaning_of m ≡ word_meaning r word → (k : ℕ) → At (filter_map commit_in (m ∷ meanings)) k x → ((j : ℕ) → At (filter_map commit_in meanings) j x → HoldsCommit r (id_of x)) → HoldsCommit r (id_of x)
-          by_meaning (read.Commit id) head zero a rest = let same : id ≡ x = cc in held word (id_of x) (sym head ∙ ap (λ y. model.ReadsAs (id_of y)) same)
-          by_meaning (read.Commit id) head (suc k) a rest = rest k a
-          by_meaning read.Unborn head k a rest = rest k a
-          by_meaning read.Unknown head k a rest = rest k a
+-- each is stored
+pub ids_hold : (r : Repository) → IsWholeStore r → (meanings : List own.WordMeaning) (words : List Bytes) → map meaning_of meanings ≡ map (commit_or_cause r) words → (x : ObjectId) → Contains (filter_map commit_in meanings) x → HoldsCommit r (id_of x)
+ids_hold r store meanings words e x c = let (k, a) = at_from_contains (filter_map commit_in meanings) x c in go meanings words e k a
+  where
+    go : (meanings : List own.WordMeaning) (words : List Bytes) → map meaning_of meanings ≡ map (commit_or_cause r) words → (k : ℕ) → At (filter_map commit_in meanings) k x → HoldsCommit r (id_of x)
+    go [] words e k a = let z : ⊥ = cc in absurd z
+    go (m ∷ meanings) [] e k a = let z : ⊥ = cc in absurd z
+    go (m ∷ meanings) (word ∷ words) e k a =
+        let head : meaning_of m ≡ commit_or_cause r word = cc in
+        let tail : map meaning_of meanings ≡ map (commit_or_cause r) words = cc in
+        by_meaning m head k a (λ j b. go meanings words tail j b)
+      where
+        by_meaning : (m : own.WordMeaning) → meaning_of m ≡ commit_or_cause r word → (k : ℕ) → At (filter_map commit_in (m ∷ meanings)) k x → ((j : ℕ) → At (filter_map commit_in meanings) j x → HoldsCommit r (id_of x)) → HoldsCommit r (id_of x)
+        by_meaning (read.Commit id) head zero a rest = let same : id ≡ x = cc in read_holds r store (model.word_meaning r word) (id_of x) (commit_is r word (id_of x) (sym head ∙ ap (λ y. Ok (id_of y)) same))
+        by_meaning (read.Commit id) head (suc k) a rest = rest k a
+        by_meaning read.NoCommit head k a rest = rest k a
+        by_meaning read.Unborn head k a rest = rest k a
+        by_meaning read.Unknown head k a rest = rest k a
+        by_meaning read.Ambiguous head k a rest = rest k a
 
 -- ---- the walk
 
@@ -233,8 +200,8 @@ module _ (r : Repository) (order : LogCommand) (o : IsOffered r) (w : HasWholeNa
   walk_of request ids is_order tips_are hidden_are walked =
       let starts = filter_map (commit_of r) (filter_map tip_word order.items) in
       let stops = filter_map (commit_of r) (filter_map hidden_word order.items) in
-      let from_tips : map id_of request.tips.items ≡ starts = ap (map id_of) tips_are ∙ ids_told r o w ends.tips.items (filter_map tip_word order.items) are.tips in
-      let from_hidden : map id_of request.hidden.items ≡ stops = ap (map id_of) hidden_are ∙ ids_told r o w ends.hidden.items (filter_map hidden_word order.items) are.hidden in
+      let from_tips : map id_of request.tips.items ≡ starts = ap (map id_of) tips_are ∙ commits_told r ends.tips.items (filter_map tip_word order.items) are.tips in
+      let from_hidden : map id_of request.hidden.items ≡ stops = ap (map id_of) hidden_are ∙ commits_told r ends.hidden.items (filter_map hidden_word order.items) are.hidden in
       walk_told order.order order.first_parents request.order is_order (commits_of r) starts stops (map id_of ids.items)
       (subst (λ (tips : List Id). IsInOrder request.order (commits_of r) (walk_from request.order tips stops) (map id_of ids.items)) from_tips
       (subst (λ (hidden : List Id). IsInOrder request.order (commits_of r) (walk_from request.order (map id_of request.tips.items) hidden) (map id_of ids.items)) from_hidden walked))

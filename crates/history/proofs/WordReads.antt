@@ -1,14 +1,18 @@
 -- What the names that a word may mean tell of it, read one after another.
-use Rattle.std.proofs.Common.{◌≡◌, ℕ, suc, ◌+◌, ◌<◌, length, drop, get_or, drop-cons, subst, ◌≤◌, arith, Bool, true, false, cond, not, ◌&&◌, List, [], ◌∷◌, ◌++◌, map, filter, find, refl, sym, ◌∙◌, ap, Option, Some, None, is_some, option_map, unwrap_or, bytes_eq, codes, Bor}
+use Rattle.std.proofs.Common.{◌≡◌, ℕ, suc, ◌+◌, ◌<◌, length, drop, get_or, drop-cons, subst, ◌≤◌, arith, Bool, true, false, cond, not, ◌&&◌, List, [], ◌∷◌, ◌++◌, map, filter, find, refl, sym, ◌∙◌, ap, Option, Some, None, is_some, option_map, unwrap_or, bytes_eq, codes, Bor, Ok, Err}
+use Rattle.std.specs.Prelude.{ok_or}
 use Rattle.std.specs.FinMap.{get}
 use Rattle.std.proofs.lemmas.List.{append-nil, drop_all}
 use Rattle.history_model.specs.Bytes.{Bytes, begins}
 use Rattle.history_model.specs.Forms.{is_name, is_private}
-use Rattle.history_model.specs.Repository.{Repository, Reference, id_at, stands}
-use Rattle.history_model.specs.Words.{ReadsAs, Unknown, word_meaning, name_meaning, id_meaning, candidates, head_word}
+use Rattle.history_model.specs.Repository.{Repository, Reference, id_at, peeled, stands}
+use Rattle.history_model.specs.Words.{word_meaning, name_meaning, id_meaning, candidates, head_word}
+use Rattle.history_model.specs.declared.Cause.TheVariants.{NotACommit, UnbornHead}
+use Rattle.history_steps.proofs.OfferedReads.{peels}
 use Rattle.gix_ref_file.specs.History.{History}
 use Rattle.history_store.specs.References.{NameHolds}
 use Rattle.gix_hash_id.specs.declared.object_id.ObjectId.{ObjectId}
+use Rattle.history.specs.Meanings.{commit_or_cause, stands_for}
 use Rattle.history.specs.Serving.{Serves}
 use Rattle.history.specs.Face.{names_part}
 use Rattle.history.specs.declared.repository.Repository as own
@@ -92,20 +96,20 @@ module _ (r : Repository) (word : Bytes) where
   pub none_first : (items : List Ends) (i : ℕ) → length items ≤ i → first_meant r word ≡ first_left r word (drop i items) → find (stands r) (candidates word) ≡ None
   none_first items i past e = found_first None (e ∙ ap (first_left r word) (drop_all i items past) ∙ none_left)
 
-  -- a word but HEAD reads as the first of its names that stands, or as none
-  reads_found : bytes_eq word head_word ≡ false → (found : Option Bytes) → find (stands r) (candidates word) ≡ found → word_meaning r word ≡ unwrap_or (option_map (λ name. name_meaning (id_at r name)) found) Unknown
+  -- a word but HEAD reads as the first of its names that stands, or as an id
+  reads_found : bytes_eq word head_word ≡ false → (found : Option Bytes) → find (stands r) (candidates word) ≡ found → word_meaning r word ≡ unwrap_or (option_map (λ name. name_meaning (id_at r name)) found) (id_meaning r word)
   reads_found other found e =
       ap (λ b. cond b (name_meaning (id_at r r.branch)) (unwrap_or (option_map (λ name. name_meaning (id_at r name)) (find (stands r) (candidates word))) (id_meaning r word))) other
-      ∙ ap (λ o. unwrap_or (option_map (λ name. name_meaning (id_at r name)) o) Unknown) e
+      ∙ ap (λ o. unwrap_or (option_map (λ name. name_meaning (id_at r name)) o) (id_meaning r word)) e
 
   pub reads_branch : bytes_eq word head_word ≡ true → word_meaning r word ≡ name_meaning (id_at r r.branch)
   reads_branch is = ap (λ b. cond b (name_meaning (id_at r r.branch)) (unwrap_or (option_map (λ name. name_meaning (id_at r name)) (find (stands r) (candidates word))) (id_meaning r word))) is
 
-  pub found_reads : bytes_eq word head_word ≡ false → (name : Bytes) (id : Id) → find (stands r) (candidates word) ≡ Some name → id_at r name ≡ Some id → ReadsAs id ≡ word_meaning r word
-  found_reads other name id e at = sym (reads_found other (Some name) e ∙ ap name_meaning at)
+  pub found_reads : bytes_eq word head_word ≡ false → (name : Bytes) (id : Id) → find (stands r) (candidates word) ≡ Some name → id_at r name ≡ Some id → peeled r id ≡ Some id → Ok id ≡ commit_or_cause r word
+  found_reads other name id e at own = sym (ap (stands_for r) (reads_found other (Some name) e ∙ ap name_meaning at) ∙ ap (λ o. ok_or o NotACommit) own)
 
-  pub none_reads : bytes_eq word head_word ≡ false → find (stands r) (candidates word) ≡ None → Unknown ≡ word_meaning r word
-  none_reads other e = sym (reads_found other None e)
+  pub none_reads : bytes_eq word head_word ≡ false → find (stands r) (candidates word) ≡ None → stands_for r (id_meaning r word) ≡ commit_or_cause r word
+  none_reads other e = sym (ap (stands_for r) (reads_found other None e))
 
 -- a name that holds an id stands, and one that holds none doesn't
 pub stands_so : (r : Repository) (name : Bytes) (held : Option Id) → id_at r name ≡ held → stands r name ≡ is_some held
@@ -135,9 +139,20 @@ module _ {F : Type 0} (IsHonest : F → Type 0) (history : F → History) (repos
       same_there None = refl
       same_there (Some id) = refl
 
-  -- HEAD reads as what its branch's file tells
+  -- HEAD stands for what its branch's file tells
+  branch_held : (place : Bytes) → place ≡ repository.branch.items → (found : Option ObjectId) → NameHolds repository.names.kind (history (names_part repository)).tree place found → id_at r r.branch ≡ option_map id_of found
+  branch_held place same found holds =
+      sym (held IsHonest history repository r stand place (ap (begins (codes "refs/")) same ∙ branch_is_name IsHonest history repository r stand) found (of_one_kind place found holds)
+      ∙ ap (id_at r) (same ∙ stand.stands.branch))
+
   pub branch_reads : (word place : Bytes) → bytes_eq word head_word ≡ true → place ≡ repository.branch.items → (found : Option ObjectId) → NameHolds repository.names.kind (history (names_part repository)).tree place found
-      → name_meaning (option_map id_of found) ≡ word_meaning r word
-  branch_reads word place is same found holds =
-      ap name_meaning (held IsHonest history repository r stand place (ap (begins (codes "refs/")) same ∙ branch_is_name IsHonest history repository r stand) found (of_one_kind place found holds))
-      ∙ ap (λ n. name_meaning (id_at r n)) (same ∙ stand.stands.branch) ∙ sym (reads_branch r word is)
+      → (id : ObjectId) → found ≡ Some id → Ok (id_of id) ≡ commit_or_cause r word
+  branch_reads word place is same found holds id there =
+      let at : id_at r r.branch ≡ Some (id_of id) = branch_held place same found holds ∙ ap (option_map id_of) there in
+      sym (ap (stands_for r) (reads_branch r word is ∙ ap name_meaning at) ∙ ap (λ o. ok_or o NotACommit) (peels r stand.stage.offered stand.stands.whole.whole.names r.branch (id_of id) at))
+
+  pub branch_unborn : (word place : Bytes) → bytes_eq word head_word ≡ true → place ≡ repository.branch.items → (found : Option ObjectId) → NameHolds repository.names.kind (history (names_part repository)).tree place found
+      → found ≡ None → Err UnbornHead ≡ commit_or_cause r word
+  branch_unborn word place is same found holds none =
+      let at : id_at r r.branch ≡ None = branch_held place same found holds ∙ ap (option_map id_of) none in
+      sym (ap (stands_for r) (reads_branch r word is ∙ ap name_meaning at))

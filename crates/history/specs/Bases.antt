@@ -1,20 +1,17 @@
 -- What a commit stands on, and why it can't stand on it.
-use Rattle.std.specs.Prelude.{◌≡◌, ⊤, List, [], ◌∷◌, map, length, nat_lt, Option, Some, None, option_map, if◌then◌else◌}
+use Rattle.std.specs.Prelude.{◌≡◌, ⊤, List, [], ◌∷◌, map, length, nat_lt, Option, Some, None, Result, Ok, Err, option_map, if◌then◌else◌}
 use Rattle.std.specs.List.{list_any}
 use Rattle.history_model.specs.Bytes.{has_twice}
 use Rattle.history_model.specs.Repository as plain
 use Rattle.history_model.specs.Repository.{id_at}
 use Rattle.history_model.specs.Forms.{max_parents}
-use Rattle.history_model.specs.Words as model
-use Rattle.history_model.specs.Words.{word_meaning}
 use Rattle.history_model.specs.Commands as orders
 use Rattle.history_model.specs.Meaning.{branch_or_name, parents_of}
-use Rattle.history_model.specs.Causes.{is_unknown, is_unborn}
 use Rattle.history_model.specs.declared.Cause.{Cause}
-use Rattle.history_model.specs.declared.Cause.TheVariants.{UnknownWord, UnbornHead, NoSuchName, Taken, NotExpected, TooManyParents, DuplicateParent}
+use Rattle.history_model.specs.declared.Cause.TheVariants.{UnknownWord, AmbiguousWord, UnbornHead, NotACommit, NoSuchName, Taken, NotExpected, TooManyParents, DuplicateParent}
 use Rattle.gix_hash_id.specs.Id.{Id, id_of}
 use Rattle.gix_hash_id.specs.Order.{id_eq}
-use Rattle.history.specs.Meanings.{meaning_of}
+use Rattle.history.specs.Meanings.{commit_or_cause, is_ambiguous_word, is_not_a_commit, is_unborn_head, is_unknown_word, meaning_of}
 use Rattle.history.specs.declared.base.Base.{Base}
 use Rattle.history.specs.declared.base.Expected.{Expected}
 use Rattle.history.specs.declared.base.Expected.TheVariants.{Any, New, At}
@@ -23,25 +20,27 @@ use Rattle.history.specs.declared.base.Expected.TheVariants.{Any, New, At}
 abbrev pub IsExpected : plain.Repository → orders.Expect → Expected → Type 0
 IsExpected r orders.Any Any = ⊤
 IsExpected r orders.New New = ⊤
-IsExpected r (orders.At word) (At meaning) = meaning_of meaning ≡ word_meaning r word
+IsExpected r (orders.At word) (At meaning) = meaning_of meaning ≡ commit_or_cause r word
 IsExpected r _ _ = ⊥
 
--- what the word of the expectation reads as, if there is one
-abbrev pub expected_meanings : Expected → List model.WordMeaning
+-- what the word of the expectation stands for, if there is one
+abbrev pub expected_meanings : Expected → List (Result Id Cause)
 expected_meanings Any = []
 expected_meanings New = []
 expected_meanings (At meaning) = meaning_of meaning ∷ []
 
--- why one of the words that read so stands for no commit
-abbrev pub words_cause : List model.WordMeaning → Option Cause
-words_cause meanings =
-    if list_any is_unknown meanings then Some UnknownWord else if list_any is_unborn meanings
-    then Some UnbornHead else None
+-- why one of the words that stand so stands for no commit: a cause of any comes before the next cause of all
+abbrev pub words_cause : List (Result Id Cause) → Option Cause
+words_cause words =
+    if list_any is_unknown_word words then Some UnknownWord
+    else if list_any is_ambiguous_word words then Some AmbiguousWord
+    else if list_any is_unborn_head words then Some UnbornHead
+    else if list_any is_not_a_commit words then Some NotACommit else None
 
--- whether a word that reads so reads as this id
-abbrev pub reads_as : Id → model.WordMeaning → Option Cause
-reads_as id (model.ReadsAs other) = if id_eq id other then None else Some NotExpected
-reads_as id _ = Some NotExpected
+-- whether a word that stands so stands for this commit
+abbrev pub reads_as : Id → Result Id Cause → Option Cause
+reads_as id (Ok other) = if id_eq id other then None else Some NotExpected
+reads_as id (Err cause) = Some NotExpected
 
 -- why what a name holds isn't as expected
 abbrev pub held_cause : Expected → Option Id → Option Cause

@@ -10,7 +10,7 @@ use Rattle.history_model.specs.CommandParts.{contents_in}
 use Rattle.history_model.specs.Meaning.{branch_or_name}
 use Rattle.history_model.specs.Causes.{holds}
 use Rattle.history_model.specs.declared.Cause.{Cause}
-use Rattle.history_model.specs.declared.Cause.TheVariants.{BadName, PrivateName, UnknownWord, UnbornHead, NoSuchName, Taken, NotExpected, Collides, TooManyParents, DuplicateParent, BadPath, IsFolder, NoSuchPath, BadActor, BadTime, BadMessage, TooLarge}
+use Rattle.history_model.specs.declared.Cause.TheVariants.{BadName, PrivateName, UnknownWord, AmbiguousWord, UnbornHead, NotACommit, NoSuchName, Taken, NotExpected, Collides, TooManyParents, DuplicateParent, BadPath, IsFolder, NoSuchPath, BadActor, BadTime, BadMessage, TooLarge}
 use Rattle.history.specs.Acts.{IsReadingFault}
 use Rattle.gix_object_lines.specs.Time.{IsSpellableOffset, offset_text}
 use Rattle.gix_object_lines.specs.declared.lines.time.Time.{Time}
@@ -28,7 +28,7 @@ abbrev pub name_form_causes : List Cause
 name_form_causes = BadName ∷ PrivateName ∷ []
 
 abbrev pub word_causes : List Cause
-word_causes = UnknownWord ∷ UnbornHead ∷ []
+word_causes = UnknownWord ∷ AmbiguousWord ∷ UnbornHead ∷ NotACommit ∷ []
 
 abbrev pub held_causes : List Cause
 held_causes = NoSuchName ∷ Taken ∷ NotExpected ∷ []

@@ -2,6 +2,8 @@
 use Rattle.std.specs.Prelude.{⊤}
 use Rattle.gix_ref_file.specs.declared.files.FileError.{FileError}
 use Rattle.gix_ref_file.specs.declared.files.FileError.TheVariants as file
+use Rattle.gix_object_find.specs.declared.find.Error as find
+use Rattle.gix_object_find.specs.declared.find.Error.TheVariants as found
 use Rattle.history_model.specs.declared.Fault.{Fault}
 use Rattle.history_model.specs.declared.Fault.TheVariants.{Memory, File, IdTaken}
 use Rattle.history_files.specs.declared.error.ReadError.{ReadError}
@@ -28,6 +30,10 @@ abbrev pub walk_fault : WalkError → Fault
 walk_fault walk.Failed = File
 walk_fault walk.Broken = File
 walk_fault walk.Memory = Memory
+
+abbrev pub find_fault : find.Error → Fault
+find_fault found.Failed = File
+find_fault found.Memory = Memory
 
 abbrev pub fault_of_put : PutMadeError → Fault
 fault_of_put (put.IdTaken id) = IdTaken

@@ -1,6 +1,7 @@
 -- What a log's items read as, and the order of its walk.
-use Rattle.std.specs.Prelude.{◌≡◌, ◌++◌, ◌&&◌, not, Bool, false, ℤ, pos, List, map, Option, Some, None, if◌then◌else◌}
+use Rattle.std.specs.Prelude.{◌≡◌, ◌++◌, ◌&&◌, not, Bool, false, ℤ, pos, List, map, Option, Some, None, Result, if◌then◌else◌}
 use Rattle.std.specs.List.{filter_map, list_any}
+use Rattle.gix_hash_id.specs.Id.{Id}
 use Rattle.gix_traverse_commit.specs.declared.parents.Parents.{Parents}
 use Rattle.gix_traverse_commit.specs.declared.parents.Parents.TheVariants.{All, First}
 use Rattle.history_model.specs.Answers.{tip_word, hidden_word}
@@ -10,24 +11,23 @@ use Rattle.history_model.specs.CommandParts.{since_words}
 use Rattle.history_model.specs.Commands as model
 use Rattle.history_model.specs.Forms.{is_seconds}
 use Rattle.history_model.specs.Repository.{Repository}
-use Rattle.history_model.specs.Words as words
-use Rattle.history_model.specs.Words.{word_meaning}
 use Rattle.history_model.specs.declared.Cause.{Cause}
 use Rattle.history_model.specs.declared.Cause.TheVariants.{BadTime, OrderWithParents}
 use Rattle.history_walks.specs.declared.listing.Order as walks
 use Rattle.history_walks.specs.declared.listing.Order.TheVariants as walk
-use Rattle.history.specs.Meanings.{meaning_of}
+use Rattle.history.specs.Meanings.{commit_or_cause, meaning_of}
 use Rattle.history.specs.declared.log.Ends.{Ends}
 
--- what the words of tips read as, and then those of hidden commits
-abbrev pub meanings_in : Ends → List words.WordMeaning
+-- what the words of tips stand for, and then those of hidden commits
+abbrev pub meanings_in : Ends → List (Result Id Cause)
 meanings_in ends = map meaning_of ends.tips.items ++ map meaning_of ends.hidden.items
 
 -- these are the meanings of the items' words
 pub record AreEnds (r : Repository) (items : List model.LogItem) (ends : Ends) : Type 0 where
-  pub tips : map meaning_of ends.tips.items ≡ map (word_meaning r) (filter_map tip_word items)
+  pub tips : map meaning_of ends.tips.items
+      ≡ map (commit_or_cause r) (filter_map tip_word items)
   pub hidden : map meaning_of ends.hidden.items
-      ≡ map (word_meaning r) (filter_map hidden_word items)
+      ≡ map (commit_or_cause r) (filter_map hidden_word items)
 
 -- why the words of an order tell no cutoff
 abbrev pub since_cause : model.Order → Option Cause

@@ -3,7 +3,7 @@ use Rattle.std.specs.Prelude.{◌≡◌, ⊤, Bool, true, false, not, ◌&&◌, 
 use Rattle.std.specs.declared.alloc.Global.{Global}
 use Rattle.std.specs.List.{AllZip, list_any}
 use Rattle.std.specs.FinMap.{keys}
-use Rattle.gix_hash_id.specs.Id.{id_of}
+use Rattle.gix_hash_id.specs.Id.{Id, id_of}
 use Rattle.gix_ref_file.specs.History.{History}
 use Rattle.history_model.specs.Bytes.{Bytes, has_twice}
 use Rattle.history_model.specs.Causes.{do_collide, first_cause, same_id}
@@ -12,8 +12,7 @@ use Rattle.history_model.specs.Forms.{is_name, is_private}
 use Rattle.history_model.specs.Meaning.{read_actor}
 use Rattle.history_model.specs.Repository as plain
 use Rattle.history_model.specs.Repository.{id_at, stands}
-use Rattle.history_model.specs.Words as model
-use Rattle.history_model.specs.Words.{commit_of, word_meaning}
+use Rattle.history_model.specs.Words.{commit_of}
 use Rattle.history_model.specs.declared.Cause.{Cause}
 use Rattle.history_model.specs.declared.Cause.TheVariants.{BadName, PrivateName, NameTwice, NoSuchName, Taken, NotExpected, BadActor, BadTime, BadMessage, NothingMoves}
 use Rattle.history_model.specs.declared.Fault.TheVariants.{Memory, File, IdTaken}
@@ -26,7 +25,7 @@ use Rattle.history.specs.Acts.{IsReadingFault}
 use Rattle.history.specs.Bases.{IsExpected, expected_meanings}
 use Rattle.history.specs.CommitCauses.{first_among, held_causes, place_causes, word_causes}
 use Rattle.history.specs.Fields.{kept_bytes}
-use Rattle.history.specs.Meanings.{commit_in, meaning_of}
+use Rattle.history.specs.Meanings.{commit_in, commit_or_cause, meaning_of}
 use Rattle.history.specs.Serving.{Serves}
 use Rattle.history.specs.declared.base.Expected.{Expected}
 use Rattle.history.specs.declared.base.Expected.TheVariants.{Any, New, At}
@@ -77,7 +76,7 @@ pub record IsLine (r : plain.Repository) (to : To) (line : Line) : Type 0 where
   pub name : line.name.items ≡ to.name
   pub expected : IsExpected r to.expect line.expected
   pub held : option_map id_of line.held ≡ id_at r to.name
-  pub word : meaning_of line.word ≡ word_meaning r to.word
+  pub word : meaning_of line.word ≡ commit_or_cause r to.word
   pub commit : option_map id_of (commit_in line.word) ≡ commit_of r to.word
 
 abbrev pub AreLines : plain.Repository → List To → List Line → Type 0
@@ -86,8 +85,8 @@ AreLines r = AllZip (IsLine r)
 abbrev pub line_name : Line → Bytes
 line_name line = line.name.items
 
--- what its words read as
-abbrev pub line_meanings : Line → List model.WordMeaning
+-- what its words stand for
+abbrev pub line_meanings : Line → List (Result Id Cause)
 line_meanings line = expected_meanings line.expected ++ meaning_of line.word ∷ []
 
 -- whether its name is expected at a commit, and doesn't stand

@@ -1,26 +1,24 @@
 //! What a `commit` stands on: the name that it moves, what that holds, and the commit's parents.
 
 ghost use Rattle.std.specs.Prelude.{◌≡◌, ◌++◌, ⊤, Some, None, IfOk, IsTrue, MatchResult, map, length, option_map, option_to_list};
-ghost use Rattle.std.specs.List.{filter_map, list_any};
-ghost use Rattle.history_model.specs.Causes.{is_unborn, is_unknown};
+ghost use Rattle.std.specs.List.{filter_map};
 ghost use Rattle.history_model.specs.Forms.{is_name};
 ghost use Rattle.history_model.specs.Commands as orders;
 ghost use Rattle.history_model.specs.Repository as plain;
 ghost use Rattle.history_model.specs.Repository.{id_at};
-ghost use Rattle.history_model.specs.Words.{word_meaning};
 ghost use Rattle.history_model.specs.Meaning.{branch_or_name};
 ghost use Rattle.history_word.specs.Commands.{IsExpect};
 ghost use Rattle.history.specs.Acts.{GivesMeant};
 ghost use Rattle.history.specs.Asked.{AskedCommit};
 ghost use Rattle.history.specs.Bases.{IsCommitBase, IsExpected, expected_meanings, held_cause, parents_cause, words_cause};
 ghost use Rattle.history.specs.CommitCauses.{Tests, name_causes, place_causes};
-ghost use Rattle.history.specs.Meanings.{commit_in, meaning_of};
+ghost use Rattle.history.specs.Meanings.{commit_in, commit_or_cause, meaning_of};
 ghost use Rattle.history.specs.Serving.{Serves};
 ghost use Rattle.gix_hash_id.specs.Id.{id_of};
 
 use crate::repository::Repository;
 use crate::stopped::Stopped;
-use crate::words::WordMeaning;
+use crate::words::{WordMeaning, test_all};
 use gix_hash::ObjectId;
 use gix_ref_file::Files;
 use history_model::Cause;
@@ -46,28 +44,6 @@ pub(crate) enum Expected {
 }
 
 impl Expected {
-    /// Whether the word reads as nothing.
-    fn is_unknown(self) -> bool
-        ensures { result ≡ list_any is_unknown (expected_meanings self) }
-    {
-        match self {
-            Expected::Any => false,
-            Expected::New => false,
-            Expected::At(meaning) => meaning.is_unknown(),
-        }
-    }
-
-    /// Whether the word is HEAD, whose branch doesn't stand.
-    fn is_unborn(self) -> bool
-        ensures { result ≡ list_any is_unborn (expected_meanings self) }
-    {
-        match self {
-            Expected::Any => false,
-            Expected::New => false,
-            Expected::At(meaning) => meaning.is_unborn(),
-        }
-    }
-
     /// Tests what the name holds.
     pub(crate) fn test(self, held: Option<ObjectId>) -> Result<(), Cause>
         ensures { MatchResult result (λ _. held_cause self (option_map id_of held) ≡ None)
@@ -87,34 +63,18 @@ impl Expected {
     }
 }
 
-/// Tests that the words read: an unknown one is told before HEAD without a commit.
+/// Tests that the words stand for commits.
 pub(crate) fn test_words(expected: Expected, parents: &[WordMeaning]) -> Result<(), Cause>
     ensures { MatchResult result
         (λ _. words_cause (expected_meanings expected ++ map meaning_of parents.now) ≡ None)
         (λ cause. words_cause (expected_meanings expected ++ map meaning_of parents.now)
         ≡ Some cause) }
 {
-    if expected.is_unknown() || have_unknown(parents) {
-        return Err(Cause::UnknownWord);
+    match expected {
+        Expected::Any => test_all(&[], parents),
+        Expected::New => test_all(&[], parents),
+        Expected::At(meaning) => test_all(&[meaning], parents),
     }
-    if expected.is_unborn() || have_unborn(parents) {
-        return Err(Cause::UnbornHead);
-    }
-    Ok(())
-}
-
-/// Whether one of the words reads as nothing.
-pub(crate) fn have_unknown(meanings: &[WordMeaning]) -> bool
-    ensures { result ≡ list_any is_unknown (map meaning_of meanings.now) }
-{
-    meanings.iter().any(|meaning| meaning.is_unknown())
-}
-
-/// Whether one of the words is HEAD, whose branch doesn't stand.
-pub(crate) fn have_unborn(meanings: &[WordMeaning]) -> bool
-    ensures { result ≡ list_any is_unborn (map meaning_of meanings.now) }
-{
-    meanings.iter().any(|meaning| meaning.is_unborn())
 }
 
 /// The parents of a commit: what its name holds, and then what its words read as.
@@ -164,7 +124,7 @@ impl<F: Files> Repository<F> {
     fn read_words(&self, alloc: Global, words: &[Vec<u8>]) -> Result<Vec<WordMeaning>, Stopped>
         ensures { (r : plain.Repository) → Serves F.is_honest F.history self.now r
             → GivesMeant F.reading_may_fail (λ meanings. map meaning_of meanings.items
-            ≡ map (λ word. word_meaning r word.items) words.now) result }
+            ≡ map (λ word. commit_or_cause r word.items) words.now) result }
     {
         let mut meanings = Vec::new(alloc);
         for word in words {

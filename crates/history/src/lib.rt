@@ -35,10 +35,10 @@ pub mod lookups {
     pub use gix_object::{Data, Exists, Find, FindHeader, Header, Kind, Lookup, find};
 }
 
-pub use gix_hash::{Kind, ObjectId, oid};
+pub use gix_hash::{Kind, ObjectId, Prefix, oid};
 pub use history_model::{Cause, End, Fault};
 pub use history_store::{
-    CreateError, IdIter, Object, Objects, ObjectsRefusal, OpenError, PutError, create,
+    CreateError, Hit, IdIter, Lookup, Object, Objects, ObjectsRefusal, OpenError, PutError, create,
 };
 pub use history_word::{Broken, Bytes, Collected, Sink, Source, Stream};
 pub use open::OpenRefusal;

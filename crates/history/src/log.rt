@@ -12,12 +12,11 @@ ghost use Rattle.history.specs.Bases.{words_cause};
 ghost use Rattle.history.specs.Logs.{IsOrderOf, IsSince, meanings_in, order_cause, since_cause};
 ghost use Rattle.history.specs.Meanings.{commit_in};
 
-use crate::base::{have_unborn, have_unknown};
 use crate::fields::{is_bad_path, kept};
 use crate::reply::line;
 use crate::repository::Repository;
 use crate::stopped::Stopped;
-use crate::words::WordMeaning;
+use crate::words::{WordMeaning, test_all};
 use gix_hash::{Kind, ObjectId};
 use gix_ref_file::Files;
 use history_model::Cause;
@@ -34,18 +33,12 @@ struct Ends {
 }
 
 impl Ends {
-    /// Tests that the words read: `UnknownWord` is told before `UnbornHead`.
+    /// Tests that the words stand for commits.
     fn test(&self) -> Result<(), Cause>
         ensures { MatchResult result (λ _. words_cause (meanings_in self.now) ≡ None)
             (λ cause. words_cause (meanings_in self.now) ≡ Some cause) }
     {
-        if have_unknown(&self.tips) || have_unknown(&self.hidden) {
-            return Err(Cause::UnknownWord);
-        }
-        if have_unborn(&self.tips) || have_unborn(&self.hidden) {
-            return Err(Cause::UnbornHead);
-        }
-        Ok(())
+        test_all(&self.tips, &self.hidden)
     }
 }
 
@@ -170,10 +163,10 @@ impl<F: Files> Repository<F> {
 
     /// The commits of a log's walk, which its path doesn't tell: those that its tips reach and no hidden one reaches, in its order.
     ///
-    /// It is refused, and the first of these that holds is told: `UnknownWord` where a word reads as nothing, `UnbornHead` where
-    /// one is HEAD and its branch doesn't stand, `BadPath` where the path is none, `BadTime` where the cutoff isn't a number of
-    /// seconds, and `OrderWithParents` where the first parents alone are to be followed in an order that wants all. It is a fault
-    /// where a call of the files failed, or where no memory is left.
+    /// It is refused, and the first of these that holds is told: `UnknownWord`, `AmbiguousWord`, `UnbornHead` or `NotACommit` where a
+    /// word stands for no commit, `BadPath` where the path is none, `BadTime` where the cutoff isn't a number of seconds, and
+    /// `OrderWithParents` where the first parents alone are to be followed in an order that wants all. It is a fault where a call of
+    /// the files failed, or where no memory is left.
     fn walked(&self, alloc: Global, command: &LogCommand) -> Result<Vec<ObjectId>, Stopped>
         ensures { (r : plain.Repository) (order : model.LogCommand)
             → Serves F.is_honest F.history self.now r → IsLog command.now order
@@ -196,10 +189,10 @@ impl<F: Files> Repository<F> {
     /// The reply to `log`: the commits of its walk, and with a path those alone that differ there from their first parents, each on
     /// a line.
     ///
-    /// It is refused, and the first of these that holds is told: `UnknownWord` where a word reads as nothing, `UnbornHead` where
-    /// one is HEAD and its branch doesn't stand, `BadPath` where the path is none, `BadTime` where the cutoff isn't a number of
-    /// seconds, and `OrderWithParents` where the first parents alone are to be followed in an order that wants all. It is a fault
-    /// where a call of the files failed, or where no memory is left.
+    /// It is refused, and the first of these that holds is told: `UnknownWord`, `AmbiguousWord`, `UnbornHead` or `NotACommit` where a
+    /// word stands for no commit, `BadPath` where the path is none, `BadTime` where the cutoff isn't a number of seconds, and
+    /// `OrderWithParents` where the first parents alone are to be followed in an order that wants all. It is a fault where a call of
+    /// the files failed, or where no memory is left.
     pub(crate) fn log(&self, alloc: Global, command: &LogCommand) -> Result<Vec<u8>, Stopped>
         ensures { (r : plain.Repository) (order : model.LogCommand)
             → Serves F.is_honest F.history self.now r → IsLog command.now order

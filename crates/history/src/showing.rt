@@ -138,15 +138,15 @@ fn content_text(
 }
 
 impl<F: Files> Repository<F> {
-    ghost use Rattle.std.specs.Prelude.{Option, Some, None};
+    ghost use Rattle.std.specs.Prelude.{Ok, Option, Some, None};
     ghost use Rattle.history_model.specs.Repository as plain;
-    ghost use Rattle.history_model.specs.Words.{ReadsAs, word_meaning};
     ghost use Rattle.history_model.specs.Commands as model;
     ghost use Rattle.history_model.specs.Forms.{max_path};
     ghost use Rattle.history_word.specs.Commands.{IsPath};
     ghost use Rattle.history_word.specs.Fields.{Keeps};
     ghost use Rattle.std.specs.FinMap.{get};
     ghost use Rattle.history_model.specs.Objects.{StoredBytes};
+    ghost use Rattle.history.specs.Meanings.{commit_or_cause};
     ghost use Rattle.history.specs.Stands.{Stands};
     ghost use Rattle.history.specs.Serving.{Serves};
     ghost use Rattle.history.specs.Acts.{OnlyAnswers, GivesMeant};
@@ -154,7 +154,7 @@ impl<F: Files> Repository<F> {
     /// The reply to `show` of a commit.
     fn show_commit(&self, alloc: Global, id: &ObjectId) -> Result<Vec<u8>, Stopped>
         ensures { (r : plain.Repository) (word : Bytes) → Serves F.is_honest F.history self.now r
-            → word_meaning r word ≡ ReadsAs (id_of id.now)
+            → commit_or_cause r word ≡ Ok (id_of id.now)
             → OnlyAnswers F.reading_may_fail r (model.Show word None) result }
     {
         let commit = self.read_commit(alloc, id)?;
@@ -176,7 +176,7 @@ impl<F: Files> Repository<F> {
     fn show_content(&self, alloc: Global, id: &ObjectId, path: &Field) -> Result<Vec<u8>, Stopped>
         ensures { (r : plain.Repository) (word bytes : Bytes)
             → Serves F.is_honest F.history self.now r
-            → word_meaning r word ≡ ReadsAs (id_of id.now) → Keeps max_path path.now bytes
+            → commit_or_cause r word ≡ Ok (id_of id.now) → Keeps max_path path.now bytes
             → OnlyAnswers F.reading_may_fail r (model.Show word (Some bytes)) result }
     {
         if is_bad_path(path) {

@@ -3,8 +3,9 @@
 ghost use Rattle.std.specs.Prelude.{◌≡◌};
 ghost use Rattle.history_model.specs.declared.Fault.TheVariants.{Memory};
 ghost use Rattle.history.specs.declared.stopped.Stopped.TheVariants as why;
-ghost use Rattle.history.specs.Faults.{file_fault, fault_of_put, read_fault, walk_fault};
+ghost use Rattle.history.specs.Faults.{file_fault, fault_of_put, find_fault, read_fault, walk_fault};
 
+use gix_object::find;
 use gix_ref_file::FileError;
 use history_files::ReadError;
 use history_model::{Cause, Fault};
@@ -80,6 +81,17 @@ impl From<WalkError> for Stopped {
         Stopped::Fault(match error {
             WalkError::Failed | WalkError::Broken => Fault::File,
             WalkError::Memory => Fault::Memory,
+        })
+    }
+}
+
+impl From<find::Error> for Stopped {
+    ghost from_gives = { λ error stopped. stopped ≡ why.Fault (find_fault error) };
+
+    fn from(error: find::Error) -> Stopped {
+        Stopped::Fault(match error {
+            find::Error::Failed => Fault::File,
+            find::Error::Memory => Fault::Memory,
         })
     }
 }

@@ -1,33 +1,39 @@
 //! What a word of a command stands for.
 
-ghost use Rattle.std.specs.Prelude.{◌≡◌, ◌++◌, ◌&&◌, not, Some, None, IfOk, MatchResult};
+ghost use Rattle.std.specs.Prelude.{◌≡◌, ◌++◌, ◌&&◌, not, Some, None, Ok, Err, IfOk, IsFalse, MatchOption, MatchResult, map};
+ghost use Rattle.std.specs.List.{list_any};
 ghost use Rattle.history_model.specs.Bytes.{begins};
-ghost use Rattle.history_model.specs.Causes.{is_unborn, is_unknown};
 ghost use Rattle.history_model.specs.Forms.{is_private, refs_front};
-ghost use Rattle.history_model.specs.Words.{word_meaning, ReadsAs};
-ghost use Rattle.history.specs.Acts.{word_cause};
-ghost use Rattle.history.specs.Bases.{reads_as};
-ghost use Rattle.history.specs.Meanings.{commit_in, meaning_of};
+ghost use Rattle.history_model.specs.Words.{is_short_id, ReadsAs};
+ghost use Rattle.history.specs.Bases.{reads_as, words_cause};
+ghost use Rattle.history.specs.Meanings.{commit_in, is_ambiguous_word, is_not_a_commit, is_unborn_head, is_unknown_word, meaning_of, SpellsPrefix};
 ghost use Rattle.gix_hash_id.specs.Id.{id_of};
 
 use crate::naming::is_private;
 use crate::repository::Repository;
 use crate::stopped::Stopped;
-use gix_hash::ObjectId;
+use gix_hash::{Kind, ObjectId, Prefix};
+use gix_object::{FindHeader, Kind as ObjectKind};
 use gix_ref_file::Files;
-use history_model::Cause;
 use history_model::names::{HEAD, HEADS, REFS, TAGS};
+use history_model::{Cause, Fault};
+use history_store::Hit;
 use std::alloc::{AllocError, Global};
+use std::str;
 
 /// What a word reads as.
 #[derive(Clone, Copy, Debug, PartialEq, Eq)]
 pub(crate) enum WordMeaning {
     /// The id of a commit.
     Commit(ObjectId),
+    /// The id of an object that is no commit.
+    NoCommit,
     /// HEAD, whose branch doesn't stand.
     Unborn,
-    /// No candidate stands.
+    /// No candidate stands, and no stored object's id begins with the word.
     Unknown,
+    /// No candidate stands, and several ids begin with the word.
+    Ambiguous,
 }
 
 /// A name that stands, and the id that it holds.
@@ -64,6 +70,23 @@ fn is_candidate(name: &[u8]) -> bool
     name.starts_with(REFS) && !is_private(name)
 }
 
+/// The prefix that a short id spells: 4 hexadecimal digits at least, in any letter case, and no more than an id of the kind has.
+fn short_id(kind: Kind, word: &[u8]) -> Option<Prefix>
+    ensures { MatchOption result (IsFalse (is_short_id kind word.now))
+        (SpellsPrefix kind word.now) }
+{
+    if word.len() > kind.len_in_hex() {
+        return None;
+    }
+    let Ok(text) = str::from_utf8(word) else {
+        return None;
+    };
+    match Prefix::from_hex(text) {
+        Ok(prefix) => Some(prefix),
+        Err(_) => None,
+    }
+}
+
 impl WordMeaning {
     /// Tests that the word reads as what its name holds.
     pub(crate) fn test(self, held: ObjectId) -> Result<(), Cause>
@@ -78,62 +101,120 @@ impl WordMeaning {
                     Err(Cause::NotExpected)
                 }
             }
+            WordMeaning::NoCommit => Err(Cause::NotExpected),
             WordMeaning::Unborn => Err(Cause::NotExpected),
             WordMeaning::Unknown => Err(Cause::NotExpected),
+            WordMeaning::Ambiguous => Err(Cause::NotExpected),
         }
     }
 
-    /// The id that the word reads as.
+    /// The commit that the word stands for.
     pub(crate) fn id(self) -> Option<ObjectId>
         ensures { result ≡ commit_in self }
     {
         match self {
             WordMeaning::Commit(id) => Some(id),
+            WordMeaning::NoCommit => None,
             WordMeaning::Unborn => None,
             WordMeaning::Unknown => None,
+            WordMeaning::Ambiguous => None,
         }
     }
 
-    /// Whether the word reads as nothing.
-    pub(crate) fn is_unknown(self) -> bool
-        ensures { result ≡ is_unknown (meaning_of self) }
+    fn is_unknown(self) -> bool
+        ensures { result ≡ is_unknown_word (meaning_of self) }
     {
-        match self {
-            WordMeaning::Commit(_) => false,
-            WordMeaning::Unborn => false,
-            WordMeaning::Unknown => true,
-        }
+        matches!(self, WordMeaning::Unknown)
     }
 
-    /// Whether the word is HEAD, whose branch doesn't stand.
-    pub(crate) fn is_unborn(self) -> bool
-        ensures { result ≡ is_unborn (meaning_of self) }
+    fn is_ambiguous(self) -> bool
+        ensures { result ≡ is_ambiguous_word (meaning_of self) }
     {
-        match self {
-            WordMeaning::Commit(_) => false,
-            WordMeaning::Unborn => true,
-            WordMeaning::Unknown => false,
-        }
+        matches!(self, WordMeaning::Ambiguous)
+    }
+
+    fn is_unborn(self) -> bool
+        ensures { result ≡ is_unborn_head (meaning_of self) }
+    {
+        matches!(self, WordMeaning::Unborn)
+    }
+
+    fn is_no_commit(self) -> bool
+        ensures { result ≡ is_not_a_commit (meaning_of self) }
+    {
+        matches!(self, WordMeaning::NoCommit)
     }
 
     /// The commit, where there is one; else why there is none.
     pub(crate) fn commit(self) -> Result<ObjectId, Cause>
-        ensures { MatchResult result (λ id. meaning_of self ≡ ReadsAs (id_of id))
-            (λ cause. word_cause (meaning_of self) ≡ Some cause) }
+        ensures { MatchResult result (λ id. meaning_of self ≡ Ok (id_of id))
+            (λ cause. meaning_of self ≡ Err cause) }
     {
         match self {
             WordMeaning::Commit(id) => Ok(id),
+            WordMeaning::NoCommit => Err(Cause::NotACommit),
             WordMeaning::Unborn => Err(Cause::UnbornHead),
             WordMeaning::Unknown => Err(Cause::UnknownWord),
+            WordMeaning::Ambiguous => Err(Cause::AmbiguousWord),
         }
     }
+}
+
+fn have_unknown(meanings: &[WordMeaning]) -> bool
+    ensures { result ≡ list_any is_unknown_word (map meaning_of meanings.now) }
+{
+    meanings.iter().any(|meaning| meaning.is_unknown())
+}
+
+fn have_ambiguous(meanings: &[WordMeaning]) -> bool
+    ensures { result ≡ list_any is_ambiguous_word (map meaning_of meanings.now) }
+{
+    meanings.iter().any(|meaning| meaning.is_ambiguous())
+}
+
+fn have_unborn(meanings: &[WordMeaning]) -> bool
+    ensures { result ≡ list_any is_unborn_head (map meaning_of meanings.now) }
+{
+    meanings.iter().any(|meaning| meaning.is_unborn())
+}
+
+fn have_no_commit(meanings: &[WordMeaning]) -> bool
+    ensures { result ≡ list_any is_not_a_commit (map meaning_of meanings.now) }
+{
+    meanings.iter().any(|meaning| meaning.is_no_commit())
+}
+
+/// Tests that the words of a command stand for commits, which are told in two lists. Of the causes of all of them the first is
+/// told: `UnknownWord`, `AmbiguousWord`, `UnbornHead`, `NotACommit`.
+pub(crate) fn test_all(some: &[WordMeaning], others: &[WordMeaning]) -> Result<(), Cause>
+    ensures { MatchResult result
+        (λ _. words_cause (map meaning_of some.now ++ map meaning_of others.now) ≡ None)
+        (λ cause. words_cause (map meaning_of some.now ++ map meaning_of others.now)
+        ≡ Some cause) }
+{
+    if have_unknown(some) || have_unknown(others) {
+        return Err(Cause::UnknownWord);
+    }
+    if have_ambiguous(some) || have_ambiguous(others) {
+        return Err(Cause::AmbiguousWord);
+    }
+    if have_unborn(some) || have_unborn(others) {
+        return Err(Cause::UnbornHead);
+    }
+    if have_no_commit(some) || have_no_commit(others) {
+        return Err(Cause::NotACommit);
+    }
+    Ok(())
 }
 
 impl<F: Files> Repository<F> {
     ghost use Rattle.history_model.specs.Repository as plain;
     ghost use Rattle.history.specs.Serving.{Serves};
     ghost use Rattle.history.specs.Acts.{GivesMeant, ReadsWord};
-    ghost use Rattle.history.specs.Meanings.{IsFirstStanding};
+    ghost use Rattle.history_model.specs.Objects.{Value};
+    ghost use Rattle.history_model.specs.Words.{id_meaning};
+    ghost use Rattle.history.specs.Meanings.{commit_or_cause, stands_for, IsFirstStanding};
+    ghost use Rattle.std.specs.FinMap.{get};
 
     /// The first that stands of the names that a word may mean.
     pub(crate) fn first_standing(
@@ -155,11 +236,12 @@ impl<F: Files> Repository<F> {
         Ok(None)
     }
 
-    /// What a word stands for: HEAD for its branch, else the first candidate that stands.
+    /// What a word stands for: HEAD for its branch, another word for the first candidate that stands, and else for the stored object
+    /// whose id alone begins with it.
     pub(crate) fn read_word(&self, alloc: Global, word: &[u8]) -> Result<WordMeaning, Stopped>
         ensures { (r : plain.Repository) → Serves F.is_honest F.history self.now r
             → GivesMeant F.reading_may_fail (λ meaning.
-            meaning_of meaning ≡ word_meaning r word.now) result }
+            meaning_of meaning ≡ commit_or_cause r word.now) result }
     {
         if word == HEAD {
             return Ok(match self.names.read(alloc, &self.branch)? {
@@ -167,9 +249,41 @@ impl<F: Files> Repository<F> {
                 None => WordMeaning::Unborn,
             });
         }
-        Ok(match self.first_standing(alloc, word)? {
-            Some(standing) => WordMeaning::Commit(standing.id),
-            None => WordMeaning::Unknown,
+        match self.first_standing(alloc, word)? {
+            Some(standing) => Ok(WordMeaning::Commit(standing.id)),
+            None => self.read_short_id(word),
+        }
+    }
+
+    /// What a word stands for that is no name: the stored object whose id alone begins with it, where it is a short id.
+    fn read_short_id(&self, word: &[u8]) -> Result<WordMeaning, Stopped>
+        ensures { (r : plain.Repository) → Serves F.is_honest F.history self.now r
+            → GivesMeant F.reading_may_fail (λ meaning.
+            meaning_of meaning ≡ stands_for r (id_meaning r word.now)) result }
+    {
+        let Some(prefix) = short_id(self.objects.kind(), word) else {
+            return Ok(WordMeaning::Unknown);
+        };
+        match self.objects.lookup_prefix(&prefix).hit {
+            Hit::Absent => Ok(WordMeaning::Unknown),
+            Hit::One(id) => self.read_stored(id),
+            Hit::Several => Ok(WordMeaning::Ambiguous),
+        }
+    }
+
+    /// What the id of a stored object stands for: a commit for itself, another object for none.
+    fn read_stored(&self, id: ObjectId) -> Result<WordMeaning, Stopped>
+        ensures { (r : plain.Repository) (value : Value) → Serves F.is_honest F.history self.now r
+            → get r.objects (id_of id) ≡ Some value
+            → GivesMeant F.reading_may_fail (λ meaning.
+            meaning_of meaning ≡ stands_for r (ReadsAs (id_of id))) result }
+    {
+        let header = self.objects.try_header(id.as_oid())?.ok_or(Fault::File)?;
+        Ok(match header.kind {
+            ObjectKind::Commit => WordMeaning::Commit(id),
+            ObjectKind::Tree => WordMeaning::NoCommit,
+            ObjectKind::Blob => WordMeaning::NoCommit,
+            ObjectKind::Tag => WordMeaning::NoCommit,
         })
     }
 

@@ -71,3 +71,9 @@ LISTS = {
         "+j": "86531", "+m +s": "7426531", "+s +m +s": "7426531", "+o +j": "94286531"
     },
 }
+
+# How many ids `git rev-parse --disambiguate` printed for these digits, in repositories with the objects of scripts/cases.py's short ids.
+BEGUN = {
+    "sha1": {"6668": 2, "e3f1": 2, "b6fc": 1, "E3F1": 2, "8917": 1},
+    "sha256": {"81c6": 2, "9a2b": 2, "8aec": 1, "9A2B": 2, "ff8f": 1},
+}

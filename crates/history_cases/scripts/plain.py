@@ -232,12 +232,24 @@ class Plain:
                                           for _, name, mode, digits in sorted(entries)))
 
     def resolve(self, word):
+        return self.resolved([word])[0]
+
+    def read(self, word):
+        """The commit that a word stands for, or why it stands for none."""
         if word == b"HEAD":
-            refuse_where(b"refs/heads/main" not in self.names, "UnbornHead")
-            return self.names[b"refs/heads/main"]
+            return self.names.get(b"refs/heads/main", "UnbornHead")
         name = self.candidate(word)
-        refuse_where(name is None, "UnknownWord")
-        return self.names[name]
+        if name is not None:
+            return self.names[name]
+        found = self.begun(word)
+        if len(found) != 1:
+            return "AmbiguousWord" if found else "UnknownWord"
+        return found[0] if found[0] in self.commits else "NotACommit"
+
+    def begun(self, word):
+        """The ids that begin with a word, where it is a short id."""
+        is_short = 4 <= len(word) <= len(self.null) and re.fullmatch(rb"[0-9a-fA-F]+", word)
+        return [it for it in self.objects if it.startswith(word.lower())] if is_short else []
 
     def candidate(self, word):
         """The first of a word's names that stands, if one does."""
@@ -246,11 +258,11 @@ class Plain:
         return next((name for name in found if name in self.names), None)
 
     def resolved(self, words):
-        """The commits of some words: `UnknownWord` is told before `UnbornHead`."""
-        for word in words:
-            if word != b"HEAD":
-                self.resolve(word)
-        return [self.resolve(word) for word in words]
+        """The commits of some words: all of them are tested for one cause before the next one."""
+        found = [self.read(word) for word in words]
+        for cause in ("UnknownWord", "AmbiguousWord", "UnbornHead", "NotACommit"):
+            refuse_where(cause in found, cause)
+        return found
 
     def commit(self, name, expect, parents, edits, author, committer, message):
         name = b"refs/heads/main" if name == b"HEAD" else name

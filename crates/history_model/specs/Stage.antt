@@ -1,5 +1,5 @@
--- What is offered at this stage: first lines and words. The other modules state all commands, and to offer more is to widen this
--- module alone: the grammar, its table of lines and the words each ask it at one place.
+-- What is offered at this stage: first lines. The other modules state all commands, and to offer more is to widen this
+-- module alone: the grammar and its table of lines each ask it at one place.
 use Rattle.std.specs.Prelude.{Bool, true, false}
 use Rattle.history_model.specs.Commands.{Command}
 use Rattle.history_model.specs.Lines.{Heading, CommitHeading, MoveHeading, DeleteHeading, NamesHeading, FilesHeading, PastHeading, LogHeading, ShowHeading, first_line}
@@ -19,7 +19,3 @@ opens _ = false
 
 abbrev pub is_spoken : Command → Bool
 is_spoken command = opens (first_line command)
-
--- Short ids aren't read: a word that means no name is unknown.
-abbrev pub offers_short_ids : Bool
-offers_short_ids = false

@@ -7,8 +7,8 @@ use Rattle.history_model.specs.Bytes.{Bytes, begins, lower}
 use Rattle.history_model.specs.Objects.{hex}
 use Rattle.gix_hash_id.specs.Id.{Id}
 use Rattle.gix_hash_id.specs.Kind.{hex_len}
+use Rattle.gix_hash_id.specs.declared.kind.Kind.{Kind}
 use Rattle.history_model.specs.Forms.{refs_front, heads_front, tags_front, is_private}
-use Rattle.history_model.specs.Stage.{offers_short_ids}
 use Rattle.history_model.specs.Repository.{Repository, id_at, stands, peeled}
 
 abbrev pub head_word : Bytes
@@ -28,9 +28,9 @@ pub data WordMeaning : Type 0 where
   Ambiguous : WordMeaning
 
 -- 4 digits to the kind's length
-abbrev pub is_short_id : Repository → Bytes → Bool
-is_short_id r word =
-    nat_le 4 (length word) && nat_le (length word) (hex_len r.kind) && list_all is_hex_digit word
+abbrev pub is_short_id : Kind → Bytes → Bool
+is_short_id kind word =
+    nat_le 4 (length word) && nat_le (length word) (hex_len kind) && list_all is_hex_digit word
 
 -- the stored ids that begin with the word, whatever the case of its letters
 abbrev pub matches : Repository → Bytes → List Id
@@ -43,7 +43,7 @@ only_one (id ∷ other ∷ ids) = Ambiguous
 
 abbrev pub id_meaning : Repository → Bytes → WordMeaning
 id_meaning r word =
-    if offers_short_ids && is_short_id r word then only_one (matches r word) else Unknown
+    if is_short_id r.kind word then only_one (matches r word) else Unknown
 
 abbrev pub name_meaning : Option Id → WordMeaning
 name_meaning None = Unborn

@@ -13,7 +13,7 @@ use Rattle.history_model.specs.Causes.{holds, first_cause}
 use Rattle.history_model.specs.Places.{Pair, file_at, packed_place}
 use Rattle.gix_hash_id.specs.declared.kind.Kind.{Kind}
 use Rattle.history_model.specs.declared.Cause.{Cause}
-use Rattle.history_model.specs.declared.Cause.TheVariants.{BadName, PrivateName, NameTwice, UnknownWord, UnbornHead, NoSuchName, Taken, NotExpected, Collides, TooManyParents, DuplicateParent, BadPath, IsFolder, NoSuchPath, BadActor, BadTime, BadMessage, TooLarge, NothingMoves, OrderWithParents}
+use Rattle.history_model.specs.declared.Cause.TheVariants.{BadName, PrivateName, NameTwice, UnknownWord, AmbiguousWord, UnbornHead, NotACommit, NoSuchName, Taken, NotExpected, Collides, TooManyParents, DuplicateParent, BadPath, IsFolder, NoSuchPath, BadActor, BadTime, BadMessage, TooLarge, NothingMoves, OrderWithParents}
 
 -- No tag is stored, and HEAD is on the first branch.
 pub record IsOffered (r : Repository) : Type 0 where
@@ -50,8 +50,8 @@ OfferedStays =
 -- the causes that may be the first
 abbrev pub offered_causes : List Cause
 offered_causes =
-    BadName ∷ PrivateName ∷ NameTwice ∷ UnknownWord ∷ UnbornHead ∷ NoSuchName ∷ Taken ∷ NotExpected
-    ∷ Collides ∷ TooManyParents ∷ DuplicateParent
+    BadName ∷ PrivateName ∷ NameTwice ∷ UnknownWord ∷ AmbiguousWord ∷ UnbornHead ∷ NotACommit
+    ∷ NoSuchName ∷ Taken ∷ NotExpected ∷ Collides ∷ TooManyParents ∷ DuplicateParent
     ∷ BadPath ∷ IsFolder ∷ NoSuchPath ∷ BadActor ∷ BadTime ∷ BadMessage ∷ TooLarge
     ∷ NothingMoves ∷ OrderWithParents ∷ []
 

@@ -1,7 +1,7 @@
 //! Laws of the repositories of this stage, over the definitions alone.
 
 ghost use Rattle.history_steps.specs.Offered.{FilesAreStored, FreshIsOffered, OfferedStays, FirstOfferedCause};
-ghost use Rattle.history_steps.specs.OfferedWords.{WordsReadNames, NoneIsAmbiguous, NamesHoldCommits, NamesStandForTheirs, WordsStandForTheirs, ParentsAreCommits};
+ghost use Rattle.history_steps.specs.OfferedWords.{NamesHoldCommits, NamesStandForTheirs, ParentsAreCommits};
 
 /// The bytes of each file of a stored folder are stored.
 pub fn files_are_stored()
@@ -23,16 +23,6 @@ pub fn first_offered_cause()
     ensures { FirstOfferedCause }
 {}
 
-/// A word that reads as an id reads as one that a name holds.
-pub fn words_read_names()
-    ensures { WordsReadNames }
-{}
-
-/// No word is ambiguous.
-pub fn none_is_ambiguous()
-    ensures { NoneIsAmbiguous }
-{}
-
 /// Each name holds a stored commit.
 pub fn names_hold_commits()
     ensures { NamesHoldCommits }
@@ -41,11 +31,6 @@ pub fn names_hold_commits()
 /// A name stands for the commit that it holds.
 pub fn names_stand_for_theirs()
     ensures { NamesStandForTheirs }
-{}
-
-/// A word stands for the commit that it reads as.
-pub fn words_stand_for_theirs()
-    ensures { WordsStandForTheirs }
 {}
 
 /// Each parent of a commit is a stored commit.

@@ -1,18 +1,22 @@
 -- Lists of ids by their first bytes.
-use Rattle.std.proofs.Common.{◌≡◌, ◌≢◌, ℕ, zero, suc, ◌+◌, ◌/◌, ◌%◌, ◌<◌, ◌≤◌, Bool, true, false, List, [], ◌∷◌, ◌++◌, length, take, refl, sym, ◌∙◌, ap, subst, ◌||◌, ◌&&◌, if◌then◌else◌, arith}
+use Rattle.std.proofs.Common.{◌≡◌, ◌≢◌, ℕ, zero, suc, ◌+◌, ◌/◌, ◌%◌, ◌<◌, ◌≤◌, Bool, true, false, List, [], ◌∷◌, ◌++◌, length, take, refl, sym, ◌∙◌, ap, subst, ◌||◌, ◌&&◌, if◌then◌else◌, arith, eq-eqb}
 use Rattle.std.specs.Prelude.{Vec}
 use Rattle.std.specs.declared.alloc.Global.{Global}
 use Rattle.std.specs.List.{list_all, insert, slice_index, slice_index_or, slice_set}
 use Rattle.std.proofs.lemmas.Slice.Eq.{bytes_eq-Decides}
 use Rattle.gix_hash_id.specs.Id.{Id, id_of, digits_of}
+use Rattle.gix_hash_id.specs.Kind.{hex_len}
 use Rattle.gix_hash_id.specs.Order.{id_eq}
+use Rattle.gix_hash_id.specs.Views.{IsBytesOf}
+use Rattle.gix_hash_id.proofs.ByteLists.{id-digits_len}
+use Rattle.gix_hash_id.proofs.KindLemmas.{hex_len-byte_len}
 use Rattle.gix_hash_id.specs.declared.object_id.ObjectId.{ObjectId}
 use Rattle.history_model.proofs.IdLemmas.{one_id}
 use Rattle.std.specs.Prelude.{Result, Ok, Err, is_ok}
 use Rattle.std.specs.FinMap.{contains_key}
 use Rattle.std.specs.List.Sorted.{IsBinarySearchResult, IsNonDecreasingBy, IsSearchInRange}
 use Rattle.std.specs.Ordering.{ordering_index}
-use Rattle.history_store.specs.Ids.{are_lists, begins_with, is_list_of, is_one_of, joined, set_of, with_id}
+use Rattle.history_store.specs.Ids.{are_lists, belongs_to, is_list_of, is_whole, is_one_of, joined, set_of, with_id}
 use Rattle.history_store.proofs.IdSets.{by_own_id, contains-set_of, has_with, insert_in_order, none_here, one_here, one_of_both, one_of_insert, one_set, or_false, or_group, or_swap, rising, AreInOrder, BelongsAt}
 use Rattle.std.proofs.lemmas.Bool.{and_from, and_parts}
 
@@ -28,14 +32,20 @@ one_byte a b same =
     let low : a % 16 ≡ b % 16 = ap (λ ds. slice_index ds 1) same in
     omega (arith, high, low)
 
-pub told_byte : (byte : ℕ) (x : ObjectId) → begins_with byte x ≡ true → take 2 (id_of x).digits ≡ digits_of (byte ∷ [])
-told_byte byte x h = (bytes_eq-Decides (take 2 (id_of x).digits) (digits_of (byte ∷ []))).0 h
+pub told_byte : (byte : ℕ) (x : ObjectId) → belongs_to byte x ≡ true → take 2 (id_of x).digits ≡ digits_of (byte ∷ [])
+told_byte byte x h = (bytes_eq-Decides (take 2 (id_of x).digits) (digits_of (byte ∷ []))).0 (and_parts _ _ h).0
 
-pub begins_told : (byte : ℕ) (x : ObjectId) → Begins (id_of x) byte → begins_with byte x ≡ true
-begins_told byte x h = (bytes_eq-Decides (take 2 (id_of x).digits) (digits_of (byte ∷ []))).1 (sym h)
+pub belongs_told : (byte : ℕ) (x : ObjectId) → Begins (id_of x) byte → is_whole x ≡ true → belongs_to byte x ≡ true
+belongs_told byte x h whole = and_from _ _ ((bytes_eq-Decides (take 2 (id_of x).digits) (digits_of (byte ∷ []))).1 (sym h)) whole
+
+pub whole_told : (x : ObjectId) (bytes : List ℕ) → IsBytesOf bytes (id_of x) → is_whole x ≡ true
+whole_told x bytes are =
+    let digits = id-digits_len (id_of x) bytes are in
+    let two = hex_len-byte_len (id_of x).kind in
+    eq-eqb (length (id_of x).digits) (hex_len (id_of x).kind) (omega (arith, digits, two))
 
 -- an id is in no list of another byte
-apart : (byte other : ℕ) (xs : List ObjectId) (q : Id) → list_all (begins_with other) xs ≡ true → Begins q byte → byte ≢ other → is_one_of xs q ≡ false
+apart : (byte other : ℕ) (xs : List ObjectId) (q : Id) → list_all (belongs_to other) xs ≡ true → Begins q byte → byte ≢ other → is_one_of xs q ≡ false
 apart byte other [] q all begins differ = refl
 apart byte other (x ∷ xs) q all begins differ =
     let rest = apart byte other xs q (and_parts _ _ all).1 begins differ in
@@ -45,7 +55,7 @@ apart byte other (x ∷ xs) q all begins differ =
     by_test true same rest = absurd (differ (one_byte byte other (begins ∙ ap (λ (id : Id). take 2 id.digits) (one_id q (id_of x) same) ∙ told_byte other x (and_parts _ _ all).0)))
     by_test false same rest = rest
 
-none_among : (first : ℕ) (lists : List (Vec ObjectId Global)) → are_lists first lists ≡ true → (byte : ℕ) (q : Id) → Begins q byte → ((k : ℕ) → k < length lists → byte ≢ first + k) → is_one_of (joined lists) q ≡ false
+pub none_among : (first : ℕ) (lists : List (Vec ObjectId Global)) → are_lists first lists ≡ true → (byte : ℕ) (q : Id) → Begins q byte → ((k : ℕ) → k < length lists → byte ≢ first + k) → is_one_of (joined lists) q ≡ false
 none_among first [] are byte q begins other = refl
 none_among first (l ∷ ls) are byte q begins other =
     let here = apart byte first l.items q (and_parts _ _ (and_parts _ _ are).0).0 begins (λ same. other 0 (omega arith) (omega (arith, same))) in
@@ -188,9 +198,9 @@ module _ (lists : List (Vec ObjectId Global)) (are : are_lists 0 lists ≡ true)
           by_test false other = refl
 
   module _ (place : ℕ) (fits : place ≤ length ids) (told : IsNonDecreasingBy (λ y. ordering_index (by_own_id y id)) ids → BelongsAt ids place id) (new : Vec ObjectId Global) (put_in : new.items ≡ insert ids place id) where
-    pub still_lists : are_lists 0 (slice_set lists byte new) ≡ true
-    still_lists = set_list lists are byte new (subst (λ xs. is_list_of byte xs ≡ true) (sym put_in)
-        (and_from _ _ (all_insert (begins_with byte) ids place id (and_parts _ _ of_byte).0 (begins_told byte id begins)) (insert_in_order ids place id (and_parts _ _ of_byte).1 fits (told (rising ids id (and_parts _ _ of_byte).1)))))
+    pub still_lists : is_whole id ≡ true → are_lists 0 (slice_set lists byte new) ≡ true
+    still_lists whole = set_list lists are byte new (subst (λ xs. is_list_of byte xs ≡ true) (sym put_in)
+        (and_from _ _ (all_insert (belongs_to byte) ids place id (and_parts _ _ of_byte).0 (belongs_told byte id begins whole)) (insert_in_order ids place id (and_parts _ _ of_byte).1 fits (told (rising ids id (and_parts _ _ of_byte).1)))))
 
     pub listed_new : set_of (joined (slice_set lists byte new)) ≡ with_id (set_of (joined lists)) (id_of id)
     listed_new = one_set _ _ (λ q.

@@ -13,7 +13,7 @@ use Rattle.gix_hash_id.specs.Order.{digits_cmp}
 use Rattle.gix_hash_id.specs.declared.object_id.ObjectId.{ObjectId}
 use Rattle.history_model.specs.Bytes.{Bytes}
 use Rattle.history_model.specs.Objects.{by_id}
-use Rattle.history_store.specs.Ids.{are_lists, begins_with, joined, marked, ComesBefore, IsAscending}
+use Rattle.history_store.specs.Ids.{are_lists, belongs_to, joined, marked, ComesBefore, IsAscending}
 use Rattle.history_store.proofs.IdSets.{by_own_id, AreInOrder}
 use Rattle.history_store.proofs.IdLists.{told_byte}
 use Rattle.std.proofs.lemmas.Bool.{and_parts}
@@ -24,7 +24,7 @@ use Rattle.gix_ref_file.proofs.Below.{when_lt}
 same_number : (n : ℕ) → nat_cmp n n ≡ Equal
 same_number n = grind (arith, nat_tests)
 
-before_in_kind : (x y : ObjectId) → by_own_id x y ≡ Less → ComesBefore x y
+pub before_in_kind : (x y : ObjectId) → by_own_id x y ≡ Less → ComesBefore x y
 before_in_kind x y is one_kind =
     sym (ap (λ r. ordering_then r (digits_cmp (id_of x).digits (id_of y).digits)) (ap (λ k. nat_cmp (kind_number (id_of x).kind) (kind_number k)) (sym one_kind) ∙ same_number (kind_number (id_of x).kind))) ∙ is
 
@@ -36,7 +36,7 @@ all_before x (y ∷ ys) h = (before_in_kind x y (when_lt (by_own_id x y) (and_pa
 
 -- the id begins with a byte that comes behind this one
 abbrev BeginsLater : ℕ → ObjectId → Type 0
-BeginsLater byte y = (later : ℕ) × (byte < later) × (begins_with later y ≡ true)
+BeginsLater byte y = (later : ℕ) × (byte < later) × (belongs_to later y ≡ true)
 
 abbrev rest_of : Bytes → Bytes
 rest_of (a ∷ b ∷ rest) = rest
@@ -51,12 +51,12 @@ two_first (x ∷ y ∷ rest) a b is = ap (λ front. front ++ rest) is
 earlier : (m n : ℕ) (xs ys : Bytes) → m < n → digits_cmp (m / 16 ∷ m % 16 ∷ xs) (n / 16 ∷ n % 16 ∷ ys) ≡ Less
 earlier m n xs ys lt = grind (arith, nat_tests)
 
-before_later : (byte : ℕ) (x y : ObjectId) → begins_with byte x ≡ true → BeginsLater byte y → ComesBefore x y
+before_later : (byte : ℕ) (x y : ObjectId) → belongs_to byte x ≡ true → BeginsLater byte y → ComesBefore x y
 before_later byte x y begins (later, lt, theirs) _ =
     (λ i. digits_cmp (two_first (id_of x).digits (byte / 16) (byte % 16) (told_byte byte x begins) i) (two_first (id_of y).digits (later / 16) (later % 16) (told_byte later y theirs) i))
     ∙ earlier byte later (rest_of (id_of x).digits) (rest_of (id_of y).digits) lt
 
-all_later : (byte : ℕ) (x : ObjectId) (ys : List ObjectId) → begins_with byte x ≡ true → AllByRecursion (BeginsLater byte) ys → AllByRecursion (ComesBefore x) ys
+all_later : (byte : ℕ) (x : ObjectId) (ys : List ObjectId) → belongs_to byte x ≡ true → AllByRecursion (BeginsLater byte) ys → AllByRecursion (ComesBefore x) ys
 all_later byte x [] begins later = tt
 all_later byte x (y ∷ ys) begins later = (before_later byte x y begins later.0, all_later byte x ys begins later.1)
 
@@ -65,7 +65,7 @@ module _ {X : Type 0} (P : X → Type 0) where
   all_joined [] ys here there = there
   all_joined (x ∷ xs) ys here there = (here.0, all_joined xs ys here.1 there)
 
-of_list : (byte first : ℕ) (xs : List ObjectId) → byte < first → list_all (begins_with first) xs ≡ true → AllByRecursion (BeginsLater byte) xs
+of_list : (byte first : ℕ) (xs : List ObjectId) → byte < first → list_all (belongs_to first) xs ≡ true → AllByRecursion (BeginsLater byte) xs
 of_list byte first [] lt all = tt
 of_list byte first (x ∷ xs) lt all = ((first, lt, (and_parts _ _ all).0), of_list byte first xs lt (and_parts _ _ all).1)
 
@@ -74,7 +74,7 @@ of_lists byte first [] lt are = tt
 of_lists byte first (l ∷ ls) lt are =
     all_joined (BeginsLater byte) l.items (joined ls) (of_list byte first l.items lt (and_parts _ _ (and_parts _ _ are).0).0) (of_lists byte (suc first) ls (omega (arith, lt)) (and_parts _ _ are).1)
 
-then_ascends : (byte : ℕ) (xs ys : List ObjectId) → list_all (begins_with byte) xs ≡ true → AreInOrder xs → AllByRecursion (BeginsLater byte) ys → IsAscending ys → IsAscending (xs ++ ys)
+then_ascends : (byte : ℕ) (xs ys : List ObjectId) → list_all (belongs_to byte) xs ≡ true → AreInOrder xs → AllByRecursion (BeginsLater byte) ys → IsAscending ys → IsAscending (xs ++ ys)
 then_ascends byte [] ys all order later ascend = ascend
 then_ascends byte (x ∷ xs) ys all order later ascend = (
   all_joined (ComesBefore x) xs ys (all_before x xs (and_parts _ _ order).0) (all_later byte x ys (and_parts _ _ all).0 later),

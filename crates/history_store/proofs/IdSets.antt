@@ -17,12 +17,13 @@ use Rattle.std.proofs.lemmas.List.Sorted.{searchable_from_sorted}
 use Rattle.std.specs.Prelude.{T}
 use Rattle.std.proofs.Common.{subst}
 use Rattle.gix_hash_id.specs.Id.{Id, id_of}
+use Rattle.gix_hash_id.specs.declared.kind.Kind.{Kind}
 use Rattle.gix_hash_id.specs.Order.{id_eq}
 use Rattle.gix_hash_id.specs.OrderLaws.{id_total, id_tied}
 use Rattle.gix_hash_id.specs.declared.object_id.ObjectId.{ObjectId}
 use Rattle.history_model.specs.Objects.{by_id}
-use Rattle.history_model.proofs.IdLemmas.{get_with_id, one_by_ids, same_id_tie}
-use Rattle.history_store.specs.Ids.{IdSet, is_one_of, marked, set_of, with_id}
+use Rattle.history_model.proofs.IdLemmas.{get_with_id, one_by_ids, one_id, same_id_tie}
+use Rattle.history_store.specs.Ids.{AreOfKind, IdSet, is_one_of, marked, set_of, with_id}
 use Rattle.std.proofs.lemmas.Bool.{and_from, and_parts}
 use Rattle.gix_ref_file.proofs.Below.{when_lt}
 
@@ -48,6 +49,14 @@ same_marks (Some u) (Some v) h = refl
 -- two sets of the same ids are one
 pub one_set : (s t : IdSet) → ((q : Id) → contains_key s q ≡ contains_key t q) → s ≡ t
 one_set s t same = one_by_ids s t (λ q. same_marks (get s q) (get t q) (same q))
+
+-- one id more of the kind of all
+pub kinds_more : (kind : Kind) (ids : IdSet) (id : Id) → AreOfKind kind ids → id.kind ≡ kind → AreOfKind kind (with_id ids id)
+kinds_more kind ids id all own q has = by_test (id_eq q id) refl (sym (has_with ids id q) ∙ has)
+  where
+    by_test : (b : Bool) → id_eq q id ≡ b → (b || contains_key ids q) ≡ true → q.kind ≡ kind
+    by_test true same h = ap (λ (x : Id). x.kind) (one_id q id same) ∙ own
+    by_test false other h = all q h
 
 -- ---- ids that are among some
 

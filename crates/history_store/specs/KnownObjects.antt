@@ -6,7 +6,8 @@ use Rattle.gix_ref_file.specs.History.{History}
 use Rattle.gix_ref_file.specs.Tree.{Tree}
 use Rattle.gix_object_find.specs.Table.{Object, Table}
 use Rattle.history_model.specs.Places.{file_at, object_place}
-use Rattle.history_store.specs.Face.{files_of_objects, ids_of_objects}
+use Rattle.history_store.specs.Face.{files_of_objects, ids_of_objects, kind_of_objects}
+use Rattle.history_store.specs.Ids.{AreOfKind}
 use Rattle.history_store.specs.ObjectTexts.{object_in}
 use Rattle.history_store.specs.declared.objects.Objects.{Objects}
 
@@ -20,9 +21,10 @@ table_of history objects id =
     if contains_key (ids_of_objects objects) id
     then object_at (history (files_of_objects objects)).tree id else None
 
--- The files are honest, and an object stands under each id that is known.
+-- The files are honest, and an object stands under each id that is known, which is of the store's kind.
 pub record HoldsKnown {F : Type 0} (IsHonest : F → Type 0) (history : F → History)
     (objects : Objects F) : Type 0 where
   pub honest : IsHonest (files_of_objects objects)
   pub known : (id : Id) → IsTrue (contains_key (ids_of_objects objects) id)
       → IsSome (object_at (history (files_of_objects objects)).tree id)
+  pub kinds : AreOfKind (kind_of_objects objects) (ids_of_objects objects)

@@ -11,6 +11,7 @@ pub mod NameLists
 pub mod ObjectTexts
 pub mod Opening
 pub mod Parts
+pub mod Prefixes
 pub mod Puts
 pub mod References
 pub mod Stores

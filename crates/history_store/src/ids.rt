@@ -2,8 +2,15 @@
 ghost use Rattle.std.specs.Prelude.{IsTrue};
 ghost use Rattle.history_store.specs.Ids.{are_lists};
 
-use gix_hash::ObjectId;
+use crate::prefixes::{Hit, Lookup, are_of_kind, hit_of};
+use gix_hash::{Kind, ObjectId, Prefix, prefix_run};
 use std::alloc::{AllocError, Global};
+
+/// The answer where no list is searched.
+const NOTHING: Lookup = Lookup {
+    hit: Hit::Absent,
+    calls: 0,
+};
 
 /// A set of ids. A list is made when an id of its first byte comes, or of a later one: 256 at most.
 #[derive(Drop)]
@@ -14,10 +21,12 @@ pub struct Ids {
 
 impl Ids {
     ghost use Rattle.std.specs.Prelude.{◌≡◌, ◌≤◌, length, OnOk};
-    ghost use Rattle.std.specs.FinMap.{contains_key, empty};
+    ghost use Rattle.std.specs.FinMap.{contains_key, empty, len};
     ghost use Rattle.gix_hash_id.specs.Id.{Id, id_of};
-    ghost use Rattle.history_store.specs.Ids.{IsAscending, is_one_of, with_id};
+    ghost use Rattle.history_store.specs.Ids.{AreOfKind, IsAscending, is_one_of, with_id};
     ghost use Rattle.history_store.specs.KeptIds.{HasRoom, kept, left};
+    ghost use Rattle.history_store.specs.Prefixes.{CanName, IsHit};
+    ghost use Rattle.gix_hash_prefix.specs.Run.{IsWithinTwiceDigits};
 
     /// A set without ids.
     pub fn new(alloc: Global) -> Self
@@ -54,6 +63,8 @@ impl Ids {
         requires { HasRoom self.old (id_of id) }
         ensures { kept self.new ≡ with_id (kept self.old) (id_of id) }
     {
+        // An id has the digits of its kind, two for each of its bytes.
+        let _bytes = id.as_bytes();
         let list = &mut self.lists[usize::from(id.first_byte())];
         if let Err(place) = list.binary_search(&id) {
             // There is room, so that it is never refused.
@@ -68,6 +79,28 @@ impl Ids {
         match self.lists.get(usize::from(id.first_byte())) {
             Some(list) => list.binary_search(id).is_ok(),
             None => false,
+        }
+    }
+
+    /// Which id a prefix names. One list is searched, and `cmp_oid` is called at most twice as often as the number of ids has
+    /// binary digits. The ids are of the kind that is told; where others stand in that list it isn't searched.
+    pub fn lookup(&self, kind: Kind, prefix: &Prefix) -> Lookup
+        requires { CanName kind prefix.now }
+        ensures hit { AreOfKind kind (kept self.now)
+            → IsHit (kept self.now) prefix.now result.hit }
+        ensures calls { IsWithinTwiceDigits result.calls (len (kept self.now)) }
+    {
+        let byte = usize::from(prefix.as_oid().first_byte());
+        let Some(list) = self.lists.get(byte) else {
+            return NOTHING;
+        };
+        if !are_of_kind(list, kind) {
+            return NOTHING;
+        }
+        let run = prefix_run(list, prefix);
+        Lookup {
+            hit: hit_of(list, run),
+            calls: run.calls,
         }
     }
 

@@ -68,6 +68,7 @@ def objects():
         stored(kind, hello, empty_tree[kind])
         kept(kind, hello)
         found(kind, hello)
+        prefixes(kind, hello)
         limits(kind)
     assert place(by_git["sha1"][1]) == "objects/b6/fc4c620b67d95f953a5c1c1230aaab5db5a1b0"
 
@@ -118,6 +119,41 @@ def found(kind, hello):
     row(kind, ("objects:folder:objects", "done"), ("objects:write:objects/unfinished:-", "done"),
         ("open", "NotYet:objects/unfinished"), ("objects:read:objects/unfinished", read(b"")))
     row(kind, put(kind, "blob", b"hello"), ("open", f"NotYet:{place(hello)}"))
+
+
+def prefixes(kind, hello):
+    """Which id a prefix names: none, one or several, by short and whole ids in any case of letters, and in how many calls at most:
+    twice the binary digits of the number of ids that have its first byte, as a binary search of those makes for each end of a run."""
+    ids = []
+
+    def asked(digits):
+        there = [it for it in ids if it.startswith(digits.lower())]
+        calls = 2 * sum(it[:2] == digits[:2].lower() for it in ids).bit_length()
+        answer = "absent" if not there else f"one:{there[0]}" if len(there) == 1 else "several"
+        return (f"prefix:{digits}:{calls}", f"{answer} few")
+
+    row(kind, asked(hello[:4]), asked(hello), asked("0" * 4), asked("F" * 40))
+    ids.append(hello)
+    cuts = [hello[:4], hello[:7], hello[:-1], hello, hello.upper(), hello[:9].upper(), hello[:6] + "0", hello[:-1] + "f", "b6fd", "8aed"]
+    row(kind, put(kind, "blob", b"hello"), *map(asked, cuts), *((f"prefix:{hello[:4]}:{calls}", f"one:{hello} {told}")
+                                                              for calls, told in ((1, "many"), (2, "few"))))
+    contents = [b"%d" % it for it in range(200)]
+    ids[:] = [oid(kind, "blob", it) for it in contents]
+    alone = [it for it in ids if sum(other[:2] == it[:2] for other in ids) == 1]
+    assert len(alone) > 50 and all(asked(it)[0].endswith(":2") for it in alone)
+    row(kind, *(put(kind, "blob", it) for it in contents), *map(asked, ids), *(asked(it[:5]) for it in ids[:40]))
+    both, seen = [], {}
+    for number in range(2000):
+        digits = oid(kind, "blob", b"%d" % number)
+        seen.setdefault(digits[:4], []).append((digits, b"%d" % number))
+        both = seen[digits[:4]]
+        if len(both) == 2:
+            break
+    ids[:] = [digits for digits, _ in both]
+    lengths = [*range(4, 10), len(hello)]
+    row(kind, *(put(kind, "blob", content) for _, content in both), *(asked(it[:length]) for it in ids for length in lengths),
+        asked(ids[0][:4].upper()))
+    assert asked(ids[0][:4])[1] == "several few"
 
 
 def limits(kind):

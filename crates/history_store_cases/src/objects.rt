@@ -3,10 +3,12 @@
 use crate::session::Parts;
 use case_ids::read_id;
 use case_words::{Page, Trial, read_bytes};
-use gix_hash::ObjectId;
+use gix_hash::{ObjectId, Prefix};
 use gix_object::{Exists, Find, FindHeader};
 use gix_ref_file::FileError;
-use history_store::{NewObject, Object, ObjectKind, Objects, OpenError, PutError, PutMadeError};
+use history_store::{
+    Hit, NewObject, Object, ObjectKind, Objects, OpenError, PutError, PutMadeError,
+};
 use std::alloc::Global;
 
 /// The kind of object of this name.
@@ -67,8 +69,34 @@ pub fn act(
                 );
             }
         }
+        "prefix" => {
+            let (digits, limit) = rest.split_once(':')?;
+            let prefix = Prefix::from_hex(digits).ok()?;
+            look_prefix_up(&parts.objects, &prefix, limit.parse().ok()?, page)?;
+        }
         _ => look_up(alloc, &parts.objects, operation, &read_id(rest)?, page)?,
     }
+    Some(())
+}
+
+// Which id a prefix names, and whether no more calls than these were made.
+fn look_prefix_up(
+    objects: &Objects<Trial>,
+    prefix: &Prefix,
+    limit: usize,
+    page: &mut Page,
+) -> Option<()> {
+    let digits = prefix.hex_len();
+    if digits < Prefix::MIN_HEX_LEN || digits > objects.kind().len_in_hex() {
+        return None;
+    }
+    let found = objects.lookup_prefix(prefix);
+    match found.hit {
+        Hit::Absent => page.word("absent"),
+        Hit::One(id) => show_id("one", &id, page),
+        Hit::Several => page.word("several"),
+    }
+    page.word(if found.calls <= limit { "few" } else { "many" });
     Some(())
 }
 

@@ -4,7 +4,7 @@ use Rattle.std.proofs.lemmas.Iterator.Search.{any_from_yields_List}
 use Rattle.history_model.specs.Bytes.{Bytes}
 use Rattle.history_model.specs.Forms.{is_name}
 use Rattle.history.specs.Moving.{to_name}
-use Rattle.history.proofs.BaseLemmas.{any_map}
+use Rattle.history.proofs.WordCauses.{any_map}
 use Rattle.history.proofs.moving.have_bad_name.Goals as goal
 
 pub returns : goal.returns

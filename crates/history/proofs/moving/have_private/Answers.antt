@@ -3,7 +3,7 @@ use Rattle.std.proofs.lemmas.Iterator.{YieldsList-from_slice}
 use Rattle.std.proofs.lemmas.Iterator.Search.{any_from_yields_List}
 use Rattle.history_model.specs.Forms.{is_private}
 use Rattle.history.specs.Moving.{to_name}
-use Rattle.history.proofs.BaseLemmas.{any_map}
+use Rattle.history.proofs.WordCauses.{any_map}
 use Rattle.history.proofs.moving.have_private.Goals as goal
 
 pub returns : goal.returns

@@ -4,12 +4,11 @@ use Rattle.std.specs.List.{filter_map}
 use Rattle.std.specs.declared.alloc.Global.{Global}
 use Rattle.std.proofs.lemmas.Result.{err_from_is_err_and}
 use Rattle.history_model.specs.Forms.{is_name}
-use Rattle.history_model.specs.Words.{word_meaning}
 use Rattle.history_model.specs.declared.Fault.TheVariants.{Memory}
 use Rattle.gix_hash_id.specs.Id.{id_of}
 use Rattle.history.specs.Bases.{IsCommitBase, IsExpected, expected_meanings, words_cause, parents_cause}
 use Rattle.history.specs.CommitCauses.{IsNamed, name_causes, name_form_causes, word_causes, held_causes, place_causes, parent_causes}
-use Rattle.history.specs.Meanings.{meaning_of, commit_in}
+use Rattle.history.specs.Meanings.{commit_in, commit_or_cause, meaning_of}
 use Rattle.history.specs.declared.words.WordMeaning.{WordMeaning}
 use Rattle.history.specs.declared.stopped.Stopped.TheVariants.{Refused, Fault}
 use Rattle.history.proofs.BaseLemmas.{gives_told, parent_meanings, words_so, name_held, held_told, file_told, parents_told, parents_so}
@@ -41,7 +40,7 @@ returns-in_err-words g c = λ r order asked.
     let MayFail = g.F.Files.reading_may_fail in
     let stopped = err_from_is_err_and c.from_residual-in_err-words.result c.from_residual-in_err-words.ensures.1 in
     ends_told MayFail r order name_causes (IsCommitBase r order) c.from_residual-in_err-words.result c.in_err-words.field-0.0 (stopped.1 ∙ ap Err stopped.2)
-    (gives_told MayFail (λ (meanings : Vec WordMeaning Global). map meaning_of meanings.items ≡ map (λ (word : Vec ℕ Global). word_meaning r word.items) c.deref-2.result.now) name_causes r order c.read_words.result c.in_err-words.field-0.0 c.in_err-words.was
+    (gives_told MayFail (λ (meanings : Vec WordMeaning Global). map meaning_of meanings.items ≡ map (λ (word : Vec ℕ Global). commit_or_cause r word.items) c.deref-2.result.now) name_causes r order c.read_words.result c.in_err-words.field-0.0 c.in_err-words.was
     (c.read_words.ensures r h))
 
 pub returns-in_err-test_words : goal.returns-in_err-test_words
@@ -52,7 +51,7 @@ returns-in_err-test_words g c = λ r order asked.
     let named = c.in_ok-name.ensures r order h.stands (c.deref.ensures.value ∙ is.name) in
     let expects = c.in_ok-expected.ensures r order.expect h is.expect in
     let meanings = parent_meanings r order c.args.command.now.parents.items c.in_ok-words.words.items is.parents
-    (c.in_ok-words.ensures r h ∙ ap (map (λ (word : Vec ℕ Global). word_meaning r word.items)) c.deref-2.ensures.value) in
+    (c.in_ok-words.ensures r h ∙ ap (map (λ (word : Vec ℕ Global). commit_or_cause r word.items)) c.deref-2.ensures.value) in
     let words_are = words_so r order c.in_ok-expected.expected c.in_ok-words.words.items expects meanings ∙ ap (λ words. words_cause (expected_meanings c.in_ok-expected.expected ++ map meaning_of words)) (sym c.deref-3.ensures.value) in
     let stopped = err_from_is_err_and c.from_residual-in_err-test_words.result c.from_residual-in_err-test_words.ensures.1 in
     let cause = c.in_err-test_words.field-0.0 in
@@ -77,7 +76,7 @@ returns-in_err-test g c = λ r order asked.
     let named = c.in_ok-name.ensures r order h.stands (c.deref.ensures.value ∙ is.name) in
     let expects = c.in_ok-expected.ensures r order.expect h is.expect in
     let meanings = parent_meanings r order c.args.command.now.parents.items c.in_ok-words.words.items is.parents
-    (c.in_ok-words.ensures r h ∙ ap (map (λ (word : Vec ℕ Global). word_meaning r word.items)) c.deref-2.ensures.value) in
+    (c.in_ok-words.ensures r h ∙ ap (map (λ (word : Vec ℕ Global). commit_or_cause r word.items)) c.deref-2.ensures.value) in
     let words_are = words_so r order c.in_ok-expected.expected c.in_ok-words.words.items expects meanings ∙ ap (λ words. words_cause (expected_meanings c.in_ok-expected.expected ++ map meaning_of words)) (sym c.deref-3.ensures.value) in
     let held_at = name_held g.F.Files.is_honest g.F.Files.history c.args.self.now r order h c.deref-4.result.now (c.deref-4.ensures.value ∙ named.1.named) (ap is_name c.deref-4.ensures.value ∙ named.1.formed)
     c.in_ok-held.held (c.in_ok-held.ensures.found h.stands.honest_names) in
@@ -98,7 +97,7 @@ returns-in_err-test_place g c = λ r order asked.
     let named = c.in_ok-name.ensures r order h.stands (c.deref.ensures.value ∙ is.name) in
     let expects = c.in_ok-expected.ensures r order.expect h is.expect in
     let meanings = parent_meanings r order c.args.command.now.parents.items c.in_ok-words.words.items is.parents
-    (c.in_ok-words.ensures r h ∙ ap (map (λ (word : Vec ℕ Global). word_meaning r word.items)) c.deref-2.ensures.value) in
+    (c.in_ok-words.ensures r h ∙ ap (map (λ (word : Vec ℕ Global). commit_or_cause r word.items)) c.deref-2.ensures.value) in
     let words_are = words_so r order c.in_ok-expected.expected c.in_ok-words.words.items expects meanings ∙ ap (λ words. words_cause (expected_meanings c.in_ok-expected.expected ++ map meaning_of words)) (sym c.deref-3.ensures.value) in
     let held_at = name_held g.F.Files.is_honest g.F.Files.history c.args.self.now r order h c.deref-4.result.now (c.deref-4.ensures.value ∙ named.1.named) (ap is_name c.deref-4.ensures.value ∙ named.1.formed)
     c.in_ok-held.held (c.in_ok-held.ensures.found h.stands.honest_names) in
@@ -129,7 +128,7 @@ returns-in_err-test_parents g c = λ r order asked.
     let named = c.in_ok-name.ensures r order h.stands (c.deref.ensures.value ∙ is.name) in
     let expects = c.in_ok-expected.ensures r order.expect h is.expect in
     let meanings = parent_meanings r order c.args.command.now.parents.items c.in_ok-words.words.items is.parents
-    (c.in_ok-words.ensures r h ∙ ap (map (λ (word : Vec ℕ Global). word_meaning r word.items)) c.deref-2.ensures.value) in
+    (c.in_ok-words.ensures r h ∙ ap (map (λ (word : Vec ℕ Global). commit_or_cause r word.items)) c.deref-2.ensures.value) in
     let words_are = words_so r order c.in_ok-expected.expected c.in_ok-words.words.items expects meanings ∙ ap (λ words. words_cause (expected_meanings c.in_ok-expected.expected ++ map meaning_of words)) (sym c.deref-3.ensures.value) in
     let held_at = name_held g.F.Files.is_honest g.F.Files.history c.args.self.now r order h c.deref-4.result.now (c.deref-4.ensures.value ∙ named.1.named) (ap is_name c.deref-4.ensures.value ∙ named.1.formed)
     c.in_ok-held.held (c.in_ok-held.ensures.found h.stands.honest_names) in
@@ -155,7 +154,7 @@ returns g c = λ r order asked.
     let named = c.in_ok-name.ensures r order h.stands (c.deref.ensures.value ∙ is.name) in
     let expects = c.in_ok-expected.ensures r order.expect h is.expect in
     let meanings = parent_meanings r order c.args.command.now.parents.items c.in_ok-words.words.items is.parents
-    (c.in_ok-words.ensures r h ∙ ap (map (λ (word : Vec ℕ Global). word_meaning r word.items)) c.deref-2.ensures.value) in
+    (c.in_ok-words.ensures r h ∙ ap (map (λ (word : Vec ℕ Global). commit_or_cause r word.items)) c.deref-2.ensures.value) in
     let words_are = words_so r order c.in_ok-expected.expected c.in_ok-words.words.items expects meanings ∙ ap (λ words. words_cause (expected_meanings c.in_ok-expected.expected ++ map meaning_of words)) (sym c.deref-3.ensures.value) in
     let held_at = name_held g.F.Files.is_honest g.F.Files.history c.args.self.now r order h c.deref-4.result.now (c.deref-4.ensures.value ∙ named.1.named) (ap is_name c.deref-4.ensures.value ∙ named.1.formed)
     c.in_ok-held.held (c.in_ok-held.ensures.found h.stands.honest_names) in

@@ -1,36 +1,39 @@
-use Rattle.std.proofs.Common.{◌∙◌, sym, ap, subst, bytes_eq, option_map}
+use Rattle.std.proofs.Common.{◌∙◌, sym, ap, subst, bytes_eq}
 use Rattle.std.specs.Prelude.{Option}
 use Rattle.std.proofs.lemmas.Bool.Decides.{Decides-eqb}
 use Rattle.std.proofs.lemmas.Slice.Eq.{slice_eq-Decides}
-use Rattle.history_model.specs.Words.{head_word, name_meaning}
+use Rattle.history_model.specs.Words.{head_word}
 use Rattle.history_model.proofs.PlaceLemmas.{text_itself, texts_apart}
+use Rattle.history_steps.proofs.OfferedReads.{peels}
 use Rattle.history.specs.Meanings.{IsFirstStanding}
 use Rattle.history.specs.declared.words.Standing.{Standing}
-use Rattle.history.proofs.WordReads.{found_reads, none_reads, branch_reads}
+use Rattle.history.proofs.WordReads.{found_reads, none_reads, branch_reads, branch_unborn}
+use Rattle.history.proofs.ShortIds.{given_alike}
 use Rattle.history.proofs.repository.Repository.read_word.Goals as goal
 use Rattle.gix_hash_id.specs.Id.{id_of}
 
 pub returns-in-Some : goal.returns-in-Some
 returns-in-Some g c = λ r stand.
     let is = (slice_eq-Decides Decides-eqb c.args.word.now head_word c.eq.result c.eq.ensures).0 c.if-eq.true in
-    ap (λ o. name_meaning (option_map id_of o)) (sym c.in-Some.is)
-    ∙ branch_reads g.F.Files.is_honest g.F.Files.history c.args.self.now r stand c.args.word.now c.deref.result.now (ap (λ w. bytes_eq w head_word) is ∙ text_itself head_word) c.deref.ensures.value
-    _ (c.in_ok-id.ensures.found stand.stands.honest_names)
+    branch_reads g.F.Files.is_honest g.F.Files.history c.args.self.now r stand c.args.word.now c.deref.result.now (ap (λ w. bytes_eq w head_word) is ∙ text_itself head_word) c.deref.ensures.value
+    _ (c.in_ok-id.ensures.found stand.stands.honest_names) c.in-Some.id c.in-Some.is
 
 pub returns-in-None : goal.returns-in-None
 returns-in-None g c = λ r stand.
     let is = (slice_eq-Decides Decides-eqb c.args.word.now head_word c.eq.result c.eq.ensures).0 c.if-eq.true in
-    ap (λ o. name_meaning (option_map id_of o)) (sym c.in-None.is)
-    ∙ branch_reads g.F.Files.is_honest g.F.Files.history c.args.self.now r stand c.args.word.now c.deref.result.now (ap (λ w. bytes_eq w head_word) is ∙ text_itself head_word) c.deref.ensures.value
-    _ (c.in_ok-id.ensures.found stand.stands.honest_names)
+    branch_unborn g.F.Files.is_honest g.F.Files.history c.args.self.now r stand c.args.word.now c.deref.result.now (ap (λ w. bytes_eq w head_word) is ∙ text_itself head_word) c.deref.ensures.value
+    _ (c.in_ok-id.ensures.found stand.stands.honest_names) c.in-None.is
 
 pub returns-in-Some-2 : goal.returns-in-Some-2
 returns-in-Some-2 g c = λ r stand.
     let other = texts_apart c.args.word.now head_word (λ same. absurd (cc ((slice_eq-Decides Decides-eqb c.args.word.now head_word c.eq.result c.eq.ensures).1 same, c.if-eq.false))) in
     let found = subst (λ (o : Option Standing). IsFirstStanding r c.args.word.now o) c.in-Some-2.is (c.in_ok-standing.ensures r stand) in
-    found_reads r c.args.word.now other c.in-Some-2.standing.name.items (id_of c.in-Some-2.standing.id) found.first found.holds
+    let name = c.in-Some-2.standing.name.items in
+    let id = id_of c.in-Some-2.standing.id in
+    found_reads r c.args.word.now other name id found.first found.holds (peels r stand.stage.offered stand.stands.whole.whole.names name id found.holds)
 
 pub returns-in-None-2 : goal.returns-in-None-2
 returns-in-None-2 g c = λ r stand.
     let other = texts_apart c.args.word.now head_word (λ same. absurd (cc ((slice_eq-Decides Decides-eqb c.args.word.now head_word c.eq.result c.eq.ensures).1 same, c.if-eq.false))) in
-    none_reads r c.args.word.now other (subst (λ (o : Option Standing). IsFirstStanding r c.args.word.now o) c.in-None-2.is (c.in_ok-standing.ensures r stand))
+    let none = subst (λ (o : Option Standing). IsFirstStanding r c.args.word.now o) c.in-None-2.is (c.in_ok-standing.ensures r stand) in
+    given_alike g.F.Files.reading_may_fail _ _ (none_reads r c.args.word.now other none) c.read_short_id.result (c.read_short_id.ensures r stand)

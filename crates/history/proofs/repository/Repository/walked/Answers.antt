@@ -49,8 +49,8 @@ returns g c = λ r order s is.
     let whole = s.stands.whole.whole in
     let tips_are = c.in_ok-ids_of.ensures ∙ ap (filter_map commit_in) c.deref-2.ensures.value in
     let hidden_are = c.in_ok-ids_of-2.ensures ∙ ap (filter_map commit_in) c.deref-3.ensures.value in
-    let tips = subst (AllHold r) (sym tips_are) (ids_hold r offered whole.names ends.tips.items (filter_map tip_word order.items) are.tips) in
-    let hidden = subst (AllHold r) (sym hidden_are) (ids_hold r offered whole.names ends.hidden.items (filter_map hidden_word order.items) are.hidden) in
+    let tips = subst (AllHold r) (sym tips_are) (ids_hold r whole.store ends.tips.items (filter_map tip_word order.items) are.tips) in
+    let hidden = subst (AllHold r) (sym hidden_are) (ids_hold r whole.store ends.hidden.items (filter_map hidden_word order.items) are.hidden) in
     let hides = ap not (c.is_empty-hides.ensures ∙ ap (λ n. n == 0) c.in_ok-ends.ends.hidden.ok.0) ∙ hides_told r order.items ends are in
     let made = c.in_ok-order_of.ensures order.order is.order in
     let request : Request = record { order = c.in_ok-order_of.field-0; tips = c.in_ok-ids_of.field-0; hidden = c.in_ok-ids_of-2.field-0 } in
