@@ -143,7 +143,10 @@ pub mod store {
 
 /// Edits of references.
 pub mod transaction {
-    pub use gix_ref_edit::{Change, LogChange, PreviousValue, RefEdit, RefLog};
+    pub use gix_ref_edit::{
+        Change, FindTarget, FindTargetError, LogChange, PreProcessError, PreviousValue, RefEdit,
+        RefEditsExt, RefLog, SplitError, TwiceError,
+    };
 }
 
 pub use gix_ref_file::{FileError, Files, Fuse, MemoryFiles, Place};

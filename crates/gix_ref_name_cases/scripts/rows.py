@@ -288,6 +288,101 @@ add_fields("order_of_expectations", [b"any", b"", b"never", b""], "refused")
 for message in [b"", b"commit: one", b"\n"]:
     add("log", message, f"AndReference false [] {str(not message).lower()}")
 
+# ---- lists of edits
+
+NEW = "64c5e58854b06001b3a0c20edb97900dd0131025"
+
+
+def ready(references, edits):
+    """The edits after gix-ref's documents: in rounds, each of a symbolic reference leaves its log's part and adds the same edit of the
+    reference that it leads to; the fifth round finds none to split. In the end no name may stand twice, and the least is told."""
+    listed = [dict(word=word, name=name, log="log" if word == "drop-log" else "both", asks=True, leads=not word.endswith("-here"))
+              for word, name in edits]
+    first, places = 0, []
+    for number in range(5):
+        added = []
+        for place in range(first, len(listed)):
+            edit = listed[place]
+            target = references.get(edit["name"], "") if edit["leads"] else ""
+            edit["leads"] = False
+            if target.startswith("ref: "):
+                added.append(dict(edit, name=target[5:], leads=True))
+                places.append(place)
+                edit.update(log="log", asks=edit["asks"] and edit["word"].startswith("drop"))
+        if number == 4 and added:
+            return "too far", []
+        first = len(listed)
+        listed += added
+    names = sorted(edit["name"] for edit in listed)
+    again = [one for one, other in zip(names, names[1:]) if one == other]
+    if again:
+        return f"twice {again[0]}", []
+    shown = "".join(f"{edit['word'].split('-')[0]} {edit['name']} {edit['log']} {'asks' if edit['asks'] else 'free'} stays;" for edit in listed)
+    return shown + "".join(f" {place}" for place in places), listed
+
+
+def logs_and_changes(references, edits, others):
+    """What git changes: the names whose logs get a line, and those that point to the new id afterwards."""
+    with tempfile.TemporaryDirectory() as room:
+        git(room, "init", "-q")
+        git(room, "config", "core.logAllRefUpdates", "always")
+        ids = [git(room, "-c", "user.name=a", "-c", "user.email=b", "commit-tree", "-m", text, git(room, "mktree")) for text in ["one", "two"]]
+        for name, target in references.items():
+            if target.startswith("ref: "):
+                git(room, "symbolic-ref", name, target[5:])
+        for name, target in references.items():
+            if not target.startswith("ref: "):
+                git(room, "update-ref", "--no-deref", name, ids[0])
+        subprocess.run(["rm", "-rf", os.path.join(room, ".git/logs")], check=True)
+        lines = "".join(f"option no-deref\nupdate {name} {ids[1]}\n" if word.endswith("-here") else f"update {name} {ids[1]}\n" for word, name in edits)
+        git(room, "update-ref", "--stdin", text=lines.encode())
+        names = {*references, *others}
+        logged = {name for name in names if os.path.exists(os.path.join(room, ".git/logs", name))}
+        texts = {name: open(os.path.join(room, ".git", name)).read().strip() for name in names if os.path.exists(os.path.join(room, ".git", name))}
+        return logged, {name for name, text in texts.items() if text == ids[1]}
+
+
+chain = {"HEAD": "ref: refs/heads/a", "refs/heads/a": "ref: refs/heads/b", "refs/heads/b": "ref: refs/heads/c",
+         "refs/heads/c": "ref: refs/heads/d", "refs/heads/d": "ref: refs/heads/e", "refs/heads/e": NEW,
+         "refs/heads/x": "ref: refs/heads/y", "refs/heads/y": NEW, "refs/heads/s": "ref: refs/heads/s", "refs/heads/p": "ref: refs/heads/q",
+         "refs/heads/q": "ref: refs/heads/p", "refs/heads/n": "ref: refs/heads/none", "refs/heads/z": "ref: refs/heads/y"}
+# git says the same of updates that none of its own rules refuses: a line for each name on the way, a change of the last alone. It also
+# adds a line to HEAD's log where the name that HEAD points to is updated, which is no edit of the list.
+for edits in [["move HEAD"], ["move refs/heads/a"], ["move refs/heads/b"], ["move refs/heads/d", "move refs/heads/x"], ["move refs/heads/e"],
+              ["move-here refs/heads/x", "move refs/heads/y"], ["move refs/heads/x", "move refs/heads/c"], ["move refs/heads/n"],
+              ["move refs/heads/a", "move refs/heads/x"], []]:
+    pairs = [tuple(edit.split()) for edit in edits]
+    answer, listed = ready(chain, pairs)
+    if listed:
+        logged, changed = logs_and_changes(chain, pairs, [edit["name"] for edit in listed])
+        assert logged - {"HEAD"} == {edit["name"] for edit in listed} - {"HEAD"}, (edits, logged)
+        assert changed == {edit["name"] for edit in listed if edit["log"] == "both"}, (edits, changed)
+lists = [["move HEAD"], ["move refs/heads/a"], ["move refs/heads/b"], ["move refs/heads/d", "move refs/heads/x"], ["move refs/heads/e"],
+         ["move-here refs/heads/x", "move refs/heads/y"], ["move refs/heads/x", "move refs/heads/c"], ["move refs/heads/n"],
+         ["move refs/heads/a", "move refs/heads/x"], ["move-here HEAD", "move-here refs/heads/a"], [], ["drop refs/heads/a"],
+         ["drop-log refs/heads/x"], ["drop-here refs/heads/x"], ["drop refs/heads/x", "move refs/heads/c"], ["move refs/heads/s"],
+         ["move refs/heads/p"], ["drop refs/heads/q"], ["move refs/heads/x", "move refs/heads/y"], ["move refs/heads/x", "move refs/heads/z"],
+         ["drop refs/heads/none"], ["move refs/heads/a", "move refs/heads/b"], ["drop-here refs/heads/s"],
+         ["move-here refs/heads/y", "drop-here refs/heads/e", "move-here refs/heads/y", "move-here refs/heads/e"],
+         ["move refs/heads/c", "drop refs/heads/n", "move refs/heads/x", "drop-log refs/tags/none"]]
+for edits in lists:
+    table_text = "".join(f"{name} {target}\n" for name, target in chain.items())
+    add_fields("ready", [table_text.encode(), "".join(edit + "\n" for edit in edits).encode()], ready(chain, [tuple(edit.split()) for edit in edits])[0])
+add_fields("ready", [b"refs/heads/a none", b""], "refused")
+add_fields("ready", [b"", b"lose refs/heads/a"], "refused")
+add_fields("ready", [b"", b"move main"], "refused")
+for names in ["HEAD", "HEAD HEAD", "refs/heads/b refs/heads/a", "refs/heads/b refs/heads/a refs/heads/b refs/heads/a", "refs/heads/a refs/heads/a/b",
+              "refs/heads/b HEAD refs/heads/b FETCH_HEAD", "refs/a-b refs/a/b refs/a.b refs/a/b refs/a-b", "refs/x refs/x refs/x", "refs/a refs/b refs/c"]:
+    words = names.split()
+    again = sorted(name for name in words if words.count(name) > 1)
+    add("once", names.encode(), f"twice {again[0]}" if again else "once")
+add("once", b"", "once")
+add("once", b"main", "refused")
+for word in ["move", "move-here", "drop", "drop-here", "drop-log"]:
+    for name in ["HEAD", "refs/heads/a"]:
+        add_fields("copied", [word.encode(), name.encode()], f"true {str((word, name) == ('move', 'HEAD')).lower()}")
+add_fields("copied", [b"lose", b"HEAD"], "refused")
+
 here = os.path.dirname(os.path.dirname(os.path.abspath(__file__)))
 with open(os.path.join(here, "stdin"), "w") as out:
     out.write("".join(row + "\n" for row, _ in rows))

@@ -5,6 +5,7 @@ mod cases;
 mod conversions;
 mod edits;
 mod full;
+mod lists;
 mod operations;
 mod orders;
 mod partial;

@@ -1,6 +1,6 @@
 //! The operations by their names.
 
-use crate::{cases, conversions, edits, full, orders, partial, targets};
+use crate::{cases, conversions, edits, full, lists, orders, partial, targets};
 use case_page::read_texts;
 use std::alloc::{AllocError, Global};
 
@@ -55,6 +55,7 @@ fn of_owned(alloc: Global, operation: &str, bytes: &[u8]) -> Result<String, Allo
         "taken" => targets::taken(alloc, bytes),
         "object" => targets::object(alloc, bytes),
         "log" => edits::log(alloc, bytes),
+        "once" => lists::once(alloc, bytes),
         _ => none(alloc, operation),
     }
 }
@@ -62,6 +63,8 @@ fn of_owned(alloc: Global, operation: &str, bytes: &[u8]) -> Result<String, Allo
 fn of_two(alloc: Global, operation: &str, one: &[u8], other: &[u8]) -> Result<String, AllocError> {
     match operation {
         "join" => partial::join(alloc, one, other),
+        "ready" => lists::ready(alloc, one, other),
+        "copied" => lists::copied(alloc, one, other),
         "prefixed" => partial::prefixed(alloc, one, other),
         "strip" => full::strip(alloc, one, other),
         "order_of_partial" => orders::partial(alloc, one, other),
