@@ -118,6 +118,11 @@ pub mod packed {
         pub use gix_ref_format::packed::iter::Error;
     }
 
+    /// Writing the file.
+    pub mod write {
+        pub use gix_ref_packed::{Edit, edited, packed_text, write_header, write_record};
+    }
+
     pub use gix_ref_format::packed::{Buffer, Header, Iter, Peeled, Records, Reference};
 }
 
