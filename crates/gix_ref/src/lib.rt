@@ -120,10 +120,26 @@ pub mod packed {
 
     /// Writing the file.
     pub mod write {
-        pub use gix_ref_packed::{Edit, edited, packed_text, write_header, write_record};
+        pub use gix_ref_packed::{Edit, edited, packed_text, write_header, write_record, written};
+    }
+
+    /// Transactions of the file.
+    pub mod transaction {
+        /// Writing the new text beside the file.
+        pub mod prepare {
+            pub use gix_ref_transaction::packed::PrepareError as Error;
+        }
+
+        /// Putting it in the file's place.
+        pub mod commit {
+            pub use gix_ref_transaction::packed::CommitError as Error;
+        }
+
+        pub use gix_ref_transaction::packed::{Error, LockError, RecordEdit};
     }
 
     pub use gix_ref_format::packed::{Buffer, Header, Iter, Peeled, Records, Reference};
+    pub use gix_ref_transaction::packed::Transaction;
 }
 
 /// Lines of logs.

@@ -7,5 +7,5 @@ mod merge;
 mod write;
 
 pub use crate::edit::Edit;
-pub use crate::merge::edited;
+pub use crate::merge::{edited, written};
 pub use crate::write::{packed_text, write_header, write_record};

@@ -1,6 +1,6 @@
 //! Records under edits, as a list.
 
-ghost use Rattle.std.specs.Prelude.{◌≡◌, ◌++◌, map, None, option_map, if◌then◌else◌, IfOk, OnOk};
+ghost use Rattle.std.specs.Prelude.{◌≡◌, ◌++◌, [], map, None, option_map, if◌then◌else◌, IfOk, OnOk};
 ghost use Rattle.std.specs.Option.{option_to_list};
 ghost use Rattle.gix_ref_name.specs.Names.{name_of};
 ghost use Rattle.gix_ref_format.specs.Packed.{record_of};
@@ -25,6 +25,17 @@ pub fn edited<'a>(
     let mut lines = Vec::new(alloc);
     lines.extend_from_slice(edits)?;
     add_records(records, &mut lines)?;
+    let lines = arranged(lines)?;
+    standing(alloc, lines.as_slice())
+}
+
+/// The records that stand once the edits are made where none stood, ascending by name. Of several edits of a name the first counts.
+pub fn written<'a>(alloc: Global, edits: &[Edit<'a>]) -> Result<Vec<Reference<'a>>, AllocError>
+    ensures { IfOk result (λ after.
+        spec.IsEdited [] (spec.lines_of edits.now) (map record_of after.items)) }
+{
+    let mut lines = Vec::new(alloc);
+    lines.extend_from_slice(edits)?;
     let lines = arranged(lines)?;
     standing(alloc, lines.as_slice())
 }

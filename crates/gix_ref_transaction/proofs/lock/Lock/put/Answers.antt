@@ -1,0 +1,22 @@
+use Rattle.std.proofs.Common.{subst, List, ℕ}
+use Rattle.gix_ref_file.specs.Changes.{to_rename}
+use Rattle.gix_ref_file.specs.History.{Makes}
+use Rattle.gix_ref_file.proofs.Histories.{adds_weaker}
+use Rattle.gix_ref_transaction.proofs.LockLemmas.{renamed_put, put_by, on_ok_both}
+use Rattle.gix_ref_transaction.proofs.lock.Lock.put.Goals as goal
+
+pub returns-clause-moments : goal.returns-clause-moments
+returns-clause-moments g c = λ honest.
+    let old = g.F.Files.history c.args.files.now in
+    let new = g.F.Files.history c.rename.new.self in
+    let from = subst (λ (path : List ℕ). Makes (to_rename path c.deref-2.result.now) old new c.rename.result) c.deref.ensures.value (c.rename.ensures.change honest) in
+    let change = subst (λ (path : List ℕ). Makes (to_rename c.args.self.now.path.items path) old new c.rename.result) c.deref-2.ensures.value from in
+    adds_weaker old new change.moments (λ x left. renamed_put c.args.self.now.path.items c.args.self.now.place.items old.tree x left)
+
+pub returns-clause-put : goal.returns-clause-put
+returns-clause-put g c = λ honest.
+    let old = g.F.Files.history c.args.files.now in
+    let new = g.F.Files.history c.rename.new.self in
+    let from = subst (λ (path : List ℕ). Makes (to_rename path c.deref-2.result.now) old new c.rename.result) c.deref.ensures.value (c.rename.ensures.change honest) in
+    let change = subst (λ (path : List ℕ). Makes (to_rename c.args.self.now.path.items path) old new c.rename.result) c.deref-2.ensures.value from in
+    on_ok_both c.rename.result (λ may is. put_by c.args.self.now.path.items c.args.self.now.place.items old.tree new.tree c.args.self.now.beside may is) change.allowed change.made

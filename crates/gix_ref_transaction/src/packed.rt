@@ -1,0 +1,409 @@
+//! Transactions of `packed-refs`: its lock is held, its new text is written there, and the lock is put in its place.
+
+ghost use Rattle.std.specs.Prelude.{◌≡◌, ◌≢◌, ◌≤◌, ◌⊎◌, [], true, false, Some, None, List, map, option_map, IfOk, IfErr, OnOk};
+ghost use Rattle.gix_ref_file.specs.Tree.{node_at, bytes_at};
+ghost use Rattle.gix_ref_file.specs.Changes.{is_file_at};
+ghost use Rattle.gix_ref_file.specs.Calls.{Passes};
+ghost use Rattle.gix_ref_file.specs.History.{HasRisen};
+ghost use Rattle.gix_ref_format.specs.Packed.{Record};
+ghost use Rattle.gix_ref_packed.specs.Edited.{line_of, lines_of, IsEdited};
+ghost use Rattle.gix_ref_packed.specs.Written as text_of;
+ghost use Rattle.gix_ref_transaction.specs.Records.{records_in, HoldsEdited};
+ghost use Rattle.gix_ref_transaction.specs.RecordEdits.{line_in};
+ghost use Rattle.gix_ref_transaction.specs.Locks.{lock_of, OthersStay, IsTaken, MayBePut, IsPut};
+ghost use Rattle.gix_ref_transaction.specs.declared.packed.PrepareError.TheVariants as prepare_case;
+ghost use Rattle.gix_ref_transaction.specs.declared.packed.CommitError.TheVariants as commit_case;
+ghost use Rattle.gix_ref_transaction.specs.PackedErrors.{IsShort, IsUnprepared, as_prepare, as_commit};
+
+use crate::lock::{Lock, acquire};
+use gix_hash::{Kind, ObjectId};
+use gix_ref_file::{FileError, Files};
+use gix_ref_format::packed::{Buffer, Reference, buffer};
+use gix_ref_name::FullName;
+use gix_ref_packed::{Edit, edited, packed_text, written};
+use std::alloc::{AllocError, Global};
+use thiserror::Error;
+
+/// Why a lock isn't held.
+#[derive(Debug, Clone, Copy, PartialEq, Eq, Error)]
+pub enum LockError {
+    /// Something stands at its path: another transaction holds it, or one was stopped.
+    #[error("the lock of the packed references is held already")]
+    Held,
+    /// It couldn't be made.
+    #[error("the lock of the packed references can't be made")]
+    Failed,
+    /// No memory is left.
+    #[error("no memory is left")]
+    Memory,
+}
+
+/// Why no transaction is begun.
+#[derive(Debug, Clone, Copy, PartialEq, Eq, Error)]
+pub enum Error {
+    /// The file couldn't be opened.
+    #[error(transparent)]
+    BufferOpen(buffer::Error),
+    /// Its lock isn't held.
+    #[error(transparent)]
+    TransactionLock(LockError),
+}
+
+/// Why a transaction isn't prepared.
+#[derive(Debug, Clone, Copy, PartialEq, Eq, Error)]
+pub enum PrepareError {
+    /// The new text couldn't be written.
+    #[error("the lock of the packed references can't be written")]
+    CloseLock,
+    /// No memory is left.
+    #[error("no memory is left")]
+    Memory,
+}
+
+/// Why a transaction isn't committed.
+#[derive(Debug, Clone, Copy, PartialEq, Eq, Error)]
+pub enum CommitError {
+    /// The lock couldn't be put in its place, or given back.
+    #[error("the packed references can't be replaced")]
+    Commit,
+    /// No memory is left.
+    #[error("no memory is left")]
+    Memory,
+}
+
+/// What becomes of a name's record.
+#[derive(Debug, Drop, PartialEq, Eq)]
+pub enum RecordEdit {
+    /// This record stands for its name, in place of any that stood.
+    Write {
+        /// Its name.
+        name: FullName,
+        /// The id that it points to.
+        target: ObjectId,
+        /// The id of the object that a tag points to in the end.
+        object: Option<ObjectId>,
+    },
+    /// None stands for the name.
+    Remove {
+        /// The name.
+        name: FullName,
+    },
+}
+
+impl From<AllocError> for PrepareError {
+    ghost from_gives = { λ _ e. e ≡ prepare_case.Memory };
+
+    fn from(_: AllocError) -> Self {
+        PrepareError::Memory
+    }
+}
+
+impl From<FileError> for PrepareError {
+    ghost from_gives = { λ error e. e ≡ as_prepare error };
+
+    fn from(error: FileError) -> Self {
+        match error {
+            FileError::Failed => PrepareError::CloseLock,
+            FileError::Memory => PrepareError::Memory,
+        }
+    }
+}
+
+impl From<FileError> for CommitError {
+    ghost from_gives = { λ error e. e ≡ as_commit error };
+
+    fn from(error: FileError) -> Self {
+        match error {
+            FileError::Failed => CommitError::Commit,
+            FileError::Memory => CommitError::Memory,
+        }
+    }
+}
+
+/// A change of `packed-refs` on its way: its lock is held until it is committed or rolled back, one of which must be done.
+#[derive(Debug)]
+pub struct Transaction {
+    pub(crate) lock: Lock,
+    pub(crate) buffer: Option<Buffer>,
+    pub(crate) is_written: bool,
+}
+
+impl Transaction {
+    ghost use Rattle.gix_ref_transaction.specs.PackedEdits.{IsBegun, place_of, lock_path_of};
+
+    /// Makes the lock of the file at this place, and reads the file, whose ids are of this kind. `Held` where something stands at the
+    /// lock's path already; else the reasons of `Buffer::open`, where the lock has gone again.
+    pub fn new<F: Files>(
+        alloc: Global,
+        files: &mut F,
+        place: &[u8],
+        kind: Kind,
+    ) -> Result<Transaction, Error>
+        ensures honest { F.is_honest files.old → F.is_honest files.new }
+        ensures begun { F.is_honest files.old → IfOk result (IsBegun kind place.now
+            (F.history files.old).tree (F.history files.new).tree) }
+        ensures moments { Passes F.is_honest F.history files.old files.new
+            (OthersStay (lock_of place.now)) }
+        ensures rolled_back { F.is_honest files.old → IfErr result (λ error.
+            (is_file_at (F.history files.new).tree (lock_of place.now)
+            ≡ is_file_at (F.history files.old).tree (lock_of place.now))
+            ⊎ (HasRisen (F.failures files.old) (F.failures files.new) ⊎ IsShort error)) }
+    {
+        let lock = take_lock(alloc, files, place)?;
+        match Buffer::open(alloc, &*files, place, kind) {
+            Ok(buffer) => Ok(Transaction {
+                lock,
+                buffer,
+                is_written: false,
+            }),
+            Err(error) => Err(unopened(alloc, files, &lock, error)),
+        }
+    }
+
+    /// The records of the file, as they were when the transaction began; `None` where no file stood.
+    pub fn buffer(&self) -> Option<&Buffer>
+        ensures { option_map (λ buffer. buffer.now) result ≡ self.now.buffer }
+    {
+        self.buffer.as_ref()
+    }
+
+    /// Writes the text of the records under these edits into the lock; of several edits of a name the first counts. Without edits
+    /// nothing is written. `CloseLock` where the text couldn't be written; after an error the lock has gone.
+    pub fn prepare<F: Files>(
+        self,
+        alloc: Global,
+        files: &mut F,
+        edits: Vec<RecordEdit>,
+    ) -> Result<Transaction, PrepareError>
+        ensures honest { F.is_honest files.old → F.is_honest files.new }
+        ensures lock { IfOk result (λ t. t.lock ≡ self.lock) }
+        ensures buffer { IfOk result (λ t. t.buffer ≡ self.buffer) }
+        ensures prepared { F.is_honest files.old → edits.items ≢ [] → IfOk result (λ _.
+            HoldsEdited (records_in self.buffer) (map line_in edits.items) (lock_path_of self)
+            (F.history files.new).tree) }
+        ensures written { edits.items ≢ [] → IfOk result (λ t. t.is_written ≡ true) }
+        ensures idle { edits.items ≡ [] → IfOk result (λ t. t.is_written ≡ self.is_written) }
+        ensures moments { Passes F.is_honest F.history files.old files.new
+            (OthersStay (lock_path_of self)) }
+        ensures rolled_back { F.is_honest files.old → IfErr result (λ error.
+            (is_file_at (F.history files.new).tree (lock_path_of self) ≡ false)
+            ⊎ (HasRisen (F.failures files.old) (F.failures files.new) ⊎ IsUnprepared error)) }
+    {
+        let Transaction {
+            lock,
+            buffer,
+            is_written,
+        } = self;
+        if edits.is_empty() {
+            return Ok(Transaction {
+                lock,
+                buffer,
+                is_written,
+            });
+        }
+        match write_edited(alloc, files, &lock, &buffer, &edits) {
+            Ok(()) => Ok(Transaction {
+                lock,
+                buffer,
+                is_written: true,
+            }),
+            Err(error) => Err(unprepared(alloc, files, &lock, error)),
+        }
+    }
+
+    /// Puts the lock in the place of the file, where a text was written, and else gives it back: then the file stays. A stop leaves
+    /// the file as before or with the whole new text. After an error the lock has gone, as far as that succeeds.
+    pub fn commit<F: Files>(self, alloc: Global, files: &mut F) -> Result<(), CommitError>
+        ensures honest { F.is_honest files.old → F.is_honest files.new }
+        ensures moments { Passes F.is_honest F.history files.old files.new
+            (MayBePut (place_of self) (lock_path_of self)
+            (bytes_at (F.history files.old).tree (lock_path_of self))) }
+        ensures put { F.is_honest files.old → self.is_written ≡ true → OnOk result
+            (IsPut (place_of self) (lock_path_of self)
+            (bytes_at (F.history files.old).tree (lock_path_of self)) (F.history files.new).tree) }
+        ensures idle { self.is_written ≡ false → Passes F.is_honest F.history files.old files.new
+            (OthersStay (lock_path_of self)) }
+        ensures gone { F.is_honest files.old → OnOk result
+            (node_at (F.history files.new).tree (lock_path_of self) ≡ None) }
+    {
+        let Transaction {
+            lock,
+            buffer: _,
+            is_written,
+        } = self;
+        if is_written {
+            replace(alloc, files, &lock)
+        } else {
+            given_back(alloc, files, &lock)
+        }
+    }
+
+    /// Gives the lock back; the file stays.
+    pub fn rollback<F: Files>(self, alloc: Global, files: &mut F) -> Result<(), CommitError>
+        ensures honest { F.is_honest files.old → F.is_honest files.new }
+        ensures moments { Passes F.is_honest F.history files.old files.new
+            (OthersStay (lock_path_of self)) }
+        ensures gone { F.is_honest files.old → OnOk result
+            (node_at (F.history files.new).tree (lock_path_of self) ≡ None) }
+    {
+        let Transaction {
+            lock,
+            buffer: _,
+            is_written: _,
+        } = self;
+        given_back(alloc, files, &lock)
+    }
+}
+
+// Makes the lock of a place.
+fn take_lock<F: Files>(alloc: Global, files: &mut F, place: &[u8]) -> Result<Lock, Error>
+    ensures honest { F.is_honest files.old → F.is_honest files.new }
+    ensures place { IfOk result (λ lock. lock.place.items ≡ place.now) }
+    ensures moments { Passes F.is_honest F.history files.old files.new
+        (OthersStay (lock_of place.now)) }
+    ensures taken { F.is_honest files.old → OnOk result
+        (IsTaken (lock_of place.now) (F.history files.old).tree (F.history files.new).tree) }
+    ensures rolled_back { F.is_honest files.old → IfErr result (λ error.
+        ((F.history files.new).tree ≡ (F.history files.old).tree)
+        ⊎ (HasRisen (F.failures files.old) (F.failures files.new) ⊎ IsShort error)) }
+    ensures unfailed { OnOk result (F.failures files.new ≡ F.failures files.old) }
+{
+    match acquire(alloc, files, place) {
+        Ok(Some(lock)) => Ok(lock),
+        Ok(None) => Err(Error::TransactionLock(LockError::Held)),
+        Err(FileError::Failed) => Err(Error::TransactionLock(LockError::Failed)),
+        Err(FileError::Memory) => Err(Error::TransactionLock(LockError::Memory)),
+    }
+}
+
+// Gives the lock of a file back that couldn't be opened, and tells why.
+fn unopened<F: Files>(alloc: Global, files: &mut F, lock: &Lock, error: buffer::Error) -> Error
+    ensures honest { F.is_honest files.old → F.is_honest files.new }
+    ensures moments { Passes F.is_honest F.history files.old files.new
+        (OthersStay lock.now.path.items) }
+    ensures rolled_back { F.is_honest files.old
+        → (is_file_at (F.history files.new).tree lock.now.path.items ≡ false)
+        ⊎ (HasRisen (F.failures files.old) (F.failures files.new) ⊎ IsShort result) }
+{
+    match lock.give_back(alloc, files) {
+        Ok(()) => Error::BufferOpen(error),
+        Err(FileError::Failed) => Error::BufferOpen(error),
+        Err(FileError::Memory) => Error::TransactionLock(LockError::Memory),
+    }
+}
+
+// Writes the text of the records under the edits into the lock.
+fn write_edited<'a, F: Files>(
+    alloc: Global,
+    files: &mut F,
+    lock: &Lock,
+    buffer: &'a Option<Buffer>,
+    edits: &'a [RecordEdit],
+) -> Result<(), PrepareError>
+    ensures honest { F.is_honest files.old → F.is_honest files.new }
+    ensures moments { Passes F.is_honest F.history files.old files.new
+        (OthersStay lock.now.path.items) }
+    ensures held { F.is_honest files.old → OnOk result (HoldsEdited (records_in buffer.now)
+        (map line_in edits.now) lock.now.path.items (F.history files.new).tree) }
+    ensures later { F.failures files.old ≤ F.failures files.new }
+{
+    let lines = lent(alloc, edits)?;
+    let text = new_text(alloc, buffer, &lines)?;
+    lock.fill(alloc, files, &text)?;
+    Ok(())
+}
+
+// The edits, lent.
+fn lent<'a>(alloc: Global, edits: &'a [RecordEdit]) -> Result<Vec<Edit<'a>>, AllocError>
+    ensures { IfOk result (λ lent. lines_of lent.items ≡ map line_in edits.now) }
+{
+    let mut lines = Vec::new(alloc);
+    for edit in edits {
+        lines.push(lend(edit))?;
+    }
+    Ok(lines)
+}
+
+fn lend(edit: &RecordEdit) -> Edit<'_>
+    ensures { line_of result ≡ line_in edit.now }
+{
+    match edit {
+        RecordEdit::Write {
+            name,
+            target,
+            object,
+        } => Edit::Write(Reference {
+            name: name.as_ref(),
+            target: *target,
+            object: *object,
+        }),
+        RecordEdit::Remove { name } => Edit::Remove(name.as_ref()),
+    }
+}
+
+fn new_text<'a>(
+    alloc: Global,
+    buffer: &'a Option<Buffer>,
+    edits: &[Edit<'a>],
+) -> Result<Vec<u8>, AllocError>
+    ensures { IfOk result (λ text. (after : List Record)
+        × IsEdited (records_in buffer.now) (lines_of edits.now) after
+        × (text.items ≡ text_of.packed_text after)) }
+{
+    let records = match buffer {
+        Some(buffer) => edited(alloc, buffer.iter(), edits)?,
+        None => written(alloc, edits)?,
+    };
+    packed_text(alloc, records.as_slice())
+}
+
+// Gives back the lock of a transaction that isn't prepared, and tells why.
+fn unprepared<F: Files>(
+    alloc: Global,
+    files: &mut F,
+    lock: &Lock,
+    error: PrepareError,
+) -> PrepareError
+    ensures honest { F.is_honest files.old → F.is_honest files.new }
+    ensures moments { Passes F.is_honest F.history files.old files.new
+        (OthersStay lock.now.path.items) }
+    ensures rolled_back { F.is_honest files.old
+        → (is_file_at (F.history files.new).tree lock.now.path.items ≡ false)
+        ⊎ (HasRisen (F.failures files.old) (F.failures files.new) ⊎ IsUnprepared result) }
+{
+    match lock.give_back(alloc, files) {
+        Ok(()) => error,
+        Err(FileError::Failed) => error,
+        Err(FileError::Memory) => PrepareError::Memory,
+    }
+}
+
+// Puts the lock in its place, and gives it back where that fails.
+fn replace<F: Files>(alloc: Global, files: &mut F, lock: &Lock) -> Result<(), CommitError>
+    ensures honest { F.is_honest files.old → F.is_honest files.new }
+    ensures moments { Passes F.is_honest F.history files.old files.new
+        (MayBePut lock.now.place.items lock.now.path.items
+        (bytes_at (F.history files.old).tree lock.now.path.items)) }
+    ensures put { F.is_honest files.old → OnOk result
+        (IsPut lock.now.place.items lock.now.path.items
+        (bytes_at (F.history files.old).tree lock.now.path.items) (F.history files.new).tree) }
+{
+    match lock.put(alloc, files) {
+        Ok(()) => Ok(()),
+        Err(error) => {
+            let _ = lock.give_back(alloc, files);
+            Err(CommitError::from(error))
+        }
+    }
+}
+
+fn given_back<F: Files>(alloc: Global, files: &mut F, lock: &Lock) -> Result<(), CommitError>
+    ensures honest { F.is_honest files.old → F.is_honest files.new }
+    ensures moments { Passes F.is_honest F.history files.old files.new
+        (OthersStay lock.now.path.items) }
+    ensures gone { F.is_honest files.old → OnOk result
+        (node_at (F.history files.new).tree lock.now.path.items ≡ None) }
+{
+    lock.give_back(alloc, files)?;
+    Ok(())
+}

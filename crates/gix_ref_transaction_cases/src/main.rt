@@ -1,0 +1,15 @@
+//! Answers cases of `gix_ref_transaction`, a line each: an operation and fields of bytes in hexadecimal digits.
+#![tactic(auto)]
+
+mod cases;
+mod edits;
+
+use std::io;
+
+fn main(rt: HostRuntime) -> io::Result<()> {
+    for line in rt.lines(rt.alloc()) {
+        let text = cases::answer(rt.alloc(), line?.as_str())?;
+        println!(rt; "{text}")?;
+    }
+    Ok(())
+}
