@@ -17,6 +17,7 @@ lock_path_of t = t.lock.path.items
 -- The transaction is of the file at this place: it has its records, and holds its lock, which is empty.
 pub record IsBegun (kind : Kind) (place : List ℕ) (old new : Tree) (t : Transaction) : Type 0 where
   pub here : place_of t ≡ place
+  pub of_kind : t.kind ≡ kind
   pub records : KeepsFile kind (bytes_of (node_at old place)) (option_map kept t.buffer)
   pub taken : IsTaken (lock_of place) old new
   pub unwritten : t.is_written ≡ false

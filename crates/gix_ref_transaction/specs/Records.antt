@@ -1,19 +1,28 @@
 -- The records of `packed-refs` under edits, as a lock holds them.
 use Rattle.std.specs.Prelude.{ℕ, ◌≡◌, List, [], Option, None, Some}
 use Rattle.gix_ref_file.specs.Tree.{Tree, file, node_at}
-use Rattle.gix_ref_format.specs.Packed.{Record}
+use Rattle.gix_hash_id.specs.declared.kind.Kind.{Kind}
+use Rattle.gix_ref_format.specs.Packed.{Record, packed_records}
 use Rattle.gix_ref_format.specs.PackedKept.{kept}
 use Rattle.gix_ref_format.specs.declared.packed.buffer.Buffer.{Buffer}
 use Rattle.gix_ref_packed.specs.Edited.{Line, IsEdited}
-use Rattle.gix_ref_packed.specs.Written.{packed_text}
+use Rattle.gix_ref_packed.specs.Written.{packed_text, AllHaveKind}
 
 -- the records of a file; none where none stands
 abbrev pub records_in : Option Buffer → List Record
 records_in None = []
 records_in (Some buffer) = kept buffer
 
--- a file with the text of the records under the edits stands at the path
-pub record HoldsEdited (records : List Record) (lines : List Line) (path : List ℕ) (tree : Tree) : Type 0 where
+-- The text of the records under the edits, which is read as them where all their ids are of the hash function.
+pub record IsTextOf (kind : Kind) (records : List Record) (lines : List Line) (text : List ℕ) : Type 0 where
   pub after : List Record
   pub edited : IsEdited records lines after
-  pub text : node_at tree path ≡ Some (file (packed_text after))
+  pub is : text ≡ packed_text after
+  pub reads : AllHaveKind kind after → packed_records kind text ≡ Some after
+
+-- a file with that text stands at the path
+pub record HoldsEdited (kind : Kind) (records : List Record) (lines : List Line) (path : List ℕ)
+    (tree : Tree) : Type 0 where
+  pub text : List ℕ
+  pub here : node_at tree path ≡ Some (file text)
+  pub told : IsTextOf kind records lines text

@@ -1,14 +1,13 @@
 //! Transactions of `packed-refs`: its lock is held, its new text is written there, and the lock is put in its place.
 
-ghost use Rattle.std.specs.Prelude.{◌≡◌, ◌≢◌, ◌≤◌, ◌⊎◌, [], true, false, Some, None, List, map, option_map, IfOk, IfErr, OnOk};
+ghost use Rattle.std.specs.Prelude.{◌≡◌, ◌≢◌, ◌≤◌, ◌⊎◌, [], true, false, Some, None, map, option_map, IfOk, IfErr, OnOk};
 ghost use Rattle.gix_ref_file.specs.Tree.{node_at, bytes_at};
 ghost use Rattle.gix_ref_file.specs.Changes.{is_file_at};
 ghost use Rattle.gix_ref_file.specs.Calls.{Passes};
 ghost use Rattle.gix_ref_file.specs.History.{HasRisen};
-ghost use Rattle.gix_ref_format.specs.Packed.{Record};
+ghost use Rattle.gix_ref_format.specs.Packed.{record_of};
 ghost use Rattle.gix_ref_packed.specs.Edited.{line_of, lines_of, IsEdited};
-ghost use Rattle.gix_ref_packed.specs.Written as text_of;
-ghost use Rattle.gix_ref_transaction.specs.Records.{records_in, HoldsEdited};
+ghost use Rattle.gix_ref_transaction.specs.Records.{records_in, IsTextOf, HoldsEdited};
 ghost use Rattle.gix_ref_transaction.specs.RecordEdits.{line_in};
 ghost use Rattle.gix_ref_transaction.specs.Locks.{lock_of, OthersStay, IsTaken, MayBePut, IsPut};
 ghost use Rattle.gix_ref_transaction.specs.declared.packed.PrepareError.TheVariants as prepare_case;
@@ -20,6 +19,7 @@ use gix_hash::{Kind, ObjectId};
 use gix_ref_file::{FileError, Files};
 use gix_ref_format::packed::{Buffer, Reference, buffer};
 use gix_ref_name::FullName;
+use gix_ref_packed::laws::written_records_are_read;
 use gix_ref_packed::{Edit, edited, packed_text, written};
 use std::alloc::{AllocError, Global};
 use thiserror::Error;
@@ -125,6 +125,7 @@ impl From<FileError> for CommitError {
 pub struct Transaction {
     pub(crate) lock: Lock,
     pub(crate) buffer: Option<Buffer>,
+    pub(crate) kind: Kind,
     pub(crate) is_written: bool,
 }
 
@@ -154,6 +155,7 @@ impl Transaction {
             Ok(buffer) => Ok(Transaction {
                 lock,
                 buffer,
+                kind,
                 is_written: false,
             }),
             Err(error) => Err(unopened(alloc, files, &lock, error)),
@@ -178,9 +180,10 @@ impl Transaction {
         ensures honest { F.is_honest files.old → F.is_honest files.new }
         ensures lock { IfOk result (λ t. t.lock ≡ self.lock) }
         ensures buffer { IfOk result (λ t. t.buffer ≡ self.buffer) }
+        ensures kind { IfOk result (λ t. t.kind ≡ self.kind) }
         ensures prepared { F.is_honest files.old → edits.items ≢ [] → IfOk result (λ _.
-            HoldsEdited (records_in self.buffer) (map line_in edits.items) (lock_path_of self)
-            (F.history files.new).tree) }
+            HoldsEdited self.kind (records_in self.buffer) (map line_in edits.items)
+            (lock_path_of self) (F.history files.new).tree) }
         ensures written { edits.items ≢ [] → IfOk result (λ t. t.is_written ≡ true) }
         ensures idle { edits.items ≡ [] → IfOk result (λ t. t.is_written ≡ self.is_written) }
         ensures moments { Passes F.is_honest F.history files.old files.new
@@ -192,19 +195,22 @@ impl Transaction {
         let Transaction {
             lock,
             buffer,
+            kind,
             is_written,
         } = self;
         if edits.is_empty() {
             return Ok(Transaction {
                 lock,
                 buffer,
+                kind,
                 is_written,
             });
         }
-        match write_edited(alloc, files, &lock, &buffer, &edits) {
+        match write_edited(alloc, files, &lock, &buffer, kind, &edits) {
             Ok(()) => Ok(Transaction {
                 lock,
                 buffer,
+                kind,
                 is_written: true,
             }),
             Err(error) => Err(unprepared(alloc, files, &lock, error)),
@@ -229,6 +235,7 @@ impl Transaction {
         let Transaction {
             lock,
             buffer: _,
+            kind: _,
             is_written,
         } = self;
         if is_written {
@@ -249,6 +256,7 @@ impl Transaction {
         let Transaction {
             lock,
             buffer: _,
+            kind: _,
             is_written: _,
         } = self;
         given_back(alloc, files, &lock)
@@ -298,17 +306,18 @@ fn write_edited<'a, F: Files>(
     files: &mut F,
     lock: &Lock,
     buffer: &'a Option<Buffer>,
+    kind: Kind,
     edits: &'a [RecordEdit],
 ) -> Result<(), PrepareError>
     ensures honest { F.is_honest files.old → F.is_honest files.new }
     ensures moments { Passes F.is_honest F.history files.old files.new
         (OthersStay lock.now.path.items) }
-    ensures held { F.is_honest files.old → OnOk result (HoldsEdited (records_in buffer.now)
+    ensures held { F.is_honest files.old → OnOk result (HoldsEdited kind (records_in buffer.now)
         (map line_in edits.now) lock.now.path.items (F.history files.new).tree) }
     ensures later { F.failures files.old ≤ F.failures files.new }
 {
     let lines = lent(alloc, edits)?;
-    let text = new_text(alloc, buffer, &lines)?;
+    let text = new_text(alloc, buffer, kind, &lines)?;
     lock.fill(alloc, files, &text)?;
     Ok(())
 }
@@ -341,20 +350,33 @@ fn lend(edit: &RecordEdit) -> Edit<'_>
     }
 }
 
+// The text of the records under the edits.
 fn new_text<'a>(
     alloc: Global,
     buffer: &'a Option<Buffer>,
+    kind: Kind,
     edits: &[Edit<'a>],
 ) -> Result<Vec<u8>, AllocError>
-    ensures { IfOk result (λ text. (after : List Record)
-        × IsEdited (records_in buffer.now) (lines_of edits.now) after
-        × (text.items ≡ text_of.packed_text after)) }
+    ensures { IfOk result (λ text.
+        IsTextOf kind (records_in buffer.now) (lines_of edits.now) text.items) }
 {
-    let records = match buffer {
-        Some(buffer) => edited(alloc, buffer.iter(), edits)?,
-        None => written(alloc, edits)?,
-    };
+    let records = new_records(alloc, buffer, edits)?;
+    written_records_are_read(records.as_slice(), kind);
     packed_text(alloc, records.as_slice())
+}
+
+fn new_records<'a>(
+    alloc: Global,
+    buffer: &'a Option<Buffer>,
+    edits: &[Edit<'a>],
+) -> Result<Vec<Reference<'a>>, AllocError>
+    ensures { IfOk result (λ after.
+        IsEdited (records_in buffer.now) (lines_of edits.now) (map record_of after.items)) }
+{
+    match buffer {
+        Some(buffer) => edited(alloc, buffer.iter(), edits),
+        None => written(alloc, edits),
+    }
 }
 
 // Gives back the lock of a transaction that isn't prepared, and tells why.
