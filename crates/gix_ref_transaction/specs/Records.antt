@@ -14,7 +14,8 @@ records_in None = []
 records_in (Some buffer) = kept buffer
 
 -- The text of the records under the edits, which is read as them where all their ids are of the hash function.
-pub record IsTextOf (kind : Kind) (records : List Record) (lines : List Line) (text : List ℕ) : Type 0 where
+pub record IsTextOf (kind : Kind) (records : List Record) (lines : List Line)
+    (text : List ℕ) : Type 0 where
   pub after : List Record
   pub edited : IsEdited records lines after
   pub is : text ≡ packed_text after
