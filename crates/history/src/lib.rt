@@ -28,6 +28,7 @@ mod running;
 mod showing;
 mod stopped;
 mod stored;
+mod switching;
 mod words;
 
 /// How a store of objects answers: what stands under an id.

@@ -95,7 +95,7 @@ def left(plain, objects=None, names=True):
     """The files that stand for a repository, or for one with its first objects alone and without names."""
     texts = list(plain.objects.items())[:objects]
     stored = {b"objects/" + digits[:2] + b"/" + digits[2:]: text for digits, text in texts}
-    named = {b"HEAD": HEAD}
+    named = {b"HEAD": b"ref: %s\n" % plain.branch}
     for name, digits in plain.names.items() if names else ():
         named[name] = digits + b"\n"
         if name in plain.logs:
@@ -243,6 +243,45 @@ def moves():
         for kind in KINDS:
             as_git_moves(kind, made, command)
     refused_moves(made)
+
+
+def switches():
+    """HEAD on branches that stand and that don't, in one run and from run to run, as `git symbolic-ref` writes it; and each refusal."""
+    main, x, new = b"refs/heads/main", b"refs/heads/x", b"refs/heads/new/one"
+    made = branch(main + b" new", 1) + branch(x + b" new", 2, b"parent main\n") + branch(main + b" any", 3)
+    asked = [b"names\n", b"show HEAD\n", b"past HEAD\n", b"log breadth all +HEAD\n"]
+    unborn = [(asked[0],), (asked[1], "UnbornHead"), (asked[2], "NoSuchName"), (asked[3], "UnbornHead")]
+    runs((made,), (b"switch %s\n" % x,), *((it,) for it in asked), (branch(b"HEAD at x", 4),), *((it,) for it in asked),
+         (b"switch %s\n" % main,), *((it,) for it in asked), by_git_alone=False)
+    runs((made,), (b"switch %s\n" % new,), *unborn, (b"switch %s\n" % new, "NothingMoves"), (branch(b"HEAD new", 4, b"parent x\n"),),
+         *((it,) for it in asked), by_git_alone=False)
+    runs((b"switch %s\n" % x,), *unborn, (branch(b"HEAD new", 1),), *((it,) for it in asked), by_git_alone=False)
+    # A branch that can't stand beside the others may be HEAD's all the same: it is refused where it is to be made.
+    runs((made,), (b"switch %s/y\n" % x,), *unborn, (branch(b"HEAD any", 4), "Collides"), (b"switch %s\n" % x,), (asked[0],),
+         by_git_alone=False)
+    everything = b"".join(b"switch %s\n" % it for it in (x, new, main)) + b"".join(asked)
+    answer(branch(main + b" new", 1) + everything)
+    accepted = [x, new, x + b"/y", b"refs/heads/HEAD", b"refs/heads/@", b"refs/heads/-", b"refs/heads/bisect/x", b"refs/heads/refs/heads/a",
+                b"refs/heads/\xc3\xa4", b"refs/heads/" + b"n" * 1013]
+    for name in accepted:
+        runs((made,), (b"switch %s\n" % name,), (b"names\n",), by_git_alone=False)
+        for kind in KINDS:
+            as_git_switches(kind, made, name)
+    refused = [b"HEAD", b"main", b"x", b"heads/x", b"refs/tags/v", b"refs/remotes/x", b"refs/heads", b"refs/heads/", b"refs/headsx", b"refs/x",
+               b"refs/bisect/x", b"refs/worktree/x", b"refs/rewritten/x", b"refs/heads/a..b", b"refs/heads/a.lock", b"refs/heads/.a",
+               b"refs/heads//a", b"refs/heads/a/", b"refs/heads/\xff", b"refs/heads/" + b"n" * 1014]
+    runs((made,), *((b"switch %s\n" % name, "BadName") for name in refused), (b"switch %s\n" % main, "NothingMoves"), (b"names\n",))
+    for line in (b"switch\n", b"switch refs/heads/a refs/heads/b\n", b"switch  refs/heads/a\n", b"switches refs/heads/a\n"):
+        answer(INPUT + line, "Syntax", end="Refused")
+
+
+def as_git_switches(kind, made, name):
+    """Stops where git writes another HEAD, or changes another file of the names."""
+    plain = Plain(kind)
+    plain.run(made)
+    git = Moved(plain)
+    plain.run(b"switch %s\n" % name)
+    assert git.switch(name) == b"ref: %s\n" % plain.branch and git.holds(plain), name
 
 
 def refused_moves(made):
@@ -716,6 +755,23 @@ def move_stops():
             each(120, kind, f"create names:{how}:#:{kept} open run:{word(PUT_HELLO + second + moving)} left", [closed, *states, whole])
 
 
+def switch_stops():
+    """A run of a commit and a switch that is stopped at each call, or of which each call fails: HEAD is as before the switch or after it."""
+    stream = PUT_HELLO + b"switch refs/heads/x\n"
+    fault = b"fault File\n"
+    for kind in KINDS:
+        plain, first = Plain(kind), Plain(kind)
+        _, replies = plain.run(stream)
+        first.run(PUT_HELLO)
+        ends = [f"created opened Fault:{word(b''.join(reply for reply, _ in replies[:count]) + fault)} " for count in range(2)]
+        closed, whole = f"created File closed {left(first, 0, False)}", f"created opened {told('Input', replies)} {left(plain)}"
+        for how, kept in [*(("stop", kept) for kept in ["-", 0, 3, 20, 50, 1000]), ("fail", "-")]:
+            made = kept != "-"
+            states = [ends[0] + left(first, 0, False), ends[0] + left(first, 3, False), *([ends[0] + left(first)] if made else [])]
+            states += [ends[1] + left(first), *([ends[1] + left(plain)] if made else [])]
+            each(60, kind, f"create names:{how}:#:{kept} open run:{word(stream)} left", [closed, *states, whole])
+
+
 def left_with(plain, first, count):
     """The first so many objects of one repository, under the names of another."""
     return left(plain, count).partition(" names")[0] + " names" + left(first).partition(" names")[2]
@@ -773,8 +829,8 @@ def by_chance(chance, kind):
 
 
 if __name__ == "__main__":
-    for part in (rows, first_causes, two_branches, of_names, moves, deletions, logs, path_logs, short_ids, removals, nested, limits, opening, readings,
-                 readers, faults, log_faults, move_stops, delete_stops, stops):
+    for part in (rows, first_causes, two_branches, of_names, moves, deletions, switches, logs, path_logs, short_ids, removals, nested, limits, opening,
+                 readings, readers, faults, log_faults, move_stops, delete_stops, switch_stops, stops):
         part()
     chance = random.Random(23)
     for number in range(200):

@@ -1,5 +1,6 @@
-"""Names as git moves and deletes them: the rows of moves are held against `git update-ref --stdin`, one transaction for each command, and
-against the logs that git writes then; those of deletions against `git update-ref -d`."""
+"""Names and HEAD as git moves and deletes them: the rows of moves are held against `git update-ref --stdin`, one transaction for each
+command, and against the logs that git writes then; those of deletions against `git update-ref -d`, and those of switches against
+`git symbolic-ref HEAD`."""
 import os
 import subprocess
 import sys
@@ -43,6 +44,11 @@ class Moved(Git):
     def names(self):
         found = self.run("for-each-ref", "--format=%(refname) %(objectname)").split(b"\n")[:-1]
         return dict(line.split() for line in found)
+
+    def switch(self, name):
+        """What stands in HEAD where git makes it name this branch. The log of HEAD itself, which git keeps too, isn't looked at."""
+        self.run("symbolic-ref", "HEAD", name.decode())
+        return (self.folder / "HEAD").read_bytes()
 
     def holds(self, plain):
         """Whether the names and logs are those of the plain repository."""

@@ -60,6 +60,8 @@ class Reader:
         if words[0] == b"delete":
             refuse_where(words[2:3] != ([b"any"] if len(words) == 3 else [b"at"]) or len(words) > 4, "Syntax")
             return ("delete", words[1], words[2:])
+        if words[0] == b"switch" and len(words) == 2:
+            return ("switch", words[1])
         refuse_where(words[0] != b"commit" or len(words) not in (3, 4), "Syntax")
         refuse_where((len(words) == 4) != (words[2] == b"at") or words[2] not in (b"at", b"any", b"new"), "Syntax")
         return self.commit(words[1], words[2:])
@@ -202,10 +204,11 @@ class Walk:
 
 
 class Plain:
-    """A repository: objects by id, names, logs. HEAD is on `refs/heads/main`."""
+    """A repository: objects by id, names, logs, and HEAD's branch."""
 
     def __init__(self, kind):
         self.kind, self.objects, self.names, self.logs, self.commits = kind, {}, {}, {}, {}
+        self.branch = b"refs/heads/main"
         self.null = b"0" * (40 if kind == "sha1" else 64)
 
     def id(self, object, content):
@@ -237,7 +240,7 @@ class Plain:
     def read(self, word):
         """The commit that a word stands for, or why it stands for none."""
         if word == b"HEAD":
-            return self.names.get(b"refs/heads/main", "UnbornHead")
+            return self.names.get(self.branch, "UnbornHead")
         name = self.candidate(word)
         if name is not None:
             return self.names[name]
@@ -265,7 +268,7 @@ class Plain:
         return found
 
     def commit(self, name, expect, parents, edits, author, committer, message):
-        name = b"refs/heads/main" if name == b"HEAD" else name
+        name = self.branch if name == b"HEAD" else name
         refuse_where(not is_name(name), "BadName")
         refuse_where(name.startswith(PRIVATE), "PrivateName")
         *at, = self.resolved(expect[1:] + parents)
@@ -348,6 +351,12 @@ class Plain:
             self.hold(name, digits, actor, message)
         return b"ok move\n"
 
+    def switch(self, name):
+        refuse_where(not is_name(name) or not name.startswith(b"refs/heads/"), "BadName")
+        refuse_where(name == self.branch, "NothingMoves")
+        self.branch = name
+        return b"ok switch\n"
+
     def in_the_way(self, name, more=()):
         """Whether a name that doesn't stand is a folder of one that stands, or of one of these, or the other way round."""
         return name not in self.names and any((it + b"/").startswith(name + b"/") or (name + b"/").startswith(it + b"/")
@@ -385,10 +394,10 @@ class Plain:
         refuse_where((folder or b"").startswith(PRIVATE), "PrivateName")
         found = [it for it in sorted(self.names) if folder is None or it.startswith(folder + b"/")]
         lines = [b"%s %s %s\n" % (self.names[name], self.names[name], name) for name in found]
-        return b"ok names %d refs/heads/main\n" % len(found) + b"".join(lines)
+        return b"ok names %d %s\n" % (len(found), self.branch) + b"".join(lines)
 
     def past(self, word):
-        name = b"refs/heads/main" if word == b"HEAD" else word if is_name(word) else self.candidate(word) or word
+        name = self.branch if word == b"HEAD" else word if is_name(word) else self.candidate(word) or word
         refuse_where(not is_name(name), "BadName")
         refuse_where(name.startswith(PRIVATE), "PrivateName")
         refuse_where(name not in self.names, "NoSuchName")

@@ -15,3 +15,4 @@ pub mod PassedStates
 pub mod PassedMoments
 pub mod MoveLines
 pub mod Deletions
+pub mod HeadSwitched

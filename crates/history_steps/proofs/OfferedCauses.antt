@@ -76,6 +76,11 @@ module _ (r : Repository) (o : IsOffered r) (w : HasWholeNames r) where
     holds_tag = refl;
   }
 
+  switch_out : (name : Bytes) → RuledOut (λ cause. holds cause r (Switch name))
+  switch_out name = record {
+    holds_tag = refl;
+  }
+
   past_out : (word : Bytes) → RuledOut (λ cause. holds cause r (Past word))
   past_out word = record {
     holds_tag = refl;
@@ -97,7 +102,7 @@ first_offered_cause r (Tag c) o w offered = cc
 first_offered_cause r (Move c) o w offered = first_of_few (λ cause. holds cause r (Move c)) (move_out r o w c)
 first_offered_cause r (Rename from to) o w offered = cc
 first_offered_cause r (Delete name at) o w offered = first_of_few (λ cause. holds cause r (Delete name at)) (delete_out r o w name at)
-first_offered_cause r (Switch name) o w offered = cc
+first_offered_cause r (Switch name) o w offered = first_of_few (λ cause. holds cause r (Switch name)) (switch_out r o w name)
 first_offered_cause r Pack o w offered = cc
 first_offered_cause r Index o w offered = cc
 first_offered_cause r (Names folder) o w offered = first_of_few (λ cause. holds cause r (Names folder)) (names_out r o w folder)

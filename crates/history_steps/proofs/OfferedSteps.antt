@@ -24,7 +24,6 @@ some_none x e = cc
 pub fresh_is_offered : FreshIsOffered
 fresh_is_offered kind = record {
   untagged = λ id value at. some_none value (sym at ∙ get-empty by_id id);
-  branch = refl;
 }
 
 -- ---- causes
@@ -101,16 +100,15 @@ module _ (r : Repository) (c : CommitCommand) (o : IsOffered r) where
   unfolding AreOffered
   commit_stays = record {
     untagged = all_stored r.kind r.objects (stored_by r (Commit c)) o.untagged commit_values;
-    branch = o.branch;
   }
 
 pub offered_stays : OfferedStays
 offered_stays r (Commit c) o offered none = commit_stays r c o
 offered_stays r (Tag c) o offered none = cc
-offered_stays r (Move c) o offered none = record { untagged = o.untagged; branch = o.branch }
+offered_stays r (Move c) o offered none = record { untagged = o.untagged }
 offered_stays r (Rename from to) o offered none = cc
-offered_stays r (Delete name at) o offered none = record { untagged = o.untagged; branch = o.branch }
-offered_stays r (Switch name) o offered none = cc
+offered_stays r (Delete name at) o offered none = record { untagged = o.untagged }
+offered_stays r (Switch name) o offered none = record { untagged = o.untagged }
 offered_stays r Pack o offered none = cc
 offered_stays r Index o offered none = cc
 offered_stays r (Names folder) o offered none = o

@@ -7,3 +7,4 @@ pub mod Offered
 pub mod OfferedWords
 pub mod MoveSteps
 pub mod DeleteSteps
+pub mod SwitchSteps

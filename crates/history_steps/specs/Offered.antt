@@ -6,7 +6,7 @@ use Rattle.history_model.specs.FileMap.{FileMap, Content}
 use Rattle.history_model.specs.Stage.{is_spoken}
 use Rattle.history_model.specs.Objects.{Value, StoredBytes, StoredFolder}
 use Rattle.gix_hash_id.specs.Id.{Id}
-use Rattle.history_model.specs.Repository.{Repository, IsStored, IsWholeStore, HasWholeNames, is_tag_value, first_branch, fresh}
+use Rattle.history_model.specs.Repository.{Repository, IsStored, IsWholeStore, HasWholeNames, is_tag_value, fresh}
 use Rattle.history_model.specs.Commands.{Command}
 use Rattle.history_model.specs.Meaning.{after}
 use Rattle.history_model.specs.Causes.{holds, first_cause}
@@ -15,11 +15,10 @@ use Rattle.gix_hash_id.specs.declared.kind.Kind.{Kind}
 use Rattle.history_model.specs.declared.Cause.{Cause}
 use Rattle.history_model.specs.declared.Cause.TheVariants.{BadName, PrivateName, NameTwice, UnknownWord, AmbiguousWord, UnbornHead, NotACommit, NoSuchName, Taken, NotExpected, Collides, TooManyParents, DuplicateParent, BadPath, IsFolder, NoSuchPath, BadActor, BadTime, BadMessage, TooLarge, NothingMoves, OrderWithParents}
 
--- No tag is stored, and HEAD is on the first branch.
+-- No tag is stored.
 pub record IsOffered (r : Repository) : Type 0 where
   pub untagged : (id : Id) (value : Value) → get r.objects id ≡ Some value
       → IsFalse (is_tag_value value)
-  pub branch : r.branch ≡ first_branch
 
 -- What is true at this stage, beside that the pair stands for the repository: its commands have left it, and pack no names.
 pub record IsOfStage (r : Repository) (pair : Pair) : Type 0 where

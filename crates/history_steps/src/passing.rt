@@ -3,6 +3,7 @@
 ghost use Rattle.history_steps.specs.Passing.{PutsPass, CommitsStoreWhole, StoringStops, MovesPass, MovingStops, ActsLater, ActsThen, SomeStops, FirstAreSome, NamesPass, NamesBegin};
 ghost use Rattle.history_steps.specs.MoveSteps.{LinesFit, LinesMove, LinesPass};
 ghost use Rattle.history_steps.specs.DeleteSteps.{DeletionsStand, DeletionsPass};
+ghost use Rattle.history_steps.specs.SwitchSteps.{SwitchesStand, SwitchesPass};
 
 /// While a value is put that takes no id, the values that stood are there once recovered, and the value whole or not at all.
 pub fn puts_pass()
@@ -83,4 +84,14 @@ pub fn deletions_stand()
 /// While they go, each name is as before the command or as after it.
 pub fn deletions_pass()
     ensures { DeletionsPass }
+{}
+
+/// Where HEAD alone was written anew, the tree holds the names and the branch after a switch.
+pub fn switches_stand()
+    ensures { SwitchesStand }
+{}
+
+/// Meanwhile HEAD's branch, once recovered, is as before the switch or as after it, and each name as before.
+pub fn switches_pass()
+    ensures { SwitchesPass }
 {}

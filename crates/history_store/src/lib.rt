@@ -5,6 +5,7 @@ mod actor;
 mod commit;
 mod creation;
 mod folders;
+mod head;
 mod id_text;
 mod ids;
 mod listed;

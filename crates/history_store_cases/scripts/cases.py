@@ -340,6 +340,7 @@ def names():
              "failed none:so%20", "moved " + read(hello.encode() + b"\n"))
         lists(kind)
         deletions(kind)
+        heads(kind)
 
 
 def deletions(kind):
@@ -380,6 +381,19 @@ def lists(kind):
         (f"names:write:refs/tags/c:{ids[one]}", "done"), ("names:folder:refs/tags/d", "done"), ("list:refs", told("refs/tags")),
         (f"names:write:refs/tags/d/a:{text}", "done"), ("list:refs/tags/d", f"names name:refs/tags/d/a:{ids[one]}"))
     each(9, kind, f"{moved(one, null(kind), ids[one])[0]} names:fail:#:- list:refs", "moved names failed", f"moved {told('refs/tags')}")
+
+
+def heads(kind):
+    """HEAD on a branch, and on another, neither of which stands; each call of a switch that fails; and folders in the way of its files."""
+    hello, main, x = oid(kind, "blob", b"hello"), "refs/heads/main", "refs/heads/x"
+    row(kind, (f"switch:{x}", "switched"), ("head", f"head:{x}"), ("names:read:HEAD", read(b"ref: refs/heads/x\n")), ("list:refs", "names"))
+    row(kind, ("create", "created"), moved(main, null(kind), hello), (f"switch:{x}", "switched"), ("head", f"head:{x}"),
+        (f"name:{main}", f"at:{hello}"), (f"names:read:logs/{main}", read(line(null(kind), hello))),
+        (f"switch:{main}", "switched"), ("head", f"head:{main}"), ("create", "NotEmpty:HEAD"))
+    row(kind, ("create", "created"), ("names:write:HEAD.lock:left", "done"), (f"switch:{x}", "switched"), ("head", f"head:{x}"))
+    row(kind, ("create", "created"), ("names:folder:HEAD.lock", "done"), (f"switch:{x}", "failed"), ("head", f"head:{main}"))
+    row(kind, ("names:folder:HEAD", "done"), (f"switch:{x}", "failed"), ("head", "none"))
+    each(9, kind, f"create names:fail:#:- switch:{x} names:sound head", f"created failed head:{main}", f"created switched head:{x}")
 
 
 def creation():

@@ -37,6 +37,10 @@ pub fn act(
             Ok(()) => page.word("deleted"),
             Err(_) => page.word("failed"),
         },
+        "switch" => match parts.names.switch(alloc, &name) {
+            Ok(()) => page.word("switched"),
+            Err(_) => page.word("failed"),
+        },
         _ => {
             let entry = read_entry(alloc, entry)?;
             match parts.names.move_name(alloc, &name, &entry) {

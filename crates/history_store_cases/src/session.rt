@@ -38,7 +38,7 @@ impl Session for Parts {
         match operation {
             "objects" | "names" => files::act(alloc, self, operation, rest, number, page),
             "create" | "survey" | "branch" => self.open(alloc, operation, rest, page),
-            "head" | "name" | "list" | "collides" | "move" | "delete" => {
+            "head" | "name" | "list" | "collides" | "move" | "delete" | "switch" => {
                 names::act(alloc, self, operation, rest, page)
             }
             "actor"

@@ -152,6 +152,13 @@ past_goes : (word : Word) (h : lines.Heading) → IsOpening (opening.Past word) 
 past_goes word (lines.PastHeading w) i q e = done_come (draft.Past word) (model.Past w) _ q e refl refl i
 past_goes word h i q e = absurd i
 
+switch_goes : (name : Word) (h : lines.Heading) → IsOpening (opening.Switch name) h → (q : Place) → next_offered table.Start h ≡ Some (place_of q) → HasCome q (draft.Switch name) (parts_with h [])
+switch_goes name (lines.SwitchHeading n) i q e = done_come (draft.Switch name) (model.Switch n) _ q e refl refl i
+switch_goes name h i q e = absurd i
+
+pub switch_opens : (name : Word) → TakesOpening (opening.Switch name) (draft.Switch name) []
+switch_opens name = record { fields = []; heads = refl; spelled = refl; begins = switch_goes name }
+
 pub past_opens : (word : Word) → TakesOpening (opening.Past word) (draft.Past word) []
 past_opens word = record { fields = []; heads = refl; spelled = refl; begins = past_goes word }
 
@@ -215,6 +222,8 @@ at_start (opening.NamesIn folder) (lines.NamesHeading (Some f)) i place.Start q 
 at_start (opening.NamesIn folder) (lines.NamesHeading (Some f)) i p q e = cc
 at_start (opening.Past word) (lines.PastHeading w) i place.Start q e = refl
 at_start (opening.Past word) (lines.PastHeading w) i p q e = cc
+at_start (opening.Switch name) (lines.SwitchHeading n) i place.Start q e = refl
+at_start (opening.Switch name) (lines.SwitchHeading n) i p q e = cc
 at_start (opening.Log said) (lines.LogHeading order first_parents items n) i place.Start q e = refl
 at_start (opening.Log said) (lines.LogHeading order first_parents items n) i p q e = cc
 at_start said h i p q e = absurd i

@@ -5,7 +5,7 @@ use Rattle.history_model.specs.Bytes.{Bytes}
 use Rattle.history_model.specs.Commands.{Expect}
 use Rattle.history_model.specs.Lines as lines
 use Rattle.history_word.specs.LineTable as table
-use Rattle.history_word.specs.LineTable.{expect_of, number_of, end_of_words, word_of_words, actor_of_words, target_of_words, rename_of_words, name_heading_of, heading_of}
+use Rattle.history_word.specs.LineTable.{expect_of, number_of, end_of_words, actor_of_words, target_of_words, rename_of_words, name_heading_of, heading_of}
 use Rattle.history_word.specs.TableRuns.{next_offered}
 use Rattle.history_word.specs.declared.heading.Heading.{Heading}
 use Rattle.history_word.specs.declared.place.Place.{Place}
@@ -45,11 +45,6 @@ chained f none (Some x) = none x
 no_end : (h : lines.Heading) → Nowhere h → (words : List Bytes) → Says None (end_of_words h words)
 no_end h none [] = none
 no_end h none (word ∷ words) = tt
-
-no_word : (g : Bytes → lines.Heading) → ((w : Bytes) → Nowhere (g w)) → (words : List Bytes) → Says None (word_of_words g words)
-no_word g none [] = tt
-no_word g none (word ∷ []) = none word
-no_word g none (word ∷ more ∷ words) = tt
 
 no_target : (g : Bytes → Expect → Bytes → lines.Heading) → ((n : Bytes) (x : Expect) (w : Bytes) → Nowhere (g n x w)) → (words : List Bytes) → Says None (target_of_words g words)
 no_target g none (name ∷ first ∷ word ∷ []) = mapped (λ x. g name x word) (λ x. none name x word) (expect_of (first ∷ []))
@@ -98,8 +93,8 @@ said_behind said first words commit parent put remove remove_file author committ
 
 -- a line whose first word is none of those that are read
 pub no_line_of : (first : Bytes) (words : List Bytes) → bytes_eq first (codes "move") ≡ false → bytes_eq first (codes "to") ≡ false → bytes_eq first (codes "actor") ≡ false
-    → bytes_eq first (codes "delete") ≡ false → bytes_eq first (codes "names") ≡ false → bytes_eq first (codes "past") ≡ false → bytes_eq first (codes "log") ≡ false → Says None (name_heading_of first words)
-no_line_of first words move to actor delete names past log =
+    → bytes_eq first (codes "delete") ≡ false → bytes_eq first (codes "names") ≡ false → bytes_eq first (codes "past") ≡ false → bytes_eq first (codes "log") ≡ false → bytes_eq first (codes "switch") ≡ false → Says None (name_heading_of first words)
+no_line_of first words move to actor delete names past log switch =
     either (bytes_eq first (codes "tag")) (target_of_words lines.TagHeading words) _ (no_target lines.TagHeading (λ n x w. nowhere (lines.TagHeading n x w) refl refl refl refl refl refl refl refl) words) (
     either (bytes_eq first (codes "tagger")) (actor_of_words lines.Tagger words) _ (no_actor lines.Tagger (λ m n s o. nowhere (lines.ActorHeading lines.Tagger m n s o) refl refl refl refl refl refl refl refl) words) (
     passed None (bytes_eq first (codes "move")) _ _ move (
@@ -107,7 +102,7 @@ no_line_of first words move to actor delete names past log =
     passed None (bytes_eq first (codes "actor")) _ _ actor (
     either (bytes_eq first (codes "rename")) (rename_of_words words) _ (no_rename words) (
     passed None (bytes_eq first (codes "delete")) _ _ delete (
-    either (bytes_eq first (codes "switch")) (word_of_words lines.SwitchHeading words) _ (no_word lines.SwitchHeading (λ w. nowhere (lines.SwitchHeading w) refl refl refl refl refl refl refl refl) words) (
+    passed None (bytes_eq first (codes "switch")) _ _ switch (
     either (bytes_eq first (codes "pack")) (end_of_words lines.PackHeading words) _ (no_end lines.PackHeading (nowhere lines.PackHeading refl refl refl refl refl refl refl refl) words) (
     either (bytes_eq first (codes "index")) (end_of_words lines.IndexHeading words) _ (no_end lines.IndexHeading (nowhere lines.IndexHeading refl refl refl refl refl refl refl refl) words) (
     passed None (bytes_eq first (codes "names")) _ _ names (

@@ -144,6 +144,8 @@ pub enum Command {
     Names(Option<Vec<u8>>),
     /// Lists what this word's name has held.
     Past(Vec<u8>),
+    /// Makes HEAD name this branch.
+    Switch(Vec<u8>),
     Log(LogCommand),
 }
 

@@ -50,6 +50,7 @@ pub(crate) enum Draft {
     Names,
     NamesIn(Option<Vec<u8>>),
     Past(Option<Vec<u8>>),
+    Switch(Option<Vec<u8>>),
     Log(Option<LogCommand>),
 }
 
@@ -246,7 +247,10 @@ impl Draft {
     pub(crate) fn is_changing(&self) -> bool
         ensures { (order : model.Command) → IsDraft self.now order → result ≡ is_changing order }
     {
-        matches!(self, Draft::Commit(_) | Draft::Move(_) | Draft::Delete(_))
+        matches!(
+            self,
+            Draft::Commit(_) | Draft::Move(_) | Draft::Delete(_) | Draft::Switch(_)
+        )
     }
 
     /// The command, if each of its parts found memory.
@@ -264,6 +268,7 @@ impl Draft {
             Draft::Names => Some(Command::Names(None)),
             Draft::NamesIn(folder) => Some(Command::Names(Some(folder?))),
             Draft::Past(word) => Some(Command::Past(word?)),
+            Draft::Switch(name) => Some(Command::Switch(name?)),
             Draft::Log(log) => Some(Command::Log(log?)),
         }
     }

@@ -1,7 +1,7 @@
 //! What the first line of a part says.
 
 ghost use Rattle.std.specs.Prelude.{◌≡◌, ◌∷◌, ◌≤◌, length, IfSome, IfNone, OnSome, IsTrue};
-ghost use Rattle.history_model.specs.Lines.{ParentHeading, RemoveHeading, RemoveFileHeading, MessageHeading, EndHeading, MoveHeading, FilesHeading, PastHeading};
+ghost use Rattle.history_model.specs.Lines.{ParentHeading, RemoveHeading, RemoveFileHeading, MessageHeading, EndHeading, MoveHeading, FilesHeading, PastHeading, SwitchHeading};
 ghost use Rattle.history_word.specs.LineTable.{heading_of, end_of_words, word_of_words, size_of_words, commit_of_words, put_of_words, actor_of_words, show_of_words, names_of_words, log_of_words, name_heading_of, delete_of_words};
 ghost use Rattle.history_model.specs.Spelling.{max_line};
 ghost use Rattle.history_word.specs.TableRuns.{IsLineAt};
@@ -84,6 +84,9 @@ pub(crate) enum Opening {
     },
     Past {
         word: Option<Vec<u8>>,
+    },
+    Switch {
+        name: Option<Vec<u8>>,
     },
     Log(LogLine),
 }
@@ -251,6 +254,16 @@ fn past(alloc: Global, words: &mut Words) -> Option<Heading>
     }))
 }
 
+/// What follows `switch`: `<name>`.
+fn switch(alloc: Global, words: &mut Words) -> Option<Heading>
+    ensures { Says result (word_of_words SwitchHeading (left words.old)) }
+{
+    let name = words.last()?;
+    Some(Heading::Opening(Opening::Switch {
+        name: kept(alloc, name),
+    }))
+}
+
 /// What follows `log`.
 fn log(alloc: Global, words: &mut Words) -> Option<Heading>
     ensures { Says result (log_of_words (left words.old)) }
@@ -313,6 +326,8 @@ fn said_of_names(alloc: Global, first: &[u8], words: &mut Words) -> Option<Headi
         past(alloc, words)
     } else if first == b"log".as_slice() {
         log(alloc, words)
+    } else if first == b"switch".as_slice() {
+        switch(alloc, words)
     } else {
         None
     }

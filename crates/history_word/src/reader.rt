@@ -242,6 +242,7 @@ fn read_opening<R: Source>(
         Opening::Names => Ok(Draft::Names),
         Opening::NamesIn { folder } => Ok(Draft::NamesIn(folder)),
         Opening::Past { word } => Ok(Draft::Past(word)),
+        Opening::Switch { name } => Ok(Draft::Switch(name)),
         Opening::Log(line) => Ok(Draft::Log(read_log(alloc, buffer, source, line)?)),
     }
 }

@@ -121,6 +121,8 @@ def commands():
     row("read", b"names path\nx", "more names:path more")
     row("read", b"past HEAD\n", "more past:HEAD end")
     row("stream", b"past main\npast", "more past:main more")
+    cut(b"switch refs/heads/a\n", "switch:refs/heads/a")
+    row("stream", b"switch switch\nswitch", "more switch:switch more")
     for order in (b"breadth", b"newest", b"oldest", b"date", b"topological"):
         row("read", b"log %s all +main\n" % order, f"more log {order.decode()} all tip:main end")
         row("read", b"log %s first +main -old\n" % order, f"more log {order.decode()} first tip:main hidden:old end")
@@ -179,6 +181,8 @@ def limits():
     row("read", "x*4096+%0a+x", "more Syntax")
     row("read", "files%20+x*4090+%0a", "more files:" + "x" * 4090 + " end")
     row("read", "files%20+x*4091+%0a", "more LineTooLong")
+    row("read", "switch%20+x*4089+%0a", "more switch:" + "x" * 4089 + " end")
+    row("read", "switch%20+x*4090+%0a", "more LineTooLong")
     row("read", "show%20a%20path%204096%0a+x*4096+%0a", "more show:a path:" + "x" * 4096 + " end")
     row("read", "show%20a%20path%204097%0a+x*4096+%0a", "more Truncated")
     row("read", "show%20a%20path%204097%0a+x*4096+%0a%0a", "more show:a path:" + "x" * 1025 + "... end")
@@ -221,7 +225,8 @@ LINES = [
     b"log breadth all +a paths 1\n", b"log breadth all +a 1\n", b"log breadth all + path 1\n", b"log breadth path 1 +a\n",
     b"log depth all +a\n", b"log newest-since all +a\n", b"log newest 1 all +a\n", b"log breadth +a all\n", b"log breadth all all +a\n",
     b"commit HEAD new\nnames\n", b"commit HEAD new\npast a\n", b"commit HEAD new\nlog breadth all +a\n",
-    b"switch main\n", b"delete\n", b"delete main\n", b"delete main new\n", b"delete main at\n",
+    b"switch\n", b"switch a b\n", b"switch  a\n", b"switch a \n", b"Switch a\n", b"commit HEAD new\nswitch a\n",
+    b"delete\n", b"delete main\n", b"delete main new\n", b"delete main at\n",
     b"delete main any any\n", b"delete main at a b\n", b"delete main anyone\n", b"delete main to a\n", b"delete  any\n", b"delete main a\n",
     b"commit HEAD new\ndelete main any\n", b"delete main any \n", b"Delete main any\n", b"rename a b\n", b"tag a new b\n", b"pack\n", b"index\n",
     b"move a\n", b"move \n", b"to a new b\n", b"actor 0 0 s o\n",
@@ -230,7 +235,7 @@ LINES = [
 TO, ACTOR, MESSAGE = b"to a new b\n", b"actor 0 0 s o\n\n\n", b"message 0\n\n"
 FIRST, MORE, SIGNED, TOLD = b"move\n", b"move\n" + TO, b"move\n" + TO + ACTOR, b"move\n" + TO + ACTOR + MESSAGE
 WRONG = [
-    (FIRST, [b"move\n", b"delete main any\n", b"actor 0 0 s o\n", b"message 0\n", b"end\n", b"names\n", b"to\n", b"to a\n", b"to a new\n", b"to a any\n",
+    (FIRST, [b"move\n", b"delete main any\n", b"switch a\n", b"actor 0 0 s o\n", b"message 0\n", b"end\n", b"names\n", b"to\n", b"to a\n", b"to a new\n", b"to a any\n",
              b"to a at b\n", b"to a old b\n", b"to a new b c\n", b"to a any b c\n", b"to a at b c d\n", b"to a at\n", b"to  new b\n",
              b"To a new b\n", b"\n", b"parent a\n"]),
     (MORE, [b"move\n", b"message 0\n", b"end\n", b"author 0 0 s o\n", b"committer 0 0 s o\n", b"tagger 0 0 s o\n", b"parent a\n",

@@ -40,6 +40,7 @@ fn show_command(command: &Command, page: &mut Page) {
         Command::Names(None) => page.word("names"),
         Command::Names(Some(folder)) => page.named("names", folder),
         Command::Past(word) => page.named("past", word),
+        Command::Switch(name) => page.named("switch", name),
         Command::Log(log) => show_log(log, page),
     }
 }

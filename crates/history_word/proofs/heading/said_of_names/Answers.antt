@@ -43,8 +43,13 @@ returns-then-eq-7 c =
     let name = (slice_eq-Decides Decides-eqb _ _ _ c.eq-else-eq-6.ensures).0 c.if-eq-7.true ∙ c.as_slice-else-eq-6.ensures in
     subst (λ first. Says c.log.result (name_heading_of first (left c.args.words.now))) (sym name) c.log.ensures
 
-pub returns-else-eq-7 : goal.returns-else-eq-7
-returns-else-eq-7 c =
+pub returns-then-eq-8 : goal.returns-then-eq-8
+returns-then-eq-8 c =
+    let name = (slice_eq-Decides Decides-eqb _ _ _ c.eq-else-eq-7.ensures).0 c.if-eq-8.true ∙ c.as_slice-else-eq-7.ensures in
+    subst (λ first. Says c.switch.result (name_heading_of first (left c.args.words.now))) (sym name) c.switch.ensures
+
+pub returns-else-eq-8 : goal.returns-else-eq-8
+returns-else-eq-8 c =
     no_line_of c.args.first.now (left c.args.words.now)
     (is_other c.args.first.now _ (codes "move") _ (slice_eq-Decides Decides-eqb _ _ _ c.eq.ensures).1 c.as_slice.ensures c.if-eq.false)
     (is_other c.args.first.now _ (codes "to") _ (slice_eq-Decides Decides-eqb _ _ _ c.eq-else-eq.ensures).1 c.as_slice-else-eq.ensures c.if-eq-2.false)
@@ -53,3 +58,4 @@ returns-else-eq-7 c =
     (is_other c.args.first.now _ (codes "names") _ (slice_eq-Decides Decides-eqb _ _ _ c.eq-else-eq-4.ensures).1 c.as_slice-else-eq-4.ensures c.if-eq-5.false)
     (is_other c.args.first.now _ (codes "past") _ (slice_eq-Decides Decides-eqb _ _ _ c.eq-else-eq-5.ensures).1 c.as_slice-else-eq-5.ensures c.if-eq-6.false)
     (is_other c.args.first.now _ (codes "log") _ (slice_eq-Decides Decides-eqb _ _ _ c.eq-else-eq-6.ensures).1 c.as_slice-else-eq-6.ensures c.if-eq-7.false)
+    (is_other c.args.first.now _ (codes "switch") _ (slice_eq-Decides Decides-eqb _ _ _ c.eq-else-eq-7.ensures).1 c.as_slice-else-eq-7.ensures c.if-eq-8.false)

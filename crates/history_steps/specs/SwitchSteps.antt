@@ -1,0 +1,42 @@
+-- The step of a switch on the tree of names: HEAD is written anew, beside and then renamed to its place.
+use Rattle.std.specs.Prelude.{◌≡◌, ◌≢◌, ◌⊎◌, Some, None, IsTrue, IsFalse}
+use Rattle.std.specs.FinMap.{get}
+use Rattle.gix_ref_file.specs.Tree.{Tree, folder}
+use Rattle.history_model.specs.Bytes.{Bytes}
+use Rattle.history_model.specs.Repository.{Repository}
+use Rattle.history_model.specs.Commands.{Switch}
+use Rattle.history_model.specs.Meaning.{after}
+use Rattle.history_model.specs.Causes.{first_cause}
+use Rattle.history_model.specs.Places.{Pair, file_at, head_place, is_lock_file, is_name_folder}
+use Rattle.history_model.specs.StandsFor.{StandsFor, head_text}
+use Rattle.history_model.specs.Wholeness.{IsSound}
+use Rattle.history_steps.specs.TreeHalves.{HoldsNames}
+use Rattle.history_steps.specs.Passing.{HoldsBetween}
+
+-- HEAD names this branch, each other file stands as before, and no folders but those of names and logs.
+pub record NamesBranch (branch : Bytes) (old new : Tree) : Type 0 where
+  pub here : file_at new head_place ≡ Some (head_text branch)
+  pub others : (path : Bytes) → path ≢ head_place → file_at new path ≡ file_at old path
+  pub folders : (path : Bytes) → get new path ≡ Some folder → IsTrue (is_name_folder path)
+
+-- So a switch leaves the names after it.
+abbrev pub SwitchesStand : Type 0
+SwitchesStand =
+    (old new : Tree) (r : Repository) (name : Bytes) → HoldsNames old r → NamesBranch name old new
+    → HoldsNames new (after r (Switch name))
+
+-- What stands meanwhile: HEAD is as before, or names the branch, whole. Of the other files at most lock files differ, and no folders
+-- stand but those of names and logs.
+pub record HeadOnTheWay (branch : Bytes) (old tree : Tree) : Type 0 where
+  pub here : (file_at tree head_place ≡ file_at old head_place)
+      ⊎ (file_at tree head_place ≡ Some (head_text branch))
+  pub others : (path : Bytes) → path ≢ head_place → IsFalse (is_lock_file path)
+      → file_at tree path ≡ file_at old path
+  pub folders : (path : Bytes) → get tree path ≡ Some folder → IsTrue (is_name_folder path)
+
+-- So HEAD's branch is as before the switch or as after it, and each name as before.
+abbrev pub SwitchesPass : Type 0
+SwitchesPass =
+    (pair : Pair) (tree : Tree) (r : Repository) (name : Bytes) → IsSound r
+    → StandsFor r.kind pair r → first_cause r (Switch name) ≡ None
+    → HeadOnTheWay name pair.names tree → HoldsBetween r (Switch name) tree
