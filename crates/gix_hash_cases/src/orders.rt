@@ -2,21 +2,22 @@
 
 use crate::fields;
 use bstr::BStr;
-use case_page::{digest, order_told, text_of};
+use case_page::{Page, digest, order_told, text_of};
 use gix_hash::{ChangeId, ObjectId, Prefix, oid};
 use std::alloc::Global;
 use std::cmp::Ordering;
 
 /// How two kinds stand to each other.
-pub fn kinds(alloc: Global, fields: &[Vec<u8>]) -> Option<String> {
+pub fn kinds(page: &mut Page, alloc: Global, fields: &[Vec<u8>]) -> Option<()> {
     let [first, second] = fields else {
         return None;
     };
-    order_told(alloc, &fields::kind(first)?, &fields::kind(second)?).ok()
+    page.put(order_told(alloc, &fields::kind(first)?, &fields::kind(second)?).ok()?);
+    Some(())
 }
 
 /// How two ids stand to each other, and whether the first hashes like its view.
-pub fn ids(alloc: Global, fields: &[Vec<u8>]) -> Option<String> {
+pub fn ids(page: &mut Page, alloc: Global, fields: &[Vec<u8>]) -> Option<()> {
     let [first, second] = fields else {
         return None;
     };
@@ -24,54 +25,59 @@ pub fn ids(alloc: Global, fields: &[Vec<u8>]) -> Option<String> {
     let second = fields::id(second)?;
     let is_equal = first.eq_oid(second.as_oid());
     let is_view = digest(&first) == digest(&first.as_oid());
-    format!(in alloc;
-        "{} {is_equal} {is_view}",
-        order_told(alloc, &first, &second).ok()?
-    )
-    .ok()
+    page.put(order_told(alloc, &first, &second).ok()?);
+    page.value(is_equal);
+    page.value(is_view);
+    Some(())
 }
 
 /// How two views of ids stand to each other.
-pub fn views(alloc: Global, fields: &[Vec<u8>]) -> Option<String> {
+pub fn views(page: &mut Page, alloc: Global, fields: &[Vec<u8>]) -> Option<()> {
     let [first, second] = fields else {
         return None;
     };
     let first = oid::try_from_bytes(first).ok()?;
     let second = oid::try_from_bytes(second).ok()?;
     let is_equal = first.eq_oid(second);
-    format!(in alloc; "{} {is_equal}", order_told(alloc, &first, &second).ok()?).ok()
+    page.put(order_told(alloc, &first, &second).ok()?);
+    page.value(is_equal);
+    Some(())
 }
 
 /// How two change ids stand to each other.
-pub fn changes(alloc: Global, fields: &[Vec<u8>]) -> Option<String> {
+pub fn changes(page: &mut Page, alloc: Global, fields: &[Vec<u8>]) -> Option<()> {
     let [first, second] = fields else {
         return None;
     };
     let first = ChangeId::from(fields::id(first)?);
     let second = ChangeId::from(fields::id(second)?);
     let is_equal = first.eq_oid(second.as_oid());
-    format!(in alloc; "{} {is_equal}", order_told(alloc, &first, &second).ok()?).ok()
+    page.put(order_told(alloc, &first, &second).ok()?);
+    page.value(is_equal);
+    Some(())
 }
 
 /// How the prefixes of two texts stand to each other.
-pub fn prefixes(alloc: Global, fields: &[Vec<u8>]) -> Option<String> {
+pub fn prefixes(page: &mut Page, alloc: Global, fields: &[Vec<u8>]) -> Option<()> {
     let [first, second] = fields else {
         return None;
     };
     let first = Prefix::from_hex_nonempty(text_of(first)?).ok()?;
     let second = Prefix::from_hex_nonempty(text_of(second)?).ok()?;
-    order_told(alloc, &first, &second).ok()
+    page.put(order_told(alloc, &first, &second).ok()?);
+    Some(())
 }
 
 /// How a text's prefix stands to an id.
-pub fn candidate(alloc: Global, fields: &[Vec<u8>]) -> Option<String> {
+pub fn candidate(page: &mut Page, fields: &[Vec<u8>]) -> Option<()> {
     let [text, bytes] = fields else {
         return None;
     };
     let prefix = Prefix::from_hex_nonempty(text_of(text)?).ok()?;
     let id = fields::id(bytes)?;
     let order = order(&prefix, id.as_oid())?;
-    format!(in alloc; "{order:?}").ok()
+    page.name(order);
+    Some(())
 }
 
 // How a prefix stands to an id, where that has enough digits.
@@ -83,7 +89,7 @@ fn order(prefix: &Prefix, id: oid<'_>) -> Option<Ordering> {
 }
 
 /// Whether an id is the one that was expected, by the id, its view and its change id.
-pub fn verify(alloc: Global, fields: &[Vec<u8>]) -> Option<String> {
+pub fn verify(page: &mut Page, fields: &[Vec<u8>]) -> Option<()> {
     let [actual, expected] = fields else {
         return None;
     };
@@ -92,20 +98,32 @@ pub fn verify(alloc: Global, fields: &[Vec<u8>]) -> Option<String> {
     let view = actual.as_oid().verify(expected.as_oid()).is_ok();
     let change = ChangeId::from(actual).verify(expected.as_oid()).is_ok();
     match actual.verify(expected.as_oid()) {
-        Ok(()) => format!(in alloc; "as expected {view} {change}").ok(),
-        Err(error) => format!(in alloc; "{error} {view} {change}").ok(),
+        Ok(()) => {
+            page.text("as expected ");
+            page.put(view);
+            page.value(change);
+        },
+        Err(error) => {
+            page.put(error);
+            page.value(view);
+            page.value(change);
+        },
     }
+    Some(())
 }
 
 /// Whether an id, its view, its digits, its change id, the change id's digits and its whole prefix print as a text.
-pub fn texts(alloc: Global, fields: &[Vec<u8>]) -> Option<String> {
+pub fn texts(page: &mut Page, fields: &[Vec<u8>]) -> Option<()> {
     let [bytes, text] = fields else {
         return None;
     };
     let id = fields::id(bytes)?;
     let plain = plain_texts(&id, text_of(text)?);
     let others = other_texts(&id, text_of(text)?);
-    format!(in alloc; "{plain:?} {others:?}").ok()
+    page.name(plain);
+    page.text(" ");
+    page.name(others);
+    Some(())
 }
 
 fn plain_texts(id: &ObjectId, text: &str) -> [bool; 5] {

@@ -1,6 +1,7 @@
-//! Answers cases of stores of references, a line each: an operation, a worktree's folder, what is asked for, and the files.
+//! Answers cases of stores of references, a line each, as the README's table has them; lines of `bench` time listings and lookups.
 #![tactic(auto)]
 
+mod bench;
 mod cases;
 mod ends;
 mod files;
@@ -15,7 +16,11 @@ use std::io;
 
 fn main(rt: HostRuntime) -> io::Result<()> {
     for line in rt.lines(rt.alloc()) {
-        let text = cases::answer(rt.alloc(), line?.as_str())?;
+        let line = line?;
+        let text = match line.as_str().strip_prefix("bench ") {
+            Some(case) => bench::answer(&rt, case)?,
+            None => cases::answer(rt.alloc(), line.as_str())?,
+        };
         println!(rt; "{text}")?;
     }
     Ok(())

@@ -1,0 +1,16 @@
+"""Rows of programs of cases whose lines begin with a family: a script in the crate's scripts/ writes those of the family that it is named
+after."""
+from pathlib import Path
+
+
+def write(script, rows):
+    """Puts these rows, each a line without its family and an answer, in the place of the family's in `stdin` and `stdout` of the crate."""
+    crate, family = Path(script).resolve().parent.parent, Path(script).stem
+    lines, answers = ((crate / name).read_text().split("\n")[:-1] for name in ("stdin", "stdout"))
+    places = [at for at, line in enumerate(lines) if line.startswith(family + " ")] or [len(lines)]
+    first, behind = places[0], places[0] + sum(line.startswith(family + " ") for line in lines)
+    lines[first:behind] = [f"{family} {line}" for line, _ in rows]
+    answers[first:behind] = [answer for _, answer in rows]
+    (crate / "stdin").write_text("".join(f"{line}\n" for line in lines))
+    (crate / "stdout").write_text("".join(f"{answer}\n" for answer in answers))
+    print(len(rows), "rows")
