@@ -1,7 +1,7 @@
 //! A version store with Git's ids, names and logs: a repository, and a run of commands over it.
 //!
 //! [`create`] makes a repository of two file trees, [`Repository::open`] opens one, and [`run`] reads commands, acts on
-//! each and writes its reply.
+//! each and writes its reply. [`recover`] makes whole what a stopped or failed call left.
 #![tactic(auto)]
 
 mod act;
@@ -38,6 +38,7 @@ pub mod lookups {
 
 pub use gix_hash::{Kind, ObjectId, Prefix, oid};
 pub use history_model::{Cause, End, Fault};
+pub use history_recovery::{RecoverError, recover};
 pub use history_store::{
     CreateError, Hit, IdIter, Lookup, Object, Objects, ObjectsRefusal, OpenError, PutError, create,
 };

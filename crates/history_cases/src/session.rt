@@ -3,7 +3,7 @@
 use crate::{face, files, runs};
 use case_words::{Page, Session, Trial, act_on, sound};
 use gix_ref_file::MemoryFiles;
-use history::{CreateError, Kind, OpenError, Repository, create};
+use history::{CreateError, Kind, OpenError, RecoverError, Repository, create, recover};
 use std::alloc::Global;
 use std::mem;
 
@@ -42,7 +42,7 @@ impl Session for Store {
                 self.close();
                 act_on(alloc, &mut self.names, rest, number, page)
             }
-            "create" | "open" | "close" | "left" => {
+            "create" | "recover" | "open" | "close" | "left" => {
                 self.change(alloc, operation, page);
                 Some(())
             }
@@ -81,11 +81,37 @@ impl Store {
                 page,
             ),
             "open" => self.open(alloc, page),
+            "recover" => self.recover(alloc, page),
             "left" => {
-                files::show_objects(alloc, files::mend(alloc, &mut self.objects), page);
-                files::show_names(alloc, files::mend(alloc, &mut self.names), page);
+                self.mend(alloc);
+                self.show_left(alloc, page);
             }
             _ => {}
+        }
+    }
+
+    // From here on no call fails.
+    fn mend(&mut self, alloc: Global) {
+        mend(alloc, &mut self.objects);
+        mend(alloc, &mut self.names);
+    }
+
+    fn recover(&mut self, alloc: Global, page: &mut Page) {
+        match recover(alloc, &mut self.objects, &mut self.names, self.kind) {
+            Ok(()) => page.word("recovered"),
+            Err(RecoverError::File) => page.word("File"),
+            Err(RecoverError::Memory) => page.word("Memory"),
+        }
+    }
+
+    // Recovers the two parts, and shows all that they have then.
+    fn show_left(&mut self, alloc: Global, page: &mut Page) {
+        match recover(alloc, &mut self.objects, &mut self.names, self.kind) {
+            Ok(()) => {
+                files::show("objects", alloc, &self.objects, page);
+                files::show("names", alloc, &self.names, page);
+            }
+            Err(_) => page.word("failed"),
         }
     }
 
@@ -112,6 +138,11 @@ impl Store {
             None => page.word("closed"),
         }
     }
+}
+
+fn mend(alloc: Global, files: &mut Trial) {
+    let inner = mem::replace(files, sound(MemoryFiles::new(alloc))).into_inner();
+    *files = sound(inner);
 }
 
 fn show_created(created: Result<(), CreateError>, page: &mut Page) {

@@ -1,0 +1,11 @@
+mod Absences
+mod Below
+mod Cuts
+mod Ends
+mod Folders
+mod Left
+mod Lines
+mod Locks
+mod Recoveries
+mod Rooms
+mod Stood

@@ -1,0 +1,164 @@
+-- The lock file of a log has room in a tree without leftovers.
+use Rattle.std.proofs.Common.{◌≡◌, ◌≢◌, refl, sym, ◌∙◌, ap, ℕ, ◌+◌, ◌-◌, ◌≤◌, ◌==◌, Bool, true, false, cond, not, ◌&&◌, ◌||◌, List, [], ◌∷◌, ◌++◌, length, length-append, take, reverse, arith, codes, bytes_eq, Option, Some, None, is_some}
+use Rattle.std.specs.Prelude.{IsTrue, IsSome, nat_lt, nat_le}
+use Rattle.std.specs.List.{list_any, list_all, slice_split, onto_first, prefix_len, suffix_len}
+use Rattle.std.specs.FinMap.{get, insert}
+use Rattle.std.proofs.lemmas.List.{reverse-append, take-append-le}
+use Rattle.std.proofs.lemmas.List.Folds.{list_any-append}
+use Rattle.std.proofs.lemmas.Bool.Decides.{nat_tests}
+use Rattle.std.proofs.lemmas.Bool.{not-true, and_parts}
+use Rattle.std.proofs.lemmas.Slice.Eq.{bytes_eq-Decides}
+use Rattle.gix_ref_file.specs.Tree.{Tree, Node, file, folder, is_slash, is_component, is_path, parent, bytes_of, node_at, is_folder, IsRooted, max_path}
+use Rattle.gix_ref_file.specs.Changes.{to_rename, allows, is_file_at, may_hold_file}
+use Rattle.gix_ref_file.proofs.Rooted.{file_room}
+use Rattle.gix_ref_file.proofs.Trees.{room_after_insert}
+use Rattle.history_model.specs.Bytes.{Bytes}
+use Rattle.history_model.specs.Places.{file_at, is_log_place}
+use Rattle.history_model.specs.Recovery.{is_deserted, recovered_files, recovered_names}
+use Rattle.gix_hash_id.specs.declared.kind.Kind.{Kind}
+use Rattle.history_model.proofs.RecoveryLemmas.{get-recovered_names}
+use Rattle.history_recovery.specs.Clearing.{lock_place, is_over, AreAllKept}
+use Rattle.history_recovery.proofs.Locks.{logs_have_room}
+use Rattle.history_recovery.proofs.Left.{stays, left_is, not_some}
+
+abbrev lock_end : Bytes
+lock_end = codes ".lock"
+
+-- ---- it is a path
+abbrev onto_last : List Bytes → List Bytes
+onto_last [] = lock_end ∷ []
+onto_last (part ∷ []) = (part ++ lock_end) ∷ []
+onto_last (part ∷ next ∷ parts) = part ∷ onto_last (next ∷ parts)
+
+none_split : (b : ℕ) (text : Bytes) → slice_split is_slash text ≢ []
+none_split b text is = some text is
+  where
+    some : (t : Bytes) → slice_split is_slash t ≡ [] → ⊥
+    some [] e = cc
+    some (c ∷ t) e = go (is_slash c) (slice_split is_slash t) e
+      where
+        go : (s : Bool) (parts : List Bytes) → cond s ([] ∷ parts) (onto_first c parts) ≡ [] → ⊥
+        go true parts e = cc
+        go false [] e = cc
+        go false (part ∷ parts) e = cc
+
+split_locked : (name : Bytes) → slice_split is_slash (name ++ lock_end) ≡ onto_last (slice_split is_slash name)
+split_locked [] = refl
+split_locked (b ∷ name) = go (is_slash b) (slice_split is_slash name) refl (split_locked name)
+  where
+    go : (s : Bool) (parts : List Bytes) → slice_split is_slash name ≡ parts → slice_split is_slash (name ++ lock_end) ≡ onto_last (slice_split is_slash name)
+        → cond s ([] ∷ slice_split is_slash (name ++ lock_end)) (onto_first b (slice_split is_slash (name ++ lock_end))) ≡ onto_last (cond s ([] ∷ slice_split is_slash name) (onto_first b (slice_split is_slash name)))
+    go s [] e ih = absurd (none_split b name e)
+    go true (part ∷ parts) e ih = ap (λ ps. [] ∷ ps) (ih ∙ ap onto_last e) ∙ ap (λ ps. onto_last ([] ∷ ps)) (sym e)
+    go false (part ∷ []) e ih = ap (onto_first b) (ih ∙ ap onto_last e) ∙ ap (λ ps. onto_last (onto_first b ps)) (sym e)
+    go false (part ∷ next ∷ parts) e ih = ap (onto_first b) (ih ∙ ap onto_last e) ∙ ap (λ ps. onto_last (onto_first b ps)) (sym e)
+
+no_dots : (part dots : Bytes) → length dots ≤ 2 → not (bytes_eq (part ++ lock_end) dots) ≡ true
+no_dots part dots few = by_test (bytes_eq (part ++ lock_end) dots) refl
+  where
+    by_test : (b : Bool) → bytes_eq (part ++ lock_end) dots ≡ b → not b ≡ true
+    by_test false apart = refl
+    by_test true same = absurd (omega (arith, few, ap length ((bytes_eq-Decides (part ++ lock_end) dots).0 same), length-append part lock_end))
+
+locked_part : (part : Bytes) → is_component part ≡ true → is_component (part ++ lock_end) ≡ true
+locked_part part is =
+    let clean = not-true (list_any (λ byte. byte == 0) part) (and_parts _ (not (list_any (λ byte. byte == 0) part)) is).1 in
+    let some : nat_lt 0 (length (part ++ lock_end)) ≡ true = grind (arith, nat_tests, length-append part lock_end) in
+    let free : list_any (λ byte. byte == 0) (part ++ lock_end) ≡ false = list_any-append (λ byte. byte == 0) part lock_end ∙ ap (λ b. b || list_any (λ byte. byte == 0) lock_end) clean in
+    λ i. some i && no_dots part (codes ".") (omega arith) i && no_dots part (codes "..") (omega arith) i && not (free i)
+
+locked_parts : (parts : List Bytes) → parts ≢ [] → list_all is_component parts ≡ true → list_all is_component (onto_last parts) ≡ true
+locked_parts [] some are = absurd (some refl)
+locked_parts (part ∷ []) some are = ap (λ b. b && true) (locked_part part (and_parts (is_component part) true are).0)
+locked_parts (part ∷ next ∷ parts) some are =
+    let both = and_parts (is_component part) (list_all is_component (next ∷ parts)) are in
+    λ i. both.0 i && locked_parts (next ∷ parts) (λ e. cc) both.1 i
+
+fits : (n : ℕ) → n ≤ 4096 → nat_le n 4096 ≡ true
+fits n few = grind (arith, nat_tests)
+
+pub lock_path : (path : Bytes) → IsTrue (is_path path) → length (lock_place path) ≤ max_path → IsTrue (is_path (lock_place path))
+lock_path path is short =
+    let parts = ap (list_all is_component) (split_locked path) ∙ locked_parts (slice_split is_slash path) (none_split 0 path) (and_parts (nat_le (length path) max_path) (list_all is_component (slice_split is_slash path)) is).1 in
+    λ i. fits (length (lock_place path)) short i && parts i
+
+-- ---- it stands where the log does
+lock_beside : (name : Bytes) → parent (lock_place name) ≡ parent name
+lock_beside name = ap (λ n. take n (name ++ lock_end)) (omega (arith, longer, length-append name lock_end)) ∙ take-append-le (length name - suffix_len (λ byte. not (is_slash byte)) name - 1) name lock_end (omega arith)
+  where
+    longer : suffix_len (λ byte. not (is_slash byte)) (name ++ lock_end) ≡ 5 + suffix_len (λ byte. not (is_slash byte)) name
+    longer =
+        let inside : ℕ → Bool = λ byte. not (is_slash byte) in
+        let behind : prefix_len inside (reverse lock_end ++ reverse name) ≡ 1 + (1 + (1 + (1 + (1 + prefix_len inside (reverse name))))) = refl in
+        omega (arith, ap (prefix_len inside) (reverse-append name lock_end), behind)
+
+-- ---- it has room
+
+-- no folder stands there, since recovery leaves none
+no_folder_kept : (kind : Kind) (tree : Tree) (k : Bytes) → AreAllKept kind tree → get (recovered_names kind tree) k ≢ Some folder → is_folder (get tree k) ≡ false
+no_folder_kept kind tree k kept free = go (get tree k) refl
+  where
+    left : get tree k ≡ Some folder → (b : Bool) → is_deserted (recovered_files kind tree) k ≡ b → is_some (get (recovered_names kind tree) k) ≡ true → get (recovered_names kind tree) k ≡ Some folder
+    left e true f there = absurd (not_some (get (recovered_names kind tree) k)
+        (get-recovered_names kind tree k ∙ ap (λ b. cond (not b) (get (recovered_files kind tree) k) None) f) there)
+    left e false f there =
+        get-recovered_names kind tree k ∙ ap (λ b. cond (not b) (get (recovered_files kind tree) k) None) f
+        ∙ left_is kind tree k ∙ ap (stays (is_over kind tree k) k) e
+
+    go : (o : Option Node) → get tree k ≡ o → is_folder (get tree k) ≡ false
+    go None e = ap is_folder e
+    go (Some (file bytes)) e = ap is_folder e
+    go (Some folder) e = absurd (free (left e (is_deserted (recovered_files kind tree) k) refl (kept k (ap is_some e))))
+
+some_stands : (tree : Tree) (path text : Bytes) → is_log_place path ≡ true → file_at tree path ≡ Some text → IsSome (get tree path)
+some_stands tree [] text log stands = cc
+some_stands tree (b ∷ path) text log stands = go (get tree (b ∷ path)) stands
+  where
+    go : (o : Option Node) → bytes_of o ≡ Some text → is_some o ≡ true
+    go None e = cc
+    go (Some node) e = refl
+
+-- a log that stands is left
+file_left : (kind : Kind) (tree : Tree) (path text : Bytes) → AreAllKept kind tree → is_log_place path ≡ true → file_at tree path ≡ Some text → IsSome (file_at (recovered_names kind tree) path)
+file_left kind tree [] text kept log stands = cc
+file_left kind tree (b ∷ path) text kept log stands =
+    go (get tree (b ∷ path)) refl stands (sym (ap is_some left) ∙ kept (b ∷ path) (some_stands tree (b ∷ path) text log stands))
+  where
+    left : get (recovered_names kind tree) (b ∷ path) ≡ cond (not (is_deserted (recovered_files kind tree) (b ∷ path))) (stays (is_over kind tree (b ∷ path)) (b ∷ path) (get tree (b ∷ path))) None
+    left = get-recovered_names kind tree (b ∷ path) ∙ ap (λ o. cond (not (is_deserted (recovered_files kind tree) (b ∷ path))) o None) (left_is kind tree (b ∷ path))
+
+    go : (o : Option Node) → get tree (b ∷ path) ≡ o → bytes_of o ≡ Some text
+        → is_some (cond (not (is_deserted (recovered_files kind tree) (b ∷ path))) (stays (is_over kind tree (b ∷ path)) (b ∷ path) (get tree (b ∷ path))) None) ≡ true
+        → is_some (bytes_of (get (recovered_names kind tree) (b ∷ path))) ≡ true
+    go None e is there = cc
+    go (Some folder) e is there = cc
+    go (Some (file bytes)) e is there =
+        ap (λ o. is_some (bytes_of o)) (left ∙ ap (λ o. cond (not (is_deserted (recovered_files kind tree) (b ∷ path))) (stays (is_over kind tree (b ∷ path)) (b ∷ path) o) None) e)
+        ∙ by_tests (not (is_deserted (recovered_files kind tree) (b ∷ path))) (is_over kind tree (b ∷ path))
+        (sym (ap (λ o. is_some (cond (not (is_deserted (recovered_files kind tree) (b ∷ path))) (stays (is_over kind tree (b ∷ path)) (b ∷ path) o) None)) e) ∙ there)
+      where
+        by_tests : (stay over : Bool) → is_some (cond stay (stays over (b ∷ path) (Some (file bytes))) None) ≡ true → is_some (bytes_of (cond stay (stays over (b ∷ path) (Some (file bytes))) None)) ≡ true
+        by_tests false over h = cc
+        by_tests true true h = cc
+        by_tests true false h = refl
+
+pub lock_room : (kind : Kind) (tree : Tree) (log text : Bytes) → IsRooted tree → AreAllKept kind tree → is_log_place log ≡ true → file_at tree log ≡ Some text → IsTrue (may_hold_file tree (lock_place log))
+lock_room kind tree log text rooted kept is_log stands =
+    let has = logs_have_room kind tree log is_log (file_left kind tree log text kept is_log stands) in
+    let above = rooted log (some_stands tree log text is_log stands) in
+    let path = lock_path log above.0 has.0 in
+    let here = ap (λ p. is_folder (node_at tree p)) (lock_beside log) ∙ above.1 in
+    let free = no_folder_there (lock_place log) refl path (no_folder_kept kind tree (lock_place log) kept has.1) in
+    λ i. path i && here i && not (free i)
+  where
+    no_folder_there : (q : Bytes) → q ≡ lock_place log → IsTrue (is_path q) → is_folder (get tree q) ≡ false → is_folder (node_at tree q) ≡ false
+    no_folder_there [] same is free = cc
+    no_folder_there (b ∷ q) same is free = free
+
+-- and may then be renamed to the log
+pub lock_moves : (tree locked : Tree) (log text whole : Bytes) → IsRooted tree → is_log_place log ≡ true → file_at tree log ≡ Some text → IsTrue (may_hold_file tree (lock_place log))
+    → locked ≡ insert tree (lock_place log) (file whole) → is_file_at locked (lock_place log) ≡ true → IsTrue (allows locked (to_rename (lock_place log) log))
+lock_moves tree locked log text whole rooted is_log stands may is there =
+    let room : may_hold_file tree log ≡ true = file_room tree log rooted (ap is_some stands) in
+    let after = ap (λ t. may_hold_file t log) is ∙ room_after_insert tree (lock_place log) whole may log ∙ room in
+    λ i. there i && after i

@@ -1,0 +1,98 @@
+-- The words of private contracts: what clearing and cutting make of the names part.
+use Rattle.std.specs.Prelude.{◌≡◌, ◌⊎◌, ℕ, zero, suc, Bool, true, false, ◌&&◌, ◌||◌, ◌∷◌, ◌++◌, [], Some, None, option_map, unwrap_or, is_none, IsSome, IsTrue, codes}
+use Rattle.std.specs.FinMap.{get, insert}
+use Rattle.gix_ref_file.specs.Tree.{Tree, file, parent, bytes_at}
+use Rattle.gix_ref_format.specs.Lookup.{packed_hit}
+use Rattle.gix_ref_format.specs.PackedKept.{kept}
+use Rattle.history_model.specs.Bytes.{Bytes, begins}
+use Rattle.history_model.specs.Forms.{is_name}
+use Rattle.history_model.specs.Logs.{whole_lines}
+use Rattle.history_model.specs.Places.{file_at, packed_place, is_log_place, log_name, is_lock_file}
+use Rattle.history_model.specs.NameStates.{NameState, Absent, is_absent, name_state, packed_text_state}
+use Rattle.history_model.specs.Recovery.{recovered_names, recovered_node}
+use Rattle.gix_hash_id.specs.declared.kind.Kind.{Kind}
+use Rattle.history_recovery.specs.Recovering.{NamesAlike}
+use Rattle.history_recovery.specs.declared.packed.Packed.{Packed}
+use Rattle.history_recovery.specs.declared.packed.Packed.TheVariants as says
+
+-- ---- what packed-refs says
+
+-- what a name without a file of its own reads as
+abbrev pub packed_reading : Kind → Tree → Bytes → NameState
+packed_reading kind tree name =
+    unwrap_or (option_map (packed_text_state kind name) (file_at tree packed_place)) Absent
+
+-- whether no record stands for the name, in a file that can be read
+abbrev pub lacks : Packed → Bytes → Bool
+lacks says.Absent name = true
+lacks (says.Records records) name = is_none (packed_hit (kept records) name)
+lacks says.Faulty name = false
+
+-- it says what the tree's file does
+abbrev pub Tells : Kind → Tree → Packed → Type 0
+Tells kind tree packed =
+    (name : Bytes) → IsTrue (is_name name)
+    → lacks packed name ≡ is_absent (packed_reading kind tree name)
+
+-- whether a file at the path is left over
+abbrev pub is_over : Kind → Tree → Bytes → Bool
+is_over kind tree path =
+    is_lock_file path || (is_log_place path && is_absent (name_state kind tree (log_name path)))
+
+-- ---- what is cleared
+
+-- the folder so many folders above a path
+abbrev pub above : ℕ → Bytes → Bytes
+above zero path = path
+above (suc n) path = parent (above n path)
+
+-- what stands at the path stays in recovery
+abbrev pub IsKept : Kind → Tree → Bytes → Type 0
+IsKept kind tree path = IsSome (get tree path) → IsSome (get (recovered_names kind tree) path)
+
+abbrev pub AreKeptBelow : Kind → Bytes → Tree → Type 0
+AreKeptBelow kind place tree =
+    (n : ℕ) (path : Bytes) → above (suc n) path ≡ place → IsKept kind tree path
+
+abbrev pub AreAllKept : Kind → Tree → Type 0
+AreAllKept kind tree = (path : Bytes) → IsKept kind tree path
+
+-- The tree recovers as the old one does, and has at each path what stood there or nothing.
+pub record Clears (kind : Kind) (old tree : Tree) : Type 0 where
+  pub alike : NamesAlike kind old tree
+  pub goes : (path : Bytes) → (get tree path ≡ get old path) ⊎ (get tree path ≡ None)
+
+-- ---- what is cut
+
+-- below `logs`, or that folder
+abbrev pub IsLogFolder : Bytes → Type 0
+IsLogFolder place = IsTrue (begins (codes "logs/") (place ++ 47 ∷ []))
+
+-- a log at the path has whole lines alone
+abbrev pub IsCut : Tree → Bytes → Type 0
+IsCut tree path = option_map (recovered_node path) (get tree path) ≡ get tree path
+
+abbrev pub AreCutBelow : Bytes → Tree → Type 0
+AreCutBelow place tree = (n : ℕ) (path : Bytes) → above (suc n) path ≡ place → IsCut tree path
+
+-- at each path stands what stood there, or of a log its whole lines
+abbrev pub Cuts : Tree → Tree → Type 0
+Cuts old new =
+    (path : Bytes) → (get new path ≡ get old path)
+    ⊎ (get new path ≡ option_map (recovered_node path) (get old path))
+
+-- where a file is written before it is renamed to its place
+abbrev pub lock_place : Bytes → Bytes
+lock_place path = path ++ codes ".lock"
+
+-- In a tree without leftovers these are the whole lines of a log.
+pub record MayCut (kind : Kind) (log whole : Bytes) (tree : Tree) : Type 0 where
+  pub kept : AreAllKept kind tree
+  pub is_log : IsTrue (is_log_place log)
+  pub text : Bytes
+  pub stands : file_at tree log ≡ Some text
+  pub lines : whole ≡ whole_lines text
+
+-- the whole lines of a log stand in its place, and all else as before
+abbrev pub Replaces : Bytes → Tree → Tree → Type 0
+Replaces log old new = new ≡ insert old log (file (whole_lines (bytes_at old log)))

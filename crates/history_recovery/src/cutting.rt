@@ -1,0 +1,120 @@
+//! Cuts logs behind their last line feeds.
+ghost use Rattle.std.specs.Prelude.{◌≡◌, ◌≤◌, OnOk, IfOk, IsErrOf, IsTrue};
+ghost use Rattle.gix_ref_file.specs.Calls.{Achieves, HasFault, Passes};
+ghost use Rattle.gix_ref_file.specs.declared.files.FileError.TheVariants.{Failed};
+ghost use Rattle.history_model.specs.Places.{is_log_place};
+ghost use Rattle.history_model.specs.Logs as logs;
+ghost use Rattle.gix_hash_id.specs.declared.kind.Kind.{Kind};
+ghost use Rattle.history_recovery.specs.Clearing.{AreAllKept, AreCutBelow, Cuts, IsCut, IsLogFolder, MayCut, Replaces, lock_place};
+ghost use Rattle.history_recovery.specs.Recovering.{NamesAlike};
+
+use gix_ref_file::paths::{is_deeper, joined};
+use gix_ref_file::{FileError, Files};
+use std::alloc::{AllocError, Global};
+
+/// Cuts the logs below a folder of logs, in a tree without leftovers.
+pub(crate) fn cut_below<F: Files>(
+    alloc: Global,
+    files: &mut F,
+    folder: &[u8],
+) -> Result<(), FileError>
+    ensures honest { F.is_honest files.old → F.is_honest files.new }
+    ensures alike { (kind : Kind) → AreAllKept kind (F.history files.old).tree
+        → IsLogFolder folder.now
+        → Passes F.is_honest F.history files.old files.new (NamesAlike kind) }
+    ensures cuts { (kind : Kind) → AreAllKept kind (F.history files.old).tree
+        → IsLogFolder folder.now
+        → Achieves F.is_honest F.history files.old files.new result Cuts }
+    ensures cut { (kind : Kind) → AreAllKept kind (F.history files.old).tree
+        → IsLogFolder folder.now → Achieves F.is_honest F.history files.old files.new result
+        (λ _ new. AreCutBelow folder.now new) }
+    ensures later { F.failures files.old ≤ F.failures files.new }
+    ensures unfailed { OnOk result (F.failures files.new ≡ F.failures files.old) }
+    ensures failed { (kind : Kind) → AreAllKept kind (F.history files.old).tree
+        → IsLogFolder folder.now
+        → F.is_honest files.old → IsErrOf result Failed
+        → HasFault F.failures F.reading_may_fail files.old files.new }
+{
+    for name in &files.list(alloc, folder)? {
+        let path = joined(alloc, folder, name)?;
+        if is_deeper(&path, folder) {
+            cut_log(alloc, files, &path)?;
+            cut_below(alloc, files, &path)?;
+        }
+    }
+    Ok(())
+}
+
+// Cuts the log at a path, where a file stands there.
+fn cut_log<F: Files>(alloc: Global, files: &mut F, log: &[u8]) -> Result<(), FileError>
+    ensures honest { F.is_honest files.old → F.is_honest files.new }
+    ensures alike { (kind : Kind) → AreAllKept kind (F.history files.old).tree
+        → IsTrue (is_log_place log.now)
+        → Passes F.is_honest F.history files.old files.new (NamesAlike kind) }
+    ensures cuts { (kind : Kind) → AreAllKept kind (F.history files.old).tree
+        → IsTrue (is_log_place log.now)
+        → Achieves F.is_honest F.history files.old files.new result Cuts }
+    ensures cut { (kind : Kind) → AreAllKept kind (F.history files.old).tree
+        → IsTrue (is_log_place log.now)
+        → Achieves F.is_honest F.history files.old files.new result
+        (λ _ new. IsCut new log.now) }
+    ensures later { F.failures files.old ≤ F.failures files.new }
+    ensures unfailed { OnOk result (F.failures files.new ≡ F.failures files.old) }
+    ensures failed { (kind : Kind) → AreAllKept kind (F.history files.old).tree
+        → IsTrue (is_log_place log.now)
+        → F.is_honest files.old → IsErrOf result Failed
+        → HasFault F.failures F.reading_may_fail files.old files.new }
+{
+    let mut text = Vec::new(alloc);
+    if files.read(log, &mut text)?.is_none() {
+        return Ok(());
+    }
+    let whole = whole_lines(&text);
+    if whole.len() == text.len() {
+        return Ok(());
+    }
+    replace_log(alloc, files, log, whole)
+}
+
+// Puts its whole lines in the place of a log: writes them in its lock file, and renames that.
+fn replace_log<F: Files>(
+    alloc: Global,
+    files: &mut F,
+    log: &[u8],
+    whole: &[u8],
+) -> Result<(), FileError>
+    ensures honest { F.is_honest files.old → F.is_honest files.new }
+    ensures alike { (kind : Kind) → MayCut kind log.now whole.now (F.history files.old).tree
+        → Passes F.is_honest F.history files.old files.new (NamesAlike kind) }
+    ensures replaced { (kind : Kind) → MayCut kind log.now whole.now (F.history files.old).tree
+        → Achieves F.is_honest F.history files.old files.new result (Replaces log.now) }
+    ensures later { F.failures files.old ≤ F.failures files.new }
+    ensures unfailed { OnOk result (F.failures files.new ≡ F.failures files.old) }
+    ensures failed { (kind : Kind) → MayCut kind log.now whole.now (F.history files.old).tree
+        → F.is_honest files.old → IsErrOf result Failed
+        → HasFault F.failures F.reading_may_fail files.old files.new }
+{
+    let lock = lock_path(alloc, log)?;
+    files.write(alloc, &lock, whole)?;
+    files.rename(alloc, &lock, log)
+}
+
+// Where a file is written before it is renamed to its place.
+fn lock_path(alloc: Global, path: &[u8]) -> Result<Vec<u8>, AllocError>
+    ensures { IfOk result (λ lock. lock.items ≡ lock_place path.now) }
+{
+    let mut lock = Vec::from_slice(alloc, path)?;
+    lock.extend_from_slice(b".lock")?;
+    Ok(lock)
+}
+
+// The text up to its last line feed.
+fn whole_lines(text: &[u8]) -> &[u8]
+    ensures { result.now ≡ logs.whole_lines text.now }
+{
+    let mut end = text.len();
+    while end > 0 && text[end - 1] != b'\n' {
+        end -= 1;
+    }
+    &text[..end]
+}

@@ -1,0 +1,123 @@
+//! Recovers the two parts of a repository.
+ghost use Rattle.std.specs.Prelude.{◌≡◌, ◌⊎◌, ◌≤◌, OnOk, IsErrOf};
+ghost use Rattle.gix_ref_file.specs.Calls.{Achieves, HasFault, Passes};
+ghost use Rattle.gix_ref_file.specs.declared.files.FileError.TheVariants.{Failed};
+ghost use Rattle.history_model.specs.Places.{Pair};
+ghost use Rattle.history_model.specs.Recovery.{recovered};
+ghost use Rattle.history_recovery.specs.Recovering.{ObjectsAlike, NamesAlike, AreObjectsRecovered, AreNamesRecovered, IsOnTheWay, pair_of, recover_fault};
+ghost use Rattle.history_recovery.specs.declared.recovering.RecoverError.TheVariants.{File};
+
+use crate::clearing::clear_below;
+use crate::cutting::cut_below;
+use crate::packed::Packed;
+use gix_hash::Kind;
+use gix_ref_file::{FileError, Files, Place};
+use std::alloc::Global;
+use thiserror::Error;
+
+// Where an object is written before it is renamed to its place.
+const UNFINISHED: &[u8] = b"objects/unfinished";
+
+// The folder of the logs.
+const LOGS: &[u8] = b"logs";
+
+/// Why a repository isn't recovered to its end.
+#[derive(Clone, Copy, Debug, PartialEq, Eq, Error)]
+pub enum RecoverError {
+    #[error("a call of the files failed")]
+    File,
+    #[error("a growth was refused")]
+    Memory,
+}
+
+impl From<FileError> for RecoverError {
+    ghost from_gives = { λ error e. e ≡ recover_fault error };
+
+    fn from(error: FileError) -> Self {
+        match error {
+            FileError::Failed => RecoverError::File,
+            FileError::Memory => RecoverError::Memory,
+        }
+    }
+}
+
+/// Recovers a repository that a stopped or failed call left, whatever bytes its two parts hold; `kind` is that of its ids.
+///
+/// `objects/unfinished` goes, and then, in the names part, each lock file (a file whose path ends with `.lock`), and each log whose
+/// name reads as absent: by its own file, by `packed-refs`, and by the rules of names. A log that doesn't end with a line feed
+/// is cut behind its last one, in its lock file, which is then renamed. Folders below `refs` and `logs` under which no file is left
+/// go too. Nothing else changes. Each folder is listed, and `packed-refs` is read once.
+///
+/// It may be stopped at any call, and run again: what stands then recovers to the same. It is `File` where a call of the files failed, and
+/// `Memory` where no memory is left.
+pub fn recover<F: Files>(
+    alloc: Global,
+    objects: &mut F,
+    names: &mut F,
+    kind: Kind,
+) -> Result<(), RecoverError>
+    ensures objects_honest { F.is_honest objects.old → F.is_honest objects.new }
+    ensures names_honest { F.is_honest names.old → F.is_honest names.new }
+    ensures recovered { F.is_honest objects.old → F.is_honest names.old
+        → OnOk result (pair_of (F.history objects.new) (F.history names.new)
+        ≡ recovered kind (pair_of (F.history objects.old) (F.history names.old))) }
+
+    // Whatever the answer is, what is left recovers to what stood at first, and so does each pair on the way.
+    ensures left { F.is_honest objects.old → F.is_honest names.old
+        → recovered kind (pair_of (F.history objects.new) (F.history names.new))
+        ≡ recovered kind (pair_of (F.history objects.old) (F.history names.old)) }
+    ensures objects_alike { Passes F.is_honest F.history objects.old objects.new ObjectsAlike }
+    ensures names_alike { Passes F.is_honest F.history names.old names.new (NamesAlike kind) }
+    ensures stops { F.is_honest objects.old → F.is_honest names.old → (pair : Pair)
+        → IsOnTheWay (F.history objects.old) (F.history names.old)
+        (F.history objects.new) (F.history names.new) pair
+        → recovered kind pair
+        ≡ recovered kind (pair_of (F.history objects.old) (F.history names.old)) }
+
+    // A call of the files fails only of itself.
+    ensures objects_later { F.failures objects.old ≤ F.failures objects.new }
+    ensures names_later { F.failures names.old ≤ F.failures names.new }
+    ensures unfailed { OnOk result ((F.failures objects.new ≡ F.failures objects.old)
+        × (F.failures names.new ≡ F.failures names.old)) }
+    ensures failed { F.is_honest objects.old → F.is_honest names.old
+        → IsErrOf result File
+        → HasFault F.failures F.reading_may_fail objects.old objects.new
+        ⊎ HasFault F.failures F.reading_may_fail names.old names.new }
+{
+    remove_unfinished(alloc, objects)?;
+    recover_names(alloc, names, kind)?;
+    Ok(())
+}
+
+// Removes an object's file that was not renamed to its place.
+fn remove_unfinished<F: Files>(alloc: Global, objects: &mut F) -> Result<(), FileError>
+    ensures honest { F.is_honest objects.old → F.is_honest objects.new }
+    ensures recovered { Achieves F.is_honest F.history objects.old objects.new result
+        AreObjectsRecovered }
+    ensures alike { Passes F.is_honest F.history objects.old objects.new ObjectsAlike }
+    ensures later { F.failures objects.old ≤ F.failures objects.new }
+    ensures unfailed { OnOk result (F.failures objects.new ≡ F.failures objects.old) }
+    ensures failed { F.is_honest objects.old → IsErrOf result Failed
+        → HasFault F.failures F.reading_may_fail objects.old objects.new }
+{
+    match objects.kind_of(UNFINISHED)? {
+        Place::File(_) => objects.remove_file(alloc, UNFINISHED),
+        Place::Absent | Place::Folder => Ok(()),
+    }
+}
+
+// Removes what is left over of the names part, and then cuts the logs.
+fn recover_names<F: Files>(alloc: Global, names: &mut F, kind: Kind) -> Result<(), FileError>
+    ensures honest { F.is_honest names.old → F.is_honest names.new }
+    ensures recovered { Achieves F.is_honest F.history names.old names.new result
+        (AreNamesRecovered kind) }
+    ensures alike { Passes F.is_honest F.history names.old names.new (NamesAlike kind) }
+    ensures later { F.failures names.old ≤ F.failures names.new }
+    ensures unfailed { OnOk result (F.failures names.new ≡ F.failures names.old) }
+    ensures failed { F.is_honest names.old → IsErrOf result Failed
+        → HasFault F.failures F.reading_may_fail names.old names.new }
+{
+    let packed = Packed::read(alloc, &*names, kind)?;
+    clear_below(alloc, names, &packed, b"")?;
+    cut_below(alloc, names, LOGS)
+}
