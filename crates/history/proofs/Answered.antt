@@ -14,7 +14,6 @@ use Rattle.history_model.specs.Commands.{Command, Files, Show}
 use Rattle.history_model.specs.Replies.{FilesAre, ShowsCommit, ShowsContent, reply_text}
 use Rattle.history_model.specs.Answers.{StandsForCommit, files_shown, commit_shown, content_shown}
 use Rattle.history_model.specs.Causes.{is_bad_path, word_files, first_cause}
-use Rattle.history_steps.specs.Offered.{IsOffered}
 use Rattle.history_model.specs.declared.FileKind.{FileKind}
 use Rattle.history_model.specs.declared.FileKind.TheVariants.{File, Exec, Link}
 use Rattle.history_model.specs.Answers.{file_line}
@@ -26,7 +25,6 @@ use Rattle.gix_hash_id.specs.declared.kind.Kind.{Kind}
 use Rattle.history_model.specs.declared.Cause.{Cause}
 use Rattle.history_model.specs.declared.Cause.TheVariants.{BadPath, IsFolder, NoSuchPath}
 use Rattle.history_model.proofs.WholeReads.{read_holds}
-use Rattle.history_steps.proofs.OfferedCauses.{first_offered_cause}
 use Rattle.history_steps.proofs.OfferedFiles.{files_are_stored}
 use Rattle.history_model.proofs.WholeLists.{texts_differ}
 use Rattle.history_store.specs.Commits.{SaysCommit}
@@ -65,17 +63,17 @@ given MayFail P r order (Err stopped) h answers = reading_fault MayFail r order 
 abbrev by_path : FileMap → Bytes → Option Cause
 by_path files path = cond (has_below files path || false) (Some IsFolder) (cond (is_none (get files path) || false) (Some NoSuchPath) None)
 
-module _ (r : Repository) (o : IsOffered r) (w : IsWhole r) where
+module _ (r : Repository) (w : IsWhole r) where
   -- ---- refused words
 
   files_causes : (word : Bytes) → first_cause r (Files word) ≡ by_word r (word_meaning r word) None
-  files_causes word = first_offered_cause r (Files word) o w.names refl
+  files_causes word = refl
 
   commit_causes : (word : Bytes) → first_cause r (Show word None) ≡ by_word r (word_meaning r word) None
-  commit_causes word = first_offered_cause r (Show word None) o w.names refl
+  commit_causes word = refl
 
   path_causes : (word path : Bytes) → first_cause r (Show word (Some path)) ≡ by_word r (word_meaning r word) (cond (is_bad_path path || false) (Some BadPath) (by_path (word_files r word) path))
-  path_causes word path = first_offered_cause r (Show word (Some path)) o w.names refl
+  path_causes word path = refl
 
   pub files_refused : (word : Bytes) (cause : Cause) → commit_or_cause r word ≡ Err cause → first_cause r (Files word) ≡ Some cause
   files_refused word cause e = files_causes word ∙ word_refused r word cause None e

@@ -1,22 +1,20 @@
 -- What a commit stands on, and the causes that its words, its name and its parents tell.
 use Rattle.std.specs.declared.alloc.Global.{Global}
 use Rattle.std.specs.Prelude.{Vec, Result, IsErrOf}
-use Rattle.std.proofs.Common.{◌≡◌, ℕ, ◌+◌, ◌<◌, length, take, drop, get_or, Bool, true, false, cond, not, ◌||◌, ◌==◌, List, [], ◌∷◌, ◌++◌, map, filter, refl, sym, ◌∙◌, ap, subst, Option, Some, None, option_map, option_to_list, Err}
+use Rattle.std.proofs.Common.{◌≡◌, ℕ, ◌+◌, ◌<◌, length, take, drop, get_or, Bool, true, false, cond, not, ◌||◌, ◌==◌, List, [], ◌∷◌, ◌++◌, map, filter, refl, sym, ◌∙◌, ap, subst, Option, Some, None, is_some, option_map, option_to_list, Err}
 use Rattle.std.specs.List.{list_any, filter_map}
 use Rattle.std.proofs.lemmas.List.{map-append, take_more}
 use Rattle.history_model.specs.Bytes.{Bytes, has_twice}
 use Rattle.gix_hash_id.specs.Id.{Id, id_of}
 use Rattle.gix_hash_id.specs.Order.{id_eq}
-use Rattle.history_model.specs.Repository.{Repository, HasWholeNames, id_at, stands}
+use Rattle.history_model.specs.Repository.{Repository, stands}
 use Rattle.history_model.specs.Words.{commit_of}
 use Rattle.history_model.specs.Commands.{Commit, CommitCommand, Expect, Any, New, At}
 use Rattle.history_model.specs.CommandParts.{at_word}
 use Rattle.history_model.specs.Meaning.{branch_or_name, name_commit, parents_of}
 use Rattle.history_model.specs.Causes.{is_new, is_at, is_elsewhere, same_id}
-use Rattle.history_steps.specs.Offered.{IsOffered}
 use Rattle.history_model.specs.declared.Cause.{Cause}
 use Rattle.history_model.specs.declared.Cause.TheVariants.{NoSuchName, Taken, NotExpected}
-use Rattle.history_steps.proofs.OfferedReads.{names_stand_for_theirs}
 use Rattle.history_word.specs.Commands.{IsExpect}
 use Rattle.history_word.specs.declared.command.Expect.TheVariants as sent
 use Rattle.gix_hash_id.specs.declared.object_id.ObjectId.{ObjectId}
@@ -26,22 +24,18 @@ use Rattle.history.specs.CommitCauses.{first_among, word_causes, held_causes, pa
 use Rattle.history.specs.Meanings.{commit_in, commit_or_cause, meaning_of}
 use Rattle.history.specs.declared.words.WordMeaning as own
 use Rattle.history.specs.declared.words.WordMeaning.TheVariants as read
+use Rattle.history.specs.Held.{IsHeld, held_commit}
+use Rattle.history.specs.declared.held.Held.{Held}
 use Rattle.history.specs.declared.base.Expected.{Expected}
 use Rattle.history.specs.declared.base.Expected.TheVariants as expected
 use Rattle.history.specs.declared.stopped.Stopped.{Stopped}
 use Rattle.history.specs.declared.stopped.Stopped.TheVariants.{Refused, Fault}
 use Rattle.history.proofs.WordCauses.{any_map, commit_told, commits_told, words_told}
-use Rattle.history.proofs.WordReads.{stands_so}
-use Rattle.gix_ref_file.specs.History.{History}
+use Rattle.history.proofs.HeldLemmas.{commit_stands}
 use Rattle.gix_ref_file.specs.declared.files.FileError.{FileError}
 use Rattle.gix_ref_file.specs.declared.files.FileError.TheVariants.{Failed, Memory}
-use Rattle.history_model.specs.Forms.{is_name}
-use Rattle.history_store.specs.References.{NameHolds}
-use Rattle.history.specs.Face.{names_part}
 use Rattle.history.specs.Faults.{file_fault}
-use Rattle.history.specs.Serving.{Serves}
-use Rattle.history.specs.declared.repository.Repository as own_repository
-use Rattle.history.proofs.NameReads.{held, refs_front}
+use Rattle.history.proofs.NameReads.{held}
 use Rattle.history_files.proofs.Lines.{map_twice}
 
 -- ---- what is expected
@@ -101,10 +95,7 @@ module _ (r : Repository) (order : CommitCommand) where
 
 -- ---- what the name holds
 
-module _ (r : Repository) (order : CommitCommand) (o : IsOffered r) (w : HasWholeNames r) where
-  abbrev name : Bytes
-  name = branch_or_name r order.name
-
+module _ (r : Repository) (name : Bytes) where
   abbrev of_expect : Expect → Option Cause
   of_expect expect =
       cond (list_any (λ n. not (stands r n)) (map (λ (e : Bytes × Expect). e.0) (filter (λ (e : Bytes × Expect). is_at e.1) ((name, expect) ∷ [])))) (Some NoSuchName)
@@ -122,29 +113,39 @@ module _ (r : Repository) (order : CommitCommand) (o : IsOffered r) (w : HasWhol
   compared id read.Unknown = refl
   compared id read.Ambiguous = refl
 
-  by_expect : (expect : Expect) (what : Expected) (held : Option Id) → IsExpected r expect what → id_at r name ≡ held → of_expect expect ≡ held_cause what held
-  by_expect Any expected.Any held is at = refl
-  by_expect New expected.New None is at = ap (λ s. cond (s || false) (Some Taken) None) (stands_so r name None at)
-  by_expect New expected.New (Some id) is at = ap (λ s. cond (s || false) (Some Taken) None) (stands_so r name (Some id) at)
-  by_expect (At word) (expected.At meaning) None is at =
-      ap (λ s. cond (not s || false) (Some NoSuchName) (cond (list_any (is_elsewhere r) ((name, At word) ∷ [])) (Some NotExpected) None)) (stands_so r name None at)
-  by_expect (At word) (expected.At meaning) (Some id) is at =
-      ap (λ s. cond (not s || false) (Some NoSuchName) (cond (list_any (is_elsewhere r) ((name, At word) ∷ [])) (Some NotExpected) None)) (stands_so r name (Some id) at)
-      ∙ (λ i. cond (not (same_id ((names_stand_for_theirs r name o w ∙ at) i) (commit_told r word meaning is i)) || false) (Some NotExpected) None)
+  by_expect : (expect : Expect) (what : Expected) (commit : Option Id) → IsExpected r expect what → stands r name ≡ is_some commit → name_commit r name ≡ commit → of_expect expect ≡ held_cause what commit
+  by_expect Any expected.Any commit is there at = refl
+  by_expect New expected.New None is there at = ap (λ s. cond (s || false) (Some Taken) None) there
+  by_expect New expected.New (Some id) is there at = ap (λ s. cond (s || false) (Some Taken) None) there
+  by_expect (At word) (expected.At meaning) None is there at =
+      ap (λ s. cond (not s || false) (Some NoSuchName) (cond (list_any (is_elsewhere r) ((name, At word) ∷ [])) (Some NotExpected) None)) there
+  by_expect (At word) (expected.At meaning) (Some id) is there at =
+      ap (λ s. cond (not s || false) (Some NoSuchName) (cond (list_any (is_elsewhere r) ((name, At word) ∷ [])) (Some NotExpected) None)) there
+      ∙ (λ i. cond (not (same_id (at i) (commit_told r word meaning is i)) || false) (Some NotExpected) None)
       ∙ compared id meaning
-  by_expect Any expected.New held is at = absurd is
-  by_expect Any (expected.At meaning) held is at = absurd is
-  by_expect New expected.Any held is at = absurd is
-  by_expect New (expected.At meaning) held is at = absurd is
-  by_expect (At word) expected.Any held is at = absurd is
-  by_expect (At word) expected.New held is at = absurd is
+  by_expect Any expected.New commit is there at = absurd is
+  by_expect Any (expected.At meaning) commit is there at = absurd is
+  by_expect New expected.Any commit is there at = absurd is
+  by_expect New (expected.At meaning) commit is there at = absurd is
+  by_expect (At word) expected.Any commit is there at = absurd is
+  by_expect (At word) expected.New commit is there at = absurd is
 
-  pub held_told : (what : Expected) (held : Option Id) → IsExpected r order.expect what → held ≡ id_at r name → first_among held_causes r (Commit order) ≡ held_cause what held
-  held_told what held is at = by_expect order.expect what held is (sym at)
+  -- by the commit that was read as that of the name
+  pub expected_told : (expect : Expect) (what : Expected) (held : Option Held) (commit : Option ObjectId) → IsExpected r expect what → IsHeld r name held → option_map id_of commit ≡ option_map held_commit held
+      → of_expect expect ≡ held_cause what (option_map id_of commit)
+  expected_told expect what held commit is held_is same = by_expect expect what (option_map held_commit held) is (commit_stands r name held held_is) (sym held_is.commit) ∙ ap (held_cause what) (sym same)
+
+module _ (r : Repository) (order : CommitCommand) where
+  abbrev name : Bytes
+  name = branch_or_name r order.name
+
+  pub held_told : (what : Expected) (held : Option Held) (commit : Option ObjectId) → IsExpected r order.expect what → IsHeld r name held → option_map id_of commit ≡ option_map held_commit held
+      → first_among held_causes r (Commit order) ≡ held_cause what (option_map id_of commit)
+  held_told what held commit is held_is same = expected_told r name order.expect what held commit is held_is same
 
   -- ---- the parents
 
-  pub parents_told : (held : Option ObjectId) (meanings : List own.WordMeaning) (parents : List ObjectId) → option_map id_of held ≡ id_at r name → map meaning_of meanings ≡ map (commit_or_cause r) order.parents
+  pub parents_told : (held : Option ObjectId) (meanings : List own.WordMeaning) (parents : List ObjectId) → option_map id_of held ≡ name_commit r name → map meaning_of meanings ≡ map (commit_or_cause r) order.parents
       → parents ≡ option_to_list held ++ filter_map commit_in meanings → map id_of parents ≡ parents_of r order
   parents_told held meanings parents at are is =
       ap (map id_of) is ∙ map-append id_of (option_to_list held) (filter_map commit_in meanings)
@@ -155,7 +156,7 @@ module _ (r : Repository) (order : CommitCommand) (o : IsOffered r) (w : HasWhol
       told (Some id) = refl
 
       first : map id_of (option_to_list held) ≡ option_to_list (name_commit r name)
-      first = told held ∙ ap option_to_list (at ∙ sym (names_stand_for_theirs r name o w))
+      first = told held ∙ ap option_to_list at
 
       second : map id_of (filter_map commit_in meanings) ≡ filter_map (commit_of r) order.parents
       second = commits_told r meanings order.parents are
@@ -179,15 +180,6 @@ pub twice_told : (ids : List ObjectId) (d : ObjectId) → (length ids == 0) ≡ 
     → has_twice id_eq (map id_of ids) ≡ (list_any (λ id. id_eq (id_of (get_or ids 0 d)) (id_of id)) (drop 1 ids) || has_twice id_eq (map id_of (drop 1 ids)))
 twice_told [] d some = cc
 twice_told (x ∷ xs) d some = ap (λ b. b || has_twice id_eq (map id_of xs)) (any_map (id_eq (id_of x)) id_of xs)
-
--- ---- a repository with its files
-
--- what the file of a commit's name tells is what the name holds
-pub name_held : {F : Type 0} (IsHonest : F → Type 0) (history : F → History) (repository : own_repository.Repository F) (r : Repository) (order : CommitCommand) → Serves IsHonest history repository r
-    → (name : Bytes) → name ≡ branch_or_name r order.name → is_name name ≡ true → (found : Option ObjectId) → NameHolds repository.names.kind (history (names_part repository)).tree name found
-    → option_map id_of found ≡ id_at r (branch_or_name r order.name)
-name_held IsHonest history repository r order stand name named formed found holds =
-    held IsHonest history repository r stand name (refs_front name formed) found (subst (λ kind. NameHolds kind (history (names_part repository)).tree name found) stand.stands.names_kind holds) ∙ ap (id_at r) named
 
 -- a call of the files that failed
 pub file_told : {A B : Type 0} (MayFail : Type 0) (causes : List Cause) (r : Repository) (order : CommitCommand) (Q : B → Type 0) (result : Result A FileError) (ends : Result B Stopped) (error : FileError)

@@ -34,7 +34,6 @@ use Rattle.history_steps.specs.Passing.{HoldsBetween}
 use Rattle.history_steps.specs.SwitchSteps.{HeadOnTheWay, NamesBranch}
 use Rattle.history_steps.specs.TreeHalves.{HoldsNames, HoldsValues}
 use Rattle.history_steps.proofs.HeadSwitched.{switches_pass, switches_stand}
-use Rattle.history_steps.proofs.OfferedSteps.{offered_stays}
 use Rattle.history_steps.proofs.PassedNames.{moving_stops, nothing_stops, values_recover}
 use Rattle.history_steps.proofs.TreePuts.{halves_stand}
 use Rattle.history_store.specs.Creation.{SameFolders, head_lock}
@@ -219,7 +218,7 @@ module _ {F : Type 0} (IsHonest : F → Type 0) (history : F → History) (failu
         branch = branch;
         known = λ id. ap (λ o. contains_key (ids_of_objects o) id) objects ∙ h.stands.known id;
       };
-      stage = record { offered = offered_stays r (Switch name) h.stage.offered refl none; unpacked = puts.others packed_place (λ same. cc) (λ same. cc) ∙ h.stage.unpacked };
+      stage = record { unpacked = puts.others packed_place (λ same. cc) (λ same. cc) ∙ h.stage.unpacked };
     }
 
 -- where HEAD isn't written, the command stops

@@ -9,9 +9,8 @@ use Rattle.history_model.specs.Repository as plain
 use Rattle.history_model.specs.Repository.{HasWholeNames, stands}
 use Rattle.history_model.specs.Forms.{is_name}
 use Rattle.history_model.specs.Commands.{Commit, CommitCommand}
-use Rattle.history_model.specs.Meaning.{branch_or_name}
-use Rattle.history_model.specs.Causes.{do_collide, some_collide}
-use Rattle.history_model.specs.declared.Cause.TheVariants.{Collides}
+use Rattle.history_model.specs.Causes.{do_collide, holds_tag, some_collide}
+use Rattle.history_model.specs.declared.Cause.TheVariants.{Collides, HoldsTag}
 use Rattle.history_steps.proofs.OfferedFiles.{each_key}
 use Rattle.history_store.specs.Stores.{IsAbove}
 use Rattle.history.specs.CommitCauses.{first_among, place_causes}
@@ -60,18 +59,21 @@ fits_free r name formed none = record {
   apart = λ other there. not-true (do_collide name other) (each_key (λ k. not (do_collide name k)) r.names (all_not (do_collide name) (keys r.names) none) other there);
 }
 
-module _ (r : plain.Repository) (order : CommitCommand) where
-  abbrev name : Bytes
-  name = branch_or_name r order.name
+-- ---- a command that is to make one name
 
+module _ (r : plain.Repository) (name : Bytes) where
   abbrev by_standing : Bool → Bool
   by_standing s = list_any (λ made. list_any (do_collide made) (keys r.names ++ name ∷ [])) (cond (not s) (name ∷ []) [])
 
+  -- whether the name collides with those that stand, where it is to be made
+  abbrev pub one_collides : Bool
+  one_collides = by_standing (stands r name)
+
   -- a name that stands doesn't collide, and one to be made does where it does with one that stands
-  pub standing_free : stands r name ≡ true → some_collide r (Commit order) ≡ false
+  pub standing_free : stands r name ≡ true → one_collides ≡ false
   standing_free is = ap by_standing is
 
-  pub new_collides : stands r name ≡ false → some_collide r (Commit order) ≡ list_any (do_collide name) (keys r.names)
+  pub new_collides : stands r name ≡ false → one_collides ≡ list_any (do_collide name) (keys r.names)
   new_collides is =
       ap by_standing is ∙ ap (λ b. b || false) (list_any-append (do_collide name) (keys r.names) (name ∷ []))
       ∙ ap (λ b. (list_any (do_collide name) (keys r.names) || (b || false)) || false) (or_from _ _ (below_itself name) (below_itself name))
@@ -82,12 +84,14 @@ module _ (r : plain.Repository) (order : CommitCommand) where
       last false = refl
 
   -- where it doesn't collide, none of those that stand is in its way
-  pub fits_so : HasWholeNames r → is_name name ≡ true → some_collide r (Commit order) ≡ false → FitsAmong r name
+  pub fits_so : HasWholeNames r → is_name name ≡ true → one_collides ≡ false → FitsAmong r name
   fits_so whole formed none = record { named = formed; apart = by_standing_name (stands r name) refl }
     where
       by_standing_name : (s : Bool) → stands r name ≡ s → (other : Bytes) → stands r other ≡ true → do_collide name other ≡ false
       by_standing_name true is other there = or_from (is_below name other) (is_below other name) (whole.apart name other is there) (whole.apart other name there is)
       by_standing_name false is other there = (fits_free r name formed (sym (new_collides is) ∙ none)).apart other there
 
-  pub place_told : (found : Bool) → some_collide r (Commit order) ≡ found → first_among place_causes r (Commit order) ≡ cond found (Some Collides) None
-  place_told found is = ap (λ b. cond b (Some Collides) None) is
+-- what the place of a commit's name tells, and what the name holds
+pub place_told : (r : plain.Repository) (order : CommitCommand) (collides tag : Bool) → some_collide r (Commit order) ≡ collides → holds_tag r (Commit order) ≡ tag
+    → first_among place_causes r (Commit order) ≡ cond collides (Some Collides) (cond tag (Some HoldsTag) None)
+place_told r order collides tag is holds = λ i. cond (is i) (Some Collides) (cond (holds i) (Some HoldsTag) None)

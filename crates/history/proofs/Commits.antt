@@ -1,11 +1,11 @@
--- A commit on the two parts: its values are put, and then its name moves.
-use Rattle.std.proofs.Common.{◌≡◌, refl, sym, ◌∙◌, ap, subst, true, [], ◌∷◌, ◌++◌, None, codes}
-use Rattle.std.specs.Prelude.{IsTrue, IsFalse, Option, Some, is_some, not, ◌&&◌}
+-- A command that moves one name, on the two parts: its values are put, and then its name moves.
+use Rattle.std.proofs.Common.{◌≡◌, refl, sym, ◌∙◌, ap, subst, Bool, true, false, ◌||◌, [], ◌∷◌, ◌++◌, None, codes}
+use Rattle.std.specs.Prelude.{IsFalse, Option, Some, is_some, not, ◌&&◌}
 use Rattle.std.proofs.lemmas.List.{append-nil}
 use Rattle.gix_ref_file.specs.History.{History}
 use Rattle.history_model.specs.Bytes.{Bytes}
 use Rattle.std.specs.FinMap.{contains_key, get}
-use Rattle.history_model.specs.Objects.{StoredCommit, hex}
+use Rattle.history_model.specs.Objects.{StoredCommit, StoredTag, hex}
 use Rattle.history_model.specs.Objects.{id_of as value_id}
 use Rattle.gix_hash_id.specs.Id.{Id, id_of}
 use Rattle.history_model.specs.Repository as plain
@@ -14,21 +14,20 @@ use Rattle.history_model.specs.Repository.{Reference, HasWholeNames, stands, Hav
 use Rattle.history_steps.specs.TreeSteps.{MovesName}
 use Rattle.history_store.specs.Formats.{entry_of}
 use Rattle.gix_ref_file.specs.Tree.{Tree}
-use Rattle.history_model.specs.Commands.{CommitCommand, Commit}
-use Rattle.history_model.specs.Replies.{Committed, reply_text}
+use Rattle.history_model.specs.Commands.{Command, Commit, CommitCommand, Tag, TagCommand}
+use Rattle.history_model.specs.Replies.{Committed, Tagged, reply_text}
 use Rattle.history_model.specs.Spelling.{Line, part_text}
-use Rattle.history_model.specs.Meaning.{branch_or_name, new_commit, stored_by, store_all, takes_id, after}
-use Rattle.history_model.specs.Stage.{is_spoken}
+use Rattle.history_model.specs.Meaning.{branch_or_name, new_commit, new_tag, stored_by, store_all, takes_id, after}
 use Rattle.history_model.specs.Causes.{holds, first_cause}
-use Rattle.history_model.specs.declared.Cause.TheVariants.{BadName, PrivateName}
+use Rattle.history_model.specs.declared.Cause.TheVariants.{BadName, PrivateName, Collides}
 use Rattle.history_model.specs.Steps.{Accepts}
 use Rattle.history_model.specs.Places.{file_at, packed_place}
 use Rattle.history_model.specs.StandsFor.{StandsFor}
 use Rattle.history_steps.specs.TreeHalves.{HoldsValues, HoldsNames}
-use Rattle.history_steps.specs.CommitSteps.{MovesToCommit}
+use Rattle.history_steps.specs.OneNameSteps.{NameMove, MovesOneName, commit_move, entry_of_move, tag_move}
 use Rattle.history_model.specs.Wholeness.{IsSound}
-use Rattle.history_steps.proofs.CommitStands.{commits_stand}
-use Rattle.history_steps.proofs.OfferedSteps.{offered_stays, no_collision}
+use Rattle.history_steps.proofs.OneNameStands.{one_name_stands}
+use Rattle.history_model.proofs.WholeReads.{no_cause, tests_collides}
 use Rattle.history_steps.proofs.TreeMoves.{packed_apart, packed_no_log}
 use Rattle.history_steps.proofs.TreePuts.{halves_stand}
 use Rattle.history_model.proofs.WholeSteps.{steps_keep_sound}
@@ -61,20 +60,36 @@ name_formed r written name stood = of_ref (get r.names name) refl stood
     of_ref None e there = cc
     of_ref (Some ref) e there = (and_parts (is_name name) (not (is_private name)) (and_parts (is_name name && not (is_private name)) (is_reference r.kind ref) (written.names name ref e)).0).0
 
--- The name of an accepted commit may stand: it doesn't collide.
-pub commit_fits : (r : plain.Repository) (order : CommitCommand) (moves : Moves) → IsWritten r → HasWholeNames r → first_cause r (Commit order) ≡ None → IsMove r order moves → FitsAmong r moves.name.items
+-- so is that of an accepted tag
+pub tag_is_name : (r : plain.Repository) (order : TagCommand) → first_cause r (Tag order) ≡ None → is_name order.name ≡ true
+tag_is_name r order none = by_test (is_name order.name) _ (none_of (holds BadName r (Tag order)) BadName _ none).0
+  where
+    by_test : (b rest : Bool) → ((not b || false) || rest) ≡ false → b ≡ true
+    by_test true rest e = refl
+    by_test false rest e = cc
+
+-- The name of an accepted command may stand: it doesn't collide.
+pub commit_fits : (r : plain.Repository) (order : CommitCommand) (moves : Moves) → IsWritten r → HasWholeNames r → first_cause r (Commit order) ≡ None → IsMove r (commit_move r order) moves → FitsAmong r moves.name.items
 commit_fits r order moves written whole none is =
-    subst (FitsAmong r) (sym is.name) (fits_so r order whole (moved_is_name r order written none) (no_collision r (Commit order) none))
+    subst (FitsAmong r) (sym is.name) (fits_so r (branch_or_name r order.name) whole (moved_is_name r order written none) (no_cause r (Commit order) none Collides tests_collides))
 
--- the name that moves is the commit's
-to_commit : (r : plain.Repository) (order : CommitCommand) (moves : Moves) → IsMove r order moves → (old new : Tree) → MovesName moves.name.items (entry_of moves.entry) old new → MovesToCommit r order old new
-to_commit r order moves is old new moved =
-    subst (λ entry. MovesName (branch_or_name r order.name) entry old new) is.entry (subst (λ n. MovesName n (entry_of moves.entry) old new) is.name moved)
+pub tag_fits : (r : plain.Repository) (order : TagCommand) (moves : Moves) → HasWholeNames r → first_cause r (Tag order) ≡ None → IsMove r (tag_move r order) moves → FitsAmong r moves.name.items
+tag_fits r order moves whole none is =
+    subst (FitsAmong r) (sym is.name) (fits_so r order.name whole (tag_is_name r order none) (no_cause r (Tag order) none Collides tests_collides))
 
--- an accepted commit
+-- the name that moves is the command's
+to_move : (r : plain.Repository) (move : NameMove) (moves : Moves) → IsMove r move moves → (old new : Tree) → MovesName moves.name.items (entry_of moves.entry) old new → MovesName move.name (entry_of_move r move) old new
+to_move r move moves is old new moved =
+    subst (λ entry. MovesName move.name entry old new) is.entry (subst (λ n. MovesName n (entry_of moves.entry) old new) is.name moved)
+
+-- an accepted commit, and an accepted tag
 pub accepted : (r : plain.Repository) (order : CommitCommand) → first_cause r (Commit order) ≡ None → IsFalse (takes_id r (Commit order))
     → Accepts r (Commit order) (Committed (value_id r.kind (StoredCommit (new_commit r order)))) (after r (Commit order))
 accepted r order none free = record { no_cause = none; not_taken = free; answer = refl; result = refl }
+
+pub tag_accepted : (r : plain.Repository) (order : TagCommand) → first_cause r (Tag order) ≡ None → IsFalse (takes_id r (Tag order))
+    → Accepts r (Tag order) (Tagged (value_id r.kind (StoredTag (new_tag r order)))) (after r (Tag order))
+tag_accepted r order none free = record { no_cause = none; not_taken = free; answer = refl; result = refl }
 
 module _ {F : Type 0} (IsHonest : F → Type 0) (history : F → History) where
   -- what stands for a repository stands in each part
@@ -96,46 +111,44 @@ module _ {F : Type 0} (IsHonest : F → Type 0) (history : F → History) where
       }
 
   -- The values are put, the names stay; then the name moves, and the objects stay.
-  module _ (old mid new : Repository F) (r : plain.Repository) (order : CommitCommand) (h : Serves IsHonest history old r) (offered : IsTrue (is_spoken (Commit order)))
-      (none : first_cause r (Commit order) ≡ None) (free : IsFalse (takes_id r (Commit order)))
-      (kept : KeepsAllButObjects old mid) (honest : IsHonest (objects_part mid)) (kind : mid.objects.kind ≡ old.objects.kind)
-      (held : HoldsValues r.kind (objects_tree history mid) (after r (Commit order)).objects)
-      (known : KnowsIds mid (store_all r.kind r.objects (stored_by r (Commit order))))
+  module _ (old mid new : Repository F) (r : plain.Repository) (command : Command) (move : NameMove) (so : MovesOneName r command move) (is_one : is_name move.name ≡ true) (h : Serves IsHonest history old r)
+      (sound_after : IsSound (after r command)) (kept : KeepsAllButObjects old mid) (honest : IsHonest (objects_part mid)) (kind : mid.objects.kind ≡ old.objects.kind)
+      (held : HoldsValues r.kind (objects_tree history mid) (after r command).objects)
+      (known : KnowsIds mid (store_all r.kind r.objects (stored_by r command)))
       (kept_then : KeepsAllButNames mid new) (honest_then : IsHonest (names_part new)) (kind_then : new.names.kind ≡ mid.names.kind)
-      (moves : Moves) (is : IsMove r order moves) (moved : MovesName moves.name.items (entry_of moves.entry) (names_tree history mid) (names_tree history new)) where
-    is_one : is_name (branch_or_name r order.name) ≡ true
-    is_one = moved_is_name r order (h.stands.whole).written none
+      (moves : Moves) (is : IsMove r move moves) (moved : MovesName moves.name.items (entry_of moves.entry) (names_tree history mid) (names_tree history new)) where
+    from_old : MovesName move.name (entry_of_move r move) (names_tree history old) (names_tree history new)
+    from_old = subst (λ names. MovesName move.name (entry_of_move r move) (history names.files).tree (names_tree history new)) kept.names
+        (to_move r move moves is (names_tree history mid) (names_tree history new) moved)
 
-    from_old : MovesToCommit r order (names_tree history old) (names_tree history new)
-    from_old = subst (λ names. MovesToCommit r order (history names.files).tree (names_tree history new)) kept.names
-        (to_commit r order moves is (names_tree history mid) (names_tree history new) moved)
+    to_new : HoldsValues r.kind (objects_tree history new) (after r command).objects
+    to_new = subst (λ objects. HoldsValues r.kind (history objects.files).tree (after r command).objects) (sym kept_then.objects) held
 
-    to_new : HoldsValues r.kind (objects_tree history new) (after r (Commit order)).objects
-    to_new = subst (λ objects. HoldsValues r.kind (history objects.files).tree (after r (Commit order)).objects) (sym kept_then.objects) held
+    stands_after : StandsFor r.kind (pair_of history new) (after r command)
+    stands_after = one_name_stands r.kind (pair_of history old) (pair_of history new) r command move so (h.stands.whole).stands is_one h.stage.unpacked to_new from_old
 
-    stands_after : StandsFor r.kind (pair_of history new) (after r (Commit order))
-    stands_after = commits_stand r.kind (pair_of history old) (pair_of history new) r order (h.stands.whole).stands is_one h.stage.unpacked to_new from_old
-
-    sound_after : IsSound (after r (Commit order))
-    sound_after = steps_keep_sound r (after r (Commit order)) (Commit order) (Committed (value_id r.kind (StoredCommit (new_commit r order)))) (accepted r order none free)
-        (record { whole = (h.stands.whole).whole; written = (h.stands.whole).written })
-
-    pub commit_stands : Serves IsHonest history new (after r (Commit order))
-    commit_stands = record {
+    pub move_stands : Serves IsHonest history new (after r command)
+    move_stands = record {
       stands = record {
         honest_objects = subst (λ objects. IsHonest objects.files) (sym kept_then.objects) honest;
         honest_names = honest_then;
         whole = record { stands = stands_after; written = sound_after.written; whole = sound_after.whole };
         objects_kind = ap (λ objects. objects.kind) kept_then.objects ∙ kind ∙ h.stands.objects_kind;
         names_kind = kind_then ∙ ap (λ names. names.kind) kept.names ∙ h.stands.names_kind;
-        branch = ap (λ branch. branch.items) (kept_then.branch ∙ kept.branch) ∙ h.stands.branch;
+        branch = ap (λ branch. branch.items) (kept_then.branch ∙ kept.branch) ∙ h.stands.branch ∙ sym so.branch;
         known = λ id. ap (λ objects. contains_key (ids_of_objects objects) id) kept_then.objects ∙ known id;
       };
-      stage = record {
-        offered = offered_stays r (Commit order) h.stage.offered offered none;
-        unpacked = from_old.others packed_place (packed_apart (branch_or_name r order.name) is_one) (packed_no_log (branch_or_name r order.name)) ∙ h.stage.unpacked;
-      };
+      stage = record { unpacked = from_old.others packed_place (packed_apart move.name is_one) (packed_no_log move.name) ∙ h.stage.unpacked };
     }
+
+  sound_of : (old : Repository F) (r : plain.Repository) → Serves IsHonest history old r → IsSound r
+  sound_of old r h = record { whole = (h.stands.whole).whole; written = (h.stands.whole).written }
+
+  pub commit_sound : (old : Repository F) (r : plain.Repository) (order : CommitCommand) → Serves IsHonest history old r → first_cause r (Commit order) ≡ None → IsFalse (takes_id r (Commit order)) → IsSound (after r (Commit order))
+  commit_sound old r order h none free = steps_keep_sound r (after r (Commit order)) (Commit order) (Committed (value_id r.kind (StoredCommit (new_commit r order)))) (accepted r order none free) (sound_of old r h)
+
+  pub tag_sound : (old : Repository F) (r : plain.Repository) (order : TagCommand) → Serves IsHonest history old r → first_cause r (Tag order) ≡ None → IsFalse (takes_id r (Tag order)) → IsSound (after r (Tag order))
+  tag_sound old r order h none free = steps_keep_sound r (after r (Tag order)) (Tag order) (Tagged (value_id r.kind (StoredTag (new_tag r order)))) (tag_accepted r order none free) (sound_of old r h)
 
 -- the reply of a commit, to the id that its name moves to
 pub committed_text : (id : Id) (before text ok word digits : Bytes) → before ≡ [] → ok ≡ codes "ok" → word ≡ codes "commit" → digits ≡ hex id
@@ -143,6 +156,12 @@ pub committed_text : (id : Id) (before text ok word digits : Bytes) → before �
 committed_text id before text ok word digits none is_ok is_word is_digits is =
     is ∙ (λ i. none i ++ part_text (Line (is_ok i ∷ is_word i ∷ is_digits i ∷ []))) ∙ sym (append-nil (part_text (Line (codes "ok" ∷ codes "commit" ∷ hex id ∷ []))))
 
+-- the reply of a tag
+pub tagged_text : (id : Id) (before text ok word digits : Bytes) → before ≡ [] → ok ≡ codes "ok" → word ≡ codes "tag" → digits ≡ hex id
+    → text ≡ before ++ part_text (Line (ok ∷ word ∷ digits ∷ [])) → text ≡ reply_text (Tagged id)
+tagged_text id before text ok word digits none is_ok is_word is_digits is =
+    is ∙ (λ i. none i ++ part_text (Line (is_ok i ∷ is_word i ∷ is_digits i ∷ []))) ∙ sym (append-nil (part_text (Line (codes "ok" ∷ codes "tag" ∷ hex id ∷ []))))
+
 -- the id that the name moves to
-pub moved_to : (r : plain.Repository) (order : CommitCommand) (moves : Moves) → IsMove r order moves → id_of (moves.entry).after ≡ value_id r.kind (StoredCommit (new_commit r order))
-moved_to r order moves is = ap (λ entry. entry.after) is.entry
+pub moved_to : (r : plain.Repository) (move : NameMove) (moves : Moves) → IsMove r move moves → id_of (moves.entry).after ≡ move.id
+moved_to r move moves is = ap (λ entry. entry.after) is.entry

@@ -1,6 +1,6 @@
 -- A name goes: what a `delete` is refused for, and what its files pass through.
 use Rattle.std.proofs.Common.{◌≡◌, ℕ, Bool, true, false, cond, not, ◌||◌, List, [], ◌∷◌, ◌++◌, map, refl, sym, ◌∙◌, ap, subst, Option, Some, None, option_map, is_some, unwrap_or, codes}
-use Rattle.std.specs.Prelude.{Result, Err, Vec, IsErrOf}
+use Rattle.std.specs.Prelude.{Result, Err, Vec}
 use Rattle.std.specs.declared.alloc.Global.{Global}
 use Rattle.std.specs.FinMap.{get}
 use Rattle.std.proofs.lemmas.List.{append-nil}
@@ -16,11 +16,11 @@ use Rattle.gix_ref_file.specs.declared.files.FileError.TheVariants as files
 use Rattle.gix_ref_file.proofs.Histories.{adds_both, adds_weaker}
 use Rattle.history_model.specs.Bytes.{Bytes}
 use Rattle.history_model.specs.Repository as plain
-use Rattle.history_model.specs.Repository.{HasWholeNames, Reference, stands}
+use Rattle.history_model.specs.Repository.{Reference, stands}
 use Rattle.history_model.specs.Forms.{is_name, is_private}
 use Rattle.history_model.specs.Commands.{At, Command, Delete}
 use Rattle.history_model.specs.CommandParts.{option_expect}
-use Rattle.history_model.specs.Meaning.{after}
+use Rattle.history_model.specs.Meaning.{after, name_commit}
 use Rattle.history_model.specs.Causes.{first_cause, holds, is_elsewhere, same_id}
 use Rattle.history_model.specs.Replies.{Deleted, reply_text}
 use Rattle.history_model.specs.Spelling.{Line as TextLine, part_text}
@@ -32,16 +32,13 @@ use Rattle.history_model.specs.declared.Cause.{Cause}
 use Rattle.history_model.specs.declared.Cause.TheVariants.{BadName, PrivateName, NoSuchName, NotExpected}
 use Rattle.history_model.specs.declared.Fault.TheVariants.{Memory, File, IdTaken}
 use Rattle.history_steps.specs.DeleteSteps.{DeletesName, DeletesOnTheWay}
-use Rattle.history_steps.specs.Offered.{IsOffered}
 use Rattle.history_steps.specs.Passing.{HoldsBetween}
 use Rattle.history_steps.specs.TreeHalves.{HoldsNames}
 use Rattle.history_steps.proofs.Deletions.{deletions_pass, deletions_stand}
-use Rattle.history_steps.proofs.OfferedCauses.{first_offered_cause}
-use Rattle.history_steps.proofs.OfferedReads.{names_stand_for_theirs}
 use Rattle.history_steps.proofs.PassedStates.{names_pass}
 use Rattle.history_steps.proofs.TreeMoves.{packed_apart, packed_no_log}
 use Rattle.history_steps.proofs.TreePuts.{halves_stand}
-use Rattle.history_store.specs.References.{IsGone, MayGo, NameHolds, SameFolders}
+use Rattle.history_store.specs.References.{IsGone, MayGo, SameFolders}
 use Rattle.history.specs.Acts.{Acts, IsReadingFault}
 use Rattle.history.specs.Bases.{IsExpected, expected_meanings, reads_as, words_cause}
 use Rattle.history.specs.CommitCauses.{first_among, form_cause, held_causes, name_form_causes, word_causes}
@@ -49,10 +46,12 @@ use Rattle.history.specs.Deleting.{DeletesFiles, TestsAll, delete_causes, gone_c
 use Rattle.history.specs.Face.{KeepsAllButNames, names_part}
 use Rattle.history.specs.Faults.{file_fault}
 use Rattle.history.specs.Halves.{NamesStand, names_tree}
+use Rattle.history.specs.Held.{IsHeld, held_commit}
 use Rattle.history.specs.Meanings.{commit_in, commit_or_cause, meaning_of}
 use Rattle.history.specs.Serving.{Serves}
 use Rattle.history.specs.Stands.{pair_of}
 use Rattle.history.specs.declared.base.Expected.{Expected}
+use Rattle.history.specs.declared.held.Held.{Held}
 use Rattle.history.specs.declared.base.Expected.TheVariants as expected
 use Rattle.history.specs.declared.repository.Repository as own
 use Rattle.history.specs.declared.words.WordMeaning as meant
@@ -61,10 +60,9 @@ use Rattle.history.specs.declared.stopped.Stopped.{Stopped}
 use Rattle.history.specs.declared.stopped.Stopped.TheVariants as why
 use Rattle.history.proofs.Commits.{name_formed}
 use Rattle.history.proofs.FirstCauses.{find_after_none, find_in_front}
-use Rattle.history.proofs.NameReads.{held, refs_front}
 use Rattle.history.proofs.NamesAlone.{ChangesNames}
 use Rattle.history.proofs.WordCauses.{any_map, commit_told, words_told as all_words_told}
-use Rattle.history.proofs.WordReads.{stands_so}
+use Rattle.history.proofs.HeldLemmas.{commit_stands}
 
 -- ---- what the name, the word and the files tell of the causes
 
@@ -95,56 +93,59 @@ module _ (r : plain.Repository) (name : Bytes) where
   words_told (Some word) expected.Any is = absurd is
   words_told (Some word) expected.New is = absurd is
 
-  module _ (o : IsOffered r) (w : HasWholeNames r) where
-    compared : (id : Id) (meaning : meant.WordMeaning) → cond (not (same_id (Some id) (option_map id_of (commit_in meaning))) || false) (Some NotExpected) None ≡ reads_as id (meaning_of meaning)
-    compared id (read.Commit other) = go (id_eq id (id_of other))
-      where
-        go : (b : Bool) → cond (not b || false) (Some NotExpected) None ≡ cond b None (Some NotExpected)
-        go true = refl
-        go false = refl
-    compared id read.NoCommit = refl
-    compared id read.Unborn = refl
-    compared id read.Unknown = refl
-    compared id read.Ambiguous = refl
+  compared : (id : Id) (meaning : meant.WordMeaning) → cond (not (same_id (Some id) (option_map id_of (commit_in meaning))) || false) (Some NotExpected) None ≡ reads_as id (meaning_of meaning)
+  compared id (read.Commit other) = go (id_eq id (id_of other))
+    where
+      go : (b : Bool) → cond (not b || false) (Some NotExpected) None ≡ cond b None (Some NotExpected)
+      go true = refl
+      go false = refl
+  compared id read.NoCommit = refl
+  compared id read.Unborn = refl
+  compared id read.Unknown = refl
+  compared id read.Ambiguous = refl
 
-    pub held_told : (at : Option Bytes) (what : Expected) (held : Option Id) → IsExpected r (option_expect at) what → plain.id_at r name ≡ held → first_among held_causes r (Delete name at) ≡ gone_cause what held
-    held_told None expected.Any None is at = ap (λ s. cond (not s || false) (Some NoSuchName) None) (stands_so r name None at)
-    held_told None expected.Any (Some id) is at = ap (λ s. cond (not s || false) (Some NoSuchName) None) (stands_so r name (Some id) at)
-    held_told (Some word) (expected.At meaning) None is at =
-        ap (λ s. cond (not s || false) (Some NoSuchName) (cond (is_elsewhere r (name, At word) || false) (Some NotExpected) None)) (stands_so r name None at)
-    held_told (Some word) (expected.At meaning) (Some id) is at =
-        ap (λ s. cond (not s || false) (Some NoSuchName) (cond (is_elsewhere r (name, At word) || false) (Some NotExpected) None)) (stands_so r name (Some id) at)
-        ∙ (λ i. cond (not (same_id ((names_stand_for_theirs r name o w ∙ at) i) (commit_told r word meaning is i)) || false) (Some NotExpected) None)
-        ∙ compared id meaning
-    held_told None expected.New held is at = absurd is
-    held_told None (expected.At meaning) held is at = absurd is
-    held_told (Some word) expected.Any held is at = absurd is
-    held_told (Some word) expected.New held is at = absurd is
+  by_held_commit : (at : Option Bytes) (what : Expected) (commit : Option Id) → IsExpected r (option_expect at) what → stands r name ≡ is_some commit → name_commit r name ≡ commit → first_among held_causes r (Delete name at) ≡ gone_cause what commit
+  by_held_commit None expected.Any None is there at = ap (λ s. cond (not s || false) (Some NoSuchName) None) there
+  by_held_commit None expected.Any (Some id) is there at = ap (λ s. cond (not s || false) (Some NoSuchName) None) there
+  by_held_commit (Some word) (expected.At meaning) None is there at =
+      ap (λ s. cond (not s || false) (Some NoSuchName) (cond (is_elsewhere r (name, At word) || false) (Some NotExpected) None)) there
+  by_held_commit (Some word) (expected.At meaning) (Some id) is there at =
+      ap (λ s. cond (not s || false) (Some NoSuchName) (cond (is_elsewhere r (name, At word) || false) (Some NotExpected) None)) there
+      ∙ (λ i. cond (not (same_id (at i) (commit_told r word meaning is i)) || false) (Some NotExpected) None)
+      ∙ compared id meaning
+  by_held_commit None expected.New commit is there at = absurd is
+  by_held_commit None (expected.At meaning) commit is there at = absurd is
+  by_held_commit (Some word) expected.Any commit is there at = absurd is
+  by_held_commit (Some word) expected.New commit is there at = absurd is
 
-    -- ---- the first of the causes
+  pub held_told : (at : Option Bytes) (what : Expected) (held : Option Held) (commit : Option ObjectId) → IsExpected r (option_expect at) what → IsHeld r name held → option_map id_of commit ≡ option_map held_commit held
+      → first_among held_causes r (Delete name at) ≡ gone_cause what (option_map id_of commit)
+  held_told at what held commit is held_is same = by_held_commit at what (option_map held_commit held) is (commit_stands r name held held_is) (sym held_is.commit) ∙ ap (gone_cause what) (sym same)
 
-    module _ (at : Option Bytes) where
-      abbrev Tells : List Cause → Option Cause
-      Tells causes = first_among causes r (Delete name at)
+  -- ---- the first of the causes
 
-      abbrev P : Cause → Bool
-      P cause = holds cause r (Delete name at)
+  module _ (at : Option Bytes) where
+    abbrev Tells : List Cause → Option Cause
+    Tells causes = first_among causes r (Delete name at)
 
-      first_told : first_cause r (Delete name at) ≡ Tells delete_causes
-      first_told = first_offered_cause r (Delete name at) o w refl
+    abbrev P : Cause → Bool
+    P cause = holds cause r (Delete name at)
 
-      pub by_form : (cause : Cause) → form_cause name ≡ Some cause → first_cause r (Delete name at) ≡ Some cause
-      by_form cause e = first_told ∙ find_in_front P name_form_causes (word_causes ++ held_causes) cause (form_told at ∙ e)
+    first_told : first_cause r (Delete name at) ≡ Tells delete_causes
+    first_told = refl
 
-      module _ (named : form_cause name ≡ None) where
-        past_form : first_cause r (Delete name at) ≡ Tells (word_causes ++ held_causes)
-        past_form = first_told ∙ find_after_none P name_form_causes (word_causes ++ held_causes) (form_told at ∙ named)
+    pub by_form : (cause : Cause) → form_cause name ≡ Some cause → first_cause r (Delete name at) ≡ Some cause
+    by_form cause e = first_told ∙ find_in_front P name_form_causes (word_causes ++ held_causes) cause (form_told at ∙ e)
 
-        pub by_words : (cause : Cause) → Tells word_causes ≡ Some cause → first_cause r (Delete name at) ≡ Some cause
-        by_words cause e = past_form ∙ find_in_front P word_causes held_causes cause e
+    module _ (named : form_cause name ≡ None) where
+      past_form : first_cause r (Delete name at) ≡ Tells (word_causes ++ held_causes)
+      past_form = first_told ∙ find_after_none P name_form_causes (word_causes ++ held_causes) (form_told at ∙ named)
 
-        pub by_held : Tells word_causes ≡ None → (first : Option Cause) → Tells held_causes ≡ first → first_cause r (Delete name at) ≡ first
-        by_held words first e = past_form ∙ find_after_none P word_causes held_causes words ∙ e
+      pub by_words : (cause : Cause) → Tells word_causes ≡ Some cause → first_cause r (Delete name at) ≡ Some cause
+      by_words cause e = past_form ∙ find_in_front P word_causes held_causes cause e
+
+      pub by_held : Tells word_causes ≡ None → (first : Option Cause) → Tells held_causes ≡ first → first_cause r (Delete name at) ≡ first
+      by_held words first e = past_form ∙ find_after_none P word_causes held_causes words ∙ e
 
 -- ---- what is told
 
@@ -157,15 +158,6 @@ fault_told MayFail r command ends stopped is_end told = subst (TestsAll MayFail 
     by_case : (stopped : Stopped) → IsReadingFault MayFail stopped → TestsAll MayFail r command (Err stopped)
     by_case (why.Refused cause) h = absurd h
     by_case (why.Fault fault) h = h
-
-pub file_told : {A : Type 0} (MayFail : Type 0) (r : plain.Repository) (command : Command) (result : Result A FileError) (ends : Result (Unit {0}) Stopped) (error : FileError)
-    → result ≡ Err error → ends ≡ Err (why.Fault (file_fault error)) → (IsErrOf result files.Failed → MayFail) → TestsAll MayFail r command ends
-file_told {A} MayFail r command result ends error was is_end failed =
-    subst (TestsAll MayFail r command) (sym is_end) (by_error error (subst (λ (x : Result A FileError). IsErrOf x files.Failed → MayFail) was failed))
-  where
-    by_error : (error : FileError) → (IsErrOf {T = A} (Err error) files.Failed → MayFail) → IsReadingFault MayFail (why.Fault (file_fault error))
-    by_error files.Failed may = may refl
-    by_error files.Memory may = tt
 
 -- where the tests stop, so does the command
 pub acts_tested : (MayFail C : Type 0) (StandsNow : plain.Repository → Type 0) → (MayFail → C) → (r : plain.Repository) (command : Command) (result : Result (Unit {0}) Stopped) (ends : Result (Vec ℕ Global) Stopped) (stopped : Stopped)
@@ -239,12 +231,6 @@ acts_stopped C old new StandsNow r name place at result ends stopped was is_end 
     by_case (why.Fault IdTaken) k = absurd k
 
 module _ {F : Type 0} (IsHonest : F → Type 0) (history : F → History) (old : own.Repository F) (r : plain.Repository) (h : Serves IsHonest history old r) where
-  -- what the file of the name tells is what it holds
-  pub held_at : (name path : Bytes) → path ≡ name → is_name name ≡ true → (found : Option ObjectId) → NameHolds old.names.kind (history (names_part old)).tree path found → plain.id_at r name ≡ option_map id_of found
-  held_at name path same formed found tells =
-      ap (plain.id_at r) (sym same) ∙ sym (held IsHonest history old r h path (refs_front path (ap is_name same ∙ formed)) found
-      (subst (λ kind. NameHolds kind (history (names_part old)).tree path found) h.stands.names_kind tells))
-
   pub stand_now : NamesStand IsHonest history old r
   stand_now = record {
     honest = h.stands.honest_names;
@@ -258,28 +244,22 @@ module _ {F : Type 0} (IsHonest : F → Type 0) (history : F → History) (old :
     no_cause : (form_cause name ≡ None) × (stands r name ≡ true)
     no_cause = (form, there)
       where
-        o : IsOffered r
-        o = h.stage.offered
-
-        w : HasWholeNames r
-        w = h.stands.whole.whole.names
-
         form : form_cause name ≡ None
         form = by_cause (form_cause name) refl
           where
             by_cause : (found : Option Cause) → form_cause name ≡ found → found ≡ None
             by_cause None e = refl
-            by_cause (Some cause) e = let wrong : None ≡ Some cause = sym none ∙ by_form r name o w at cause e in absurd (cc wrong)
+            by_cause (Some cause) e = let wrong : None ≡ Some cause = sym none ∙ by_form r name at cause e in absurd (cc wrong)
 
         words : first_among word_causes r (Delete name at) ≡ None
         words = by_cause (first_among word_causes r (Delete name at)) refl
           where
             by_cause : (found : Option Cause) → first_among word_causes r (Delete name at) ≡ found → found ≡ None
             by_cause None e = refl
-            by_cause (Some cause) e = let wrong : None ≡ Some cause = sym none ∙ by_words r name o w at form cause e in absurd (cc wrong)
+            by_cause (Some cause) e = let wrong : None ≡ Some cause = sym none ∙ by_words r name at form cause e in absurd (cc wrong)
 
         there : stands r name ≡ true
-        there = by_stand (stands r name) _ (sym (by_held r name o w at form words (first_among held_causes r (Delete name at)) refl) ∙ none)
+        there = by_stand (stands r name) _ (sym (by_held r name at form words (first_among held_causes r (Delete name at)) refl) ∙ none)
           where
             by_stand : (b : Bool) (rest : Option Cause) → cond (not b || false) (Some NoSuchName) rest ≡ None → b ≡ true
             by_stand true rest e = refl

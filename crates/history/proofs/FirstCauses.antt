@@ -4,8 +4,7 @@ use Rattle.std.specs.List.{list_any, flat_map}
 use Rattle.std.proofs.lemmas.List.Folds.{list_any-append}
 use Rattle.std.proofs.lemmas.List.{map-append}
 use Rattle.history_model.specs.FileMap.{folders_of}
-use Rattle.history_model.specs.Stage.{is_spoken}
-use Rattle.history_model.specs.Repository.{Repository, HasWholeNames}
+use Rattle.history_model.specs.Repository.{Repository}
 use Rattle.history_model.specs.Objects.{StoredCommit, StoredFolder, CommitValue, commit_content, content_of, hex, folder_id, actor_text}
 use Rattle.history_model.specs.Bytes.{line}
 use Rattle.history_model.specs.Forms.{max_content}
@@ -13,10 +12,8 @@ use Rattle.history_model.specs.Commands.{Commit, CommitCommand}
 use Rattle.history_model.specs.CommandParts.{paths_in, contents_in}
 use Rattle.history_model.specs.Meaning.{new_commit, stored_by, put_bytes, edits_of}
 use Rattle.history_model.specs.Causes.{holds, first_cause, is_bad_path, is_bad_actor, is_too_large}
-use Rattle.history_steps.specs.Offered.{IsOffered}
 use Rattle.history_model.specs.declared.Cause.{Cause}
 use Rattle.history_model.specs.declared.Cause.TheVariants.{BadPath, IsFolder, NoSuchPath, BadActor, BadTime, BadMessage, TooLarge}
-use Rattle.history_steps.proofs.OfferedCauses.{first_offered_cause}
 use Rattle.history.specs.CommitCauses.{first_among, name_causes, form_causes, is_long}
 use Rattle.history.proofs.FieldLemmas.{beyond}
 use Rattle.history_model.proofs.StepLemmas.{passed as none_of}
@@ -53,22 +50,19 @@ here false x rest e = cc
 
 -- ---- the first cause of a commit
 
-module _ (r : Repository) (order : CommitCommand) (o : IsOffered r) (w : HasWholeNames r) (offered : is_spoken (Commit order) ≡ true) where
+module _ (r : Repository) (order : CommitCommand) where
   pub refused_by_name : (cause : Cause) → first_among name_causes r (Commit order) ≡ Some cause → first_cause r (Commit order) ≡ Some cause
   refused_by_name cause e =
-      first_offered_cause r (Commit order) o w offered
-      ∙ find_in_front (λ cause. holds cause r (Commit order)) name_causes (form_causes ++ TooLarge ∷ []) cause e
+      find_in_front (λ cause. holds cause r (Commit order)) name_causes (form_causes ++ TooLarge ∷ []) cause e
 
   pub refused_by_form : (cause : Cause) → first_among name_causes r (Commit order) ≡ None → first_among (form_causes ++ TooLarge ∷ []) r (Commit order) ≡ Some cause → first_cause r (Commit order) ≡ Some cause
   refused_by_form cause none e =
-      first_offered_cause r (Commit order) o w offered
-      ∙ find_after_none (λ cause. holds cause r (Commit order)) name_causes (form_causes ++ TooLarge ∷ []) none ∙ e
+      find_after_none (λ cause. holds cause r (Commit order)) name_causes (form_causes ++ TooLarge ∷ []) none ∙ e
 
   -- where all but the last cause are ruled out, it decides
   pub refused_by_size : first_among name_causes r (Commit order) ≡ None → first_among form_causes r (Commit order) ≡ None → first_cause r (Commit order) ≡ first_among (TooLarge ∷ []) r (Commit order)
   refused_by_size none formed =
-      first_offered_cause r (Commit order) o w offered
-      ∙ find_after_none (λ cause. holds cause r (Commit order)) name_causes (form_causes ++ TooLarge ∷ []) none
+      find_after_none (λ cause. holds cause r (Commit order)) name_causes (form_causes ++ TooLarge ∷ []) none
       ∙ find_after_none (λ cause. holds cause r (Commit order)) form_causes (TooLarge ∷ []) formed
 
 -- ---- what is too large

@@ -1,20 +1,19 @@
 -- The lines of a move: what is read of them, and what they tell of the causes.
-use Rattle.std.proofs.Common.{◌≡◌, ℕ, Bool, true, false, cond, not, ◌&&◌, ◌||◌, List, [], ◌∷◌, ◌++◌, map, filter, refl, sym, ◌∙◌, ap, subst, Option, Some, None, option_map, is_some, is_none, unwrap_or}
-use Rattle.std.specs.Prelude.{Vec, Result, Err, IfErr, IsErrOf, ⊤}
+use Rattle.std.proofs.Common.{◌≡◌, ℕ, zero, suc, ◌<◌, length, get_or, arith, Bool, true, false, cond, not, ◌&&◌, ◌||◌, List, [], ◌∷◌, ◌++◌, map, filter, refl, sym, ◌∙◌, ap, subst, Option, Some, None, option_map, is_some, is_none, unwrap_or}
+use Rattle.std.specs.Prelude.{Vec, Result, Err, IsErrOf, ⊤}
 use Rattle.std.specs.declared.alloc.Global.{Global}
 use Rattle.std.specs.List.{AllZip, flat_map, list_all, list_any}
 use Rattle.std.specs.FinMap.{keys}
 use Rattle.std.proofs.lemmas.List.{map-append}
 use Rattle.std.proofs.lemmas.List.Folds.{list_all-append, list_any-append}
 use Rattle.std.proofs.lemmas.Bool.{and_parts, or_from}
-use Rattle.gix_ref_file.specs.History.{History}
 use Rattle.gix_hash_id.specs.Id.{id_of, null_id}
 use Rattle.gix_hash_id.specs.declared.object_id.ObjectId.{ObjectId}
 use Rattle.gix_ref_file.specs.declared.files.FileError.{FileError}
 use Rattle.gix_ref_file.specs.declared.files.FileError.TheVariants.{Failed, Memory as NoMemory}
 use Rattle.history_model.specs.Bytes.{Bytes}
 use Rattle.history_model.specs.Repository as plain
-use Rattle.history_model.specs.Repository.{HasWholeNames, id_at, stands}
+use Rattle.history_model.specs.Repository.{id_at, stands}
 use Rattle.history_model.specs.Forms.{is_name, is_offset, is_seconds}
 use Rattle.history_model.specs.Words.{commit_of}
 use Rattle.history_model.specs.Commands.{Expect, Any, New, At, Move, MoveCommand, To}
@@ -26,35 +25,27 @@ use Rattle.history_model.specs.declared.Cause.{Cause}
 use Rattle.history_model.specs.declared.Cause.TheVariants.{BadActor, BadMessage, BadName, BadTime, NoSuchName, Taken, NotExpected, NothingMoves}
 use Rattle.history_model.specs.declared.Fault.TheVariants.{Memory, File, IdTaken}
 use Rattle.history_steps.specs.MoveSteps.{line_entry}
-use Rattle.history_steps.specs.Offered.{IsOffered}
-use Rattle.history_steps.proofs.OfferedCauses.{first_offered_cause}
-use Rattle.history_steps.proofs.OfferedReads.{names_stand_for_theirs}
 use Rattle.history_store.specs.Formats.{actor_of, entry_of}
 use Rattle.history_store.specs.declared.log_entry.LogEntry.{LogEntry}
-use Rattle.history_word.specs.Commands.{AreTos, IsExpect, IsTo}
-use Rattle.history_word.specs.declared.command.Expect as sent_expects
-use Rattle.history_word.specs.declared.command.Expect.TheVariants as sent_variants
+use Rattle.history_word.specs.Commands.{AreTos, IsTo}
 use Rattle.history_word.specs.declared.command.To as sent
 use Rattle.history.specs.Acts.{Acts, GivesMeant, IsReadingFault}
 use Rattle.history.specs.Bases.{IsExpected, expected_meanings, words_cause}
 use Rattle.history.specs.CommitCauses.{IsToldOf, TestsOf, first_among, held_causes, place_causes, word_causes}
-use Rattle.history.specs.Face.{names_part}
 use Rattle.history.specs.Faults.{file_fault}
 use Rattle.history.specs.Meanings.{commit_in, commit_or_cause}
 use Rattle.history.specs.Moving.{AreLines, AreMoves, IsLine, IsLineMove, PlansMoves, TestsNames, bars, is_elsewhere, is_missing, is_new, is_taken, is_there, line_meanings, line_name, lines_cause, move_causes, names_cause, teller_causes, to_causes, to_name}
 use Rattle.history.specs.declared.base.Expected.{Expected}
 use Rattle.history.specs.declared.base.Expected.TheVariants as expected
+use Rattle.history.specs.Held.{held_id}
+use Rattle.history.specs.declared.held.Held.{Held}
 use Rattle.history.specs.declared.moving.Line.{Line}
 use Rattle.history.specs.declared.planning.Moves.{Moves}
-use Rattle.history.specs.declared.repository.Repository.{Repository}
-use Rattle.history.specs.Serving.{Serves}
-use Rattle.history_store.specs.References.{NameHolds}
 use Rattle.history.specs.declared.stopped.Stopped.{Stopped}
 use Rattle.history.specs.declared.stopped.Stopped.TheVariants as why
 use Rattle.history.proofs.FirstCauses.{find_after_none, find_in_front, here, passed}
-use Rattle.history.proofs.NameReads.{held, refs_front}
 use Rattle.history.proofs.WordCauses.{any_map, commit_told, words_told as all_words_told}
-use Rattle.history.proofs.WordReads.{stands_so}
+use Rattle.history.proofs.HeldLemmas.{held_stands}
 
 -- ---- lists
 
@@ -103,7 +94,7 @@ each_named (order ∷ orders) none = go (is_name order.name) none (each_named or
 
 -- ---- words
 
-at_meanings : (r : plain.Repository) (expect : Expect) (what : Expected) → IsExpected r expect what → expected_meanings what ≡ map (commit_or_cause r) (at_word expect)
+pub at_meanings : (r : plain.Repository) (expect : Expect) (what : Expected) → IsExpected r expect what → expected_meanings what ≡ map (commit_or_cause r) (at_word expect)
 at_meanings r Any expected.Any is = refl
 at_meanings r New expected.New is = refl
 at_meanings r (At word) (expected.At meaning) is = ap (λ x. x ∷ []) is
@@ -133,13 +124,9 @@ words_told r order lines are =
 
 -- ---- what the names hold
 
-same_there : (held : Option ObjectId) → is_some (option_map id_of held) ≡ is_some held
-same_there None = refl
-same_there (Some id) = refl
-
-pub not_there : (held : Option ObjectId) → not (is_some held) ≡ is_none held
+pub not_there : (held : Option Held) → not (is_some held) ≡ is_none held
 not_there None = refl
-not_there (Some id) = refl
+not_there (Some held) = refl
 
 abbrev pair_of : To → Bytes × Expect
 pair_of to = (to.name, to.expect)
@@ -152,7 +139,7 @@ new_pairs orders = map (λ (e : Bytes × Expect). e.0) (filter (λ (e : Bytes ×
 
 module _ (r : plain.Repository) where
   pub line_stands : (to : To) (line : Line) → IsLine r to line → is_some line.held ≡ stands r to.name
-  line_stands to line is = sym (stands_so r to.name (option_map id_of line.held) (sym is.held) ∙ same_there line.held)
+  line_stands to line is = sym (held_stands r to.name line.held is.held)
 
   missing_told : (orders : List To) (lines : List Line) → AreLines r orders lines → list_any (λ name. not (stands r name)) (at_pairs orders) ≡ list_any is_missing lines
   missing_told [] [] are = refl
@@ -203,94 +190,93 @@ module _ (r : plain.Repository) where
   there_told [] (line ∷ lines) are = absurd are
   there_told (order ∷ orders) [] are = absurd are
   there_told (order ∷ orders) (line ∷ lines) are = λ i.
-      same_id (sym (are.0).held i) (sym (are.0).commit i) || there_told orders lines are.1 i
+      same_id (sym ((are.0).held).id i) (sym (are.0).commit i) || there_told orders lines are.1 i
 
-  module _ (o : IsOffered r) (w : HasWholeNames r) where
-    elsewhere_told : (orders : List To) (lines : List Line) → AreLines r orders lines → list_any (model.is_elsewhere r) (map pair_of orders) ≡ list_any is_elsewhere lines
-    elsewhere_told [] [] are = refl
-    elsewhere_told [] (line ∷ lines) are = absurd are
-    elsewhere_told (order ∷ orders) [] are = absurd are
-    elsewhere_told (order ∷ orders) (line ∷ lines) are = λ i. one order.expect line.expected (are.0).expected i || elsewhere_told orders lines are.1 i
-      where
-        one : (expect : Expect) (what : Expected) → IsExpected r expect what → model.is_elsewhere r (order.name, expect) ≡ Rattle.history.specs.Moving.is_apart line what
-        one Any expected.Any is = refl
-        one New expected.New is = refl
-        one (At word) (expected.At meaning) is = λ i. not (same_id ((names_stand_for_theirs r order.name o w ∙ sym (are.0).held) i) (commit_told r word meaning is i))
-        one Any expected.New is = absurd is
-        one Any (expected.At meaning) is = absurd is
-        one New expected.Any is = absurd is
-        one New (expected.At meaning) is = absurd is
-        one (At word) expected.Any is = absurd is
-        one (At word) expected.New is = absurd is
+  elsewhere_told : (orders : List To) (lines : List Line) → AreLines r orders lines → list_any (model.is_elsewhere r) (map pair_of orders) ≡ list_any is_elsewhere lines
+  elsewhere_told [] [] are = refl
+  elsewhere_told [] (line ∷ lines) are = absurd are
+  elsewhere_told (order ∷ orders) [] are = absurd are
+  elsewhere_told (order ∷ orders) (line ∷ lines) are = λ i. one order.expect line.expected (are.0).expected i || elsewhere_told orders lines are.1 i
+    where
+      one : (expect : Expect) (what : Expected) → IsExpected r expect what → model.is_elsewhere r (order.name, expect) ≡ Rattle.history.specs.Moving.is_apart line what
+      one Any expected.Any is = refl
+      one New expected.New is = refl
+      one (At word) (expected.At meaning) is = λ i. not (same_id (sym ((are.0).held).commit i) (commit_told r word meaning is i))
+      one Any expected.New is = absurd is
+      one Any (expected.At meaning) is = absurd is
+      one New expected.Any is = absurd is
+      one New (expected.At meaning) is = absurd is
+      one (At word) expected.Any is = absurd is
+      one (At word) expected.New is = absurd is
 
-    pub held_told : (order : MoveCommand) (lines : List Line) → AreLines r order.to lines → first_among held_causes r (Move order) ≡ lines_cause lines
-    held_told order lines are = λ i.
-        cond (missing_told order.to lines are i) (Some NoSuchName) (cond (taken_told order.to lines are i) (Some Taken) (cond (elsewhere_told order.to lines are i) (Some NotExpected) None))
+  pub held_told : (order : MoveCommand) (lines : List Line) → AreLines r order.to lines → first_among held_causes r (Move order) ≡ lines_cause lines
+  held_told order lines are = λ i.
+      cond (missing_told order.to lines are i) (Some NoSuchName) (cond (taken_told order.to lines are i) (Some Taken) (cond (elsewhere_told order.to lines are i) (Some NotExpected) None))
 
-    -- ---- the first of the causes
+  -- ---- the first of the causes
 
-    module _ (order : MoveCommand) where
-      abbrev Tells : List Cause → Option Cause
-      Tells causes = first_among causes r (Move order)
+  module _ (order : MoveCommand) where
+    abbrev Tells : List Cause → Option Cause
+    Tells causes = first_among causes r (Move order)
 
-      abbrev P : Cause → Bool
-      P cause = holds cause r (Move order)
+    abbrev P : Cause → Bool
+    P cause = holds cause r (Move order)
 
-      first_told : first_cause r (Move order) ≡ Tells move_causes
-      first_told = first_offered_cause r (Move order) o w refl
+    first_told : first_cause r (Move order) ≡ Tells move_causes
+    first_told = refl
 
-      abbrev behind_names : List Cause
-      behind_names = word_causes ++ (held_causes ++ (place_causes ++ (teller_causes ++ NothingMoves ∷ [])))
+    abbrev behind_names : List Cause
+    behind_names = word_causes ++ (held_causes ++ (place_causes ++ (teller_causes ++ NothingMoves ∷ [])))
 
-      abbrev behind_words : List Cause
-      behind_words = held_causes ++ (place_causes ++ (teller_causes ++ NothingMoves ∷ []))
+    abbrev behind_words : List Cause
+    behind_words = held_causes ++ (place_causes ++ (teller_causes ++ NothingMoves ∷ []))
 
-      abbrev behind_held : List Cause
-      behind_held = place_causes ++ (teller_causes ++ NothingMoves ∷ [])
+    abbrev behind_held : List Cause
+    behind_held = place_causes ++ (teller_causes ++ NothingMoves ∷ [])
 
-      abbrev behind_places : List Cause
-      behind_places = teller_causes ++ NothingMoves ∷ []
+    abbrev behind_places : List Cause
+    behind_places = teller_causes ++ NothingMoves ∷ []
 
-      pub by_names : (cause : Cause) → Tells to_causes ≡ Some cause → first_cause r (Move order) ≡ Some cause
-      by_names cause e = first_told ∙ find_in_front P to_causes behind_names cause e
+    pub by_names : (cause : Cause) → Tells to_causes ≡ Some cause → first_cause r (Move order) ≡ Some cause
+    by_names cause e = first_told ∙ find_in_front P to_causes behind_names cause e
 
-      module _ (names : Tells to_causes ≡ None) where
-        past_names : first_cause r (Move order) ≡ Tells behind_names
-        past_names = first_told ∙ find_after_none P to_causes behind_names names
+    module _ (names : Tells to_causes ≡ None) where
+      past_names : first_cause r (Move order) ≡ Tells behind_names
+      past_names = first_told ∙ find_after_none P to_causes behind_names names
 
-        pub by_words : (cause : Cause) → Tells word_causes ≡ Some cause → first_cause r (Move order) ≡ Some cause
-        by_words cause e = past_names ∙ find_in_front P word_causes behind_words cause e
+      pub by_words : (cause : Cause) → Tells word_causes ≡ Some cause → first_cause r (Move order) ≡ Some cause
+      by_words cause e = past_names ∙ find_in_front P word_causes behind_words cause e
 
-        module _ (words : Tells word_causes ≡ None) where
-          past_words : first_cause r (Move order) ≡ Tells behind_words
-          past_words = past_names ∙ find_after_none P word_causes behind_words words
+      module _ (words : Tells word_causes ≡ None) where
+        past_words : first_cause r (Move order) ≡ Tells behind_words
+        past_words = past_names ∙ find_after_none P word_causes behind_words words
 
-          pub by_held : (cause : Cause) → Tells held_causes ≡ Some cause → first_cause r (Move order) ≡ Some cause
-          by_held cause e = past_words ∙ find_in_front P held_causes behind_held cause e
+        pub by_held : (cause : Cause) → Tells held_causes ≡ Some cause → first_cause r (Move order) ≡ Some cause
+        by_held cause e = past_words ∙ find_in_front P held_causes behind_held cause e
 
-          module _ (held : Tells held_causes ≡ None) where
-            past_held : first_cause r (Move order) ≡ Tells behind_held
-            past_held = past_words ∙ find_after_none P held_causes behind_held held
+        module _ (held : Tells held_causes ≡ None) where
+          past_held : first_cause r (Move order) ≡ Tells behind_held
+          past_held = past_words ∙ find_after_none P held_causes behind_held held
 
-            pub by_places : (cause : Cause) → Tells place_causes ≡ Some cause → first_cause r (Move order) ≡ Some cause
-            by_places cause e = past_held ∙ find_in_front P place_causes behind_places cause e
+          pub by_places : (cause : Cause) → Tells place_causes ≡ Some cause → first_cause r (Move order) ≡ Some cause
+          by_places cause e = past_held ∙ find_in_front P place_causes behind_places cause e
 
-            module _ (places : Tells place_causes ≡ None) where
-              past_places : first_cause r (Move order) ≡ Tells behind_places
-              past_places = past_held ∙ find_after_none P place_causes behind_places places
+          module _ (places : Tells place_causes ≡ None) where
+            past_places : first_cause r (Move order) ≡ Tells behind_places
+            past_places = past_held ∙ find_after_none P place_causes behind_places places
 
-              pub by_teller : (cause : Cause) → Tells teller_causes ≡ Some cause → first_cause r (Move order) ≡ Some cause
-              by_teller cause e = past_places ∙ find_in_front P teller_causes (NothingMoves ∷ []) cause e
+            pub by_teller : (cause : Cause) → Tells teller_causes ≡ Some cause → first_cause r (Move order) ≡ Some cause
+            by_teller cause e = past_places ∙ find_in_front P teller_causes (NothingMoves ∷ []) cause e
 
-              module _ (teller : Tells teller_causes ≡ None) where
-                past_teller : first_cause r (Move order) ≡ Tells (NothingMoves ∷ [])
-                past_teller = past_places ∙ find_after_none P teller_causes (NothingMoves ∷ []) teller
+            module _ (teller : Tells teller_causes ≡ None) where
+              past_teller : first_cause r (Move order) ≡ Tells (NothingMoves ∷ [])
+              past_teller = past_places ∙ find_after_none P teller_causes (NothingMoves ∷ []) teller
 
-                pub by_there : P NothingMoves ≡ true → first_cause r (Move order) ≡ Some NothingMoves
-                by_there e = past_teller ∙ ap (λ b. cond b (Some NothingMoves) None) e
+              pub by_there : P NothingMoves ≡ true → first_cause r (Move order) ≡ Some NothingMoves
+              by_there e = past_teller ∙ ap (λ b. cond b (Some NothingMoves) None) e
 
-                pub none_told : P NothingMoves ≡ false → first_cause r (Move order) ≡ None
-                none_told e = past_teller ∙ ap (λ b. cond b (Some NothingMoves) None) e
+              pub none_told : P NothingMoves ≡ false → first_cause r (Move order) ≡ None
+              none_told e = past_teller ∙ ap (λ b. cond b (Some NothingMoves) None) e
 
 -- ---- places
 
@@ -303,13 +289,13 @@ line_names r (order ∷ orders) (line ∷ lines) are = λ i. (are.0).name i ∷ 
 -- ---- stops
 
 -- names that a move can't be of, and memory that ran out on the way
-pub names_planned : (r : plain.Repository) (o : IsOffered r) (w : HasWholeNames r) (order : MoveCommand) (MayFail : Type 0) (result : Result (Unit {0}) Stopped) (ends : Result (Vec Moves Global) Stopped) (stopped : Stopped)
+pub names_planned : (r : plain.Repository) (order : MoveCommand) (MayFail : Type 0) (result : Result (Unit {0}) Stopped) (ends : Result (Vec Moves Global) Stopped) (stopped : Stopped)
     → result ≡ Err stopped → ends ≡ Err stopped → TestsNames (map name_of order.to) result → PlansMoves MayFail r order ends
-names_planned r o w order MayFail result ends stopped was is_end tests =
+names_planned r order MayFail result ends stopped was is_end tests =
     subst (PlansMoves MayFail r order) (sym is_end) (by_case stopped (subst (TestsNames (map name_of order.to)) was tests))
   where
     by_case : (stopped : Stopped) → TestsNames (map name_of order.to) (Err stopped) → PlansMoves MayFail r order (Err stopped)
-    by_case (why.Refused cause) h = by_names r o w order cause (names_told r order ∙ h)
+    by_case (why.Refused cause) h = by_names r order cause (names_told r order ∙ h)
     by_case (why.Fault Memory) h = tt
     by_case (why.Fault File) h = absurd h
     by_case (why.Fault IdTaken) h = absurd h
@@ -332,25 +318,25 @@ or_null None null = refl
 or_null (Some id) null = refl
 
 -- the entry of a line that moves so
-pub entry_told : (r : plain.Repository) (order : MoveCommand) (to : To) (line : Line) (null other : ObjectId) (entry : LogEntry) → IsLine r to line → id_of null ≡ null_id r.kind → id_of other ≡ null_id r.kind
-    → entry.before ≡ unwrap_or line.held null → entry.after ≡ unwrap_or (commit_in line.word) other → actor_of entry.actor ≡ read_actor order.actor → entry.message.items ≡ order.message
+pub entry_told : (r : plain.Repository) (order : MoveCommand) (to : To) (line : Line) (other : ObjectId) (entry : LogEntry) → IsLine r to line → id_of other ≡ null_id r.kind
+    → id_of entry.before ≡ unwrap_or (option_map held_id line.held) (null_id r.kind) → entry.after ≡ unwrap_or (commit_in line.word) other → actor_of entry.actor ≡ read_actor order.actor → entry.message.items ≡ order.message
     → entry_of entry ≡ line_entry r order to
-entry_told r order to line null other entry is is_null other_null before after actor message =
-    let before_is = ap id_of before ∙ or_null line.held null ∙ (λ i. unwrap_or (is.held i) (is_null i)) in
+entry_told r order to line other entry is other_null before after actor message =
+    let before_is = before ∙ ap (λ found. unwrap_or found (null_id r.kind)) (is.held).id in
     let after_is = ap id_of after ∙ or_null (commit_in line.word) other ∙ (λ i. unwrap_or (is.commit i) (other_null i)) in
     λ i. record { before = before_is i; after = after_is i; actor = actor i; message = message i }
 
 pub refusal_planned : (MayFail : Type 0) (r : plain.Repository) (order : MoveCommand) (ends : Result (Vec Moves Global) Stopped) (cause : Cause) → ends ≡ Err (why.Refused cause) → first_cause r (Move order) ≡ Some cause → PlansMoves MayFail r order ends
 refusal_planned MayFail r order ends cause is_end told = subst (PlansMoves MayFail r order) (sym is_end) told
 
-pub places_planned : (r : plain.Repository) (o : IsOffered r) (w : HasWholeNames r) (order : MoveCommand) → first_among to_causes r (Move order) ≡ None → first_among word_causes r (Move order) ≡ None → first_among held_causes r (Move order) ≡ None
+pub places_planned : (r : plain.Repository) (order : MoveCommand) → first_among to_causes r (Move order) ≡ None → first_among word_causes r (Move order) ≡ None → first_among held_causes r (Move order) ≡ None
     → (MayFail : Type 0) (result : Result (Unit {0}) Stopped) (ends : Result (Vec Moves Global) Stopped) (stopped : Stopped) → result ≡ Err stopped → ends ≡ Err stopped → TestsOf MayFail place_causes r (Move order) (λ (done : Unit {0}). ⊤) result
     → PlansMoves MayFail r order ends
-places_planned r o w order names words held MayFail result ends stopped was is_end tests =
+places_planned r order names words held MayFail result ends stopped was is_end tests =
     subst (PlansMoves MayFail r order) (sym is_end) (by_case stopped (subst (λ (x : Result (Unit {0}) Stopped). TestsOf MayFail place_causes r (Move order) (λ (done : Unit {0}). ⊤) x) was tests))
   where
     by_case : (stopped : Stopped) → IsToldOf MayFail place_causes r (Move order) stopped → PlansMoves MayFail r order (Err stopped)
-    by_case (why.Refused cause) h = by_places r o w order names words held cause h
+    by_case (why.Refused cause) h = by_places r order names words held cause h
     by_case (why.Fault fault) h = h
 
 -- where nothing is planned, the command stops so
@@ -369,9 +355,6 @@ plan_acts MayFail CallFailed StandsNow keep r order result ends stopped was is_e
 pub gave_fault : {A : Type 0} (MayFail : Type 0) (P : A → Type 0) (result : Result A Stopped) (stopped : Stopped) → result ≡ Err stopped → GivesMeant MayFail P result → IsReadingFault MayFail stopped
 gave_fault {A} MayFail P result stopped was gives = subst (λ (x : Result A Stopped). GivesMeant MayFail P x) was gives
 
-pub if_fault : {B : Type 0} (MayFail : Type 0) (ends : Result B Stopped) (stopped : Stopped) → ends ≡ Err stopped → IsReadingFault MayFail stopped → IfErr ends (IsReadingFault MayFail)
-if_fault {B} MayFail ends stopped is_end told = subst (λ (x : Result B Stopped). IfErr x (IsReadingFault MayFail)) (sym is_end) told
-
 pub gives_fault : {B : Type 0} (MayFail : Type 0) (P : B → Type 0) (ends : Result B Stopped) (stopped : Stopped) → ends ≡ Err stopped → IsReadingFault MayFail stopped → GivesMeant MayFail P ends
 gives_fault {B} MayFail P ends stopped is_end told = subst (λ (x : Result B Stopped). GivesMeant MayFail P x) (sym is_end) told
 
@@ -382,20 +365,6 @@ tests_fault {B} MayFail causes r order P ends stopped is_end told = subst (λ (x
     by_case : (stopped : Stopped) → IsReadingFault MayFail stopped → IsToldOf MayFail causes r (Move order) stopped
     by_case (why.Refused cause) h = absurd h
     by_case (why.Fault fault) h = h
-
--- what was sent is expected of some name
-pub some_expect : (sent_expect : sent_expects.Expect) → (expect : Expect) × IsExpect sent_expect expect
-some_expect sent_variants.Any = (Any, tt)
-some_expect sent_variants.New = (New, tt)
-some_expect (sent_variants.At word) = (At word.items, refl)
-
-module _ {F : Type 0} (IsHonest : F → Type 0) (history : F → History) (repository : Repository F) (r : plain.Repository) (h : Serves IsHonest history repository r) where
-  -- what the file of a name tells is what the name holds
-  pub held_at : (name : Bytes) → is_name name ≡ true → (place : Bytes) → place ≡ name → (found : Option ObjectId) → NameHolds repository.names.kind (history (names_part repository)).tree place found → option_map id_of found ≡ id_at r name
-  held_at name formed place same found holds =
-      held IsHonest history repository r h name (refs_front name formed) found
-      (subst (λ kind. NameHolds kind (history (names_part repository)).tree name found) h.stands.names_kind
-      (subst (λ (p : Bytes). NameHolds repository.names.kind (history (names_part repository)).tree p found) same holds))
 
 -- ---- lines in a row
 
@@ -416,6 +385,12 @@ zip_add R [] [] x y all here = (here, tt)
 zip_add R [] (z ∷ ys) x y all here = absurd all
 zip_add R (w ∷ xs) [] x y all here = absurd all
 zip_add R (w ∷ xs) (z ∷ ys) x y all here = (all.0, zip_add R xs ys x y all.1 here)
+
+pub zip_at : {A B : Type 0} (R : A → B → Type 0) (p : B → Bool) (xs : List A) (ys : List B) (d : A) (i : ℕ) → i < length xs → AllZip R xs ys → list_all p ys ≡ true → (y : B) × R (get_or xs i d) y × (p y ≡ true)
+zip_at R p [] ys d i within all each = absurd (omega arith)
+zip_at R p (x ∷ xs) [] d i within all each = absurd all
+zip_at R p (x ∷ xs) (y ∷ ys) d zero within all each = (y, all.0, (and_parts (p y) (list_all p ys) each).0)
+zip_at R p (x ∷ xs) (y ∷ ys) d (suc i) within all each = zip_at R p xs ys d i (omega arith) all.1 (and_parts (p y) (list_all p ys) each).1
 
 pub none_zip : {A B C : Type 0} (R : A → C → Type 0) (Q : C → B → Type 0) (ys : List C) (zs : List B) → zs ≡ [] → AllZip R [] ys → AllZip Q ys zs
 none_zip R Q [] [] none all = tt

@@ -19,15 +19,13 @@ use Rattle.history_model.specs.Causes.{first_cause, is_ambiguous, is_bad_path, i
 use Rattle.history_model.specs.Commands.{Log, LogCommand, LogItem, Tip, Hidden, Order, Breadth, Newest, Oldest, NewestSince, OldestSince, Date, Topological}
 use Rattle.history_model.specs.Replies.{LogIs, reply_text}
 use Rattle.history_model.specs.Forms.{IsWritten}
-use Rattle.history_model.specs.Repository.{Repository, HasWholeNames, HoldsCommit, IsWholeStore}
+use Rattle.history_model.specs.Repository.{Repository, HoldsCommit, IsWholeStore}
 use Rattle.history_model.proofs.WholeReads.{read_holds}
 use Rattle.history_model.specs.Spelling.{item_target}
 use Rattle.history_model.specs.Words as model
 use Rattle.history_model.specs.Words.{commit_of}
 use Rattle.history_model.specs.declared.Cause.{Cause}
 use Rattle.history_model.specs.declared.Cause.TheVariants.{UnknownWord, AmbiguousWord, UnbornHead, NotACommit, BadPath}
-use Rattle.history_steps.specs.Offered.{IsOffered}
-use Rattle.history_steps.proofs.OfferedCauses.{first_offered_cause}
 use Rattle.history_walks.specs.Asking.{IsInOrder, walk_from}
 use Rattle.history_walks.specs.declared.listing.Request.{Request}
 use Rattle.history_walks.specs.declared.listing.Order as walks
@@ -91,7 +89,7 @@ module _ (r : Repository) (items : List LogItem) (ends : Ends) (are : AreEnds r 
 
 -- ---- causes
 
-module _ (r : Repository) (order : LogCommand) (o : IsOffered r) (w : HasWholeNames r) where
+module _ (r : Repository) (order : LogCommand) where
   abbrev Ordered : Option Cause
   Ordered = order_cause order.order order.first_parents (list_any is_hidden order.items)
 
@@ -99,7 +97,7 @@ module _ (r : Repository) (order : LogCommand) (o : IsOffered r) (w : HasWholeNa
   Placed = cond (list_any is_bad_path order.paths) (Some BadPath) Ordered
 
   first_told : first_cause r (Log order) ≡ by_words r (map item_target order.items) Placed
-  first_told = first_offered_cause r (Log order) o w refl
+  first_told = refl
 
   -- an accepted log has no bad path
   pub good_paths : first_cause r (Log order) ≡ None → list_any is_bad_path order.paths ≡ false
@@ -193,7 +191,7 @@ pub unwalked : (MayFail : Type 0) (r : Repository) (order : LogCommand) (stopped
 unwalked MayFail r order (Refused cause) h = h
 unwalked MayFail r order (Fault fault) h = h
 
-module _ (r : Repository) (order : LogCommand) (o : IsOffered r) (w : HasWholeNames r) (ends : Ends) (are : AreEnds r order.items ends) where
+module _ (r : Repository) (order : LogCommand) (ends : Ends) (are : AreEnds r order.items ends) where
   -- the walk that was asked for is the log's
   walk_of : (request : Request) (ids : Vec ObjectId Global) → IsOrderOf order.order order.first_parents request.order → request.tips.items ≡ filter_map commit_in ends.tips.items → request.hidden.items ≡ filter_map commit_in ends.hidden.items
       → IsLogged r request ids → IsWalk order.order (commits_of r) (walk_request r order) (map id_of ids.items)
@@ -210,7 +208,7 @@ module _ (r : Repository) (order : LogCommand) (o : IsOffered r) (w : HasWholeNa
       → order_cause order.order order.first_parents (list_any is_hidden order.items) ≡ None → IsOrderOf order.order order.first_parents request.order
       → request.tips.items ≡ filter_map commit_in ends.tips.items → request.hidden.items ≡ filter_map commit_in ends.hidden.items → AllHold r request.tips.items → GivesMeant MayFail (IsLogged r request) result → Walks MayFail r order result
   walk_given MayFail request store written (Ok ids) read good suits is_order tips_are hidden_are hold walked = (
-    told_by_order r order o w ends are read good ∙ suits,
+    told_by_order r order ends are read good ∙ suits,
     record { walk = walk_of request ids is_order tips_are hidden_are walked; hold = logged_hold r store written request ids walked hold },
   )
   walk_given MayFail request store written (Err stopped) read good suits is_order tips_are hidden_are hold fault = walk_fault MayFail r order stopped fault

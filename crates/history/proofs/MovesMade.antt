@@ -28,7 +28,6 @@ use Rattle.history_steps.specs.Passing.{HoldsBetween, MovesOnTheWay}
 use Rattle.history_steps.specs.TreeHalves.{HoldsValues}
 use Rattle.history_steps.specs.TreeSteps.{MovesName}
 use Rattle.history_steps.proofs.MoveLines.{lines_fit, lines_move, lines_pass}
-use Rattle.history_steps.proofs.OfferedSteps.{offered_stays}
 use Rattle.history_steps.proofs.PassedNames.{moving_stops, nothing_stops, values_recover}
 use Rattle.history_steps.proofs.TreeMoves.{packed_apart, packed_no_log}
 use Rattle.history_steps.proofs.TreePuts.{halves_stand}
@@ -243,7 +242,7 @@ module _ {F : Type 0} (IsHonest : F → Type 0) (history : F → History) (failu
         branch = ap (λ branch. branch.items) kept.branch ∙ h.stands.branch;
         known = λ id. ap (λ objects. contains_key (ids_of_objects objects) id) kept.objects ∙ h.stands.known id;
       };
-      stage = record { offered = offered_stays r (Move order) h.stage.offered refl none; unpacked = stand.unpacked };
+      stage = record { unpacked = stand.unpacked };
     }
 
     module _ (pass : Adds (HoldsBetween r (Move order)) (history (names_part old)) (history (names_part new))) where

@@ -1,14 +1,15 @@
 -- What `names` answers, by what its folder lists.
-use Rattle.std.proofs.Common.{◌≡◌, ℕ, inl, inr, Bool, true, false, cond, not, ◌&&◌, ◌||◌, T, List, [], ◌∷◌, ◌++◌, map, drop, length, refl, sym, ◌∙◌, ap, subst, Option, Some, None, option_map, option_and_then, is_some, unwrap_or, filter, codes, bytes_eq, Vec, Ok}
+use Rattle.std.proofs.Common.{◌≡◌, ℕ, zero, suc, ◌<◌, arith, get_or, inl, inr, Bool, true, false, cond, not, ◌&&◌, ◌||◌, T, List, [], ◌∷◌, ◌++◌, map, drop, length, refl, sym, ◌∙◌, ap, subst, Option, Some, None, option_map, option_and_then, is_some, unwrap_or, filter, codes, bytes_eq, Vec, Ok}
 use Rattle.std.specs.declared.alloc.Global.{Global}
 use Rattle.std.specs.Ordering.{eq_by_cmp, is_lt}
 use Rattle.std.specs.Cmp.Lexicographic.{nat_list_cmp_total}
 use Rattle.std.specs.FinMap.{entries, entries_sorted, get, get-entries, find, is_sorted, slice_cmp-IsAntisymmetric, nat_cmp-IsAntisymmetric}
 use Rattle.std.specs.FinMap.Entries.{below_all, same_entries, find-where_key, is_sorted-where_key}
-use Rattle.std.specs.List.{list_any}
+use Rattle.std.specs.List.{AllByRecursion, list_any}
 use Rattle.std.specs.Borrow.{Bor}
-use Rattle.std.specs.Prelude.{option_copied}
+use Rattle.std.specs.Prelude.{IsSome, option_copied}
 use Rattle.std.proofs.lemmas.Bool.{and_parts}
+use Rattle.std.proofs.lemmas.List.{map-append}
 use Rattle.gix_ref_file.specs.History.{History}
 use Rattle.gix_ref_file.specs.declared.files.FileError.{FileError}
 use Rattle.gix_ref_file.specs.declared.files.FileError.TheVariants.{Failed, Memory}
@@ -17,7 +18,7 @@ use Rattle.gix_hash_id.specs.declared.kind.Kind.{Kind}
 use Rattle.history_model.specs.Bytes.{Bytes, by_bytes, begins}
 use Rattle.history_model.specs.FileMap.{is_below}
 use Rattle.history_model.specs.Forms.{is_name, is_private, is_reference, IsWritten}
-use Rattle.history_model.specs.Repository.{Repository, Reference, HasWholeNames, id_at, peeled, peeled_value}
+use Rattle.history_model.specs.Repository.{Repository, Reference, HasWholeNames, id_at, peeled}
 use Rattle.history_model.specs.PackedNames.{id_from_hex, whole_line}
 use Rattle.history_model.specs.Places.{Pair, file_at, packed_place}
 use Rattle.history_model.specs.NameStates.{Holds, Symbolic, Absent, Faulty, loose_state, loose_line}
@@ -27,15 +28,13 @@ use Rattle.history_model.specs.Causes.{first_cause}
 use Rattle.history_model.specs.Objects.{hex}
 use Rattle.history_model.specs.Replies.{NameLine, NamesAre, reply_text}
 use Rattle.history_model.specs.Spelling.{Part, Line}
-use Rattle.history_model.specs.Answers.{is_in_folder, name_line, names_shown}
+use Rattle.history_model.specs.Answers.{is_in_folder, names_shown}
 use Rattle.history_model.specs.declared.Cause.{Cause}
 use Rattle.history_model.specs.declared.Cause.TheVariants.{BadName, PrivateName}
 use Rattle.history_model.proofs.FormatLemmas.{holds_same}
 use Rattle.history_model.proofs.WholeLists.{In, same_text}
 use Rattle.history_model.proofs.WholePaths.{begins_front, begins_parts}
 use Rattle.history_model.proofs.WholeStores.{in_get}
-use Rattle.history_steps.specs.Offered.{IsOffered}
-use Rattle.history_steps.proofs.OfferedReads.{names_hold_commits}
 use Rattle.history_files.proofs.Lines.{map_twice}
 use Rattle.history_store.specs.NameLists.{ListsNames, NameIds, held_id, id_below, name_entry, spelled_id}
 use Rattle.history_store.specs.declared.listed.NamedId.{NamedId}
@@ -43,7 +42,10 @@ use Rattle.history.specs.Acts.{OnlyAnswers, IsReadingFault}
 use Rattle.history.specs.CommitCauses.{form_cause}
 use Rattle.history.specs.Face.{names_part}
 use Rattle.history.specs.Faults.{file_fault}
-use Rattle.history.specs.NamesShown.{folder_cause, shown_name}
+use Rattle.history.specs.Held as shown_held
+use Rattle.history.specs.Held.{held_commit}
+use Rattle.history.specs.NamesShown.{ArePeeled, folder_cause, shown_name, told_name}
+use Rattle.history.specs.declared.listed.Shown.{Shown}
 use Rattle.history.specs.Serving.{Serves}
 use Rattle.history.specs.Stands.{pair_of}
 use Rattle.history.specs.declared.repository.Repository as own
@@ -146,15 +148,15 @@ held_told pair r stand unpacked name front = by_file (file_at pair.names name) r
 
 -- ---- the lines
 
--- the line of a name that holds a commit
-abbrev pub named_part : NamedId → Part
-named_part named = Line (hex (id_of named.id) ∷ hex (id_of named.id) ∷ named.name.items ∷ [])
+-- the line of a name with what it holds
+abbrev pub shown_part : Shown → Part
+shown_part shown = Line (hex (shown_held.held_id shown.held) ∷ hex (held_commit shown.held) ∷ shown.name.items ∷ [])
 
 abbrev pub held_entry : Bytes × Reference → Bytes × Id
 held_entry e = (e.0, (e.1).id)
 
-abbrev entry_line : Bytes × Id → NameLine
-entry_line e = record { id = e.1; commit = e.1; name = e.0 }
+abbrev entry_line : Repository → Bytes × Id → NameLine
+entry_line r e = record { id = e.1; commit = unwrap_or (peeled r e.1) (null_id r.kind); name = e.0 }
 
 find_held : (q : Bytes) (es : List (Bytes × Reference)) → find by_bytes q (map held_entry es) ≡ option_map (λ (ref : Reference). ref.id) (find by_bytes q es)
 find_held q [] = refl
@@ -171,23 +173,21 @@ sorted_held : (es : List (Bytes × Reference)) → is_sorted by_bytes (map held_
 sorted_held [] = refl
 sorted_held (e ∷ es) = λ i. below_held e.0 es i && sorted_held es i
 
-module _ (r : Repository) (o : IsOffered r) (w : HasWholeNames r) where
-  -- a name stands for the commit that it holds
-  line_is : (e : Bytes × Reference) → In e (entries r.names) → name_line r e ≡ entry_line (held_entry e)
-  line_is e is =
-      let at : id_at r e.0 ≡ Some (e.1).id = ap (option_map (λ (ref : Reference). ref.id)) (in_get r.names e.0 e.1 is) in
-      let commit = names_hold_commits r e.0 (e.1).id o w at in
-      let stands_for : peeled r (e.1).id ≡ Some (e.1).id = ap (option_and_then (peeled_value (e.1).id)) commit.1 in
-      λ i. record { id = (e.1).id; commit = unwrap_or (stands_for i) (null_id r.kind); name = e.0 }
+-- each id of these names stands for a commit
+abbrev EntriesPeeled : Repository → List (Bytes × Id) → Type 0
+EntriesPeeled r es = AllByRecursion (λ (e : Bytes × Id). IsSome (peeled r e.1)) es
 
-  lines_are : (p : Bytes → Bool) (es : List (Bytes × Reference)) → ((e : Bytes × Reference) → In e es → name_line r e ≡ entry_line (held_entry e)) → map (name_line r) (filter (λ e. p e.0) es) ≡ map entry_line (map held_entry (filter (λ e. p e.0) es))
-  lines_are p [] are = refl
-  lines_are p (e ∷ es) are = by_test (p e.0) (lines_are p es (λ x is. are x (inr is)))
-    where
-      by_test : (b : Bool) → map (name_line r) (filter (λ e. p e.0) es) ≡ map entry_line (map held_entry (filter (λ e. p e.0) es))
-          → map (name_line r) (cond b (e ∷ filter (λ e. p e.0) es) (filter (λ e. p e.0) es)) ≡ map entry_line (map held_entry (cond b (e ∷ filter (λ e. p e.0) es) (filter (λ e. p e.0) es)))
-      by_test true rest = λ i. are e (inl refl) i ∷ rest i
-      by_test false rest = rest
+peeled_kept : (r : Repository) (p : Bytes → Bool) (es : List (Bytes × Reference)) → ((e : Bytes × Reference) → In e es → is_some (peeled r (e.1).id) ≡ true) → EntriesPeeled r (map held_entry (filter (λ e. p e.0) es))
+peeled_kept r p [] held = tt
+peeled_kept r p (e ∷ es) held = by_test (p e.0) (peeled_kept r p es (λ x is. held x (inr is)))
+  where
+    by_test : (b : Bool) → EntriesPeeled r (map held_entry (filter (λ e. p e.0) es)) → EntriesPeeled r (map held_entry (cond b (e ∷ filter (λ e. p e.0) es) (filter (λ e. p e.0) es)))
+    by_test true rest = (held e (inl refl), rest)
+    by_test false rest = rest
+
+named_peeled : (r : Repository) (names : List NamedId) → EntriesPeeled r (map name_entry names) → ArePeeled r names
+named_peeled r [] all = tt
+named_peeled r (named ∷ names) all = (all.0, named_peeled r names all.1)
 
 module _ (pair : Pair) (r : Repository) (stand : StandsFor r.kind pair r) (written : IsWritten r) (unpacked : file_at pair.names packed_place ≡ None) (folder : Option Bytes) (good : folder_cause (asked_folder folder) ≡ None) where
   -- a name in the folder holds what its file does, and no other name is listed
@@ -233,10 +233,15 @@ module _ (pair : Pair) (r : Repository) (stand : StandsFor r.kind pair r) (writt
       (λ q. sym (get-entries ids q) ∙ each q ∙ asked_holds q ∙ sym (find_shown q))
 
   -- what is listed is what is shown
-  pub names_are : (o : IsOffered r) (w : HasWholeNames r) (names : List NamedId) → ListsNames r.kind pair.names (asked_folder folder) names → map shown_name names ≡ names_shown r folder
-  names_are o w names lists =
-      sym (map_twice entry_line name_entry names) ∙ ap (map entry_line) (lists.are ∙ ids_are lists.ids lists.each)
-      ∙ sym (lines_are r o w (is_in_folder folder) (entries r.names) (line_is r o w))
+  pub names_are : (names : List NamedId) → ListsNames r.kind pair.names (asked_folder folder) names → map (told_name r) names ≡ names_shown r folder
+  names_are names lists =
+      sym (map_twice (entry_line r) name_entry names) ∙ ap (map (entry_line r)) (lists.are ∙ ids_are lists.ids lists.each) ∙ map_twice (entry_line r) held_entry shown
+
+  -- and each of its ids stands for a commit
+  pub names_peeled : HasWholeNames r → (names : List NamedId) → ListsNames r.kind pair.names (asked_folder folder) names → ArePeeled r names
+  names_peeled w names lists =
+      named_peeled r names (subst (EntriesPeeled r) (sym (lists.are ∙ ids_are lists.ids lists.each)) (peeled_kept r (is_in_folder folder) (entries r.names)
+      (λ e is. w.held e.0 (e.1).id (ap (option_map (λ (ref : Reference). ref.id)) (in_get r.names e.0 e.1 is)))))
 
 -- ---- a repository with its files
 
@@ -245,16 +250,40 @@ pub listing_fault : (MayFail : Type 0) (error : FileError) → (error ≡ Failed
 listing_fault MayFail Failed failed = failed refl
 listing_fault MayFail Memory failed = tt
 
-pub names_answered : {F : Type 0} (IsHonest : F → Type 0) (history : F → History) (repository : own.Repository F) (r : Repository) (MayFail : Type 0) → Serves IsHonest history repository r
-    → (kind : Kind) → kind ≡ r.kind → (folder : Option Bytes) (names : List NamedId) (text : Vec ℕ Global) → folder_cause (asked_folder folder) ≡ None
-    → ListsNames kind (history (names_part repository)).tree (asked_folder folder) names
-    → text.items ≡ reply_text (NamesAre repository.branch.items (map shown_name names)) → OnlyAnswers MayFail r (Names folder) (Ok text)
-names_answered IsHonest history repository r MayFail serves kind same folder names text good lists written =
-    let whole = serves.stands.whole in
-    let of_kind = subst (λ k. ListsNames k (history (names_part repository)).tree (asked_folder folder) names) same lists in
-    let are = names_are (pair_of history repository) r whole.stands whole.written serves.stage.unpacked folder good serves.stage.offered whole.whole.names names of_kind in (
-      NamesAre r.branch (names_shown r folder),
-      written ∙ (λ i. reply_text (NamesAre (serves.stands.branch i) (are i))),
-      names_cause r folder ∙ good,
-      refl,
-    )
+module _ {F : Type 0} (IsHonest : F → Type 0) (history : F → History) (repository : own.Repository F) (r : Repository) (serves : Serves IsHonest history repository r) (kind : Kind) (same : kind ≡ r.kind) (folder : Option Bytes)
+    (names : List NamedId) (good : folder_cause (asked_folder folder) ≡ None) (lists : ListsNames kind (history (names_part repository)).tree (asked_folder folder) names) where
+  of_kind : ListsNames r.kind (history (names_part repository)).tree (asked_folder folder) names
+  of_kind = subst (λ k. ListsNames k (history (names_part repository)).tree (asked_folder folder) names) same lists
+
+  pub listed_peeled : ArePeeled r names
+  listed_peeled =
+      let whole = serves.stands.whole in
+      names_peeled (pair_of history repository) r whole.stands whole.written serves.stage.unpacked folder good whole.whole.names names of_kind
+
+  pub names_answered : (MayFail : Type 0) (shown : List Shown) (text : Vec ℕ Global) → map shown_name shown ≡ map (told_name r) names
+      → text.items ≡ reply_text (NamesAre repository.branch.items (map shown_name shown)) → OnlyAnswers MayFail r (Names folder) (Ok text)
+  names_answered MayFail shown text told written =
+      let whole = serves.stands.whole in
+      let are = told ∙ names_are (pair_of history repository) r whole.stands whole.written serves.stage.unpacked folder good names of_kind in (
+        NamesAre r.branch (names_shown r folder),
+        written ∙ (λ i. reply_text (NamesAre (serves.stands.branch i) (are i))),
+        names_cause r folder ∙ good,
+        refl,
+      )
+
+-- ---- one name after another
+
+pub one_peeled : (r : Repository) (names : List NamedId) (d : NamedId) (i : ℕ) → i < length names → ArePeeled r names → IsSome (peeled r (id_of (get_or names i d).id))
+one_peeled r [] d i within all = absurd (omega arith)
+one_peeled r (named ∷ names) d zero within all = all.0
+one_peeled r (named ∷ names) d (suc i) within all = one_peeled r names d i (omega arith) all.1
+
+pub peeled_split : (r : Repository) (names : List NamedId) (named : NamedId) → ArePeeled r (names ++ named ∷ []) → ArePeeled r names × IsSome (peeled r (id_of named.id))
+peeled_split r [] named all = (tt, all.0)
+peeled_split r (first ∷ names) named all = let rest = peeled_split r names named all.1 in ((all.0, rest.0), rest.1)
+
+-- the line of one name more
+pub one_shown : (r : Repository) (so_far : List Shown) (names : List NamedId) (named : NamedId) (one : Shown) → map shown_name so_far ≡ map (told_name r) names → one.name.items ≡ named.name.items → one.held.id ≡ named.id
+    → Some (held_commit one.held) ≡ peeled r (id_of named.id) → map shown_name (so_far ++ one ∷ []) ≡ map (told_name r) (names ++ named ∷ [])
+one_shown r so_far names named one same name id commit =
+    map-append shown_name so_far (one ∷ []) ∙ (λ i. same i ++ record { id = id_of (id i); commit = unwrap_or (commit i) (null_id r.kind); name = name i } ∷ []) ∙ sym (map-append (told_name r) names (named ∷ []))

@@ -17,7 +17,6 @@ use Rattle.history_model.specs.Wholeness.{IsSound}
 use Rattle.history_model.proofs.WholeSteps.{steps_keep_sound}
 use Rattle.history_steps.specs.Passing.{HoldsBetween}
 use Rattle.history_steps.specs.TreeHalves.{HoldsValues}
-use Rattle.history_steps.proofs.OfferedSteps.{offered_stays}
 use Rattle.history_steps.proofs.PassedNames.{moving_stops, nothing_stops, values_recover}
 use Rattle.history_steps.proofs.TreePuts.{halves_stand}
 use Rattle.history_store.specs.Face.{ids_of_objects}
@@ -62,7 +61,7 @@ module _ {F : Type 0} (IsHonest : F → Type 0) (history : F → History) (failu
       branch = ap (λ branch. branch.items) kept.branch ∙ h.stands.branch ∙ sym c.branch;
       known = λ id. ap (λ objects. contains_key (ids_of_objects objects) id) kept.objects ∙ h.stands.known id ∙ ap (λ (values : plain.Values). contains_key values id) (sym c.values);
     };
-    stage = record { offered = offered_stays r order h.stage.offered c.spoken (c.accepts).no_cause; unpacked = unpacked };
+    stage = record { unpacked = unpacked };
   }
 
   module _ (pass : Adds (HoldsBetween r order) (history (names_part old)) (history (names_part new))) where

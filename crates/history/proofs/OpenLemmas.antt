@@ -9,7 +9,6 @@ use Rattle.history_model.specs.Objects.{by_id}
 use Rattle.history_model.specs.Places.{packed_place}
 use Rattle.history_model.specs.Repository.{fresh, first_branch}
 use Rattle.gix_hash_id.specs.declared.kind.Kind.{Kind}
-use Rattle.history_steps.proofs.OfferedSteps.{fresh_is_offered}
 use Rattle.history_store.proofs.FreshParts.{new_stands_whole}
 use Rattle.history_store.specs.Creation.{IsNew}
 use Rattle.history.specs.declared.repository.Repository.{Repository}
@@ -34,5 +33,5 @@ opened_stands IsHonest history repository kind objects names of_kind names_kind 
     no_object_known id = ap is_some (get-empty by_id id)
 
 -- and that is one of this stage
-pub opened_of_stage : (kind : Kind) (objects names : Tree) → IsNew objects names → IsOfStage (fresh kind) (record { objects = objects; names = names })
-opened_of_stage kind objects names new = record { offered = fresh_is_offered kind; unpacked = new.no_other packed_place (λ e. cc) }
+pub opened_of_stage : (objects names : Tree) → IsNew objects names → IsOfStage (record { objects = objects; names = names })
+opened_of_stage objects names new = record { unpacked = new.no_other packed_place (λ e. cc) }

@@ -10,9 +10,7 @@ use Rattle.history_model.specs.FileMap.{is_below}
 use Rattle.history_model.specs.Repository as plain
 use Rattle.history_model.specs.Repository.{stands}
 use Rattle.history_model.specs.Forms.{is_name}
-use Rattle.history_model.specs.Commands.{Commit, CommitCommand}
-use Rattle.history_model.specs.Meaning.{branch_or_name}
-use Rattle.history_model.specs.Causes.{do_collide, some_collide}
+use Rattle.history_model.specs.Causes.{do_collide}
 use Rattle.history_model.specs.Places.{file_at}
 use Rattle.history_steps.proofs.OfferedFiles.{all_keys}
 use Rattle.history_store.specs.Stores.{IsAbove}
@@ -23,7 +21,7 @@ use Rattle.history.specs.Serving.{Serves}
 use Rattle.history.specs.Halves.{NamesStand}
 use Rattle.history.specs.declared.repository.Repository.{Repository}
 use Rattle.std.specs.List.{list_any}
-use Rattle.history.proofs.Collisions.{none_any, above_it, fits_free, new_collides}
+use Rattle.history.proofs.Collisions.{none_any, above_it, fits_free, new_collides, one_collides}
 use Rattle.history.proofs.Commits.{names_stand}
 use Rattle.history.proofs.MovedNames.{way}
 use Rattle.history.proofs.NameReads.{file_stands}
@@ -75,11 +73,8 @@ module _ {F : Type 0} (IsHonest : F → Type 0) (history : F → History) (repos
   collision_told true told = in_the_way told
   collision_told false told = clear_way told
 
--- of the name of a commit
-module _ {F : Type 0} (IsHonest : F → Type 0) (history : F → History) (repository : Repository F) (r : plain.Repository) (order : CommitCommand) (stand : Serves IsHonest history repository r)
-    (formed : is_name (branch_or_name r order.name) ≡ true) (new : stands r (branch_or_name r order.name) ≡ false) where
-  pub collision : TellsCollision (branch_or_name r order.name) (history (names_part repository)).tree true → some_collide r (Commit order) ≡ true
-  collision told = new_collides r order new ∙ collision_told IsHonest history repository r stand (branch_or_name r order.name) formed true told
-
-  pub no_collision : HasWay (branch_or_name r order.name) (history (names_part repository)).tree → some_collide r (Commit order) ≡ false
-  no_collision clear = new_collides r order new ∙ collision_told IsHonest history repository r stand (branch_or_name r order.name) formed false clear
+-- of a name that a command is to make
+module _ {F : Type 0} (IsHonest : F → Type 0) (history : F → History) (repository : Repository F) (r : plain.Repository) (stand : Serves IsHonest history repository r) (name : Bytes)
+    (formed : is_name name ≡ true) (new : stands r name ≡ false) where
+  pub place_collides : (found : Bool) → TellsCollision name (history (names_part repository)).tree found → one_collides r name ≡ found
+  place_collides found told = new_collides r name new ∙ collision_told IsHonest history repository r stand name formed found told

@@ -11,14 +11,12 @@ use Rattle.history_model.specs.Objects.{id_of as value_id}
 use Rattle.gix_hash_id.specs.Id.{Id, null_id, id_of}
 use Rattle.history_model.specs.Repository as plain
 use Rattle.std.specs.FinMap.{get}
-use Rattle.history_model.specs.Repository.{HasWholeNames, HoldsCommit, IsWholeStore, as_commit, id_at}
+use Rattle.history_model.specs.Repository.{HoldsCommit, IsWholeStore, as_commit, id_at}
 use Rattle.history_model.specs.Forms.{is_id, title, max_content}
 use Rattle.history_model.specs.Commands.{CommitCommand, Commit}
 use Rattle.history_model.specs.CommandParts.{paths_in, contents_in}
 use Rattle.history_model.specs.Meaning.{branch_or_name, first_files, parents_of, edits_of, new_commit, put_bytes, read_actor, stored_by, takes_id}
 use Rattle.history_model.specs.Causes.{first_cause, is_bad_path, is_too_large}
-use Rattle.history_model.specs.Stage.{is_spoken}
-use Rattle.history_steps.specs.Offered.{IsOffered}
 use Rattle.history_steps.specs.Passing.{AreNewFolders, commit_puts}
 use Rattle.history_model.specs.Steps.{MayTake}
 use Rattle.history_steps.specs.TreeSteps.{HasText, move_entry}
@@ -47,6 +45,7 @@ use Rattle.history_store.specs.declared.log_entry.LogEntry.{LogEntry}
 use Rattle.history_word.specs.Commands.{AreEdits}
 use Rattle.history_word.specs.declared.command.Edit.{Edit}
 use Rattle.history.specs.Acts.{IsReadingFault}
+use Rattle.history_steps.specs.OneNameSteps.{commit_move}
 use Rattle.history.specs.CommitCauses.{first_among, form_causes, name_causes, path_causes, is_long, IsToldBy, Tests}
 use Rattle.history.specs.Bases.{IsCommitBase}
 use Rattle.history.specs.Files.{TellsEdited, kept_edit}
@@ -160,24 +159,24 @@ module _ (r : plain.Repository) (order : CommitCommand) where
       let after_is = ap id_of at ∙ made.id in
       λ i. record { before = before i; after = after_is i; actor = actor i; message = message i }
 
-module _ (r : plain.Repository) (order : CommitCommand) (o : IsOffered r) (w : HasWholeNames r) (offered : is_spoken (Commit order) ≡ true) where
+module _ (r : plain.Repository) (order : CommitCommand) where
   pub base_planned : (MayFail : Type 0) (result : Result Base Stopped) (ends : Result Plan Stopped) (stopped : Stopped) → result ≡ Err stopped → ends ≡ Err stopped
       → Tests MayFail name_causes r order (IsCommitBase r order) result → Plans MayFail r order ends
   base_planned MayFail result ends stopped was is_end tests =
       subst (Plans MayFail r order) (sym is_end) (by_case stopped (subst (λ (x : Result Base Stopped). Tests MayFail name_causes r order (IsCommitBase r order) x) was tests))
     where
       by_case : (stopped : Stopped) → IsToldBy MayFail name_causes r order stopped → Plans MayFail r order (Err stopped)
-      by_case (Refused cause) h = refused_by_name r order o w offered cause h
+      by_case (Refused cause) h = refused_by_name r order cause h
       by_case (why.Fault fault) h = reading_planned MayFail r order fault h
 
   -- ---- paths
 
   module _ (none : first_among name_causes r (Commit order) ≡ None) where
     pub path_refused : list_any is_bad_path (paths_in (Commit order)) ≡ true → first_cause r (Commit order) ≡ Some BadPath
-    path_refused bad = refused_by_form r order o w offered BadPath none (here _ _ _ bad)
+    path_refused bad = refused_by_form r order BadPath none (here _ _ _ bad)
 
     pub folder_refused : list_any is_bad_path (paths_in (Commit order)) ≡ false → some_refused (first_files r (parents_of r order)) (edits_of r order) ≡ true → first_cause r (Commit order) ≡ Some IsFolder
-    folder_refused good refused = refused_by_form r order o w offered IsFolder none (passed _ _ _ _ good (here _ _ _ refused))
+    folder_refused good refused = refused_by_form r order IsFolder none (passed _ _ _ _ good (here _ _ _ refused))
 
     pub no_paths_refused : list_any is_bad_path (paths_in (Commit order)) ≡ false → some_refused (first_files r (parents_of r order)) (edits_of r order) ≡ false → first_among path_causes r (Commit order) ≡ None
     no_paths_refused good accepted = passed _ _ _ _ good (passed _ _ _ _ accepted refl)
@@ -215,7 +214,7 @@ module _ (r : plain.Repository) (order : CommitCommand) (o : IsOffered r) (w : H
 
     pub folders_refused : list_any is_long (contents r (new_commit r order).files) ≡ true → first_cause r (Commit order) ≡ Some TooLarge
     folders_refused large =
-        refused_by_size r order o w offered none formed
+        refused_by_size r order none formed
         ∙ here (is_too_large r (Commit order)) TooLarge None (sizes ∙ ap (λ b. b || (is_long (commit_content r.kind (new_commit r order)) || false)) large)
 
     -- the trees are too large, or no memory was left
@@ -229,7 +228,7 @@ module _ (r : plain.Repository) (order : CommitCommand) (o : IsOffered r) (w : H
 
     -- no cause holds but that something may be too large
     pub may_take : takes_id r (Commit order) ≡ true → MayTake r (Commit order)
-    may_take taken = (by_size (is_too_large r (Commit order)) (refused_by_size r order o w offered none formed), taken)
+    may_take taken = (by_size (is_too_large r (Commit order)) (refused_by_size r order none formed), taken)
       where
         by_size : (b : Bool) → first_cause r (Commit order) ≡ cond b (Some TooLarge) None → (first_cause r (Commit order) ≡ None) ⊎ (first_cause r (Commit order) ≡ Some TooLarge)
         by_size true e = inr e
@@ -280,7 +279,7 @@ module _ (r : plain.Repository) (order : CommitCommand) (o : IsOffered r) (w : H
 
     pub commit_refused : max_content < length (commit_content r.kind (new_commit r order)) → first_cause r (Commit order) ≡ Some TooLarge
     commit_refused large =
-        refused_by_size r order o w offered none formed
+        refused_by_size r order none formed
         ∙ here (is_too_large r (Commit order)) TooLarge None (sizes ∙ ap (λ b. list_any is_long (contents r (new_commit r order).files) || (b || false)) (beyond max_content _ large) ∙ or_true _)
 
     -- the commit is too large, or no memory was left
@@ -294,7 +293,7 @@ module _ (r : plain.Repository) (order : CommitCommand) (o : IsOffered r) (w : H
 
     pub none_refused : list_any is_long (contents r (new_commit r order).files) ≡ false → length (commit_content r.kind (new_commit r order)) ≤ max_content → first_cause r (Commit order) ≡ None
     none_refused folders_fit commit_fits =
-        refused_by_size r order o w offered none formed
+        refused_by_size r order none formed
         ∙ passed (is_too_large r (Commit order)) TooLarge None None (sizes ∙ (λ i. folders_fit i || (within max_content (length (commit_content r.kind (new_commit r order))) commit_fits i || false))) refl
 
   -- what the edits come to, where no content is over its limit
@@ -360,7 +359,7 @@ module _ (r : plain.Repository) (order : CommitCommand) (o : IsOffered r) (w : H
       | inr a ↦ inl (in_contains (commit_puts r order folders) value (in_right value (blobs ++ map StoredFolder folders) last a))
     ]
 
-    pub is_plan : IsSound r → first_cause r (Commit order) ≡ None → (plan : Plan) → AreObjectsOf r.kind (commit_puts r order folders) plan.objects.items → IsMove r order plan.moves → IsPlan r order plan
+    pub is_plan : IsSound r → first_cause r (Commit order) ≡ None → (plan : Plan) → AreObjectsOf r.kind (commit_puts r order folders) plan.objects.items → IsMove r (commit_move r order) plan.moves → IsPlan r order plan
     is_plan sound none plan objects moves = record {
       values = commit_puts r order folders;
       among = puts_among;

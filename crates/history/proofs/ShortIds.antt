@@ -1,6 +1,6 @@
 -- Short ids: which words are ones, and what the prefix that one spells names among what is stored.
-use Rattle.std.proofs.Common.{◌≡◌, ◌∙◌, ap, refl, sym, subst, ℕ, zero, suc, ◌+◌, ◌<◌, ◌≤◌, Bool, true, false, cond, ◌&&◌, ◌==◌, List, [], ◌∷◌, ◌++◌, map, length, filter, Option, Some, None, is_some, unwrap_or, option_and_then, Result, Ok, Err, arith, tests, inl, inr, eq-eqb, ◌⊎◌}
-use Rattle.std.specs.Prelude.{nat_le, ok_or, IsErrAnd, T}
+use Rattle.std.proofs.Common.{◌≡◌, ◌∙◌, ap, refl, sym, subst, ℕ, zero, suc, ◌+◌, ◌<◌, ◌≤◌, Bool, true, false, cond, ◌&&◌, ◌==◌, List, [], ◌∷◌, ◌++◌, map, length, filter, Option, Some, None, is_some, unwrap_or, Result, arith, tests, inl, inr, eq-eqb, ◌⊎◌}
+use Rattle.std.specs.Prelude.{nat_le, T}
 use Rattle.std.specs.Char.{to_ascii_lowercase}
 use Rattle.std.specs.Str.{IsAscii, IsUtf8}
 use Rattle.std.specs.List.{list_all, slice_index_or}
@@ -11,7 +11,6 @@ use Rattle.std.specs.FinMap.{contains_key, contains_key-keys, entries, entries_s
 use Rattle.std.specs.FinMap.Entries.{below_all}
 use Rattle.std.proofs.lemmas.Bool.{and_from, and_parts, cases_lt, eqb-true}
 use Rattle.std.proofs.lemmas.List.{length-map}
-use Rattle.std.proofs.lemmas.Option.{same_Some}
 use Rattle.std.proofs.lemmas.List.Recursion.{and_fails_at}
 use Rattle.std.proofs.lemmas.Str.{IsUtf8-from_ascii}
 use Rattle.std.proofs.lemmas.Str.Ascii.{IsAscii-nil, IsAscii-cons}
@@ -33,15 +32,10 @@ use Rattle.gix_hash_prefix.specs.declared.prefix.from_hex.Error.TheVariants.{Too
 use Rattle.gix_ref_file.specs.History.{History}
 use Rattle.gix_ref_file.proofs.Below.{when_lt}
 use Rattle.history_model.specs.Bytes.{Bytes, begins, lower}
-use Rattle.gix_object_lines.specs.declared.header.Header.{Header}
-use Rattle.gix_object_lines.specs.declared.kind.Kind as objects_kind
-use Rattle.gix_object_lines.specs.declared.kind.Kind.TheVariants as objects
-use Rattle.history_model.specs.Objects.{Value, StoredCommit, StoredTag, StoredBytes, StoredFolder, by_id, hex, object_kind, value_text}
+use Rattle.history_model.specs.Objects.{Value, by_id, hex, value_text}
 use Rattle.history_model.specs.Forms.{is_id}
 use Rattle.history_model.specs.declared.Cause.{Cause}
-use Rattle.history_model.specs.declared.Cause.TheVariants.{NotACommit}
-use Rattle.history_steps.specs.Offered.{IsOffered}
-use Rattle.history_model.specs.Repository.{Repository, peeled_value}
+use Rattle.history_model.specs.Repository.{Repository}
 use Rattle.history_model.specs.Words as model
 use Rattle.history_model.specs.Words.{id_meaning, is_short_id, matches, only_one}
 use Rattle.history_model.proofs.IdLemmas.{HasKind, digest_is_id, has_kind, same_id_tie}
@@ -50,16 +44,12 @@ use Rattle.history_store.specs.Face.{kind_of_objects}
 use Rattle.history_store.specs.Ids.{AreOfKind}
 use Rattle.history_store.specs.Prefixes.{CanName, IsHit, IsMatch}
 use Rattle.history_store.specs.declared.prefixes.Hit.TheVariants.{Absent, One, Several}
-use Rattle.gix_object_find.specs.declared.find.Error as find
-use Rattle.gix_object_find.specs.declared.find.Error.TheVariants as lookup
-use Rattle.history.specs.Acts.{GivesMeant, IsReadingFault}
+use Rattle.history.specs.Acts.{GivesMeant}
 use Rattle.history.specs.Face.{known_ids}
-use Rattle.history.specs.Faults.{find_fault}
-use Rattle.history.specs.Meanings.{meaning_of, stands_for, SpellsPrefix}
+use Rattle.history.specs.Meanings.{meaning_of, SpellsPrefix}
 use Rattle.history.specs.Stands.{Stands}
 use Rattle.history.specs.declared.repository.Repository as own
 use Rattle.history.specs.declared.stopped.Stopped.{Stopped}
-use Rattle.history.specs.declared.stopped.Stopped.TheVariants.{Fault}
 use Rattle.history.specs.declared.words.WordMeaning.{WordMeaning}
 
 -- ---- digits of any letter case
@@ -370,25 +360,3 @@ no_short_id r kind word same refused = ap (λ b. cond b (only_one (matches r wor
 -- what is given of a meaning is given of the same
 pub given_alike : (MayFail : Type 0) (one other : Result Id Cause) → one ≡ other → (result : Result WordMeaning Stopped) → GivesMeant MayFail (λ (m : WordMeaning). meaning_of m ≡ one) result → GivesMeant MayFail (λ (m : WordMeaning). meaning_of m ≡ other) result
 given_alike MayFail one other same result h = subst (λ (x : Result Id Cause). GivesMeant MayFail (λ (m : WordMeaning). meaning_of m ≡ x) result) same h
-
--- what a stored object stands for
-pub commit_stands : (r : Repository) (id : Id) (value : Value) → get r.objects id ≡ Some value → object_kind value ≡ objects.Commit → Ok id ≡ stands_for r (model.ReadsAs id)
-commit_stands r id (StoredCommit c) at is = sym (ap (λ o. ok_or (option_and_then (peeled_value id) o) NotACommit) at)
-commit_stands r id (StoredTag t) at is = cc
-commit_stands r id (StoredBytes b) at is = cc
-commit_stands r id (StoredFolder f) at is = cc
-
-pub other_stands : (r : Repository) (id : Id) (value : Value) → IsOffered r → get r.objects id ≡ Some value → (object_kind value ≡ objects.Commit → ⊥) → Err NotACommit ≡ stands_for r (model.ReadsAs id)
-other_stands r id (StoredCommit c) o at other = absurd (other refl)
-other_stands r id (StoredTag t) o at other = cc (o.untagged id (StoredTag t) at)
-other_stands r id (StoredBytes b) o at other = sym (ap (λ o. ok_or (option_and_then (peeled_value id) o) NotACommit) at)
-other_stands r id (StoredFolder f) o at other = sym (ap (λ o. ok_or (option_and_then (peeled_value id) o) NotACommit) at)
-
--- a lookup that failed is a fault of reading
-pub lookup_told : {T : Type 0} (MayFail : Type 0) (IsMeant : T → Type 0) (result : Result T Stopped) (error : find.Error) → IsErrAnd result (λ stopped. stopped ≡ Fault (find_fault error)) → (error ≡ lookup.Failed → MayFail) → GivesMeant MayFail IsMeant result
-lookup_told MayFail IsMeant (Ok value) error is fails = absurd is
-lookup_told MayFail IsMeant (Err stopped) lookup.Failed is fails = subst (IsReadingFault MayFail) (sym is) (fails refl)
-lookup_told MayFail IsMeant (Err stopped) lookup.Memory is fails = subst (IsReadingFault MayFail) (sym is) tt
-
-pub header_kind : (header : Header) (kind : objects_kind.Kind) (size : ℕ) → Some header ≡ Some (record { kind = kind; size = size }) → header.kind ≡ kind
-header_kind header kind size e = ap (λ (x : Header). x.kind) (same_Some header (record { kind = kind; size = size }) e)

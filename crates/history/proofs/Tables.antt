@@ -6,7 +6,7 @@ use Rattle.gix_hash_id.specs.Id.{Id, id_of}
 use Rattle.gix_hash_id.specs.declared.kind.Kind.{Kind}
 use Rattle.gix_hash_id.specs.declared.object_id.ObjectId.{ObjectId}
 use Rattle.gix_ref_file.specs.History.{History}
-use Rattle.gix_object_find.specs.Table.{Object, Table, header_at}
+use Rattle.gix_object_find.specs.Table.{Object, Table}
 use Rattle.history_model.specs.FileMap as model
 use Rattle.history_model.specs.FileMap.{FileMap}
 use Rattle.history_model.specs.Objects.{Value, StoredFolder, object_kind, content_of}
@@ -74,10 +74,6 @@ module _ {F : Type 0} (IsHonest : F → Type 0) (history : F → History) (repos
 
   pub holds_known : HoldsKnown IsHonest history repository.objects
   holds_known = record { honest = stands.honest_objects; known = known_there; kinds = kinds_known IsHonest history repository r stands }
-
-  -- the header of what is stored
-  pub header_there : (id : Id) (value : Value) → get r.objects id ≡ Some value → header_at (table_of history repository.objects) id ≡ Some (record { kind = object_kind value; size = length (content_of r.kind value) })
-  header_there id value at = ap (option_map (λ (object : Object). record { kind = object.kind; size = length object.content })) (at_id id ∙ ap (option_map object_of) at)
 
   -- a stored folder's tree is a root over it
   pub root_of : (id : Id) (files : FileMap) → get r.objects id ≡ Some (StoredFolder files) → IsRootOf (table_of history repository.objects) r.kind files id

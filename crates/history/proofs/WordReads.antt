@@ -1,14 +1,12 @@
 -- What the names that a word may mean tell of it, read one after another.
-use Rattle.std.proofs.Common.{◌≡◌, ℕ, suc, ◌+◌, ◌<◌, length, drop, get_or, drop-cons, subst, ◌≤◌, arith, Bool, true, false, cond, not, ◌&&◌, List, [], ◌∷◌, ◌++◌, map, filter, find, refl, sym, ◌∙◌, ap, Option, Some, None, is_some, option_map, unwrap_or, bytes_eq, codes, Bor, Ok, Err}
-use Rattle.std.specs.Prelude.{ok_or}
+use Rattle.std.proofs.Common.{◌≡◌, ℕ, suc, ◌+◌, ◌<◌, length, drop, get_or, drop-cons, subst, ◌≤◌, arith, Bool, true, false, cond, not, ◌&&◌, List, [], ◌∷◌, ◌++◌, map, filter, find, refl, sym, ◌∙◌, ap, Option, Some, None, is_some, option_map, unwrap_or, bytes_eq, codes, Bor, Err}
 use Rattle.std.specs.FinMap.{get}
 use Rattle.std.proofs.lemmas.List.{append-nil, drop_all}
 use Rattle.history_model.specs.Bytes.{Bytes, begins}
 use Rattle.history_model.specs.Forms.{is_name, is_private}
-use Rattle.history_model.specs.Repository.{Repository, Reference, id_at, peeled, stands}
-use Rattle.history_model.specs.Words.{word_meaning, name_meaning, id_meaning, candidates, head_word}
-use Rattle.history_model.specs.declared.Cause.TheVariants.{NotACommit, UnbornHead}
-use Rattle.history_steps.proofs.OfferedReads.{peels}
+use Rattle.history_model.specs.Repository.{Repository, Reference, id_at, stands}
+use Rattle.history_model.specs.Words.{ReadsAs, word_meaning, name_meaning, id_meaning, candidates, head_word}
+use Rattle.history_model.specs.declared.Cause.TheVariants.{UnbornHead}
 use Rattle.gix_ref_file.specs.History.{History}
 use Rattle.history_store.specs.References.{NameHolds}
 use Rattle.gix_hash_id.specs.declared.object_id.ObjectId.{ObjectId}
@@ -105,8 +103,8 @@ module _ (r : Repository) (word : Bytes) where
   pub reads_branch : bytes_eq word head_word ≡ true → word_meaning r word ≡ name_meaning (id_at r r.branch)
   reads_branch is = ap (λ b. cond b (name_meaning (id_at r r.branch)) (unwrap_or (option_map (λ name. name_meaning (id_at r name)) (find (stands r) (candidates word))) (id_meaning r word))) is
 
-  pub found_reads : bytes_eq word head_word ≡ false → (name : Bytes) (id : Id) → find (stands r) (candidates word) ≡ Some name → id_at r name ≡ Some id → peeled r id ≡ Some id → Ok id ≡ commit_or_cause r word
-  found_reads other name id e at own = sym (ap (stands_for r) (reads_found other (Some name) e ∙ ap name_meaning at) ∙ ap (λ o. ok_or o NotACommit) own)
+  pub found_reads : bytes_eq word head_word ≡ false → (name : Bytes) (id : Id) → find (stands r) (candidates word) ≡ Some name → id_at r name ≡ Some id → stands_for r (ReadsAs id) ≡ commit_or_cause r word
+  found_reads other name id e at = sym (ap (stands_for r) (reads_found other (Some name) e ∙ ap name_meaning at))
 
   pub none_reads : bytes_eq word head_word ≡ false → find (stands r) (candidates word) ≡ None → stands_for r (id_meaning r word) ≡ commit_or_cause r word
   none_reads other e = sym (ap (stands_for r) (reads_found other None e))
@@ -122,7 +120,7 @@ stands_so r name held e = by_ref (get r.names name) ∙ ap is_some e
 -- ---- a repository with its files
 
 module _ {F : Type 0} (IsHonest : F → Type 0) (history : F → History) (repository : own.Repository F) (r : Repository) (stand : Serves IsHonest history repository r) where
-  of_one_kind : (place : Bytes) (found : Option ObjectId) → NameHolds repository.names.kind (history (names_part repository)).tree place found → NameHolds r.kind (history (names_part repository)).tree place found
+  pub of_one_kind : (place : Bytes) (found : Option ObjectId) → NameHolds repository.names.kind (history (names_part repository)).tree place found → NameHolds r.kind (history (names_part repository)).tree place found
   of_one_kind place found holds = subst (λ kind. NameHolds kind (history (names_part repository)).tree place found) stand.stands.names_kind holds
 
   -- what the file of a candidate tells is what the candidate holds
@@ -145,11 +143,12 @@ module _ {F : Type 0} (IsHonest : F → Type 0) (history : F → History) (repos
       sym (held IsHonest history repository r stand place (ap (begins (codes "refs/")) same ∙ branch_is_name IsHonest history repository r stand) found (of_one_kind place found holds)
       ∙ ap (id_at r) (same ∙ stand.stands.branch))
 
-  pub branch_reads : (word place : Bytes) → bytes_eq word head_word ≡ true → place ≡ repository.branch.items → (found : Option ObjectId) → NameHolds repository.names.kind (history (names_part repository)).tree place found
-      → (id : ObjectId) → found ≡ Some id → Ok (id_of id) ≡ commit_or_cause r word
-  branch_reads word place is same found holds id there =
-      let at : id_at r r.branch ≡ Some (id_of id) = branch_held place same found holds ∙ ap (option_map id_of) there in
-      sym (ap (stands_for r) (reads_branch r word is ∙ ap name_meaning at) ∙ ap (λ o. ok_or o NotACommit) (peels r stand.stage.offered stand.stands.whole.whole.names r.branch (id_of id) at))
+  pub branch_at : (place : Bytes) → place ≡ repository.branch.items → (found : Option ObjectId) → NameHolds repository.names.kind (history (names_part repository)).tree place found
+      → (id : ObjectId) → found ≡ Some id → id_at r r.branch ≡ Some (id_of id)
+  branch_at place same found holds id there = branch_held place same found holds ∙ ap (option_map id_of) there
+
+  pub branch_reads : (word : Bytes) (id : Id) → bytes_eq word head_word ≡ true → id_at r r.branch ≡ Some id → stands_for r (ReadsAs id) ≡ commit_or_cause r word
+  branch_reads word id is at = sym (ap (stands_for r) (reads_branch r word is ∙ ap name_meaning at))
 
   pub branch_unborn : (word place : Bytes) → bytes_eq word head_word ≡ true → place ≡ repository.branch.items → (found : Option ObjectId) → NameHolds repository.names.kind (history (names_part repository)).tree place found
       → found ≡ None → Err UnbornHead ≡ commit_or_cause r word

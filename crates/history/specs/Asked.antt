@@ -29,14 +29,12 @@ pub record AskedCommit {F : Type 0} (IsHonest : F → Type 0) (history : F → H
     (r : plain.Repository) (order : orders.CommitCommand) : Type 0 where
   pub serves : Serves IsHonest history repository r
   pub reads : IsCommit command order
-  pub offered : IsTrue (is_spoken (orders.Commit order))
 
 -- A repository is asked for the files of a commit with these edits on these parents, where none of the causes of its name holds.
 pub record AskedFiles {F : Type 0} (IsHonest : F → Type 0) (history : F → History)
     (repository : Repository F) (parents : List ObjectId) (edits : List Edit)
     (r : plain.Repository) (order : orders.CommitCommand) : Type 0 where
   pub serves : Serves IsHonest history repository r
-  pub offered : IsTrue (is_spoken (orders.Commit order))
   pub unrefused : first_among name_causes r (orders.Commit order) ≡ None
   pub parents_are : map id_of parents ≡ parents_of r order
   pub edits_are : AreEdits edits order.edits

@@ -10,7 +10,7 @@ use Rattle.history_model.specs.CommandParts.{contents_in}
 use Rattle.history_model.specs.Meaning.{branch_or_name}
 use Rattle.history_model.specs.Causes.{holds}
 use Rattle.history_model.specs.declared.Cause.{Cause}
-use Rattle.history_model.specs.declared.Cause.TheVariants.{BadName, PrivateName, UnknownWord, AmbiguousWord, UnbornHead, NotACommit, NoSuchName, Taken, NotExpected, Collides, TooManyParents, DuplicateParent, BadPath, IsFolder, NoSuchPath, BadActor, BadTime, BadMessage, TooLarge}
+use Rattle.history_model.specs.declared.Cause.TheVariants.{BadName, PrivateName, UnknownWord, AmbiguousWord, UnbornHead, NotACommit, NoSuchName, Taken, NotExpected, Collides, HoldsTag, TooManyParents, DuplicateParent, BadPath, IsFolder, NoSuchPath, BadActor, BadTime, BadMessage, TooLarge}
 use Rattle.history.specs.Acts.{IsReadingFault}
 use Rattle.gix_object_lines.specs.Time.{IsSpellableOffset, offset_text}
 use Rattle.gix_object_lines.specs.declared.lines.time.Time.{Time}
@@ -34,7 +34,7 @@ abbrev pub held_causes : List Cause
 held_causes = NoSuchName ∷ Taken ∷ NotExpected ∷ []
 
 abbrev pub place_causes : List Cause
-place_causes = Collides ∷ []
+place_causes = Collides ∷ HoldsTag ∷ []
 
 abbrev pub parent_causes : List Cause
 parent_causes = TooManyParents ∷ DuplicateParent ∷ []

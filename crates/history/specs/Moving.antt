@@ -11,7 +11,7 @@ use Rattle.history_model.specs.Commands.{Move, MoveCommand, To}
 use Rattle.history_model.specs.Forms.{is_name, is_private}
 use Rattle.history_model.specs.Meaning.{read_actor}
 use Rattle.history_model.specs.Repository as plain
-use Rattle.history_model.specs.Repository.{id_at, stands}
+use Rattle.history_model.specs.Repository.{stands}
 use Rattle.history_model.specs.Words.{commit_of}
 use Rattle.history_model.specs.declared.Cause.{Cause}
 use Rattle.history_model.specs.declared.Cause.TheVariants.{BadName, PrivateName, NameTwice, NoSuchName, Taken, NotExpected, BadActor, BadTime, BadMessage, NothingMoves}
@@ -25,6 +25,7 @@ use Rattle.history.specs.Acts.{IsReadingFault}
 use Rattle.history.specs.Bases.{IsExpected, expected_meanings}
 use Rattle.history.specs.CommitCauses.{first_among, held_causes, place_causes, word_causes}
 use Rattle.history.specs.Fields.{kept_bytes}
+use Rattle.history.specs.Held.{IsHeld, held_commit, held_id}
 use Rattle.history.specs.Meanings.{commit_in, commit_or_cause, meaning_of}
 use Rattle.history.specs.Serving.{Serves}
 use Rattle.history.specs.declared.base.Expected.{Expected}
@@ -75,7 +76,7 @@ TestsNames names (Err (Fault IdTaken)) = ⊥
 pub record IsLine (r : plain.Repository) (to : To) (line : Line) : Type 0 where
   pub name : line.name.items ≡ to.name
   pub expected : IsExpected r to.expect line.expected
-  pub held : option_map id_of line.held ≡ id_at r to.name
+  pub held : IsHeld r to.name line.held
   pub word : meaning_of line.word ≡ commit_or_cause r to.word
   pub commit : option_map id_of (commit_in line.word) ≡ commit_of r to.word
 
@@ -106,15 +107,15 @@ abbrev pub is_apart : Line → Expected → Bool
 is_apart line Any = false
 is_apart line New = false
 is_apart line (At meaning) =
-    not (same_id (option_map id_of line.held) (option_map id_of (commit_in meaning)))
+    not (same_id (option_map held_commit line.held) (option_map id_of (commit_in meaning)))
 
 -- whether it is expected at a commit, and isn't there
 abbrev pub is_elsewhere : Line → Bool
 is_elsewhere line = is_apart line line.expected
 
--- whether it is there before it moves
+-- whether it holds its word's commit before it moves
 abbrev pub is_there : Line → Bool
-is_there line = same_id (option_map id_of line.held) (option_map id_of (commit_in line.word))
+is_there line = same_id (option_map held_id line.held) (option_map id_of (commit_in line.word))
 
 -- why what the names hold isn't as expected
 abbrev pub lines_cause : List Line → Option Cause

@@ -11,14 +11,15 @@ use Rattle.history_store.specs.Stores.{AreObjectsOf}
 use Rattle.history_store.specs.declared.object.NewObject.{NewObject}
 use Rattle.gix_ref_file.specs.Tree.{Tree}
 use Rattle.history_model.specs.CommandParts.{contents_in}
-use Rattle.history_model.specs.Objects.{CommitValue, Value, StoredCommit, commit_content, digest, folder_id, object_text, id_of}
+use Rattle.history_model.specs.Objects.{CommitValue, Value, commit_content, digest, folder_id, object_text}
 use Rattle.history_model.specs.Repository as plain
-use Rattle.history_model.specs.Forms.{is_id, max_content, title}
+use Rattle.history_model.specs.Forms.{is_id, max_content}
 use Rattle.history_model.specs.Commands.{CommitCommand, Commit}
-use Rattle.history_model.specs.Meaning.{after, branch_or_name, edits_of, first_files, new_commit, parents_of, put_bytes, read_actor, stored_by, takes_id}
+use Rattle.history_model.specs.Meaning.{after, edits_of, first_files, new_commit, parents_of, put_bytes, read_actor, stored_by, takes_id}
 use Rattle.history_model.specs.Causes.{first_cause}
 use Rattle.history_model.specs.Steps.{MayTake}
-use Rattle.history_steps.specs.TreeSteps.{HasText, move_entry}
+use Rattle.history_steps.specs.OneNameSteps.{NameMove, commit_move, entry_of_move}
+use Rattle.history_steps.specs.TreeSteps.{HasText}
 use Rattle.history_steps.specs.Passing.{StoresWhole}
 use Rattle.history_steps.specs.TreeHalves.{HoldsValues}
 use Rattle.history_model.specs.declared.Cause.{Cause}
@@ -40,13 +41,10 @@ use Rattle.history.specs.declared.stopped.Stopped.TheVariants.{Refused, Fault}
 
 -- ---- the parts of a plan
 
--- the name moves to the commit's id
-pub record IsMove (r : plain.Repository) (order : CommitCommand) (moves : Moves) : Type 0 where
-  pub name : moves.name.items ≡ branch_or_name r order.name
-  pub entry : entry_of moves.entry
-      ≡ move_entry r (branch_or_name r order.name)
-      (id_of r.kind (StoredCommit (new_commit r order))) (read_actor order.committer)
-      (title order.message)
+-- the name moves so
+pub record IsMove (r : plain.Repository) (move : NameMove) (moves : Moves) : Type 0 where
+  pub name : moves.name.items ≡ move.name
+  pub entry : entry_of moves.entry ≡ entry_of_move r move
 
 -- the object of this kind and content, with its id
 pub record IsMade (digests : Kind) (kind : git_object.Kind) (content : Bytes)
@@ -143,7 +141,7 @@ MakesCommit kind value = IfItFits (commit_content kind value) (IsMadeOf kind val
 abbrev pub GivesCommitted : plain.Repository → CommitCommand → Result Committed Stopped → Type 0
 GivesCommitted r order =
     IfItFits (commit_content r.kind (new_commit r order)) (λ (made : Committed).
-    IsMadeOf r.kind (new_commit r order) made.object × IsMove r order made.moves)
+    IsMadeOf r.kind (new_commit r order) made.object × IsMove r (commit_move r order) made.moves)
 
 -- ---- the plan
 
@@ -156,7 +154,7 @@ pub record IsPlan (r : plain.Repository) (order : CommitCommand) (plan : Plan) :
       → Contains values value ⊎ HasText r.kind r.objects value
   pub whole : StoresWhole r values
   pub objects : AreObjectsOf r.kind values plan.objects.items
-  pub moves : IsMove r order plan.moves
+  pub moves : IsMove r (commit_move r order) plan.moves
 
 -- why there is no plan: the first cause is told, or an id is taken, or a fault was met
 abbrev pub IsUnplanned : Type 0 → plain.Repository → CommitCommand → Stopped → Type 0
@@ -175,7 +173,7 @@ abbrev pub StoresObjects : Type 0 → Tree → plain.Repository → CommitComman
     → Type 0
 StoresObjects CallFailed new r order (Ok moves) =
     (first_cause r (Commit order) ≡ None) × IsFalse (takes_id r (Commit order))
-    × HoldsValues r.kind new (after r (Commit order)).objects × IsMove r order moves
+    × HoldsValues r.kind new (after r (Commit order)).objects × IsMove r (commit_move r order) moves
 StoresObjects CallFailed new r order (Err (Refused cause)) =
     first_cause r (Commit order) ≡ Some cause
 StoresObjects CallFailed new r order (Err (Fault Memory)) = ⊤

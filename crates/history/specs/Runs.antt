@@ -30,6 +30,7 @@ is_last_fault None = false
 
 abbrev pub changes_files : read_commands.Command → Bool
 changes_files (command.Commit commit) = true
+changes_files (command.Tag tag) = true
 changes_files (command.Move move) = true
 changes_files (command.Delete delete) = true
 changes_files (command.Files word) = false

@@ -9,4 +9,4 @@ use Rattle.history.specs.declared.repository.Repository.{Repository}
 pub record Serves {F : Type 0} (IsHonest : F → Type 0) (history : F → History)
     (repository : Repository F) (r : plain.Repository) : Type 0 where
   pub stands : Stands IsHonest history repository r
-  pub stage : IsOfStage r (pair_of history repository)
+  pub stage : IsOfStage (pair_of history repository)

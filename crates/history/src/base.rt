@@ -5,17 +5,18 @@ ghost use Rattle.std.specs.List.{filter_map};
 ghost use Rattle.history_model.specs.Forms.{is_name};
 ghost use Rattle.history_model.specs.Commands as orders;
 ghost use Rattle.history_model.specs.Repository as plain;
-ghost use Rattle.history_model.specs.Repository.{id_at};
 ghost use Rattle.history_model.specs.Meaning.{branch_or_name};
 ghost use Rattle.history_word.specs.Commands.{IsExpect};
 ghost use Rattle.history.specs.Acts.{GivesMeant};
 ghost use Rattle.history.specs.Asked.{AskedCommit};
 ghost use Rattle.history.specs.Bases.{IsCommitBase, IsExpected, expected_meanings, held_cause, parents_cause, words_cause};
 ghost use Rattle.history.specs.CommitCauses.{Tests, name_causes, place_causes};
+ghost use Rattle.history.specs.Held.{IsHeld};
 ghost use Rattle.history.specs.Meanings.{commit_in, commit_or_cause, meaning_of};
 ghost use Rattle.history.specs.Serving.{Serves};
 ghost use Rattle.gix_hash_id.specs.Id.{id_of};
 
+use crate::held::{Held, commit_held, id_held};
 use crate::repository::Repository;
 use crate::stopped::Stopped;
 use crate::words::{WordMeaning, test_all};
@@ -44,7 +45,7 @@ pub(crate) enum Expected {
 }
 
 impl Expected {
-    /// Tests what the name holds.
+    /// Tests the commit that the name stands for, if it stands.
     pub(crate) fn test(self, held: Option<ObjectId>) -> Result<(), Cause>
         ensures { MatchResult result (λ _. held_cause self (option_map id_of held) ≡ None)
             (λ cause. held_cause self (option_map id_of held) ≡ Some cause) }
@@ -77,7 +78,7 @@ pub(crate) fn test_words(expected: Expected, parents: &[WordMeaning]) -> Result<
     }
 }
 
-/// The parents of a commit: what its name holds, and then what its words read as.
+/// The parents of a commit: that of its name, and then what its words read as.
 fn parents_of(
     alloc: Global,
     held: Option<ObjectId>,
@@ -133,15 +134,18 @@ impl<F: Files> Repository<F> {
         Ok(meanings)
     }
 
-    /// Tests that the name stands, or may come to stand beside the others.
-    fn test_place(&self, alloc: Global, name: &[u8], held: Option<ObjectId>) -> Result<(), Stopped>
+    /// Tests that the name holds a commit, or may come to stand beside the others.
+    fn test_place(&self, alloc: Global, name: &[u8], held: Option<Held>) -> Result<(), Stopped>
         ensures { (r : plain.Repository) (order : orders.CommitCommand)
             → Serves F.is_honest F.history self.now r
             → name.now ≡ branch_or_name r order.name → IsTrue (is_name name.now)
-            → option_map id_of held ≡ id_at r (branch_or_name r order.name)
+            → IsHeld r (branch_or_name r order.name) held
             → Tests F.reading_may_fail place_causes r order (λ _. ⊤) result }
     {
-        if held.is_some() {
+        if let Some(held) = held {
+            if held.is_tag() {
+                return Err(Stopped::Refused(Cause::HoldsTag));
+            }
             return Ok(());
         }
         if self.names.collides(alloc, name)? {
@@ -160,14 +164,14 @@ impl<F: Files> Repository<F> {
         let expected = self.read_expected(alloc, &command.expect)?;
         let words = self.read_words(alloc, &command.parents)?;
         test_words(expected, &words)?;
-        let held = self.names.read(alloc, &name)?;
-        expected.test(held)?;
+        let held = self.held(alloc, &name)?;
+        expected.test(commit_held(held))?;
         self.test_place(alloc, &name, held)?;
-        let parents = parents_of(alloc, held, &words)?;
+        let parents = parents_of(alloc, commit_held(held), &words)?;
         test_parents(&parents)?;
         Ok(Base {
             name,
-            held,
+            held: id_held(held),
             parents,
         })
     }

@@ -21,6 +21,7 @@ ghost use Rattle.history.specs.Moments.{GoesLater, StoodOnTheWay};
 ghost use Rattle.history.specs.Serving.{Serves};
 
 use crate::base::{Expected, test_words};
+use crate::held::commit_held;
 use crate::naming::test_name;
 use crate::reply::line;
 use crate::repository::Repository;
@@ -31,7 +32,7 @@ use history_model::Cause;
 use history_word::Delete;
 use std::alloc::Global;
 
-/// Tests what a name that is to go holds: it stands, and is where it is expected.
+/// Tests the commit that a name stands for which is to go: it stands, and is where it is expected.
 fn test_gone(expected: Expected, held: Option<ObjectId>) -> Result<(), Cause>
     ensures { MatchResult result (λ _. gone_cause expected (option_map id_of held) ≡ None)
         (λ cause. gone_cause expected (option_map id_of held) ≡ Some cause) }
@@ -52,8 +53,8 @@ impl<F: Files> Repository<F> {
         test_name(&command.name)?;
         let expected = self.read_expected(alloc, &command.expect)?;
         test_words(expected, &[])?;
-        let held = self.names.read(alloc, &command.name)?;
-        test_gone(expected, held)?;
+        let held = self.held(alloc, &command.name)?;
+        test_gone(expected, commit_held(held))?;
         Ok(())
     }
 

@@ -14,6 +14,7 @@ mod deleting;
 mod differing;
 mod editing;
 mod fields;
+mod held;
 mod listed;
 mod listing;
 mod log;
@@ -29,6 +30,7 @@ mod showing;
 mod stopped;
 mod stored;
 mod switching;
+mod tagging;
 mod words;
 
 /// How a store of objects answers: what stands under an id.

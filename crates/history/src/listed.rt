@@ -2,15 +2,16 @@
 
 ghost use Rattle.std.specs.Prelude.{◌≡◌, None, Some, MatchResult, map, IfOk, option_copied};
 ghost use Rattle.history_model.specs.Replies.{reply_text, NamesAre};
-ghost use Rattle.history.specs.NamesShown.{folder_cause, shown_name};
+ghost use Rattle.history.specs.NamesShown.{ArePeeled, folder_cause, shown_name, told_name};
 
+use crate::held::Held;
 use crate::naming::test_name;
 use crate::reply::line;
 use crate::repository::Repository;
 use crate::stopped::Stopped;
 use gix_hash::Kind;
 use gix_ref_file::Files;
-use history_model::Cause;
+use history_model::{Cause, Fault};
 use history_store::{NamedId, hex_digits};
 use std::alloc::{AllocError, Global};
 
@@ -28,8 +29,15 @@ fn test_folder(folder: &[u8]) -> Result<(), Cause>
     test_name(folder)
 }
 
-/// The text that lists names that hold commits.
-fn names_text(alloc: Global, branch: &[u8], names: &[NamedId]) -> Result<Vec<u8>, AllocError>
+/// A name that stands, and what it holds.
+#[derive(Drop)]
+struct Shown {
+    name: Vec<u8>,
+    held: Held,
+}
+
+/// The text that lists names.
+fn names_text(alloc: Global, branch: &[u8], names: &[Shown]) -> Result<Vec<u8>, AllocError>
     ensures { IfOk result
         (λ text. text.items ≡ reply_text (NamesAre branch.now (map shown_name names.now))) }
 {
@@ -44,10 +52,12 @@ fn names_text(alloc: Global, branch: &[u8], names: &[NamedId]) -> Result<Vec<u8>
             branch,
         ],
     )?;
-    for named in names {
-        let mut digits = Kind::hex_buf();
-        let id = hex_digits(&named.id, &mut digits);
-        line(&mut text, &[id, id, &named.name])?;
+    for shown in names {
+        let mut id_digits = Kind::hex_buf();
+        let mut commit_digits = Kind::hex_buf();
+        let id = hex_digits(&shown.held.id, &mut id_digits);
+        let commit = hex_digits(&shown.held.commit, &mut commit_digits);
+        line(&mut text, &[id, commit, &shown.name])?;
     }
     Ok(text)
 }
@@ -56,10 +66,25 @@ impl<F: Files> Repository<F> {
     ghost use Rattle.history_model.specs.Repository as plain;
     ghost use Rattle.history_model.specs.Commands as model;
     ghost use Rattle.history.specs.Serving.{Serves};
-    ghost use Rattle.history.specs.Acts.{OnlyAnswers};
+    ghost use Rattle.history.specs.Acts.{GivesMeant, OnlyAnswers};
 
-    /// The reply to `names`: the names that stand, or those below a folder, ascending by their bytes, and HEAD's branch. Each
-    /// name holds a commit, since no tag is stored yet.
+    /// The names with what they hold.
+    fn shown(&self, alloc: Global, names: Vec<NamedId>) -> Result<Vec<Shown>, Stopped>
+        ensures { (r : plain.Repository) → Serves F.is_honest F.history self.now r
+            → ArePeeled r names.items → GivesMeant F.reading_may_fail
+            (λ shown. map shown_name shown.items ≡ map (told_name r) names.items) result }
+    {
+        let mut shown = Vec::new(alloc);
+        for named in names {
+            let id = named.id;
+            let commit = self.peeled(alloc, id)?.ok_or(Fault::File)?;
+            let held = Held { id, commit };
+            shown.push(Shown { name: named.name, held })?;
+        }
+        Ok(shown)
+    }
+
+    /// The reply to `names`: the names that stand, or those below a folder, ascending by their bytes, and HEAD's branch.
     pub(crate) fn list_names(
         &self,
         alloc: Global,
@@ -71,6 +96,7 @@ impl<F: Files> Repository<F> {
         let folder = folder.unwrap_or(ALL_NAMES);
         test_folder(folder)?;
         let names = self.names.list(alloc, folder)?;
-        Ok(names_text(alloc, &self.branch, &names)?)
+        let shown = self.shown(alloc, names)?;
+        Ok(names_text(alloc, &self.branch, &shown)?)
     }
 }

@@ -17,7 +17,7 @@ ghost use Rattle.history_store.specs.Face.{kind_of_names};
 ghost use Rattle.history_store.specs.Formats.{actor_of};
 ghost use Rattle.history_word.specs.Commands.{AreTos, IsActor, IsMove, IsTo};
 ghost use Rattle.history_word.specs.Fields.{Keeps};
-ghost use Rattle.history.specs.Acts.{Acts, CountsFailure, CountsRise, GivesMeant, IsReadingFault, KeepsCounts};
+ghost use Rattle.history.specs.Acts.{Acts, CountsFailure, CountsRise, GivesMeant, KeepsCounts};
 ghost use Rattle.history.specs.Face.{KeepsAllButNames, has_failed, names_part};
 ghost use Rattle.history.specs.Faults.{IsFault, IsRefusal};
 ghost use Rattle.history.specs.Meanings.{meaning_of};
@@ -32,6 +32,7 @@ use crate::apart::{do_lines_collide, have_twice};
 use crate::base::{Expected, test_words};
 use crate::causes::is_bad_title;
 use crate::fields::kept;
+use crate::held::{Held, commit_held, id_before, id_held};
 use crate::naming::is_private;
 use crate::planning::{Moves, moves_to};
 use crate::reply::line;
@@ -50,12 +51,12 @@ use std::alloc::{AllocError, Global};
 pub(crate) struct Line {
     pub(crate) name: Vec<u8>,
     expected: Expected,
-    pub(crate) held: Option<ObjectId>,
+    pub(crate) held: Option<Held>,
     word: WordMeaning,
 }
 
 /// Whether both are one id, or both are none.
-fn same_id(a: Option<ObjectId>, b: Option<ObjectId>) -> bool
+pub(crate) fn same_id(a: Option<ObjectId>, b: Option<ObjectId>) -> bool
     ensures { result ≡ model.same_id (option_map id_of a) (option_map id_of b) }
 {
     match a {
@@ -89,15 +90,15 @@ impl Line {
         match self.expected {
             Expected::Any => false,
             Expected::New => false,
-            Expected::At(meaning) => !same_id(self.held, meaning.id()),
+            Expected::At(meaning) => !same_id(commit_held(self.held), meaning.id()),
         }
     }
 
-    /// Whether the name is at its word's commit before it moves.
+    /// Whether the name holds its word's commit before it moves.
     fn is_there(&self) -> bool
         ensures { result ≡ is_there self.now }
     {
-        same_id(self.held, self.word.id())
+        same_id(id_held(self.held), self.word.id())
     }
 
     /// How the name moves, of which its log tells with this actor and message.
@@ -112,7 +113,7 @@ impl Line {
             → IsLine r to self → kind ≡ r.kind → IsTeller order actor.now message.now
             → IfOk result (IsLineMove r order to) }
     {
-        let before = self.held.unwrap_or(ObjectId::null(kind));
+        let before = id_before(self.held, kind);
         let after = self.word.id().unwrap_or(ObjectId::null(kind));
         let actor = actor.try_clone()?;
         let message = Vec::from_slice(alloc, message)?;
@@ -266,15 +267,14 @@ fn moves_of(
 impl<F: Files> Repository<F> {
     /// A line, its words read, and what its name holds.
     fn read_line(&self, alloc: Global, to: To) -> Result<Line, Stopped>
-        ensures read { (r : plain.Repository) (order : orders.To)
+        ensures { (r : plain.Repository) (order : orders.To)
             → Serves F.is_honest F.history self.now r
-            → IsTo to order → IsTrue (is_name order.name) → IfOk result (IsLine r order) }
-        ensures faults { (r : plain.Repository) → Serves F.is_honest F.history self.now r
-            → IfErr result (IsReadingFault F.reading_may_fail) }
+            → IsTo to order → IsTrue (is_name order.name)
+            → GivesMeant F.reading_may_fail (IsLine r order) result }
     {
         let expected = self.read_expected(alloc, &to.expect)?;
         let word = self.read_word(alloc, &to.word)?;
-        let held = self.names.read(alloc, &to.name)?;
+        let held = self.held(alloc, &to.name)?;
         Ok(Line {
             name: to.name,
             expected,

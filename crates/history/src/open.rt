@@ -41,7 +41,7 @@ impl<F: Files> Repository<F> {
         // What is opened stands for a repository of this kind, whole and in its written form.
         ensures stands { F.is_honest objects → F.is_honest names
             → IfOk result (λ opened. (r : plain.Repository) × (r.kind ≡ kind)
-            × Stands F.is_honest F.history opened r × IsOfStage r (pair_of F.history opened)) }
+            × Stands F.is_honest F.history opened r × IsOfStage (pair_of F.history opened)) }
         // Of a new folder it is the one without names and objects, on `refs/heads/main`.
         ensures fresh { F.is_honest objects → F.is_honest names
             → IsNew (F.history objects).tree (F.history names).tree

@@ -179,7 +179,11 @@ pub(crate) fn moves_to(
 
 impl<F: Files> Repository<F> {
     /// An object of this content, where that is within the limit.
-    fn new_object(&self, kind: gix_object::Kind, content: Vec<u8>) -> Result<NewObject, Cause>
+    pub(crate) fn new_object(
+        &self,
+        kind: gix_object::Kind,
+        content: Vec<u8>,
+    ) -> Result<NewObject, Cause>
         ensures { MatchResult result
             (λ made. IsMade (kind_of_objects self.now.objects) kind content.items made
             × (length content.items ≤ max_content))

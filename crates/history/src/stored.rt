@@ -17,7 +17,7 @@ use gix_object::Commit;
 use gix_ref_file::Files;
 use history_files::{File, Found, entry_at, files};
 use history_model::Fault;
-use history_store::{commit_tree, parse_commit};
+use history_store::{commit_tree, parse_commit, tag_target};
 use history_walks::{Request, list_commits};
 use std::alloc::Global;
 
@@ -43,6 +43,25 @@ impl<F: Files> Repository<F> {
         match self.objects.read(alloc, id)? {
             Some(object) if object.kind == kind => Ok(object.content),
             _ => Err(Stopped::Fault(Fault::File)),
+        }
+    }
+
+    /// The commit that a stored object stands for: a commit for itself, a tag for the one that it is of; `None` of another object.
+    pub(crate) fn peeled(&self, alloc: Global, id: ObjectId) -> Result<Option<ObjectId>, Stopped>
+        ensures { (r : plain.Repository) (value : Value) → Stands F.is_honest F.history self.now r
+            → get r.objects (id_of id) ≡ Some value
+            → GivesMeant F.reading_may_fail
+            (λ commit. option_map id_of commit ≡ plain.peeled r (id_of id)) result }
+    {
+        let object = self.objects.read(alloc, &id)?.ok_or(Fault::File)?;
+        match object.kind {
+            gix_object::Kind::Commit => Ok(Some(id)),
+            gix_object::Kind::Tag => {
+                let target = tag_target(self.objects.kind(), &object.content);
+                Ok(Some(target.ok_or(Fault::File)?))
+            }
+            gix_object::Kind::Tree => Ok(None),
+            gix_object::Kind::Blob => Ok(None),
         }
     }
 

@@ -13,10 +13,9 @@ use crate::naming::is_private;
 use crate::repository::Repository;
 use crate::stopped::Stopped;
 use gix_hash::{Kind, ObjectId, Prefix};
-use gix_object::{FindHeader, Kind as ObjectKind};
 use gix_ref_file::Files;
+use history_model::Cause;
 use history_model::names::{HEAD, HEADS, REFS, TAGS};
-use history_model::{Cause, Fault};
 use history_store::Hit;
 use std::alloc::{AllocError, Global};
 use std::str;
@@ -26,7 +25,7 @@ use std::str;
 pub(crate) enum WordMeaning {
     /// The id of a commit.
     Commit(ObjectId),
-    /// The id of an object that is no commit.
+    /// The id of an object that is neither a commit nor a tag of one.
     NoCommit,
     /// HEAD, whose branch doesn't stand.
     Unborn,
@@ -88,7 +87,7 @@ fn short_id(kind: Kind, word: &[u8]) -> Option<Prefix>
 }
 
 impl WordMeaning {
-    /// Tests that the word reads as what its name holds.
+    /// Tests that the word reads as the commit that its name stands for.
     pub(crate) fn test(self, held: ObjectId) -> Result<(), Cause>
         ensures { MatchResult result (λ _. reads_as (id_of held) (meaning_of self) ≡ None)
             (λ cause. reads_as (id_of held) (meaning_of self) ≡ Some cause) }
@@ -244,19 +243,19 @@ impl<F: Files> Repository<F> {
             meaning_of meaning ≡ commit_or_cause r word.now) result }
     {
         if word == HEAD {
-            return Ok(match self.names.read(alloc, &self.branch)? {
-                Some(id) => WordMeaning::Commit(id),
-                None => WordMeaning::Unborn,
-            });
+            return match self.names.read(alloc, &self.branch)? {
+                Some(id) => self.read_stored(alloc, id),
+                None => Ok(WordMeaning::Unborn),
+            };
         }
         match self.first_standing(alloc, word)? {
-            Some(standing) => Ok(WordMeaning::Commit(standing.id)),
-            None => self.read_short_id(word),
+            Some(standing) => self.read_stored(alloc, standing.id),
+            None => self.read_short_id(alloc, word),
         }
     }
 
     /// What a word stands for that is no name: the stored object whose id alone begins with it, where it is a short id.
-    fn read_short_id(&self, word: &[u8]) -> Result<WordMeaning, Stopped>
+    fn read_short_id(&self, alloc: Global, word: &[u8]) -> Result<WordMeaning, Stopped>
         ensures { (r : plain.Repository) → Serves F.is_honest F.history self.now r
             → GivesMeant F.reading_may_fail (λ meaning.
             meaning_of meaning ≡ stands_for r (id_meaning r word.now)) result }
@@ -266,24 +265,21 @@ impl<F: Files> Repository<F> {
         };
         match self.objects.lookup_prefix(&prefix).hit {
             Hit::Absent => Ok(WordMeaning::Unknown),
-            Hit::One(id) => self.read_stored(id),
+            Hit::One(id) => self.read_stored(alloc, id),
             Hit::Several => Ok(WordMeaning::Ambiguous),
         }
     }
 
-    /// What the id of a stored object stands for: a commit for itself, another object for none.
-    fn read_stored(&self, id: ObjectId) -> Result<WordMeaning, Stopped>
+    /// What the id of a stored object stands for: a commit for itself, a tag for its commit, another object for none.
+    fn read_stored(&self, alloc: Global, id: ObjectId) -> Result<WordMeaning, Stopped>
         ensures { (r : plain.Repository) (value : Value) → Serves F.is_honest F.history self.now r
             → get r.objects (id_of id) ≡ Some value
             → GivesMeant F.reading_may_fail (λ meaning.
             meaning_of meaning ≡ stands_for r (ReadsAs (id_of id))) result }
     {
-        let header = self.objects.try_header(id.as_oid())?.ok_or(Fault::File)?;
-        Ok(match header.kind {
-            ObjectKind::Commit => WordMeaning::Commit(id),
-            ObjectKind::Tree => WordMeaning::NoCommit,
-            ObjectKind::Blob => WordMeaning::NoCommit,
-            ObjectKind::Tag => WordMeaning::NoCommit,
+        Ok(match self.peeled(alloc, id)? {
+            Some(commit) => WordMeaning::Commit(commit),
+            None => WordMeaning::NoCommit,
         })
     }
 

@@ -1,5 +1,5 @@
-"""Ids of commits and of their trees that git printed, by commit-tree and write-tree, in repositories of both object formats, and the
-orders in which it listed some of them."""
+"""Ids of commits, of their trees and, last, of a tag that git printed, by commit-tree, write-tree and mktag, in repositories of both
+object formats, and the orders in which it listed some of them."""
 
 SHA1 = (
     "d39b036c797dcd9c0210b66a094ee846a3bc4fd9 66685e2ab14c48f6b22dfeca748179d40cfc74f0 4b825dc642cb6eb9a060e54bf8d69288fbee4904 "
@@ -12,7 +12,7 @@ SHA1 = (
     "1626c0df88443cdb85e545a4b66404c2cb1fd9b8 0149166745d7c53883a59afb15fb8723bf0d7b04 415f10de5562f8ed28653956170c0ffee240e8ad "
     "2785818339e08435b38f177e62f308d42adaf041 dec00055d1aeef644597adecb6680d94b5ed075f a6f98e2c5c08cf8935296bf6d79d5d23e5058a85 "
     "0c9904eb90b2edfcf87a882f0ee57325eab13792 943ea3764c6bed3a688f150bb500fe5940b4fb0b 8a4cb6323f23bd8332db1f5683add4950b5515c9 "
-    "3dea7911227a0d8bfac79ab47d9c57a6b0113f9d"
+    "3dea7911227a0d8bfac79ab47d9c57a6b0113f9d be91db308f0fa227a6bef903db40a8eaa059c464"
 ).split()
 
 SHA256 = (
@@ -46,7 +46,8 @@ SHA256 = (
     "57527dbd0381a5d9fc46063d412f2331c21c85b5eec44f191afbf86cdd3617aa "
     "c8df276e9decc4d14371e084147329c4401f69bc72825710439e21dd8f0c1792 "
     "d36ecdfc49a7f41b95bea69edb3e1cc0f712ac396bb386b7071b302e71611e05 "
-    "94bb588fc0eec7ae824803368c38ee393c2f68ab1b32b7f2de41d6033dbd5912"
+    "94bb588fc0eec7ae824803368c38ee393c2f68ab1b32b7f2de41d6033dbd5912 "
+    "a6ea586f96bdd332227d20c2e812e14f7ace606b1a953a0844bcf10a3160b2f8"
 ).split()
 
 # The commits of scripts/cases.py's logs, by their seconds, as `git rev-list` printed them: of itself for `newest`, with `--date-order`

@@ -1,6 +1,6 @@
 """Names and HEAD as git moves and deletes them: the rows of moves are held against `git update-ref --stdin`, one transaction for each
-command, and against the logs that git writes then; those of deletions against `git update-ref -d`, and those of switches against
-`git symbolic-ref HEAD`."""
+command, and against the logs that git writes then; those of deletions against `git update-ref -d`, those of switches against
+`git symbolic-ref HEAD`, and the tags of those of tags against `git tag -a` and `git mktag`."""
 import os
 import subprocess
 import sys
@@ -25,11 +25,15 @@ class Moved(Git):
                 path.parent.mkdir(parents=True, exist_ok=True)
                 path.write_bytes(text)
 
+    def by(self, actor):
+        """The environment in which git signs as this actor."""
+        name, email, seconds, offset = actor
+        return dict(self.env, GIT_COMMITTER_NAME=name.decode(), GIT_COMMITTER_EMAIL=email.decode(),
+                    GIT_COMMITTER_DATE=f"@{seconds.decode()} {offset.decode()}")
+
     def move(self, lines, actor, message):
         """Whether git makes a transaction of these: a name, the id that it must hold or none, and the id that it is to hold."""
-        name, email, seconds, offset = actor
-        env = dict(self.env, GIT_COMMITTER_NAME=name.decode(), GIT_COMMITTER_EMAIL=email.decode(),
-                   GIT_COMMITTER_DATE=f"@{seconds.decode()} {offset.decode()}")
+        env = self.by(actor)
         text = b"".join(b"update %s\0%s\0%s\0" % (name, new, old) for name, old, new in lines)
         made = subprocess.run(["git", "update-ref", "--create-reflog", "-m", message, "-z", "--stdin"], input=text,
                               capture_output=True, env=env)
@@ -40,6 +44,17 @@ class Moved(Git):
         made = subprocess.run(["git", "update-ref", "-d", name.decode(), *([held.decode()] if held else [])], capture_output=True,
                               env=self.env)
         return made.returncode == 0
+
+    def tagged(self, own, commit, actor, message):
+        """The id of the tag that git makes under a name below `refs/tags/`, or none; its log is written anew afterwards."""
+        made = subprocess.run(["git", "tag", "-a", "-f", "--cleanup=verbatim", "-F", "-", "--", own, commit.decode()], input=message,
+                              capture_output=True, env=self.by(actor))
+        return self.names()[b"refs/tags/" + own] if made.returncode == 0 else None
+
+    def spelled(self, text):
+        """The id that `git mktag` prints of a tag's text, or none."""
+        made = subprocess.run(["git", "mktag"], input=text, capture_output=True, env=self.env)
+        return made.stdout.strip() if made.returncode == 0 else None
 
     def names(self):
         found = self.run("for-each-ref", "--format=%(refname) %(objectname)").split(b"\n")[:-1]

@@ -57,6 +57,8 @@ class Reader:
             return getattr(self, words[0].decode())(words[1:])
         if words == [b"move"]:
             return self.move()
+        if words[0] == b"tag":
+            return self.tag(words)
         if words[0] == b"delete":
             refuse_where(words[2:3] != ([b"any"] if len(words) == 3 else [b"at"]) or len(words) > 4, "Syntax")
             return ("delete", words[1], words[2:])
@@ -75,6 +77,11 @@ class Reader:
             words = self.line()
         actor, message = self.actor(b"actor", words), self.message()
         return ("move", lines, actor, message)
+
+    def tag(self, words):
+        refuse_where(len(words) != (5 if words[2:3] == [b"at"] else 4) or words[2] not in (b"at", b"any", b"new"), "Syntax")
+        tagger, message = self.actor(b"tagger", self.line()), self.message()
+        return ("tag", words[1], words[2:-1], words[-1], tagger, message)
 
     def names(self, words):
         refuse_where(len(words) > 1, "Syntax")
@@ -204,10 +211,10 @@ class Walk:
 
 
 class Plain:
-    """A repository: objects by id, names, logs, and HEAD's branch."""
+    """A repository: objects by id, names, logs, and HEAD's branch. Its tags tell the commits that they are of."""
 
     def __init__(self, kind):
-        self.kind, self.objects, self.names, self.logs, self.commits = kind, {}, {}, {}, {}
+        self.kind, self.objects, self.names, self.logs, self.commits, self.tags = kind, {}, {}, {}, {}, {}
         self.branch = b"refs/heads/main"
         self.null = b"0" * (40 if kind == "sha1" else 64)
 
@@ -240,14 +247,22 @@ class Plain:
     def read(self, word):
         """The commit that a word stands for, or why it stands for none."""
         if word == b"HEAD":
-            return self.names.get(self.branch, "UnbornHead")
+            return self.held(self.branch) or "UnbornHead"
         name = self.candidate(word)
         if name is not None:
-            return self.names[name]
+            return self.held(name)
         found = self.begun(word)
         if len(found) != 1:
             return "AmbiguousWord" if found else "UnknownWord"
-        return found[0] if found[0] in self.commits else "NotACommit"
+        return self.peeled(found[0]) or "NotACommit"
+
+    def peeled(self, digits):
+        """The commit that an id stands for, if it does: a commit for itself, a tag for the one that it is of."""
+        return digits if digits in self.commits else self.tags.get(digits)
+
+    def held(self, name):
+        """The commit that a name stands for, if it stands."""
+        return self.peeled(self.names.get(name))
 
     def begun(self, word):
         """The ids that begin with a word, where it is a short id."""
@@ -273,11 +288,10 @@ class Plain:
         refuse_where(name.startswith(PRIVATE), "PrivateName")
         *at, = self.resolved(expect[1:] + parents)
         wanted, at = (at[0], at[1:]) if expect[1:] else (None, at)
-        stands = self.names.get(name)
-        refuse_where(wanted and not stands, "NoSuchName")
-        refuse_where(expect == [b"new"] and stands, "Taken")
-        refuse_where(wanted and wanted != stands, "NotExpected")
+        self.expected(name, expect, wanted)
+        stands = self.held(name)
         refuse_where(self.in_the_way(name), "Collides")
+        refuse_where(stands != self.names.get(name), "HoldsTag")
         parents = ([stands] if stands else []) + at
         refuse_where(len(parents) > 64, "TooManyParents")
         refuse_where(len(set(parents)) < len(parents), "DuplicateParent")
@@ -288,6 +302,13 @@ class Plain:
         except Refused:
             self.objects = kept
             raise
+
+    def expected(self, name, expect, wanted):
+        """Refuses where the name isn't as it is expected: new, or at this commit."""
+        stands = self.held(name)
+        refuse_where(wanted and not stands, "NoSuchName")
+        refuse_where(expect == [b"new"] and stands, "Taken")
+        refuse_where(wanted and wanted != stands, "NotExpected")
 
     def make(self, name, parents, edits, author, committer, message):
         files = dict(self.commits[parents[0]]["files"]) if parents else {}
@@ -327,7 +348,7 @@ class Plain:
         refuse_where(name.startswith(PRIVATE), "PrivateName")
         wanted = self.resolved(expect[1:])
         refuse_where(name not in self.names, "NoSuchName")
-        refuse_where(wanted not in ([], [self.names[name]]), "NotExpected")
+        refuse_where(wanted not in ([], [self.held(name)]), "NotExpected")
         del self.names[name], self.logs[name]
         return b"ok delete\n"
 
@@ -340,7 +361,7 @@ class Plain:
         wanted = [(name, self.resolve(expect[1])) for name, expect, _ in lines if expect[1:]]
         refuse_where(any(name not in self.names for name, _ in wanted), "NoSuchName")
         refuse_where(any(name in self.names for name, expect, _ in lines if expect == [b"new"]), "Taken")
-        refuse_where(any(self.names[name] != digits for name, digits in wanted), "NotExpected")
+        refuse_where(any(self.held(name) != digits for name, digits in wanted), "NotExpected")
         refuse_where(any(self.in_the_way(name, names) for name in names), "Collides")
         refuse_where(actor[0] == b"" or not is_part(actor[0]) or not is_part(actor[1]), "BadActor")
         refuse_where(not is_time(*actor[2:]), "BadTime")
@@ -350,6 +371,24 @@ class Plain:
         for name, digits in targets:
             self.hold(name, digits, actor, message)
         return b"ok move\n"
+
+    def tag(self, name, expect, target, tagger, message):
+        own = name[len(b"refs/tags/"):]
+        refuse_where(not is_name(name) or not name.startswith(b"refs/tags/") or own == b"@" or own.startswith(b"-"), "BadName")
+        *wanted, commit = self.resolved(expect[1:] + [target])
+        self.expected(name, expect, wanted[0] if wanted else None)
+        refuse_where(self.in_the_way(name), "Collides")
+        refuse_where(tagger[0] == b"" or not is_part(tagger[0]) or not is_part(tagger[1]), "BadActor")
+        refuse_where(not is_time(*tagger[2:]), "BadTime")
+        title = message.partition(b"\n")[0]
+        refuse_where(not is_title(title), "BadMessage")
+        text = b"object %s\ntype commit\ntag %s\ntagger %s <%s> %s %s\n\n" % (commit, own, *tagger) + message
+        refuse_where(len(text) > LIMIT, "TooLarge")
+        refuse_where(self.names.get(name) == self.id(b"tag", text)[0], "NothingMoves")
+        found = self.put(b"tag", text)
+        self.tags[found] = commit
+        self.hold(name, found, tagger, title)
+        return b"ok tag %s\n" % found
 
     def switch(self, name):
         refuse_where(not is_name(name) or not name.startswith(b"refs/heads/"), "BadName")
@@ -393,7 +432,7 @@ class Plain:
         refuse_where(folder not in (None, b"refs") and not is_name(folder), "BadName")
         refuse_where((folder or b"").startswith(PRIVATE), "PrivateName")
         found = [it for it in sorted(self.names) if folder is None or it.startswith(folder + b"/")]
-        lines = [b"%s %s %s\n" % (self.names[name], self.names[name], name) for name in found]
+        lines = [b"%s %s %s\n" % (self.names[name], self.held(name), name) for name in found]
         return b"ok names %d %s\n" % (len(found), self.branch) + b"".join(lines)
 
     def past(self, word):

@@ -49,7 +49,7 @@ pub fn new_repository(alloc: Global, kind: Kind) -> Result<Repository<MemoryFile
         (λ made. Stands ⟦<MemoryFiles as Files>⟧.is_honest ⟦<MemoryFiles as Files>⟧.history made
         (fresh kind)) }
     ensures stage { IfOk result
-        (λ made. IsOfStage (fresh kind) (pair_of ⟦<MemoryFiles as Files>⟧.history made)) }
+        (λ made. IsOfStage (pair_of ⟦<MemoryFiles as Files>⟧.history made)) }
 {
     let mut objects = MemoryFiles::new(alloc);
     let mut names = MemoryFiles::new(alloc);

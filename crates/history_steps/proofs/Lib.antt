@@ -1,11 +1,9 @@
 pub mod TreePuts
 pub mod TreeTexts
 pub mod TreeMoves
-pub mod CommitStands
+pub mod OneNameStands
 pub mod AnyOrder
 pub mod OfferedFiles
-pub mod OfferedSteps
-pub mod OfferedCauses
 pub mod OfferedReads
 pub mod PassedObjects
 pub mod PassedStops

@@ -8,8 +8,8 @@ use Rattle.history_model.specs.FileMap.{FileMap, Content, folders_of, inside, be
 use Rattle.history_model.specs.Objects.{Value, StoredCommit, StoredTag, StoredBytes, StoredFolder}
 use Rattle.gix_hash_id.specs.Id.{Id}
 use Rattle.history_model.specs.Repository.{Repository, IsWhole, peeled, peeled_value, is_tag, is_tag_value}
-use Rattle.history_model.specs.Commands.{Command, Commit, Rename, CommitCommand}
-use Rattle.history_model.specs.Meaning.{edits_of, first_files, new_commit, parents_of, put_bytes, store_all, stored_by}
+use Rattle.history_model.specs.Commands.{Command, Commit, Rename, CommitCommand, Tag, TagCommand}
+use Rattle.history_model.specs.Meaning.{edits_of, first_files, new_commit, new_tag, parents_of, put_bytes, store_all, stored_by}
 use Rattle.history_model.specs.Causes.{first_cause}
 use Rattle.history_model.specs.PackedNames.{PackedFile, PackedAgrees, PeelAgrees, packed_file}
 use Rattle.gix_ref_format.specs.Packed.{Record}
@@ -19,13 +19,14 @@ use Rattle.history_steps.specs.TreeHalves.{HoldsNames}
 use Rattle.history_model.specs.Stops.{LeftByStop, Between, IsNotLost, is_changing}
 use Rattle.history_model.specs.Moments.{LeavesStopped}
 use Rattle.history_model.specs.Wholeness.{IsSound}
-use Rattle.history_steps.specs.Passing.{HoldsSome, StoresWhole, AreNewFolders, commit_puts, CommitsStoreWhole, StoringStops, SomeStops, FirstAreSome}
+use Rattle.history_steps.specs.Passing.{HoldsSome, StoresWhole, AreNewFolders, commit_puts, CommitsStoreWhole, TagsStoreWhole, StoringStops, SomeStops, FirstAreSome}
 use Rattle.history_model.specs.declared.Cause.{Cause}
 use Rattle.history_model.proofs.PartLemmas.{head_same, tail_same}
 use Rattle.history_steps.proofs.TreePuts.{halves_stand}
 use Rattle.history_model.proofs.WholeLists.{In, in_left, in_right, in_either, in_map, of_map, of_flat, in_flat}
 use Rattle.history_model.proofs.WholeRoots.{HasAll, ArePlain, of_folders, of_inside, plain_inside}
 use Rattle.history_model.proofs.WholeStores.{all_keep, all_from, in_get, near_stored}
+use Rattle.history_model.proofs.WholeCommands.{all_fits}
 use Rattle.history_model.proofs.WholeGrowth.{Coming, Fits, grown_whole}
 use Rattle.history_model.proofs.WholeReads.{plain_written, parents_hold, Fine, first_fine, edits_from, new_written}
 use Rattle.history_model.proofs.WholeSteps.{contains_in, in_contains, stops_keep_sound}
@@ -194,6 +195,21 @@ module _ (r : Repository) (c : CommitCommand) (folders : List FileMap) (sound : 
 
 pub commits_store_whole : CommitsStoreWhole
 commits_store_whole r c folders sound none new = whole_so_far r c folders sound none new
+
+-- ---- a tag
+
+module _ (r : Repository) (c : TagCommand) (sound : IsSound r) (none : first_cause r (Tag c) ≡ None) where
+  tag_fits : (vs : List Value) (v : Value) → In v (stored_by r (Tag c)) → Fits r vs v
+  tag_fits vs v (inl e) = subst (Fits r vs) (sym e) (all_fits r (sound.whole).store sound.written (Tag c) none (StoredTag (new_tag r c)) (inl refl))
+  tag_fits vs v (inr i) = absurd i
+
+  tag_whole : StoresWhole r (stored_by r (Tag c))
+  tag_whole first rest split free =
+      grown_whole r (sound.whole).store (λ q m at. plain_written m (((sound.written).values q (StoredFolder m) at).0)) first free
+      (λ v i. tag_fits first v (subst (In v) (sym split) (in_left v first rest i))) r.names r.branch
+
+pub tags_store_whole : TagsStoreWhole
+tags_store_whole r c sound none = tag_whole r c sound none
 
 -- ---- more values
 

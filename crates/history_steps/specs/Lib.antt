@@ -1,7 +1,7 @@
 pub mod TreeHalves
 pub mod TreeReads
 pub mod TreeSteps
-pub mod CommitSteps
+pub mod OneNameSteps
 pub mod Passing
 pub mod Offered
 pub mod OfferedWords

@@ -1,27 +1,25 @@
--- What names stand for in a repository of this stage.
-use Rattle.std.specs.Prelude.{◌≡◌, Some}
+-- What names and ids stand for in a whole repository.
+use Rattle.std.specs.Prelude.{◌≡◌, not, Some}
 use Rattle.std.specs.List.{AllByRecursion}
-use Rattle.std.specs.FinMap.{get}
 use Rattle.history_model.specs.Bytes.{Bytes}
-use Rattle.history_model.specs.Objects.{CommitValue, StoredCommit}
 use Rattle.gix_hash_id.specs.Id.{Id}
-use Rattle.history_model.specs.Repository.{Repository, IsWholeStore, HasWholeNames, HoldsCommit, id_at}
+use Rattle.gix_hash_id.specs.Order.{id_eq}
+use Rattle.history_model.specs.Repository.{Repository, IsWholeStore, HasWholeNames, HoldsCommit, id_at, is_tag, peeled}
 use Rattle.history_model.specs.Commands.{CommitCommand}
 use Rattle.history_model.specs.Meaning.{name_commit, parents_of}
-use Rattle.history_steps.specs.Offered.{IsOffered}
 
--- Each name holds a stored commit, since no tag is stored.
-abbrev pub NamesHoldCommits : Type 0
-NamesHoldCommits =
-    (r : Repository) (name : Bytes) (id : Id) → IsOffered r → HasWholeNames r
+-- Each name holds a stored commit, or a tag of one: it stands for that commit.
+abbrev pub NamesStandForCommits : Type 0
+NamesStandForCommits =
+    (r : Repository) (name : Bytes) (id : Id) → IsWholeStore r → HasWholeNames r
     → id_at r name ≡ Some id
-    → (commit : CommitValue) × (get r.objects id ≡ Some (StoredCommit commit))
+    → (commit : Id) × (name_commit r name ≡ Some commit) × HoldsCommit r commit
 
--- A name stands for the commit that it holds.
-abbrev pub NamesStandForTheirs : Type 0
-NamesStandForTheirs =
-    (r : Repository) (name : Bytes) → IsOffered r → HasWholeNames r
-    → name_commit r name ≡ id_at r name
+-- An id is a tag's exactly where it stands for another one.
+abbrev pub TagsStandForOthers : Type 0
+TagsStandForOthers =
+    (r : Repository) (id commit : Id) → IsWholeStore r → peeled r id ≡ Some commit
+    → is_tag r id ≡ not (id_eq id commit)
 
 -- Each parent of a commit is a stored commit.
 abbrev pub ParentsAreCommits : Type 0

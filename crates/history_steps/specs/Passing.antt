@@ -10,15 +10,16 @@ use Rattle.history_model.specs.Repository.{Repository, LogEntry, IsWholeStore, i
 use Rattle.gix_hash_id.specs.Id.{Id}
 use Rattle.history_model.specs.NameStates.{NameState, Holds, Absent, is_absent, name_state}
 use Rattle.history_model.specs.PackedNames.{packed_file, PackedAgrees}
-use Rattle.history_model.specs.Forms.{is_name, title}
-use Rattle.history_model.specs.Commands.{Command, CommitCommand, Commit, Rename}
-use Rattle.history_model.specs.Meaning.{References, after, branch_or_name, edits_of, is_taken, new_commit, put_bytes, read_actor, some_taken, store_all, stored_by, takes_id}
+use Rattle.history_model.specs.Forms.{is_name}
+use Rattle.history_model.specs.Commands.{Command, CommitCommand, Commit, Rename, Tag, TagCommand}
+use Rattle.history_model.specs.Meaning.{References, after, edits_of, is_taken, new_commit, put_bytes, some_taken, store_all, stored_by, takes_id}
 use Rattle.history_model.specs.Causes.{first_cause}
 use Rattle.history_model.specs.Logs.{log_line, log_text, whole_lines}
 use Rattle.history_model.specs.Places.{Pair, file_at, head_place, is_log_place, object_place, unfinished_place, is_object_folder, packed_place, log_place, is_name_folder, is_lock_file}
 use Rattle.history_model.specs.StandsFor.{StandsFor, head_text}
 use Rattle.history_steps.specs.TreeHalves.{HoldsValues, HoldsNames}
-use Rattle.history_steps.specs.TreeSteps.{HasText, move_entry}
+use Rattle.history_steps.specs.TreeSteps.{HasText}
+use Rattle.history_steps.specs.OneNameSteps.{NameMove, MovesOneName, entry_of_move}
 use Rattle.history_model.specs.Recovery.{recovered_objects, recovered_names}
 use Rattle.history_model.specs.Stops.{NameBetween, IsNotLost, deletes, is_changing}
 use Rattle.gix_ref_file.specs.History.{History, trees, moment}
@@ -90,6 +91,12 @@ CommitsStoreWhole =
     → first_cause r (Commit c) ≡ None
     → AreNewFolders r (new_commit r c).files folders → StoresWhole r (commit_puts r c folders)
 
+-- A tag's commit is stored before it.
+abbrev pub TagsStoreWhole : Type 0
+TagsStoreWhole =
+    (r : Repository) (c : TagCommand) → IsSound r → first_cause r (Tag c) ≡ None
+    → StoresWhole r (stored_by r (Tag c))
+
 -- A stop while a command's values are stored, before its first name moves.
 abbrev pub StoringStops : Type 0
 StoringStops =
@@ -135,17 +142,16 @@ pub record MovesOnTheWay (name : Bytes) (entry : LogEntry) (old tree : Tree) : T
       → file_at tree path ≡ file_at old path
   pub folders : (path : Bytes) → get tree path ≡ Some folder → IsTrue (is_name_folder path)
 
--- So a commit's name is as before or moved, and its log tells of each move that was made.
+-- So the name of a command that moves one is as before or moved, and its log tells of each move that was made.
 abbrev pub MovesPass : Type 0
 MovesPass =
-    (pair : Pair) (tree : Tree) (r : Repository) (c : CommitCommand) → IsSound r
-    → StandsFor r.kind pair r → IsTrue (is_name (branch_or_name r c.name))
-    → first_cause r (Commit c) ≡ None → IsFalse (takes_id r (Commit c))
+    (pair : Pair) (tree : Tree) (r : Repository) (command : Command) (move : NameMove)
+    → MovesOneName r command move → IsSound r
+    → StandsFor r.kind pair r → IsTrue (is_name move.name)
+    → first_cause r command ≡ None → IsFalse (takes_id r command)
     → file_at pair.names packed_place ≡ None
-    → MovesOnTheWay (branch_or_name r c.name)
-    (move_entry r (branch_or_name r c.name) (id_of r.kind (StoredCommit (new_commit r c)))
-    (read_actor c.committer) (title c.message)) pair.names tree
-    → HoldsBetween r (Commit c) tree
+    → MovesOnTheWay move.name (entry_of_move r move) pair.names tree
+    → HoldsBetween r command tree
 
 -- A stop while names move, once all values are stored.
 abbrev pub MovingStops : Type 0

@@ -1,36 +1,21 @@
 //! Laws of the repositories of this stage, over the definitions alone.
 
-ghost use Rattle.history_steps.specs.Offered.{FilesAreStored, FreshIsOffered, OfferedStays, FirstOfferedCause};
-ghost use Rattle.history_steps.specs.OfferedWords.{NamesHoldCommits, NamesStandForTheirs, ParentsAreCommits};
+ghost use Rattle.history_steps.specs.Offered.{FilesAreStored};
+ghost use Rattle.history_steps.specs.OfferedWords.{NamesStandForCommits, TagsStandForOthers, ParentsAreCommits};
 
 /// The bytes of each file of a stored folder are stored.
 pub fn files_are_stored()
     ensures { FilesAreStored }
 {}
 
-/// A new repository is one of this stage.
-pub fn fresh_is_offered()
-    ensures { FreshIsOffered }
+/// Each name stands for a stored commit.
+pub fn names_stand_for_commits()
+    ensures { NamesStandForCommits }
 {}
 
-/// An accepted command of this stage leaves a repository of it.
-pub fn offered_stays()
-    ensures { OfferedStays }
-{}
-
-/// A command of this stage is refused for the first of few causes.
-pub fn first_offered_cause()
-    ensures { FirstOfferedCause }
-{}
-
-/// Each name holds a stored commit.
-pub fn names_hold_commits()
-    ensures { NamesHoldCommits }
-{}
-
-/// A name stands for the commit that it holds.
-pub fn names_stand_for_theirs()
-    ensures { NamesStandForTheirs }
+/// An id is a tag's exactly where it stands for another one.
+pub fn tags_stand_for_others()
+    ensures { TagsStandForOthers }
 {}
 
 /// Each parent of a commit is a stored commit.

@@ -1,6 +1,6 @@
 //! Laws on what the two parts pass through while a command is acted on, over the definitions alone.
 
-ghost use Rattle.history_steps.specs.Passing.{PutsPass, CommitsStoreWhole, StoringStops, MovesPass, MovingStops, ActsLater, ActsThen, SomeStops, FirstAreSome, NamesPass, NamesBegin};
+ghost use Rattle.history_steps.specs.Passing.{PutsPass, CommitsStoreWhole, TagsStoreWhole, StoringStops, MovesPass, MovingStops, ActsLater, ActsThen, SomeStops, FirstAreSome, NamesPass, NamesBegin};
 ghost use Rattle.history_steps.specs.MoveSteps.{LinesFit, LinesMove, LinesPass};
 ghost use Rattle.history_steps.specs.DeleteSteps.{DeletionsStand, DeletionsPass};
 ghost use Rattle.history_steps.specs.SwitchSteps.{SwitchesStand, SwitchesPass};
@@ -16,12 +16,17 @@ pub fn commits_store_whole()
     ensures { CommitsStoreWhole }
 {}
 
+/// A tag leaves a whole store, and so does what stands before it.
+pub fn tags_store_whole()
+    ensures { TagsStoreWhole }
+{}
+
 /// Stopped while its values are stored, a command leaves a repository before its names move.
 pub fn storing_stops()
     ensures { StoringStops }
 {}
 
-/// While a commit's name moves, it is as before or moved, and its log tells of each move that was made.
+/// While the name of a command that moves one moves, it is as before or moved, and its log tells of each move that was made.
 pub fn moves_pass()
     ensures { MovesPass }
 {}

@@ -2,7 +2,7 @@
 
 ghost use Rattle.history_steps.specs.TreeHalves.{HalvesStand, NamesSpeakOfNoValues, PlacesTellIds, PlacesTellValues, ValuesHaveIds};
 ghost use Rattle.history_steps.specs.TreeSteps.{PutsStore, StandingIsStored, StoredStands, TreesTellTaken, OwnIdsStay, StoresInAnyOrder, MovesMove, NoneUnfinished, RenamesPut};
-ghost use Rattle.history_steps.specs.CommitSteps.{CommitsStand};
+ghost use Rattle.history_steps.specs.OneNameSteps.{CommitsMoveOneName, TagsMoveOneName, OneNameStands};
 ghost use Rattle.history_steps.specs.TreeReads.{ObjectsTellValues, CommitsAreRead, FoldersAreRead, BytesAreRead};
 
 /// A pair stands for a repository exactly where each of its trees holds its half.
@@ -60,9 +60,19 @@ pub fn moves_move()
     ensures { MovesMove }
 {}
 
-/// The objects after a commit and the move of its name make what stands for the repository after it.
-pub fn commits_stand()
-    ensures { CommitsStand }
+/// A commit moves one name, to the commit that it stores.
+pub fn commits_move_one_name()
+    ensures { CommitsMoveOneName }
+{}
+
+/// A tag moves one name, to the tag that it stores.
+pub fn tags_move_one_name()
+    ensures { TagsMoveOneName }
+{}
+
+/// The objects after a command that moves one name, and the move of that name, make what stands for the repository after it.
+pub fn one_name_stands()
+    ensures { OneNameStands }
 {}
 
 /// Where an object stands, a value of its type and content is stored.

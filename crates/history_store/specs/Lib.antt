@@ -1,5 +1,6 @@
 pub mod Actors
 pub mod Commits
+pub mod Tags
 pub mod Creation
 pub mod Face
 pub mod Formats

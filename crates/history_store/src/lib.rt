@@ -17,6 +17,7 @@ mod opening;
 mod parts;
 mod prefixes;
 mod put;
+mod tag;
 mod way;
 mod written;
 
@@ -35,4 +36,5 @@ pub use opening::{ObjectsRefusal, OpenError, new_branch};
 pub use parts::{Part, Stray, survey};
 pub use prefixes::{Hit, Lookup};
 pub use put::PutError;
+pub use tag::{tag_bytes, tag_target};
 pub use written::{has_twice, is_name, title};

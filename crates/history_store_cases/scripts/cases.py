@@ -315,6 +315,34 @@ def commits():
     row("sha256", (f"parse-commit:{word(f'tree {empty}{chr(10)}{signed}{chr(10)}one'.encode())}", "none"))
 
 
+def tags():
+    # git hash-object -t tag of two tags of the first commit that stands in commits().
+    by_git = {
+        "sha1": ("751c9241f1899391447a61415d390e05f87e1bd5", "7b23ecc89b29eb435c75206f4b5c1e72ecb7350f",
+                 "2902655f21d54dfc4790560109c6e9340165e5cb"),
+        "sha256": ("4203d7610a517992c656f8a7171e212c04b4bc313ab419f738dab3456a7f1778",
+                   "5200c626096579611bb74bade60b7ddc10e0d4f2be3af66d93461470b230ce8b",
+                   "9751fe76539ab8480478ba8b27f512ed1e7487ef3719b9e7692b6629f641f5ab")}
+    tagger = b"B C <c> 2 -0130"
+    armor = b"one\n-----BEGIN PGP SIGNATURE-----\n\nx\n-----END PGP SIGNATURE-----\n"
+    for kind in KINDS:
+        commit, *ids = by_git[kind]
+        front = b"object %s\ntype commit\n" % commit.encode()
+        for name, message, digits in [(b"v1", b"one", ids[0]), (b"a/b", b"two\n\nmore\n", ids[1]), (b"v", armor, None), (b"v", b"", None)]:
+            text = front + b"tag %s\ntagger %s\n\n" % (name, tagger) + message
+            assert digits in (None, oid(kind, "tag", text))
+            told = f"content:{word(text)} id:{oid(kind, 'tag', text)}"
+            row(kind, (f"tag:{commit}:{word(name)}:{word(tagger)}:{word(message)}", told), (f"tag-target:{word(text)}", f"target:{commit}"))
+        # A name that no tag may have is none here, with a line feed or without.
+        for name in (b"", b"-a", b"a..b", b"a\nb"):
+            row(kind, (f"tag:{commit}:{word(name)}:{word(tagger)}:one", "none"))
+        for text, told in [(front, commit), (front.upper().replace(b"OBJECT", b"object"), commit), (front[:-13], commit), (front[:-14], None),
+                           (front.replace(b"object ", b"object  "), None), (front.replace(b"object", b"tree"), None), (b"\n" + front, None),
+                           (front[:20] + front[21:], None), (b"", None), (b"tag " + front, None)]:
+            row(kind, (f"tag-target:{word(text)}", f"target:{told}" if told else "none"))
+    row("sha256", (f"tag-target:{word(b'object %s' % by_git['sha1'][0].encode() + bytes([10]))}", "none"))
+
+
 ONE = word(b"A <a@b> 1 +0000")
 
 
@@ -429,6 +457,7 @@ if __name__ == "__main__":
     puts()
     actors()
     commits()
+    tags()
     names()
     creation()
     write(Path(__file__), ROWS)

@@ -47,6 +47,8 @@ impl Session for Parts {
             | "actor-part"
             | "commit"
             | "parse-commit"
+            | "tag"
+            | "tag-target"
             | "digits"
             | "object"
             | "log-line" => { values::act(alloc, self.kind, operation, rest, page) }

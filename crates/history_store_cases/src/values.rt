@@ -8,7 +8,7 @@ use gix_object::Commit;
 use gix_object::lines::Time;
 use history_store::{
     Actor, LogEntry, NewObject, commit_bytes, hex_digits, is_actor_part, parse_commit, parse_time,
-    plain_commit,
+    plain_commit, tag_bytes, tag_target,
 };
 use std::alloc::Global;
 
@@ -34,6 +34,14 @@ pub fn act(alloc: Global, kind: Kind, operation: &str, rest: &str, page: &mut Pa
                 Some(())
             }
         },
+        "tag" => show_tag(alloc, kind, rest, page),
+        "tag-target" => {
+            match tag_target(kind, &read_bytes(alloc, rest)?) {
+                Some(target) => show_id("target", &target, page),
+                None => page.word("none"),
+            }
+            Some(())
+        }
         "digits" => {
             let mut buffer = Kind::hex_buf();
             page.named("digits", hex_digits(&read_id(rest)?, &mut buffer));
@@ -134,6 +142,24 @@ fn show_content(alloc: Global, kind: Kind, commit: &Commit, page: &mut Page) -> 
         Some(content) => {
             page.named("content", &content);
             let object = NewObject::new(kind, read_kind("commit")?, content);
+            show_id("id", &object.id, page);
+        }
+        None => page.word("none"),
+    }
+    Some(())
+}
+
+// The content and the id of a tag of a commit, a name, an actor's text and a message, where it can be spelled.
+fn show_tag(alloc: Global, kind: Kind, rest: &str, page: &mut Page) -> Option<()> {
+    let mut parts = rest.split(':');
+    let target = read_id(parts.next()?)?;
+    let name = read_bytes(alloc, parts.next()?)?;
+    let tagger = read_actor(alloc, parts.next()?)?;
+    let message = read_bytes(alloc, parts.next()?)?;
+    match tag_bytes(alloc, target, name, tagger, &message).ok()? {
+        Some(content) => {
+            page.named("content", &content);
+            let object = NewObject::new(kind, read_kind("tag")?, content);
             show_id("id", &object.id, page);
         }
         None => page.word("none"),

@@ -22,6 +22,7 @@ live p h e = cc
 
 spoken : (d : Draft) (order : model.Command) → IsDraft d order → is_spoken order ≡ true
 spoken (draft.Commit c) (model.Commit order) h = refl
+spoken (draft.Tag c) (model.Tag order) h = refl
 spoken (draft.Move c) (model.Move order) h = refl
 spoken (draft.Delete d) (model.Delete name at) h = refl
 spoken (draft.Files w) (model.Files word) h = refl

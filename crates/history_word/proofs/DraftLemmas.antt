@@ -15,15 +15,15 @@ use Rattle.history_model.specs.Lines as lines
 use Rattle.history_word.specs.LineTable as table
 use Rattle.history_word.specs.TableRuns.{at, run_from, next_offered}
 use Rattle.history_word.specs.Commands.{IsExpect, IsTo}
-use Rattle.history_word.specs.Drafts.{role_of, place_of, to_of, log_of, IsEditHeading, IsOpening, IsHeading, IsDraft, with_parent, with_to, with_edit, with_actor, with_message, with_path}
-use Rattle.history_word.specs.Come.{to_parents, to_committer, to_targets, to_mover, before_message, to_message, HasEnough, HasCome, edit_heading, edit_fields, parts_with, TakesLine, TakesEdit, TakesLog, TakesActor, TakesOpening, TakesFields, TakesParts}
+use Rattle.history_word.specs.Drafts.{role_of, place_of, target_of, to_of, log_of, IsEditHeading, IsOpening, IsHeading, IsDraft, with_parent, with_to, with_edit, with_actor, with_message, with_path}
+use Rattle.history_word.specs.Come.{to_parents, to_committer, to_tagger, to_targets, to_mover, before_message, to_message, HasEnough, HasCome, edit_heading, edit_fields, parts_with, TakesLine, TakesEdit, TakesLog, TakesActor, TakesOpening, TakesFields, TakesParts}
 use Rattle.history_word.specs.declared.command.Expect.{Expect}
 use Rattle.history_word.specs.declared.command.To.{To}
 use Rattle.history_word.specs.declared.command.Edit.{Edit}
 use Rattle.history_word.specs.declared.command.ActorLine.{ActorLine}
 use Rattle.history_word.specs.declared.command.LogCommand.{LogCommand}
 use Rattle.history_word.specs.declared.heading.Role.{Role}
-use Rattle.history_word.specs.declared.heading.Role.TheVariants.{Author, Committer, Mover}
+use Rattle.history_word.specs.declared.heading.Role.TheVariants.{Author, Committer, Tagger, Mover}
 use Rattle.history_word.specs.declared.heading.EditHeading.{EditHeading}
 use Rattle.history_word.specs.declared.heading.EditHeading.TheVariants as edit
 use Rattle.history_word.specs.declared.heading.ActorHeading.{ActorHeading}
@@ -86,6 +86,17 @@ pub commit_opens : (name : Word) (expect : Option Expect) (new : Draft)
     → ((order : model.CommitCommand) → IfSome name (λ w. w.items ≡ order.name) → IfSome expect (λ x. IsExpect x order.expect) → order.parents ≡ [] → order.edits ≡ [] → IsDraft new (model.Commit order))
     → TakesOpening (opening.Commit name expect) new []
 commit_opens name expect new f = record { fields = []; heads = refl; spelled = refl; begins = commit_goes name expect new f }
+
+tag_goes : (target : Option To) (new : Draft) → ((order : model.TagCommand) → IfSome target (λ x. IsTo x (target_of order)) → IsDraft new (model.Tag order))
+    → (h : lines.Heading) → IsOpening (opening.Tag target) h → (q : Place) → next_offered table.Start h ≡ Some (place_of q) → HasCome q new (parts_with h [])
+tag_goes target new f (lines.TagHeading n x w) i place.Tagger e =
+    let order : model.TagCommand = record { name = n; expect = x; word = w; tagger = nobody; message = [] } in
+    (order, refl, f order i)
+tag_goes target new f (lines.TagHeading n x w) i q e = cc
+tag_goes target new f h i q e = absurd i
+
+pub tag_opens : (target : Option To) (new : Draft) → ((order : model.TagCommand) → IfSome target (λ x. IsTo x (target_of order)) → IsDraft new (model.Tag order)) → TakesOpening (opening.Tag target) new []
+tag_opens target new f = record { fields = []; heads = refl; spelled = refl; begins = tag_goes target new f }
 
 move_goes : (new : Draft) → ((order : model.MoveCommand) → order.to ≡ [] → IsDraft new (model.Move order))
     → (h : lines.Heading) → IsOpening opening.Move h → (q : Place) → next_offered table.Start h ≡ Some (place_of q) → HasCome q new (parts_with h [])
@@ -206,6 +217,8 @@ log_opens said log ys took = record {
 at_start : (said : Opening) (h : lines.Heading) → IsOpening said h → (p q : Place) → next_offered (place_of p) h ≡ Some (place_of q) → p ≡ place.Start
 at_start (opening.Commit name expect) (lines.CommitHeading n x) i place.Start q e = refl
 at_start (opening.Commit name expect) (lines.CommitHeading n x) i p q e = cc
+at_start (opening.Tag target) (lines.TagHeading n x w) i place.Start q e = refl
+at_start (opening.Tag target) (lines.TagHeading n x w) i p q e = cc
 at_start opening.Move lines.MoveHeading i place.Start q e = refl
 at_start opening.Move lines.MoveHeading i p q e = cc
 at_start (opening.Delete name expect) (lines.DeleteHeading n at) i place.Start q e = refl
@@ -362,30 +375,36 @@ author_place m n s o p q e = cc
 
 actor_at : (role : Role) (l : model.ActorLine) (old new : Draft)
     → ((order : model.CommitCommand) → IsDraft old (model.Commit order) → IsDraft new (with_actor role (model.Commit order) l))
+    → ((order : model.TagCommand) → IsDraft old (model.Tag order) → IsDraft new (with_actor role (model.Tag order) l))
     → ((order : model.MoveCommand) → IsDraft old (model.Move order) → IsDraft new (with_actor role (model.Move order) l))
     → (p q : Place) → next_offered (place_of p) (lines.ActorHeading (role_of role) (length l.name) (length l.email) l.seconds l.offset) ≡ Some (place_of q) → (before : List spelling.Part) → HasCome p old before
     → HasCome q new (before ++ parts_with (lines.ActorHeading (role_of role) (length l.name) (length l.email) l.seconds l.offset) (l.name ∷ l.email ∷ []))
-actor_at Author l old new commits moves p q e before here =
+actor_at Author l old new commits tags moves p q e before here =
     let places = author_place (length l.name) (length l.email) l.seconds l.offset p q e in
     let come = come_to_edits p old before places.0 here in
     let c = come.0 in
     subst (λ q. HasCome q new (before ++ spelling.actor_parts (codes "author") l)) (sym places.1)
     ((record c { author = l }, ap (λ x. x ++ spelling.actor_parts (codes "author") l) come.1, commits c come.2))
-actor_at Committer l old new commits moves place.Committer place.Message e before come =
+actor_at Committer l old new commits tags moves place.Committer place.Message e before come =
     let c = come.0 in
     (model.Commit (record c { committer = l }), ap (λ x. Some (x ++ spelling.actor_parts (codes "committer") l)) (sym come.1), record { enough = refl; has = commits c come.2 })
-actor_at Committer l old new commits moves p q e before come = cc
-actor_at Mover l old new commits moves place.ToMore place.Message e before come =
+actor_at Committer l old new commits tags moves p q e before come = cc
+actor_at Tagger l old new commits tags moves place.Tagger place.Message e before come =
+    let c = come.0 in
+    (model.Tag (record c { tagger = l }), ap (λ x. Some (x ++ spelling.actor_parts (codes "tagger") l)) (sym come.1), record { enough = refl; has = tags c come.2 })
+actor_at Tagger l old new commits tags moves p q e before come = cc
+actor_at Mover l old new commits tags moves place.ToMore place.Message e before come =
     let c = come.0 in
     (model.Move (record c { actor = l }), ap (λ x. Some (x ++ spelling.actor_parts (codes "actor") l)) (sym come.1), record { enough = come.2.enough; has = moves c come.2.has })
-actor_at Mover l old new commits moves p q e before come = cc
+actor_at Mover l old new commits tags moves p q e before come = cc
 
 pub actor_takes : (said : ActorHeading) (actor : Option ActorLine) (ys : Bytes) (old new : Draft) (t : TakesActor said actor ys) → (A : model.ActorLine → Type 0)
     → ((order : model.CommitCommand) (l : model.ActorLine) → IsDraft old (model.Commit order) → A l → IsDraft new (with_actor said.role (model.Commit order) l))
+    → ((order : model.TagCommand) (l : model.ActorLine) → IsDraft old (model.Tag order) → A l → IsDraft new (with_actor said.role (model.Tag order) l))
     → ((order : model.MoveCommand) (l : model.ActorLine) → IsDraft old (model.Move order) → A l → IsDraft new (with_actor said.role (model.Move order) l))
     → ((s o : Bytes) → IfSome said.seconds (λ w. w.items ≡ s) → IfSome said.offset (λ w. w.items ≡ o) → A (record { name = t.name; email = t.email; seconds = s; offset = o }))
     → TakesFields (heading.Actor said) old new ys
-actor_takes said actor ys old new t A commits moves is = record {
+actor_takes said actor ys old new t A commits tags moves is = record {
   fields = t.name ∷ t.email ∷ [];
   heads = λ i. t.sized.0 i ∷ t.sized.1 i ∷ [];
   spelled = t.spelled;
@@ -399,34 +418,38 @@ actor_takes said actor ys old new t A commits moves is = record {
         let a = is s o e.3 e.4 in
         let same : lines.ActorHeading (role_of said.role) (length t.name) (length t.email) s o ≡ lines.ActorHeading r m n s o = λ i. lines.ActorHeading (e.0 i) ((sym t.sized.0 ∙ e.1) i) ((sym t.sized.1 ∙ e.2) i) s o in
         subst (λ h. next_offered (place_of p) h ≡ Some (place_of q) → (before : List spelling.Part) → HasCome p old before → HasCome q new (before ++ parts_with h (t.name ∷ t.email ∷ []))) same
-        (actor_at said.role l old new (λ order d. commits order l d a) (λ order d. moves order l d a) p q)
+        (actor_at said.role l old new (λ order d. commits order l d a) (λ order d. tags order l d a) (λ order d. moves order l d a) p q)
     goes h e p q = absurd e
 
 -- ---- the message, and the end
 
 message_then : (a : Bytes) (old new : Draft)
     → ((order : model.CommitCommand) → IsDraft old (model.Commit order) → IsDraft new (with_message (model.Commit order) a))
+    → ((order : model.TagCommand) → IsDraft old (model.Tag order) → IsDraft new (with_message (model.Tag order) a))
     → ((order : model.MoveCommand) → IsDraft old (model.Move order) → IsDraft new (with_message (model.Move order) a))
     → (order : model.Command) (before : List spelling.Part) → before_message order ≡ Some before → HasEnough old order → (to_message (with_message order a) ≡ Some (before ++ spelling.message_parts a)) × HasEnough new (with_message order a)
-message_then a old new commits moves (model.Commit c) before e h = (ap (λ x. Some (x ++ spelling.message_parts a)) (same_Some (to_committer c) before e), record { enough = refl; has = commits c h.has })
-message_then a old new commits moves (model.Move c) before e h = (ap (λ x. Some (x ++ spelling.message_parts a)) (same_Some (to_mover c) before e), record { enough = h.enough; has = moves c h.has })
-message_then a old new commits moves order before e h = cc
+message_then a old new commits tags moves (model.Commit c) before e h = (ap (λ x. Some (x ++ spelling.message_parts a)) (same_Some (to_committer c) before e), record { enough = refl; has = commits c h.has })
+message_then a old new commits tags moves (model.Tag c) before e h = (ap (λ x. Some (x ++ spelling.message_parts a)) (same_Some (to_tagger c) before e), record { enough = refl; has = tags c h.has })
+message_then a old new commits tags moves (model.Move c) before e h = (ap (λ x. Some (x ++ spelling.message_parts a)) (same_Some (to_mover c) before e), record { enough = h.enough; has = moves c h.has })
+message_then a old new commits tags moves order before e h = cc
 
 message_goes : (n : ℕ) (a : Bytes) (old new : Draft) → length a ≡ n
     → ((order : model.CommitCommand) → IsDraft old (model.Commit order) → IsDraft new (with_message (model.Commit order) a))
+    → ((order : model.TagCommand) → IsDraft old (model.Tag order) → IsDraft new (with_message (model.Tag order) a))
     → ((order : model.MoveCommand) → IsDraft old (model.Move order) → IsDraft new (with_message (model.Move order) a))
     → (h : lines.Heading) → IsHeading (heading.Message n) h → (p q : Place) → next_offered (place_of p) h ≡ Some (place_of q) → (before : List spelling.Part) → HasCome p old before → HasCome q new (before ++ parts_with h (a ∷ []))
-message_goes n a old new l commits moves (lines.MessageHeading m) i place.Message place.End e before come =
-    let told = message_then a old new commits moves come.0 before come.1 come.2 in
+message_goes n a old new l commits tags moves (lines.MessageHeading m) i place.Message place.End e before come =
+    let told = message_then a old new commits tags moves come.0 before come.1 come.2 in
     let size : length a ≡ m = l ∙ i in
     (with_message come.0 a, told.0 ∙ ap (λ k. Some (before ++ parts_with (lines.MessageHeading k) (a ∷ []))) size, told.1)
-message_goes n a old new l commits moves (lines.MessageHeading m) i p q e before come = cc
-message_goes n a old new l commits moves h i p q e before come = absurd i
+message_goes n a old new l commits tags moves (lines.MessageHeading m) i p q e before come = cc
+message_goes n a old new l commits tags moves h i p q e before come = absurd i
 
 pub message_fields : (n : ℕ) (ys : Bytes) (old new : Draft) (a : Bytes) → length a ≡ n → ys ≡ line a
     → ((order : model.CommitCommand) → IsDraft old (model.Commit order) → IsDraft new (with_message (model.Commit order) a))
+    → ((order : model.TagCommand) → IsDraft old (model.Tag order) → IsDraft new (with_message (model.Tag order) a))
     → ((order : model.MoveCommand) → IsDraft old (model.Move order) → IsDraft new (with_message (model.Move order) a)) → TakesFields (heading.Message n) old new ys
-message_fields n ys old new a l y commits moves = record { fields = a ∷ []; heads = ap (λ k. k ∷ []) (sym l); spelled = one_text ys a y; come = message_goes n a old new l commits moves }
+message_fields n ys old new a l y commits tags moves = record { fields = a ∷ []; heads = ap (λ k. k ∷ []) (sym l); spelled = one_text ys a y; come = message_goes n a old new l commits tags moves }
 
 whole : (head : spelling.Part) (ps e a c m z : List spelling.Part) → (((((head ∷ ps) ++ e) ++ a) ++ c) ++ m) ++ z ≡ head ∷ (ps ++ (e ++ (a ++ (c ++ (m ++ z)))))
 whole head ps e a c m z =
@@ -440,6 +463,9 @@ ended (model.Commit c) before e =
     ap (λ x. x ++ spelling.end_part) (sym (same_Some (to_committer c ++ spelling.message_parts c.message) before e))
     ∙ whole (spelling.Line (codes "commit" ∷ c.name ∷ spelling.expect_words c.expect)) (map spelling.parent_part c.parents) (flat_map spelling.edit_parts c.edits) (spelling.actor_parts (codes "author") c.author)
     (spelling.actor_parts (codes "committer") c.committer) (spelling.message_parts c.message) spelling.end_part
+ended (model.Tag c) before e =
+    ap (λ x. x ++ spelling.end_part) (sym (same_Some (to_tagger c ++ spelling.message_parts c.message) before e))
+    ∙ whole_move (spelling.Line (codes "tag" ∷ c.name ∷ (spelling.expect_words c.expect ++ c.word ∷ []))) [] (spelling.actor_parts (codes "tagger") c.tagger) (spelling.message_parts c.message) spelling.end_part
 ended (model.Move c) before e =
     ap (λ x. x ++ spelling.end_part) (sym (same_Some (to_mover c ++ spelling.message_parts c.message) before e))
     ∙ whole_move (spelling.Line (codes "move" ∷ [])) (map spelling.to_part c.to) (spelling.actor_parts (codes "actor") c.actor) (spelling.message_parts c.message) spelling.end_part

@@ -29,6 +29,7 @@ edit_sizes_are said h e = absurd e
 
 opening_sizes_are : (said : Opening) (h : lines.Heading) → IsOpening said h → lines.sizes h ≡ opening_sizes said
 opening_sizes_are (opening.Commit name expect) (lines.CommitHeading n x) e = refl
+opening_sizes_are (opening.Tag target) (lines.TagHeading n x w) e = refl
 opening_sizes_are opening.Move lines.MoveHeading e = refl
 opening_sizes_are (opening.Delete name expect) (lines.DeleteHeading n at) e = refl
 opening_sizes_are (opening.Files word) (lines.FilesHeading w) e = refl

@@ -191,7 +191,7 @@ no_words order left e = subst (λ ws. SaysLog None (walk_of_words order ws)) (sy
 pub no_items : (order : model.Order) (first : Bool) (said : Option Items) → SaysItems None said → SaysLog None (option_map (λ items. lines.LogHeading order first items.0 items.1) said)
 no_items order first None says = tt
 no_items order first (Some (is, path)) says =
-    nowhere (lines.LogHeading order first is path) (ap (λ b. if b then Some table.Done else None) says) refl refl refl refl refl refl refl
+    nowhere (lines.LogHeading order first is path) (ap (λ b. if b then Some table.Done else None) says) refl refl refl refl refl refl refl refl
 
 pub whole_line : (order : model.Order) (own : Option Order) (first : Bool) (items : Option (Vec LogItem Global)) (path : Option ℕ) (said : Option Items) → IfSome own (λ x. IsOrder x order) → SaysItems (Some (items, path)) said
     → SaysLog (Some (record { order = own; first_parents = first; items = items; path = path })) (option_map (λ items. lines.LogHeading order first items.0 items.1) said)

@@ -1,11 +1,10 @@
 -- A line of the table that isn't read stands at no place of an offered command.
-use Rattle.std.proofs.Common.{◌≡◌, ℕ, Bool, true, false, List, [], ◌∷◌, Option, Some, None, refl, sym, ◌∙◌, bytes_eq, codes, if◌then◌else◌, option_map, option_and_then}
+use Rattle.std.proofs.Common.{◌≡◌, Bool, true, false, List, [], ◌∷◌, Option, None, refl, sym, ◌∙◌, bytes_eq, codes, if◌then◌else◌}
 use Rattle.std.proofs.lemmas.Slice.Eq.{bytes_eq-Decides}
 use Rattle.history_model.specs.Bytes.{Bytes}
-use Rattle.history_model.specs.Commands.{Expect}
 use Rattle.history_model.specs.Lines as lines
 use Rattle.history_word.specs.LineTable as table
-use Rattle.history_word.specs.LineTable.{expect_of, number_of, end_of_words, actor_of_words, target_of_words, rename_of_words, name_heading_of, heading_of}
+use Rattle.history_word.specs.LineTable.{end_of_words, rename_of_words, name_heading_of, heading_of}
 use Rattle.history_word.specs.TableRuns.{next_offered}
 use Rattle.history_word.specs.declared.heading.Heading.{Heading}
 use Rattle.history_word.specs.declared.place.Place.{Place}
@@ -16,48 +15,31 @@ abbrev pub Nowhere : lines.Heading → Type 0
 Nowhere h = (p : Place) → next_offered (place_of p) h ≡ None
 
 -- it stands at none of the places, one by one
-pub nowhere : (h : lines.Heading) → next_offered table.Start h ≡ None → next_offered table.Parents h ≡ None → next_offered table.Edits h ≡ None → next_offered table.ToCommitter h ≡ None → next_offered table.ToFirst h ≡ None
+pub nowhere : (h : lines.Heading) → next_offered table.Start h ≡ None → next_offered table.Parents h ≡ None → next_offered table.Edits h ≡ None → next_offered table.ToCommitter h ≡ None → next_offered table.ToTagger h ≡ None → next_offered table.ToFirst h ≡ None
     → next_offered table.ToMore h ≡ None → next_offered table.ToMessage h ≡ None → next_offered table.ToEnd h ≡ None → Nowhere h
-nowhere h start parents edits committer first more message end place.Start = start
-nowhere h start parents edits committer first more message end place.Parents = parents
-nowhere h start parents edits committer first more message end place.Edits = edits
-nowhere h start parents edits committer first more message end place.Committer = committer
-nowhere h start parents edits committer first more message end place.ToFirst = first
-nowhere h start parents edits committer first more message end place.ToMore = more
-nowhere h start parents edits committer first more message end place.Message = message
-nowhere h start parents edits committer first more message end place.End = end
-nowhere h start parents edits committer first more message end place.Done = refl
+nowhere h start parents edits committer tagger first more message end place.Start = start
+nowhere h start parents edits committer tagger first more message end place.Parents = parents
+nowhere h start parents edits committer tagger first more message end place.Edits = edits
+nowhere h start parents edits committer tagger first more message end place.Committer = committer
+nowhere h start parents edits committer tagger first more message end place.Tagger = tagger
+nowhere h start parents edits committer tagger first more message end place.ToFirst = first
+nowhere h start parents edits committer tagger first more message end place.ToMore = more
+nowhere h start parents edits committer tagger first more message end place.Message = message
+nowhere h start parents edits committer tagger first more message end place.End = end
+nowhere h start parents edits committer tagger first more message end place.Done = refl
 
 -- ---- words that say such a line, or none
-
-mapped : {A : Type 0} (g : A → lines.Heading) → ((x : A) → Nowhere (g x)) → (o : Option A) → Says None (option_map g o)
-mapped g none None = tt
-mapped g none (Some x) = none x
 
 either : (b : Bool) (x y : Option lines.Heading) → Says None x → Says None y → Says None (if b then x else y)
 either true x y e f = e
 either false x y e f = f
 
-chained : {A : Type 0} (f : A → Option lines.Heading) → ((x : A) → Says None (f x)) → (o : Option A) → Says None (option_and_then f o)
-chained f none None = tt
-chained f none (Some x) = none x
-
 no_end : (h : lines.Heading) → Nowhere h → (words : List Bytes) → Says None (end_of_words h words)
 no_end h none [] = none
 no_end h none (word ∷ words) = tt
 
-no_target : (g : Bytes → Expect → Bytes → lines.Heading) → ((n : Bytes) (x : Expect) (w : Bytes) → Nowhere (g n x w)) → (words : List Bytes) → Says None (target_of_words g words)
-no_target g none (name ∷ first ∷ word ∷ []) = mapped (λ x. g name x word) (λ x. none name x word) (expect_of (first ∷ []))
-no_target g none (name ∷ first ∷ second ∷ word ∷ []) = mapped (λ x. g name x word) (λ x. none name x word) (expect_of (first ∷ second ∷ []))
-no_target g none words = tt
-
-no_actor : (role : lines.Role) → ((m n : ℕ) (s o : Bytes) → Nowhere (lines.ActorHeading role m n s o)) → (words : List Bytes) → Says None (actor_of_words role words)
-no_actor role none (name ∷ email ∷ seconds ∷ offset ∷ []) =
-    chained (λ m. option_map (λ n. lines.ActorHeading role m n seconds offset) (number_of email)) (λ m. mapped (λ n. lines.ActorHeading role m n seconds offset) (λ n. none m n seconds offset) (number_of email)) (number_of name)
-no_actor role none words = tt
-
 no_rename : (words : List Bytes) → Says None (rename_of_words words)
-no_rename (old ∷ new ∷ []) = nowhere (lines.RenameHeading old new) refl refl refl refl refl refl refl refl
+no_rename (old ∷ new ∷ []) = nowhere (lines.RenameHeading old new) refl refl refl refl refl refl refl refl refl
 no_rename words = tt
 
 -- ---- by the first word
@@ -92,19 +74,19 @@ said_behind said first words commit parent put remove remove_file author committ
     passed said (bytes_eq first (codes "show")) _ _ show names))))))))))
 
 -- a line whose first word is none of those that are read
-pub no_line_of : (first : Bytes) (words : List Bytes) → bytes_eq first (codes "move") ≡ false → bytes_eq first (codes "to") ≡ false → bytes_eq first (codes "actor") ≡ false
+pub no_line_of : (first : Bytes) (words : List Bytes) → bytes_eq first (codes "tag") ≡ false → bytes_eq first (codes "tagger") ≡ false → bytes_eq first (codes "move") ≡ false → bytes_eq first (codes "to") ≡ false → bytes_eq first (codes "actor") ≡ false
     → bytes_eq first (codes "delete") ≡ false → bytes_eq first (codes "names") ≡ false → bytes_eq first (codes "past") ≡ false → bytes_eq first (codes "log") ≡ false → bytes_eq first (codes "switch") ≡ false → Says None (name_heading_of first words)
-no_line_of first words move to actor delete names past log switch =
-    either (bytes_eq first (codes "tag")) (target_of_words lines.TagHeading words) _ (no_target lines.TagHeading (λ n x w. nowhere (lines.TagHeading n x w) refl refl refl refl refl refl refl refl) words) (
-    either (bytes_eq first (codes "tagger")) (actor_of_words lines.Tagger words) _ (no_actor lines.Tagger (λ m n s o. nowhere (lines.ActorHeading lines.Tagger m n s o) refl refl refl refl refl refl refl refl) words) (
+no_line_of first words tag tagger move to actor delete names past log switch =
+    passed None (bytes_eq first (codes "tag")) _ _ tag (
+    passed None (bytes_eq first (codes "tagger")) _ _ tagger (
     passed None (bytes_eq first (codes "move")) _ _ move (
     passed None (bytes_eq first (codes "to")) _ _ to (
     passed None (bytes_eq first (codes "actor")) _ _ actor (
     either (bytes_eq first (codes "rename")) (rename_of_words words) _ (no_rename words) (
     passed None (bytes_eq first (codes "delete")) _ _ delete (
     passed None (bytes_eq first (codes "switch")) _ _ switch (
-    either (bytes_eq first (codes "pack")) (end_of_words lines.PackHeading words) _ (no_end lines.PackHeading (nowhere lines.PackHeading refl refl refl refl refl refl refl refl) words) (
-    either (bytes_eq first (codes "index")) (end_of_words lines.IndexHeading words) _ (no_end lines.IndexHeading (nowhere lines.IndexHeading refl refl refl refl refl refl refl refl) words) (
+    either (bytes_eq first (codes "pack")) (end_of_words lines.PackHeading words) _ (no_end lines.PackHeading (nowhere lines.PackHeading refl refl refl refl refl refl refl refl refl) words) (
+    either (bytes_eq first (codes "index")) (end_of_words lines.IndexHeading words) _ (no_end lines.IndexHeading (nowhere lines.IndexHeading refl refl refl refl refl refl refl refl refl) words) (
     passed None (bytes_eq first (codes "names")) _ _ names (
     passed None (bytes_eq first (codes "past")) _ _ past (
     passed None (bytes_eq first (codes "log")) _ _ log tt))))))))))))

@@ -24,7 +24,7 @@ use Rattle.history_word.specs.declared.place.Place.{Place}
 use Rattle.history_word.specs.declared.place.Place.TheVariants as place
 use Rattle.history_word.specs.declared.draft.Draft.{Draft}
 
--- ---- a commit, and a move
+-- ---- a commit, a tag, and a move
 
 abbrev pub to_parents : model.CommitCommand → List spelling.Part
 to_parents c =
@@ -40,6 +40,13 @@ to_author c = to_edits c ++ spelling.actor_parts (codes "author") c.author
 abbrev pub to_committer : model.CommitCommand → List spelling.Part
 to_committer c = to_author c ++ spelling.actor_parts (codes "committer") c.committer
 
+abbrev pub to_tag : model.TagCommand → List spelling.Part
+to_tag c =
+    spelling.Line (codes "tag" ∷ c.name ∷ (spelling.expect_words c.expect ++ c.word ∷ [])) ∷ []
+
+abbrev pub to_tagger : model.TagCommand → List spelling.Part
+to_tagger c = to_tag c ++ spelling.actor_parts (codes "tagger") c.tagger
+
 abbrev pub to_targets : model.MoveCommand → List spelling.Part
 to_targets c = spelling.Line (codes "move" ∷ []) ∷ map spelling.to_part c.to
 
@@ -49,11 +56,13 @@ to_mover c = to_targets c ++ spelling.actor_parts (codes "actor") c.actor
 -- the parts of a command that come before its message, where it has one, and those up to it
 abbrev pub before_message : model.Command → Option (List spelling.Part)
 before_message (model.Commit c) = Some (to_committer c)
+before_message (model.Tag c) = Some (to_tagger c)
 before_message (model.Move c) = Some (to_mover c)
 before_message _ = None
 
 abbrev pub to_message : model.Command → Option (List spelling.Part)
 to_message (model.Commit c) = Some (to_committer c ++ spelling.message_parts c.message)
+to_message (model.Tag c) = Some (to_tagger c ++ spelling.message_parts c.message)
 to_message (model.Move c) = Some (to_mover c ++ spelling.message_parts c.message)
 to_message _ = None
 
@@ -72,6 +81,8 @@ HasCome place.Edits d parts =
     (order : model.CommitCommand) × (parts ≡ to_edits order) × IsDraft d (model.Commit order)
 HasCome place.Committer d parts =
     (order : model.CommitCommand) × (parts ≡ to_author order) × IsDraft d (model.Commit order)
+HasCome place.Tagger d parts =
+    (order : model.TagCommand) × (parts ≡ to_tag order) × IsDraft d (model.Tag order)
 HasCome place.ToFirst d parts =
     (order : model.MoveCommand) × (parts ≡ to_targets order) × IsDraft d (model.Move order)
 HasCome place.ToMore d parts =

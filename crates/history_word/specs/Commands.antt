@@ -15,6 +15,7 @@ use Rattle.history_word.specs.declared.command.Edit.{Edit}
 use Rattle.history_word.specs.declared.command.Edit.TheVariants.{Put, Remove, RemoveFile}
 use Rattle.history_word.specs.declared.command.ActorLine.{ActorLine}
 use Rattle.history_word.specs.declared.command.CommitCommand.{CommitCommand}
+use Rattle.history_word.specs.declared.command.TagCommand.{TagCommand}
 use Rattle.history_word.specs.declared.command.To.{To}
 use Rattle.history_word.specs.declared.command.MoveCommand.{MoveCommand}
 use Rattle.history_word.specs.declared.command.Delete.{Delete}
@@ -58,6 +59,13 @@ pub record IsCommit (commit : CommitCommand) (order : model.CommitCommand) : Typ
   pub author : IsActor commit.author order.author
   pub committer : IsActor commit.committer order.committer
   pub message : Keeps max_content commit.message order.message
+
+pub record IsTag (tag : TagCommand) (order : model.TagCommand) : Type 0 where
+  pub name : tag.name.items ≡ order.name
+  pub expect : IsExpect tag.expect order.expect
+  pub word : tag.word.items ≡ order.word
+  pub tagger : IsActor tag.tagger order.tagger
+  pub message : Keeps max_content tag.message order.message
 
 pub record IsTo (to : To) (line : model.To) : Type 0 where
   pub name : to.name.items ≡ line.name
@@ -110,6 +118,7 @@ pub record IsLog (log : LogCommand) (line : model.LogCommand) : Type 0 where
 -- the command that was read is this one, but for the bytes of fields over their limits
 abbrev pub IsCommandOf : Command → model.Command → Type 0
 IsCommandOf (command.Commit commit) (model.Commit order) = IsCommit commit order
+IsCommandOf (command.Tag tag) (model.Tag order) = IsTag tag order
 IsCommandOf (command.Move move) (model.Move order) = IsMove move order
 IsCommandOf (command.Delete delete) (model.Delete name at) = IsDelete delete name at
 IsCommandOf (command.Files word) (model.Files bytes) = word.items ≡ bytes

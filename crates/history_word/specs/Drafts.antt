@@ -17,7 +17,7 @@ use Rattle.history_word.specs.declared.command.Order.{Order}
 use Rattle.history_word.specs.declared.command.LogItem.{LogItem}
 use Rattle.history_word.specs.declared.logs.LogLine.{LogLine}
 use Rattle.history_word.specs.declared.heading.Role.{Role}
-use Rattle.history_word.specs.declared.heading.Role.TheVariants.{Author, Committer, Mover}
+use Rattle.history_word.specs.declared.heading.Role.TheVariants.{Author, Committer, Tagger, Mover}
 use Rattle.history_word.specs.declared.heading.EditHeading.{EditHeading}
 use Rattle.history_word.specs.declared.heading.EditHeading.TheVariants as edit
 use Rattle.history_word.specs.declared.heading.Opening.{Opening}
@@ -28,6 +28,8 @@ use Rattle.history_word.specs.declared.heading.Heading.TheVariants as heading
 use Rattle.history_word.specs.declared.place.Place.{Place}
 use Rattle.history_word.specs.declared.place.Place.TheVariants as place
 use Rattle.history_word.specs.declared.draft.CommitDraft.{CommitDraft}
+use Rattle.history_word.specs.declared.command.To.{To}
+use Rattle.history_word.specs.declared.draft.TagDraft.{TagDraft}
 use Rattle.history_word.specs.declared.draft.MoveDraft.{MoveDraft}
 use Rattle.history_word.specs.declared.draft.Draft.{Draft}
 use Rattle.history_word.specs.declared.draft.Draft.TheVariants as draft
@@ -35,6 +37,7 @@ use Rattle.history_word.specs.declared.draft.Draft.TheVariants as draft
 abbrev pub role_of : Role → lines.Role
 role_of Author = lines.Author
 role_of Committer = lines.Committer
+role_of Tagger = lines.Tagger
 role_of Mover = lines.Mover
 
 abbrev pub place_of : Place → table.Place
@@ -42,6 +45,7 @@ place_of place.Start = table.Start
 place_of place.Parents = table.Parents
 place_of place.Edits = table.Edits
 place_of place.Committer = table.ToCommitter
+place_of place.Tagger = table.ToTagger
 place_of place.ToFirst = table.ToFirst
 place_of place.ToMore = table.ToMore
 place_of place.Message = table.ToMessage
@@ -75,7 +79,7 @@ IsActorHeading line (lines.ActorHeading r m n s o) =
     × IfSome line.seconds (λ word. word.items ≡ s) × IfSome line.offset (λ word. word.items ≡ o)
 IsActorHeading _ _ = ⊥
 
--- one name of a move
+-- a name that is to move to a word's commit
 abbrev pub to_of : Bytes → model.Expect → Bytes → model.To
 to_of name expect word = record { name = name; expect = expect; word = word }
 
@@ -83,6 +87,7 @@ to_of name expect word = record { name = name; expect = expect; word = word }
 abbrev pub IsOpening : Opening → lines.Heading → Type 0
 IsOpening (opening.Commit name expect) (lines.CommitHeading n e) =
     IfSome name (λ word. word.items ≡ n) × IfSome expect (λ x. IsExpect x e)
+IsOpening (opening.Tag target) (lines.TagHeading n e w) = IfSome target (λ x. IsTo x (to_of n e w))
 IsOpening opening.Move lines.MoveHeading = ⊤
 IsOpening (opening.Delete name expect) (lines.DeleteHeading n at) =
     IfSome name (λ word. word.items ≡ n) × IfSome expect (λ x. IsExpect x (option_expect at))
@@ -123,6 +128,14 @@ SaysExpect (Some expect) words left = (e : model.Expect)
 SaysExpect None words left =
     (e : model.Expect) (more : List Bytes) → words ≡ spelling.expect_words e ++ more → ⊥
 
+-- The words are a name, what is expected of it, and a word; nothing is read where they aren't.
+abbrev pub SaysTarget : Option (Option To) → List Bytes → Type 0
+SaysTarget (Some target) words = (name word : Bytes) × (e : model.Expect)
+    × IfSome target (λ x. IsTo x (to_of name e word))
+    × (words ≡ name ∷ (spelling.expect_words e ++ word ∷ []))
+SaysTarget None words =
+    (name word : Bytes) (e : model.Expect) → words ≡ name ∷ (spelling.expect_words e ++ word ∷ []) → ⊥
+
 abbrev pub SaysLog : Option LogLine → Option lines.Heading → Type 0
 SaysLog line h = Says (option_map (λ said. heading.Opening (opening.Log said)) line) h
 
@@ -156,6 +169,16 @@ pub record IsCommitDraft (draft : CommitDraft) (order : model.CommitCommand) : T
   pub committer : IfSome draft.committer (λ actor. IsActor actor order.committer)
   pub message : IfSome draft.message (λ field. Keeps max_content field order.message)
 
+-- the name of a tag, what is expected of it, and the word of its commit
+abbrev pub target_of : model.TagCommand → model.To
+target_of order = to_of order.name order.expect order.word
+
+-- the draft of a tag has these parts, each that found memory
+pub record IsTagDraft (draft : TagDraft) (order : model.TagCommand) : Type 0 where
+  pub target : IfSome draft.target (λ x. IsTo x (target_of order))
+  pub tagger : IfSome draft.tagger (λ actor. IsActor actor order.tagger)
+  pub message : IfSome draft.message (λ field. Keeps max_content field order.message)
+
 -- the draft of a move has these parts, each that found memory
 pub record IsMoveDraft (draft : MoveDraft) (order : model.MoveCommand) : Type 0 where
   pub to : IfSome draft.to (λ all. AreTos all.items order.to)
@@ -164,6 +187,7 @@ pub record IsMoveDraft (draft : MoveDraft) (order : model.MoveCommand) : Type 0 
 
 abbrev pub IsDraft : Draft → model.Command → Type 0
 IsDraft (draft.Commit commit) (model.Commit order) = IsCommitDraft commit order
+IsDraft (draft.Tag tag) (model.Tag order) = IsTagDraft tag order
 IsDraft (draft.Move move) (model.Move order) = IsMoveDraft move order
 IsDraft (draft.Delete delete) (model.Delete name at) = IfSome delete (λ x. IsDelete x name at)
 IsDraft (draft.Files word) (model.Files bytes) = IfSome word (λ x. x.items ≡ bytes)
@@ -191,12 +215,14 @@ with_to order line = record order { to = order.to ++ line ∷ [] }
 abbrev pub with_actor : Role → model.Command → model.ActorLine → model.Command
 with_actor Author (model.Commit order) actor = model.Commit (record order { author = actor })
 with_actor Committer (model.Commit order) actor = model.Commit (record order { committer = actor })
+with_actor Tagger (model.Tag order) actor = model.Tag (record order { tagger = actor })
 with_actor Mover (model.Move order) actor = model.Move (record order { actor = actor })
 with_actor role order actor = order
 
 -- The command with this message, where it has one.
 abbrev pub with_message : model.Command → Bytes → model.Command
 with_message (model.Commit order) message = model.Commit (record order { message = message })
+with_message (model.Tag order) message = model.Tag (record order { message = message })
 with_message (model.Move order) message = model.Move (record order { message = message })
 with_message order message = order
 

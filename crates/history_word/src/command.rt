@@ -67,6 +67,16 @@ pub struct CommitCommand {
     pub message: Field,
 }
 
+/// Stores a tag of a word's commit, and moves a name to it. The message has at most 16,777,216 bytes.
+#[derive(Debug, Drop)]
+pub struct TagCommand {
+    pub name: Vec<u8>,
+    pub expect: Expect,
+    pub word: Vec<u8>,
+    pub tagger: ActorLine,
+    pub message: Field,
+}
+
 /// One name of a move: what is expected of it, and the word of the commit where it goes.
 #[derive(Debug, Drop)]
 pub struct To {
@@ -135,6 +145,7 @@ pub struct LogCommand {
 #[derive(Debug, Drop)]
 pub enum Command {
     Commit(CommitCommand),
+    Tag(TagCommand),
     Move(MoveCommand),
     Delete(Delete),
     /// Lists the files of this word's commit.

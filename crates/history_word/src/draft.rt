@@ -7,12 +7,12 @@ ghost use Rattle.history_model.specs.Commands as model;
 ghost use Rattle.history_model.specs.Forms.{max_path, max_actor_part, max_content};
 ghost use Rattle.history_model.specs.Stops.{is_changing};
 ghost use Rattle.history_word.specs.Fields.{Keeps};
-ghost use Rattle.history_word.specs.Commands.{IsExpect, IsEdit, IsActor, IsCommit, IsTo, IsMove, IsCommandOf};
-ghost use Rattle.history_word.specs.Drafts.{IsCommitDraft, IsMoveDraft, IsDraft, with_parent, with_edit, with_to, with_actor, with_message};
+ghost use Rattle.history_word.specs.Commands.{IsExpect, IsEdit, IsActor, IsCommit, IsTag, IsTo, IsMove, IsCommandOf};
+ghost use Rattle.history_word.specs.Drafts.{IsCommitDraft, IsTagDraft, IsMoveDraft, IsDraft, target_of, with_parent, with_edit, with_to, with_actor, with_message};
 
 use crate::command::{
     ActorLine, Command, CommitCommand, Delete, Edit, Expect, Field, LogCommand, MoveCommand, Put,
-    Show, To,
+    Show, TagCommand, To,
 };
 use crate::heading::Role;
 use history_model::FileKind;
@@ -30,6 +30,14 @@ pub(crate) struct CommitDraft {
     message: Option<Field>,
 }
 
+/// A tag as far as it has come. A part is `None` before it comes, and where it found no memory.
+#[derive(Debug, Drop)]
+pub(crate) struct TagDraft {
+    target: Option<To>,
+    tagger: Option<ActorLine>,
+    message: Option<Field>,
+}
+
 /// A move as far as it has come. A part is `None` before it comes, and where it found no memory.
 #[derive(Debug, Drop)]
 pub(crate) struct MoveDraft {
@@ -43,6 +51,7 @@ pub(crate) struct MoveDraft {
 pub(crate) enum Draft {
     Empty,
     Commit(CommitDraft),
+    Tag(TagDraft),
     Move(MoveDraft),
     Delete(Option<Delete>),
     Files(Option<Vec<u8>>),
@@ -104,6 +113,33 @@ impl CommitDraft {
     }
 }
 
+impl TagDraft {
+    fn new(target: Option<To>) -> Self
+        ensures { (order : model.TagCommand) → IfSome target (λ x. IsTo x (target_of order))
+            → IsTagDraft result order }
+    {
+        TagDraft {
+            target,
+            tagger: None,
+            message: None,
+        }
+    }
+
+    fn finish(self) -> Option<TagCommand>
+        ensures { (order : model.TagCommand) → IsTagDraft self order
+            → IfSome result (λ tag. IsTag tag order) }
+    {
+        let target = self.target?;
+        Some(TagCommand {
+            name: target.name,
+            expect: target.expect,
+            word: target.word,
+            tagger: self.tagger?,
+            message: self.message?,
+        })
+    }
+}
+
 impl MoveDraft {
     fn new(alloc: Global) -> Self
         ensures { (order : model.MoveCommand) → order.to ≡ [] → IsMoveDraft result order }
@@ -143,6 +179,13 @@ impl Draft {
             → IsDraft result (model.Commit order) }
     {
         Draft::Commit(CommitDraft::new(alloc, name, expect))
+    }
+
+    pub(crate) fn tag(target: Option<To>) -> Self
+        ensures { (order : model.TagCommand) → IfSome target (λ x. IsTo x (target_of order))
+            → IsDraft result (model.Tag order) }
+    {
+        Draft::Tag(TagDraft::new(target))
     }
 
     pub(crate) fn new_move(alloc: Global) -> Self
@@ -216,6 +259,9 @@ impl Draft {
         ensures commit { (order : model.CommitCommand) (line : model.ActorLine)
             → IsDraft self.old (model.Commit order) → IfSome actor (λ x. IsActor x line)
             → IsDraft self.new (with_actor role (model.Commit order) line) }
+        ensures tag { (order : model.TagCommand) (line : model.ActorLine)
+            → IsDraft self.old (model.Tag order) → IfSome actor (λ x. IsActor x line)
+            → IsDraft self.new (with_actor role (model.Tag order) line) }
         ensures moves { (order : model.MoveCommand) (line : model.ActorLine)
             → IsDraft self.old (model.Move order) → IfSome actor (λ x. IsActor x line)
             → IsDraft self.new (with_actor role (model.Move order) line) }
@@ -223,6 +269,7 @@ impl Draft {
         match (self, role) {
             (Draft::Commit(commit), Role::Author) => commit.author = actor,
             (Draft::Commit(commit), Role::Committer) => commit.committer = actor,
+            (Draft::Tag(tag), Role::Tagger) => tag.tagger = actor,
             (Draft::Move(order), Role::Mover) => order.actor = actor,
             _ => {}
         }
@@ -232,12 +279,16 @@ impl Draft {
         ensures commit { (order : model.CommitCommand) (m : Bytes)
             → IsDraft self.old (model.Commit order) → IfSome message (λ x. Keeps max_content x m)
             → IsDraft self.new (with_message (model.Commit order) m) }
+        ensures tag { (order : model.TagCommand) (m : Bytes)
+            → IsDraft self.old (model.Tag order) → IfSome message (λ x. Keeps max_content x m)
+            → IsDraft self.new (with_message (model.Tag order) m) }
         ensures moves { (order : model.MoveCommand) (m : Bytes)
             → IsDraft self.old (model.Move order) → IfSome message (λ x. Keeps max_content x m)
             → IsDraft self.new (with_message (model.Move order) m) }
     {
         match self {
             Draft::Commit(commit) => commit.message = message,
+            Draft::Tag(tag) => tag.message = message,
             Draft::Move(order) => order.message = message,
             _ => {}
         }
@@ -249,7 +300,7 @@ impl Draft {
     {
         matches!(
             self,
-            Draft::Commit(_) | Draft::Move(_) | Draft::Delete(_) | Draft::Switch(_)
+            Draft::Commit(_) | Draft::Tag(_) | Draft::Move(_) | Draft::Delete(_) | Draft::Switch(_)
         )
     }
 
@@ -261,6 +312,7 @@ impl Draft {
         match self {
             Draft::Empty => None,
             Draft::Commit(commit) => Some(Command::Commit(commit.finish()?)),
+            Draft::Tag(tag) => Some(Command::Tag(tag.finish()?)),
             Draft::Move(order) => Some(Command::Move(order.finish()?)),
             Draft::Delete(delete) => Some(Command::Delete(delete?)),
             Draft::Files(word) => Some(Command::Files(word?)),

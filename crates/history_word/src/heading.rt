@@ -14,7 +14,7 @@ ghost use Rattle.history_word.specs.declared.place.Place.{Place};
 
 use crate::command::{Expect, To};
 use crate::logs::LogLine;
-use crate::targets::{expect, to};
+use crate::targets::{expect, tag, to};
 use crate::words::{Words, are_words, file_kind, number};
 use history_model::FileKind;
 use std::alloc::Global;
@@ -24,6 +24,7 @@ use std::alloc::Global;
 pub(crate) enum Role {
     Author,
     Committer,
+    Tagger,
     /// Of a move.
     Mover,
 }
@@ -63,6 +64,8 @@ pub(crate) enum Opening {
         name: Option<Vec<u8>>,
         expect: Option<Expect>,
     },
+    /// The name of a tag, what is expected of it, and the word of its commit.
+    Tag(Option<To>),
     Move,
     Delete {
         name: Option<Vec<u8>>,
@@ -312,7 +315,11 @@ fn delete(alloc: Global, words: &mut Words) -> Option<Heading>
 fn said_of_names(alloc: Global, first: &[u8], words: &mut Words) -> Option<Heading>
     ensures { Says result (name_heading_of first.now (left words.old)) }
 {
-    if first == b"move".as_slice() {
+    if first == b"tag".as_slice() {
+        tag(alloc, words)
+    } else if first == b"tagger".as_slice() {
+        actor(alloc, Role::Tagger, words)
+    } else if first == b"move".as_slice() {
         move_line(words)
     } else if first == b"to".as_slice() {
         to(alloc, words)

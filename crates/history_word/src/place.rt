@@ -16,6 +16,8 @@ pub(crate) enum Place {
     Parents,
     Edits,
     Committer,
+    /// Behind `tag`.
+    Tagger,
     /// Behind `move`.
     ToFirst,
     /// Behind a line `to`.
@@ -52,6 +54,7 @@ impl Opening {
     {
         match self {
             Opening::Commit { .. } => Place::Parents,
+            Opening::Tag(_) => Place::Tagger,
             Opening::Move => Place::ToFirst,
             _ => Place::Done,
         }
@@ -68,6 +71,7 @@ impl Role {
         match (self, place) {
             (Role::Author, Place::Parents | Place::Edits) => Some(Place::Committer),
             (Role::Committer, Place::Committer) => Some(Place::Message),
+            (Role::Tagger, Place::Tagger) => Some(Place::Message),
             (Role::Mover, Place::ToMore) => Some(Place::Message),
             _ => None,
         }

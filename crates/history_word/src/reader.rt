@@ -231,6 +231,7 @@ fn read_opening<R: Source>(
 {
     match opening {
         Opening::Commit { name, expect } => Ok(Draft::commit(alloc, name, expect)),
+        Opening::Tag(target) => Ok(Draft::tag(target)),
         Opening::Move => Ok(Draft::new_move(alloc)),
         Opening::Delete { name, expect } => Ok(Draft::delete(name, expect)),
         Opening::Files { word } => Ok(Draft::Files(word)),

@@ -1,15 +1,15 @@
-//! What is expected of a name, and what a line `to` of a move says.
+//! What is expected of a name, and what the lines `tag` and `to` say.
 
 ghost use Rattle.std.specs.Prelude.{◌≡◌, IfSome};
 ghost use Rattle.history_model.specs.Commands as model;
-ghost use Rattle.history_model.specs.Lines.{ToHeading};
+ghost use Rattle.history_model.specs.Lines.{TagHeading, ToHeading};
 ghost use Rattle.history_word.specs.Commands.{IsExpect, IsTo};
 ghost use Rattle.history_word.specs.LineTable.{target_of_words};
-ghost use Rattle.history_word.specs.Drafts.{Says, SaysExpect};
+ghost use Rattle.history_word.specs.Drafts.{Says, SaysExpect, SaysTarget};
 ghost use Rattle.history_word.specs.Words.{left};
 
 use crate::command::{Expect, To};
-use crate::heading::{Heading, kept};
+use crate::heading::{Heading, Opening, kept};
 use crate::words::Words;
 use std::alloc::Global;
 
@@ -30,19 +30,33 @@ pub(crate) fn expect(alloc: Global, words: &mut Words) -> Option<Option<Expect>>
     }
 }
 
-/// What follows `to`: `<name> <expect> <word>`.
+/// What follows `to`.
 pub(crate) fn to(alloc: Global, words: &mut Words) -> Option<Heading>
     ensures { Says result (target_of_words ToHeading (left words.old)) }
+{
+    Some(Heading::To(target(alloc, words)?))
+}
+
+/// What follows `tag`.
+pub(crate) fn tag(alloc: Global, words: &mut Words) -> Option<Heading>
+    ensures { Says result (target_of_words TagHeading (left words.old)) }
+{
+    Some(Heading::Opening(Opening::Tag(target(alloc, words)?)))
+}
+
+/// Takes the rest of a line, `<name> <expect> <word>`. It is `Some(None)` where one of them found no memory.
+fn target(alloc: Global, words: &mut Words) -> Option<Option<To>>
+    ensures { SaysTarget result (left words.old) }
 {
     let name = words.next()?;
     let expect = expect(alloc, words)?;
     let word = words.last()?;
     let own_name = kept(alloc, name);
     let own_word = kept(alloc, word);
-    Some(Heading::To(to_line(own_name, expect, own_word)))
+    Some(to_line(own_name, expect, own_word))
 }
 
-/// One name of a move, if each of its parts found memory.
+/// A name that is to move, if each of its parts found memory.
 fn to_line(name: Option<Vec<u8>>, expect: Option<Expect>, word: Option<Vec<u8>>) -> Option<To>
     ensures { (line : model.To) → IfSome name (λ x. x.items ≡ line.name)
         → IfSome expect (λ x. IsExpect x line.expect) → IfSome word (λ x. x.items ≡ line.word)

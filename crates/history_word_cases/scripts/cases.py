@@ -85,6 +85,21 @@ class Move:
         return " ".join(found + actor_words("actor", self.actor) + [field("message", self.message, 2 ** 24)])
 
 
+class Tag:
+    """A tag's value, its text, and its words."""
+
+    def __init__(self, name, expect, target, tagger, message):
+        self.name, self.expect, self.target, self.tagger, self.message = name, expect, target, tagger, message
+
+    def text(self):
+        lines = [b"tag %s %s %s" % (self.name, expect_text(self.expect), self.target)]
+        return b"\n".join(lines + actor_lines("tagger", self.tagger) + message_lines(self.message))
+
+    def words(self):
+        found = ["tag:" + word(self.name), expect_words(self.expect), "word:" + word(self.target)] + actor_words("tagger", self.tagger)
+        return " ".join(found + [field("message", self.message, 2 ** 24)])
+
+
 A = (b"A", b"a@b", b"1", b"+0000")
 COMMIT = Commit(b"refs/heads/s", ("new",), [b"m", b"refs/heads/t"], [("file", b"a", b"hello"), ("remove", b"d"),
                 ("remove-file", b"d/x")], A, A, b"one")
@@ -95,6 +110,10 @@ MOVE = Move([(b"refs/heads/s", ("new",), b"main"), (b"refs/heads/t", ("at", b"s"
             b"one")
 MOVE_TEXT = (b"move\nto refs/heads/s new main\nto refs/heads/t at s s\nto refs/heads/u any HEAD\nactor 1 3 1 +0000\nA\na@b\n"
              b"message 3\none\nend\n")
+
+
+TAG = Tag(b"refs/tags/v1", ("at", b"s"), b"main", A, b"one")
+TAG_TEXT = b"tag refs/tags/v1 at s main\ntagger 1 3 1 +0000\nA\na@b\nmessage 3\none\nend\n"
 
 
 def cut(text, words):
@@ -111,6 +130,7 @@ def commands():
     assert COMMIT.text() == COMMIT_TEXT
     cut(COMMIT_TEXT, COMMIT.words())
     moves()
+    tags()
     deletions()
     row("read", b"files main\n", "more files:main end")
     row("read", b"show HEAD\n", "more show:HEAD end")
@@ -154,6 +174,18 @@ def moves():
         move = Move(names, nobody, b"")
         row("read", move.text(), f"more {move.words()} end")
     row("read", MOVE_TEXT.replace(b"one", b"\n\nx"), "more " + MOVE.words().replace("message:one", "message:%0a%0ax") + " end")
+
+
+def tags():
+    assert TAG.text() == TAG_TEXT
+    cut(TAG_TEXT, TAG.words())
+    row("stream", TAG_TEXT + b"tag", f"more {TAG.words()} more")
+    nobody = (b"", b"", b"s", b"o")
+    for name, expect, target in [(b"at", ("at", b"at"), b"at"), (b"new", ("new",), b"new"), (b"any", ("any",), b"any"),
+                                 (b"tag", ("any",), b"tagger")]:
+        tag = Tag(name, expect, target, nobody, b"")
+        row("read", tag.text(), f"more {tag.words()} end")
+    row("read", TAG_TEXT.replace(b"one", b"\n\nx"), "more " + TAG.words().replace("message:one", "message:%0a%0ax") + " end")
 
 
 def deletions():
@@ -203,6 +235,11 @@ def move_limits():
     for name, email in [(512, 512), (513, 0), (0, 513), (2000, 2000)]:
         move = Move([(b"a", ("any",), b"b")], (b"n" * name, b"e" * email, b"s", b"o"), b"")
         row("read", move.text(), f"more {move.words()} end")
+        tag = Tag(b"a", ("any",), b"b", (b"n" * name, b"e" * email, b"s", b"o"), b"")
+        row("read", tag.text(), f"more {tag.words()} end")
+    rest = "+%0atagger%200%200%20s%20o%0a%0a%0amessage%200%0a%0aend%0a"
+    row("read", "tag%20a%20new%20+x*4086" + rest, "more tag:a new word:" + "x" * 4086 + " tagger:- email:- seconds:s offset:o message:- end")
+    row("read", "tag%20a%20new%20+x*4087" + rest, "more LineTooLong")
     row("read", b"move\nto a any b\nactor 513 0 s o\n" + b"n" * 513, "more Truncated")
     row("read", b"move\nto a any b\nactor 513 0 s o\n" + b"n" * 514, "more Syntax")
 
@@ -228,13 +265,22 @@ LINES = [
     b"switch\n", b"switch a b\n", b"switch  a\n", b"switch a \n", b"Switch a\n", b"commit HEAD new\nswitch a\n",
     b"delete\n", b"delete main\n", b"delete main new\n", b"delete main at\n",
     b"delete main any any\n", b"delete main at a b\n", b"delete main anyone\n", b"delete main to a\n", b"delete  any\n", b"delete main a\n",
-    b"commit HEAD new\ndelete main any\n", b"delete main any \n", b"Delete main any\n", b"rename a b\n", b"tag a new b\n", b"pack\n", b"index\n",
+    b"commit HEAD new\ndelete main any\n", b"delete main any \n", b"Delete main any\n", b"rename a b\n", b"pack\n", b"index\n",
     b"move a\n", b"move \n", b"to a new b\n", b"actor 0 0 s o\n",
+    b"tag\n", b"tag a\n", b"tag a new\n", b"tag a any\n", b"tag a at b\n", b"tag a old b\n", b"tag a new b c\n", b"tag a any b c\n",
+    b"tag a at b c d\n",
+    b"tag  new b\n", b"tag a new b \n", b"Tag a new b\n", b"tags a new b\n", b"tagger 0 0 s o\n",
 ]
 # Behind `move`, behind a line `to`, behind the actor and behind the message, and what may not stand there.
 TO, ACTOR, MESSAGE = b"to a new b\n", b"actor 0 0 s o\n\n\n", b"message 0\n\n"
 FIRST, MORE, SIGNED, TOLD = b"move\n", b"move\n" + TO, b"move\n" + TO + ACTOR, b"move\n" + TO + ACTOR + MESSAGE
+TAGGED, BY_TAGGER = b"tag a new b\n", b"tag a new b\ntagger 0 0 s o\n\n\n"
 WRONG = [
+    (TAGGED, [TAGGED, b"message 0\n", b"end\n", b"author 0 0 s o\n", b"committer 0 0 s o\n", ACTOR, TO, b"parent a\n", b"remove 0\n", b"move\n",
+              b"tagger 0 0 s\n", b"tagger 0 0 s o p\n", b"tagger 01 0 s o\n", b"tagger 0 +1 s o\n", b"tagger 1 0 s o\nab\n",
+              b"tagger 0 1 s o\n\nab\n", b"names\n", b"\n"]),
+    (BY_TAGGER, [TAGGED, b"tagger 0 0 s o\n", b"end\n", b"message\n", b"message 01\n", b"message 0 0\n", b"message 0\na\n", TO, ACTOR]),
+    (BY_TAGGER + MESSAGE, [TAGGED, b"tagger 0 0 s o\n", MESSAGE, b"end end\n"]),
     (FIRST, [b"move\n", b"delete main any\n", b"switch a\n", b"actor 0 0 s o\n", b"message 0\n", b"end\n", b"names\n", b"to\n", b"to a\n", b"to a new\n", b"to a any\n",
              b"to a at b\n", b"to a old b\n", b"to a new b c\n", b"to a any b c\n", b"to a at b c d\n", b"to a at\n", b"to  new b\n",
              b"To a new b\n", b"\n", b"parent a\n"]),
@@ -243,12 +289,13 @@ WRONG = [
             b"actor 18446744073709551616 0 s o\n", b"actor 1 0 s o\nab\n", b"actor 0 1 s o\n\nab\n", b"files main\n"]),
     (SIGNED, [TO, ACTOR, b"end\n", b"message\n", b"message 01\n", b"message 0 0\n", b"message 0\na\n", b"committer 0 0 s o\n"]),
     (TOLD, [TO, ACTOR, MESSAGE, b"end end\n", b"move\n"]),
-    (b"commit HEAD new\n", [TO, ACTOR, b"move\n"]), (b"commit HEAD new\nremove 0\n\n", [TO, ACTOR]),
-    (b"commit HEAD new\nauthor 0 0 s o\n\n\n", [ACTOR, TO]),
+    (b"commit HEAD new\n", [TO, ACTOR, b"move\n", TAGGED, b"tagger 0 0 s o\n"]), (b"commit HEAD new\nremove 0\n\n", [TO, ACTOR]),
+    (b"commit HEAD new\nauthor 0 0 s o\n\n\n", [ACTOR, TO, b"tagger 0 0 s o\n"]),
 ]
 # Where a line may stand, and the input ends behind it.
 BEGINNINGS = [b"commit nowhere new\n", b"commit at any\nparent parent\n",
               b"commit HEAD new\nparent end\nremove 0\n\nremove-file 1\n\n\n", b"commit HEAD new\nremove 18446744073709551615\n",
+              TAGGED, BY_TAGGER, BY_TAGGER + MESSAGE, TAGGED + b"tagger 0 18446744073709551615 s o\n\n",
               FIRST, MORE, SIGNED, TOLD, MORE + b"actor 18446744073709551615 0 s o\n", SIGNED + b"message 18446744073709551615\n",
               b"show a path 18446744073709551615\n", b"log breadth all +a path 18446744073709551615\n"]
 
@@ -296,6 +343,10 @@ def move_by_chance(chance):
     return Move(names, actor(chance), data(chance, 40))
 
 
+def tag_by_chance(chance):
+    return Tag(name(chance), expected(chance), name(chance), actor(chance), data(chance, 40))
+
+
 def by_chance(chance, make):
     """A command by chance, of which all is read, or which is cut, or has another command behind it."""
     command = make(chance)
@@ -319,4 +370,7 @@ if __name__ == "__main__":
     chance = random.Random(29)
     for _ in range(100):
         by_chance(chance, move_by_chance)
+    chance = random.Random(31)
+    for _ in range(100):
+        by_chance(chance, tag_by_chance)
     write(Path(__file__), ROWS)

@@ -4,7 +4,7 @@ use case_words::Page;
 use history_model::{Cause, FileKind};
 use history_word::{
     ActorLine, Command, CommitCommand, Delete, Edit, Expect, Field, LogCommand, LogItem,
-    MoveCommand, Order, Put, Received, Show, Stop,
+    MoveCommand, Order, Put, Received, Show, Stop, TagCommand,
 };
 
 /// What reading a command ended with.
@@ -33,6 +33,7 @@ fn cause_name(cause: Cause) -> &'static str {
 fn show_command(command: &Command, page: &mut Page) {
     match command {
         Command::Commit(commit) => show_commit(commit, page),
+        Command::Tag(tag) => show_tag(tag, page),
         Command::Move(order) => show_move(order, page),
         Command::Delete(delete) => show_delete(delete, page),
         Command::Files(word) => page.named("files", word),
@@ -94,6 +95,14 @@ fn show_commit(commit: &CommitCommand, page: &mut Page) {
     show_actor("author", &commit.author, page);
     show_actor("committer", &commit.committer, page);
     show_field("message", &commit.message, page);
+}
+
+fn show_tag(tag: &TagCommand, page: &mut Page) {
+    page.named("tag", &tag.name);
+    show_expect(&tag.expect, page);
+    page.named("word", &tag.word);
+    show_actor("tagger", &tag.tagger, page);
+    show_field("message", &tag.message, page);
 }
 
 fn show_move(order: &MoveCommand, page: &mut Page) {

@@ -10,6 +10,6 @@ returns-clause-stage c =
     let new = c.in_ok-create.ensures.made c.new-objects.ensures.honest c.new-names.ensures.honest in
     let parts = c.in_ok-open.ensures.ok in
     let opened = c.in_ok-open.field-0 in
-    opened_of_stage c.args.kind (history_of (objects_part opened)).tree (history_of (names_part opened)).tree
+    opened_of_stage (history_of (objects_part opened)).tree (history_of (names_part opened)).tree
     (subst (λ files. IsNew (history_of files).tree (history_of (names_part opened)).tree) (sym parts.0)
     (subst (λ files. IsNew (history_of c.create.new.objects).tree (history_of files).tree) (sym parts.1) new))

@@ -6,11 +6,14 @@ use Rattle.history_word.specs.Progress.{IsNoField, StopsFrom}
 use Rattle.history_word.proofs.TakingLemmas.{took_none}
 use Rattle.history_word.proofs.StopLemmas.{stops_then}
 use Rattle.history_word.proofs.LineEndLemmas.{field_first_stops}
-use Rattle.history_word.proofs.DraftLemmas.{commit_opens, move_opens, delete_opens, files_opens, show_opens, path_opens, names_opens, folder_opens, past_opens, switch_opens, log_opens}
+use Rattle.history_word.proofs.DraftLemmas.{commit_opens, tag_opens, move_opens, delete_opens, files_opens, show_opens, path_opens, names_opens, folder_opens, past_opens, switch_opens, log_opens}
 use Rattle.history_word.proofs.reader.read_opening.Goals as goal
 
 pub returns-in-Commit : goal.returns-in-Commit
 returns-in-Commit g c = rw (c.in-Commit.is) ([], took_none g.R.Source.left g.R.Source.readings c.args.source.now c.args.buffer.now, (commit_opens c.in-Commit.name c.in-Commit.expect _ c.commit.ensures, λ _. refl))
+
+pub returns-in-Tag : goal.returns-in-Tag
+returns-in-Tag g c = rw (c.in-Tag.is) ([], took_none g.R.Source.left g.R.Source.readings c.args.source.now c.args.buffer.now, (tag_opens c.in-Tag.target _ c.tag.ensures, λ _. refl))
 
 pub returns-in-Move : goal.returns-in-Move
 returns-in-Move g c = rw (c.in-Move.is) ([], took_none g.R.Source.left g.R.Source.readings c.args.source.now c.args.buffer.now, (move_opens _ c.new_move.ensures, λ _. refl))

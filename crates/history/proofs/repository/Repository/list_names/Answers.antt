@@ -3,10 +3,11 @@ use Rattle.std.specs.Prelude.{option_copied, map}
 use Rattle.history_model.specs.Commands.{Names}
 use Rattle.history_model.specs.Replies.{NamesAre, reply_text}
 use Rattle.history_store.specs.NameLists.{ListsNames}
-use Rattle.history.specs.NamesShown.{folder_cause, shown_name}
+use Rattle.history.specs.NamesShown.{folder_cause, shown_name, told_name}
 use Rattle.history.specs.Face.{names_part}
-use Rattle.history.proofs.Answered.{handed_on}
-use Rattle.history.proofs.NameLines.{asked_folder, asked_is, listing_fault, names_answered, names_cause, not_root}
+use Rattle.history.proofs.Answered.{handed_on, reading_fault}
+use Rattle.history.proofs.LineLemmas.{gave_fault}
+use Rattle.history.proofs.NameLines.{asked_folder, asked_is, listed_peeled, listing_fault, names_answered, names_cause, not_root}
 use Rattle.history.proofs.repository.Repository.list_names.Goals as goal
 
 pub returns-in_err-test_folder : goal.returns-in_err-test_folder
@@ -22,6 +23,20 @@ returns-in_err-names g c = λ r s.
     handed_on g.F.Files.reading_may_fail r (Names folder) c.from_residual-in_err-names.result _ c.from_residual-in_err-names.ensures.1
     (listing_fault g.F.Files.reading_may_fail c.in_err-names.field-0.0 (λ failed. c.in_err-names.ensures.failed (ap Err failed)))
 
+pub returns-in_err-shown : goal.returns-in_err-shown
+returns-in_err-shown g c = λ r s.
+    let MayFail = g.F.Files.reading_may_fail in
+    let here = c.args.self.now in
+    let folder = option_copied c.args.folder in
+    let asked = asked_is c.args.folder _ c.unwrap_or-folder.result c.unwrap_or-folder.ensures refl in
+    let good : folder_cause (asked_folder folder) ≡ None = ap folder_cause (sym asked) ∙ c.in_ok-test_folder.ensures in
+    let found = c.in_ok-names.ensures.found (λ empty. not_root (asked_folder folder) good (sym asked ∙ empty)) s.stands.honest_names in
+    let lists = subst (λ f. ListsNames here.names.kind (g.F.Files.history (names_part here)).tree f c.in_ok-names.names.items) asked found in
+    let peeled = listed_peeled g.F.Files.is_honest g.F.Files.history here r s here.names.kind s.stands.names_kind folder c.in_ok-names.names.items good lists in
+    handed_on MayFail r (Names folder) c.from_residual-in_err-shown.result _ c.from_residual-in_err-shown.ensures.1
+    (reading_fault MayFail r (Names folder) c.in_err-shown.field-0.0
+    (gave_fault MayFail (λ shown. map shown_name shown.items ≡ map (told_name r) c.in_ok-names.names.items) c.shown.result c.in_err-shown.field-0.0 c.in_err-shown.was (c.shown.ensures r s peeled)))
+
 pub returns : goal.returns
 returns g c = λ r s.
     let here = c.args.self.now in
@@ -30,5 +45,7 @@ returns g c = λ r s.
     let good : folder_cause (asked_folder folder) ≡ None = ap folder_cause (sym asked) ∙ c.in_ok-test_folder.ensures in
     let found = c.in_ok-names.ensures.found (λ empty. not_root (asked_folder folder) good (sym asked ∙ empty)) s.stands.honest_names in
     let lists = subst (λ f. ListsNames here.names.kind (g.F.Files.history (names_part here)).tree f c.in_ok-names.names.items) asked found in
+    let peeled = listed_peeled g.F.Files.is_honest g.F.Files.history here r s here.names.kind s.stands.names_kind folder c.in_ok-names.names.items good lists in
     let written = c.in_ok-names_text.ensures ∙ (λ i. reply_text (NamesAre (c.deref.ensures.value i) (map shown_name (c.deref-2.ensures.value i)))) in
-    names_answered g.F.Files.is_honest g.F.Files.history here r g.F.Files.reading_may_fail s here.names.kind s.stands.names_kind folder c.in_ok-names.names.items c.in_ok-names_text.field-0 good lists written
+    names_answered g.F.Files.is_honest g.F.Files.history here r s here.names.kind s.stands.names_kind folder c.in_ok-names.names.items good lists g.F.Files.reading_may_fail
+    c.in_ok-shown.shown.items c.in_ok-names_text.field-0 (c.in_ok-shown.ensures r s peeled) written

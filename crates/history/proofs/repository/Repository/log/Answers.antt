@@ -27,7 +27,7 @@ returns-in_err-listed-in-Some g c = λ r order s is.
 pub returns : goal.returns
 returns g c = λ r order s is.
     let walked = c.in_ok-walked.ensures r order s is in
-    let good = good_paths r order s.stage.offered s.stands.whole.whole.names walked.0 in
+    let good = good_paths r order walked.0 in
     let ids = map id_of c.in_ok-walked.walked.items in
     let listed : map id_of c.match-command.listed.items ≡ kept r order.paths ids = elim c.match-command.branch [
       | in-Some+in_ok-listed-in-Some w ↦

@@ -9,6 +9,7 @@ use Rattle.history.specs.CommitCauses.{IsNamed, name_form_causes, form_cause}
 use Rattle.history.specs.declared.stopped.Stopped.TheVariants.{Refused}
 use Rattle.history.proofs.NamesTold.{head_named, other_named, head_means, other_means, branch_formed, formed_of}
 use Rattle.history.proofs.Tested.{ends_told}
+use Rattle.history_model.specs.Commands.{Commit}
 use Rattle.history.proofs.repository.Repository.name_of.Goals as goal
 
 pub returns-then-eq : goal.returns-then-eq
@@ -23,7 +24,7 @@ returns-in_err-test_name g c = λ r order stand named.
     let other = texts_apart c.args.name.now head_word (λ same. absurd (cc ((slice_eq-Decides Decides-eqb c.args.name.now head_word c.eq.result c.eq.ensures).1 same, c.if-eq.false))) in
     let e = ap (λ w. bytes_eq w head_word) (sym named) ∙ other in
     let stopped = err_from_is_err_and c.from_residual-in_err-test_name.result c.from_residual-in_err-test_name.ensures.1 in
-    ends_told g.F.Files.reading_may_fail r order name_form_causes (IsNamed r order) c.from_residual-in_err-test_name.result (Refused c.in_err-test_name.field-0.0) (stopped.1 ∙ ap Err stopped.2)
+    ends_told g.F.Files.reading_may_fail r (Commit order) name_form_causes (IsNamed r order) c.from_residual-in_err-test_name.result (Refused c.in_err-test_name.field-0.0) (stopped.1 ∙ ap Err stopped.2)
     (other_named r order e ∙ ap form_cause (sym named) ∙ c.in_err-test_name.ensures)
 
 pub returns : goal.returns

@@ -35,7 +35,7 @@ returns-in_err-test_paths g c = λ r order asked.
     let bad = c.in_err-test_paths.ensures order.edits paths_of in
     let stopped = err_from_is_err_and c.from_residual.result c.from_residual.ensures.1 in
     subst (Gives g.F.Files.reading_may_fail r order) (sym (stopped.1 ∙ ap Err (stopped.2 ∙ ap Refused bad.0)))
-    (path_refused r order h.stage.offered h.stands.whole.whole.names asked.offered asked.unrefused bad.1)
+    (path_refused r order asked.unrefused bad.1)
 
 pub returns-in_err-changes : goal.returns-in_err-changes
 returns-in_err-changes g c = λ r order asked.
@@ -56,7 +56,7 @@ returns-in_err-edited g c = λ r order asked.
     let told : TellsEdited g.F.Files.reading_may_fail r ids made (Err c.in_err-edited.field-0.0) = c.in_err-edited.ensures r made h hold are (have_paths edits order.edits asked.edits_are good) in
     let stopped = err_from_is_err_and c.from_residual-in_err-edited.result c.from_residual-in_err-edited.ensures.1 in
     subst (Gives g.F.Files.reading_may_fail r order) (sym (stopped.1 ∙ ap Err stopped.2))
-    (edits_planned r order h.stage.offered h.stands.whole.whole.names asked.offered asked.unrefused g.F.Files.reading_may_fail edits asked.edits_are good ids asked.parents_are c.in_err-edited.field-0.0 told)
+    (edits_planned r order asked.unrefused g.F.Files.reading_may_fail edits asked.edits_are good ids asked.parents_are c.in_err-edited.field-0.0 told)
 
 pub returns : goal.returns
 returns g c = λ r order asked.
@@ -72,8 +72,8 @@ returns g c = λ r order asked.
     let are : AreChangesOf r.kind c.deref-3.result.now made = subst (λ (cs : List PathChange). AreChangesOf r.kind cs made) (sym c.deref-3.ensures.value) changes.changes_are in
     let given : TellsEdited g.F.Files.reading_may_fail r ids made (Ok c.in_ok-edited.edited) = c.in_ok-edited.ensures r made h hold are (have_paths edits order.edits asked.edits_are good) in
     record {
-      paths = edits_pass r order h.stage.offered w asked.offered asked.unrefused g.F.Files.reading_may_fail edits asked.edits_are good ids asked.parents_are c.in_ok-edited.edited given;
+      paths = edits_pass r order asked.unrefused g.F.Files.reading_may_fail edits asked.edits_are good ids asked.parents_are c.in_ok-edited.edited given;
       long = c.have_long_content-has_long_content.ensures order.edits (subst (λ (es : List Edit). AreEdits es order.edits) (sym c.deref-2.ensures.value) asked.edits_are);
       blobs = λ short. subst (λ (es : List model.Edit). AreObjectsOf r.kind (flat_map put_bytes es) c.in_ok-changes.changes.blobs.items) (edits_same r edits order.edits asked.edits_are good short) changes.blobs_are;
-      edited = λ short. edits_meant r order h.stage.offered w asked.offered g.F.Files.reading_may_fail edits asked.edits_are good short ids asked.parents_are c.in_ok-edited.edited given;
+      edited = λ short. edits_meant r order g.F.Files.reading_may_fail edits asked.edits_are good short ids asked.parents_are c.in_ok-edited.edited given;
     }

@@ -12,7 +12,7 @@ returns-in-Ok-clause-stands g c = λ objects names.
       fresh c.args.kind,
       refl,
       opened_stands g.F.Files.is_honest g.F.Files.history _ c.args.kind (subst g.F.Files.is_honest (sym c.new.ensures.files) objects) honest c.new.ensures.kind c.new-names.ensures.kind found.0 c.new.ensures.ids new,
-      opened_of_stage c.args.kind _ _ new,
+      opened_of_stage _ _ new,
     )
 
 pub returns-in-Ok-clause-fresh : goal.returns-in-Ok-clause-fresh

@@ -1,58 +1,23 @@
-use Rattle.std.proofs.Common.{◌≡◌, ◌∙◌, ap, sym, length}
+use Rattle.std.proofs.Common.{◌≡◌, ◌∙◌, ap, option_map, sym, Err}
+use Rattle.std.specs.Option.{ok_or}
+use Rattle.history_model.specs.declared.Cause.TheVariants.{NotACommit}
+use Rattle.std.proofs.lemmas.Result.{err_from_is_err_and}
 use Rattle.gix_hash_id.specs.Id.{id_of}
-use Rattle.gix_object_find.specs.Table.{header_at}
-use Rattle.history_model.specs.Objects.{content_of, object_kind}
-use Rattle.history_store.specs.KnownObjects.{table_of}
-use Rattle.history.proofs.ShortIds.{commit_stands, header_kind, other_stands}
-use Rattle.history.proofs.Tables.{header_there, holds_known}
+use Rattle.history_model.specs.Repository.{peeled}
+use Rattle.history_model.specs.Words.{ReadsAs}
+use Rattle.history.specs.Meanings.{meaning_of, stands_for}
+use Rattle.history.proofs.LineLemmas.{gave_fault, gives_fault}
 use Rattle.history.proofs.repository.Repository.read_stored.Goals as goal
 
-pub returns-in_err-header : goal.returns-in_err-header
-returns-in_err-header g c = λ r value s at.
-    let H = g.F.Files.is_honest in
-    let history = g.F.Files.history in
-    let objects = c.args.self.now.objects in
-    let found = c.in_ok-try_header.ensures.header (holds_known H history c.args.self.now r s.stands)
-    ∙ ap (header_at (table_of history objects)) c.as_oid.ensures ∙ header_there H history c.args.self.now r s.stands (id_of c.args.id) value at in
-    let none : ⊥ = cc (found, c.in_err-header.ensures.ok_part) in
-    absurd none
+pub returns-in_err-commit : goal.returns-in_err-commit
+returns-in_err-commit g c = λ r value h at.
+    let MayFail = g.F.Files.reading_may_fail in
+    let stopped = err_from_is_err_and c.from_residual.result c.from_residual.ensures.1 in
+    gives_fault MayFail (λ meaning. meaning_of meaning ≡ stands_for r (ReadsAs (id_of c.args.id))) c.from_residual.result c.in_err-commit.field-0.0 (stopped.1 ∙ ap Err stopped.2)
+    (gave_fault MayFail (λ commit. option_map id_of commit ≡ peeled r (id_of c.args.id)) c.peeled.result c.in_err-commit.field-0.0 c.in_err-commit.was (c.peeled.ensures r value h.stands at))
 
-pub returns-in-Commit : goal.returns-in-Commit
-returns-in-Commit g c = λ r value s at.
-    let H = g.F.Files.is_honest in
-    let history = g.F.Files.history in
-    let objects = c.args.self.now.objects in
-    let found = c.in_ok-try_header.ensures.header (holds_known H history c.args.self.now r s.stands)
-    ∙ ap (header_at (table_of history objects)) c.as_oid.ensures ∙ header_there H history c.args.self.now r s.stands (id_of c.args.id) value at in
-    let same = header_kind c.in_ok-header.header (object_kind value) (length (content_of r.kind value)) (sym c.in_ok-header.ensures.ok_part ∙ found) in
-    commit_stands r (id_of c.args.id) value at (sym same ∙ c.in-Commit.is)
+pub returns-in-Some : goal.returns-in-Some
+returns-in-Some g c = λ r value h at. ap (λ found. ok_or found NotACommit) (sym (ap (option_map id_of) c.in-Some.is) ∙ c.in_ok-commit.ensures r value h.stands at)
 
-pub returns-in-Tree : goal.returns-in-Tree
-returns-in-Tree g c = λ r value s at.
-    let H = g.F.Files.is_honest in
-    let history = g.F.Files.history in
-    let objects = c.args.self.now.objects in
-    let found = c.in_ok-try_header.ensures.header (holds_known H history c.args.self.now r s.stands)
-    ∙ ap (header_at (table_of history objects)) c.as_oid.ensures ∙ header_there H history c.args.self.now r s.stands (id_of c.args.id) value at in
-    let same = header_kind c.in_ok-header.header (object_kind value) (length (content_of r.kind value)) (sym c.in_ok-header.ensures.ok_part ∙ found) in
-    other_stands r (id_of c.args.id) value s.stage.offered at (λ commit. cc (commit, same, c.in-Tree.is))
-
-pub returns-in-Blob : goal.returns-in-Blob
-returns-in-Blob g c = λ r value s at.
-    let H = g.F.Files.is_honest in
-    let history = g.F.Files.history in
-    let objects = c.args.self.now.objects in
-    let found = c.in_ok-try_header.ensures.header (holds_known H history c.args.self.now r s.stands)
-    ∙ ap (header_at (table_of history objects)) c.as_oid.ensures ∙ header_there H history c.args.self.now r s.stands (id_of c.args.id) value at in
-    let same = header_kind c.in_ok-header.header (object_kind value) (length (content_of r.kind value)) (sym c.in_ok-header.ensures.ok_part ∙ found) in
-    other_stands r (id_of c.args.id) value s.stage.offered at (λ commit. cc (commit, same, c.in-Blob.is))
-
-pub returns-in-Tag : goal.returns-in-Tag
-returns-in-Tag g c = λ r value s at.
-    let H = g.F.Files.is_honest in
-    let history = g.F.Files.history in
-    let objects = c.args.self.now.objects in
-    let found = c.in_ok-try_header.ensures.header (holds_known H history c.args.self.now r s.stands)
-    ∙ ap (header_at (table_of history objects)) c.as_oid.ensures ∙ header_there H history c.args.self.now r s.stands (id_of c.args.id) value at in
-    let same = header_kind c.in_ok-header.header (object_kind value) (length (content_of r.kind value)) (sym c.in_ok-header.ensures.ok_part ∙ found) in
-    other_stands r (id_of c.args.id) value s.stage.offered at (λ commit. cc (commit, same, c.in-Tag.is))
+pub returns-in-None : goal.returns-in-None
+returns-in-None g c = λ r value h at. ap (λ found. ok_or found NotACommit) (sym (ap (option_map id_of) c.in-None.is) ∙ c.in_ok-commit.ensures r value h.stands at)

@@ -1,11 +1,13 @@
-use Rattle.std.proofs.Common.{◌∙◌, ap, sym, Err, option_map}
+use Rattle.std.proofs.Common.{◌≡◌, ◌∙◌, ap, subst, sym, Err}
 use Rattle.std.proofs.lemmas.Result.{err_from_is_err_and}
-use Rattle.gix_hash_id.specs.Id.{id_of}
+use Rattle.history_model.specs.Bytes.{Bytes}
+use Rattle.history_model.specs.Forms.{is_name}
 use Rattle.history_model.specs.Commands.{Delete}
 use Rattle.history_model.specs.CommandParts.{option_expect}
 use Rattle.history.specs.Bases.{IsExpected}
 use Rattle.history.specs.CommitCauses.{form_cause}
-use Rattle.history.proofs.DeleteLemmas.{by_form, by_held, by_words, fault_told, file_told, formed_name, held_at, held_told, refusal_told, words_told}
+use Rattle.history.specs.Held.{IsHeld}
+use Rattle.history.proofs.DeleteLemmas.{by_form, by_held, by_words, fault_told, formed_name, held_told, refusal_told, words_told}
 use Rattle.history.proofs.LineLemmas.{gave_fault}
 use Rattle.history.proofs.repository.Repository.test_delete.Goals as goal
 
@@ -14,7 +16,7 @@ returns-in_err-test_name g c = λ r name at h is.
     let cause = c.in_err-test_name.field-0.0 in
     let stopped = err_from_is_err_and c.from_residual.result c.from_residual.ensures.1 in
     refusal_told g.F.Files.reading_may_fail r (Delete name at) c.from_residual.result cause (stopped.1 ∙ ap Err stopped.2)
-    (by_form r name h.stage.offered h.stands.whole.whole.names at cause (ap form_cause (sym (c.deref.ensures.value ∙ is.name_is)) ∙ c.in_err-test_name.ensures))
+    (by_form r name at cause (ap form_cause (sym (c.deref.ensures.value ∙ is.name_is)) ∙ c.in_err-test_name.ensures))
 
 pub returns-in_err-expected : goal.returns-in_err-expected
 returns-in_err-expected g c = λ r name at h is.
@@ -29,32 +31,34 @@ returns-in_err-test_words g c = λ r name at h is.
     let words = words_told r name at c.in_ok-expected.expected (c.in_ok-expected.ensures r (option_expect at) h is.expect) ∙ c.in_err-test_words.ensures in
     let stopped = err_from_is_err_and c.from_residual-in_err-test_words.result c.from_residual-in_err-test_words.ensures.1 in
     refusal_told g.F.Files.reading_may_fail r (Delete name at) c.from_residual-in_err-test_words.result cause (stopped.1 ∙ ap Err stopped.2)
-    (by_words r name h.stage.offered h.stands.whole.whole.names at named cause words)
+    (by_words r name at named cause words)
 
 pub returns-in_err-held : goal.returns-in_err-held
 returns-in_err-held g c = λ r name at h is.
+    let MayFail = g.F.Files.reading_may_fail in
+    let named = ap form_cause (sym (c.deref.ensures.value ∙ is.name_is)) ∙ c.in_ok-test_name.ensures in
+    let place : c.deref-2.result.now ≡ name = c.deref-2.ensures.value ∙ is.name_is in
     let stopped = err_from_is_err_and c.from_residual-in_err-held.result c.from_residual-in_err-held.ensures.1 in
-    file_told g.F.Files.reading_may_fail r (Delete name at) c.read.result c.from_residual-in_err-held.result c.in_err-held.field-0.0 c.in_err-held.was (stopped.1 ∙ ap Err stopped.2) c.read.ensures.failed
+    fault_told MayFail r (Delete name at) c.from_residual-in_err-held.result c.in_err-held.field-0.0 (stopped.1 ∙ ap Err stopped.2)
+    (gave_fault MayFail (IsHeld r c.deref-2.result.now) c.held.result c.in_err-held.field-0.0 c.in_err-held.was (c.held.ensures r h (ap is_name place ∙ formed_name name named)))
 
 pub returns-in_err-test_gone : goal.returns-in_err-test_gone
 returns-in_err-test_gone g c = λ r name at h is.
     let cause = c.in_err-test_gone.field-0.0 in
-    let o = h.stage.offered in
-    let w = h.stands.whole.whole.names in
     let named = ap form_cause (sym (c.deref.ensures.value ∙ is.name_is)) ∙ c.in_ok-test_name.ensures in
     let expects = c.in_ok-expected.ensures r (option_expect at) h is.expect in
     let words = words_told r name at c.in_ok-expected.expected expects ∙ c.in_ok-test_words.ensures in
-    let holds = held_at g.F.Files.is_honest g.F.Files.history c.args.self.now r h name c.deref-2.result.now (c.deref-2.ensures.value ∙ is.name_is) (formed_name name named) c.in_ok-held.held (c.in_ok-held.ensures.found h.stands.honest_names) in
+    let place : c.deref-2.result.now ≡ name = c.deref-2.ensures.value ∙ is.name_is in
+    let held = subst (λ (n : Bytes). IsHeld r n c.in_ok-held.held) place (c.in_ok-held.ensures r h (ap is_name place ∙ formed_name name named)) in
     let stopped = err_from_is_err_and c.from_residual-in_err-test_gone.result c.from_residual-in_err-test_gone.ensures.1 in
     refusal_told g.F.Files.reading_may_fail r (Delete name at) c.from_residual-in_err-test_gone.result cause (stopped.1 ∙ ap Err stopped.2)
-    (by_held r name o w at named words _ (held_told r name o w at c.in_ok-expected.expected (option_map id_of c.in_ok-held.held) expects holds ∙ c.in_err-test_gone.ensures))
+    (by_held r name at named words _ (held_told r name at c.in_ok-expected.expected c.in_ok-held.held c.commit_held.result expects held c.commit_held.ensures ∙ c.in_err-test_gone.ensures))
 
 pub returns : goal.returns
 returns g c = λ r name at h is.
-    let o = h.stage.offered in
-    let w = h.stands.whole.whole.names in
     let named = ap form_cause (sym (c.deref.ensures.value ∙ is.name_is)) ∙ c.in_ok-test_name.ensures in
     let expects = c.in_ok-expected.ensures r (option_expect at) h is.expect in
     let words = words_told r name at c.in_ok-expected.expected expects ∙ c.in_ok-test_words.ensures in
-    let holds = held_at g.F.Files.is_honest g.F.Files.history c.args.self.now r h name c.deref-2.result.now (c.deref-2.ensures.value ∙ is.name_is) (formed_name name named) c.in_ok-held.held (c.in_ok-held.ensures.found h.stands.honest_names) in
-    by_held r name o w at named words _ (held_told r name o w at c.in_ok-expected.expected (option_map id_of c.in_ok-held.held) expects holds ∙ c.in_ok-test_gone.ensures)
+    let place : c.deref-2.result.now ≡ name = c.deref-2.ensures.value ∙ is.name_is in
+    let held = subst (λ (n : Bytes). IsHeld r n c.in_ok-held.held) place (c.in_ok-held.ensures r h (ap is_name place ∙ formed_name name named)) in
+    by_held r name at named words _ (held_told r name at c.in_ok-expected.expected c.in_ok-held.held c.commit_held.result expects held c.commit_held.ensures ∙ c.in_ok-test_gone.ensures)

@@ -21,13 +21,13 @@ returns-in_err-test g c = λ r order s is.
     let items = subst (λ (found : List LogItem). AllZip IsLogItem found order.items) (sym c.deref.ensures.value) is.items in
     let are = c.in_ok-ends.ensures r order.items s items in
     walk_stops g.F.Files.reading_may_fail r order c.from_residual-in_err-test.result _ c.from_residual-in_err-test.ensures.1
-    (refused_by_word r order s.stage.offered s.stands.whole.whole.names c.in_ok-ends.ends are c.in_err-test.field-0.0 c.in_err-test.ensures)
+    (refused_by_word r order c.in_ok-ends.ends are c.in_err-test.field-0.0 c.in_err-test.ensures)
 
 pub returns-then-tells_bad_path : goal.returns-then-tells_bad_path
 returns-then-tells_bad_path g c = λ r order s is.
     let items = subst (λ (found : List LogItem). AllZip IsLogItem found order.items) (sym c.deref.ensures.value) is.items in
     let are = c.in_ok-ends.ensures r order.items s items in
-    refused_by_path r order s.stage.offered s.stands.whole.whole.names c.in_ok-ends.ends are c.in_ok-test.ensures (sym (c.tells_bad_path.ensures order.paths is.paths) ∙ c.if-tells_bad_path.true)
+    refused_by_path r order c.in_ok-ends.ends are c.in_ok-test.ensures (sym (c.tells_bad_path.ensures order.paths is.paths) ∙ c.if-tells_bad_path.true)
 
 pub returns-in_err-order_of : goal.returns-in_err-order_of
 returns-in_err-order_of g c = λ r order s is.
@@ -36,7 +36,7 @@ returns-in_err-order_of g c = λ r order s is.
     let good = sym (c.tells_bad_path.ensures order.paths is.paths) ∙ c.if-tells_bad_path.false in
     let hides = ap not (c.is_empty-hides.ensures ∙ ap (λ n. n == 0) c.in_ok-ends.ends.hidden.ok.0) ∙ hides_told r order.items c.in_ok-ends.ends are in
     walk_stops g.F.Files.reading_may_fail r order c.from_residual-in_err-order_of.result _ c.from_residual-in_err-order_of.ensures.1
-    (told_by_order r order s.stage.offered s.stands.whole.whole.names c.in_ok-ends.ends are c.in_ok-test.ensures good
+    (told_by_order r order c.in_ok-ends.ends are c.in_ok-test.ensures good
     ∙ sym (λ i. order_cause order.order (is.first_parents i) (hides i)) ∙ c.in_err-order_of.ensures order.order is.order)
 
 pub returns : goal.returns
@@ -45,7 +45,6 @@ returns g c = λ r order s is.
     let are = c.in_ok-ends.ensures r order.items s items in
     let good = sym (c.tells_bad_path.ensures order.paths is.paths) ∙ c.if-tells_bad_path.false in
     let ends = c.in_ok-ends.ends in
-    let offered = s.stage.offered in
     let whole = s.stands.whole.whole in
     let tips_are = c.in_ok-ids_of.ensures ∙ ap (filter_map commit_in) c.deref-2.ensures.value in
     let hidden_are = c.in_ok-ids_of-2.ensures ∙ ap (filter_map commit_in) c.deref-3.ensures.value in
@@ -54,6 +53,6 @@ returns g c = λ r order s is.
     let hides = ap not (c.is_empty-hides.ensures ∙ ap (λ n. n == 0) c.in_ok-ends.ends.hidden.ok.0) ∙ hides_told r order.items ends are in
     let made = c.in_ok-order_of.ensures order.order is.order in
     let request : Request = record { order = c.in_ok-order_of.field-0; tips = c.in_ok-ids_of.field-0; hidden = c.in_ok-ids_of-2.field-0 } in
-    walk_given r order offered whole.names ends are g.F.Files.reading_may_fail request whole.store s.stands.whole.written c.commits.result
+    walk_given r order ends are g.F.Files.reading_may_fail request whole.store s.stands.whole.written c.commits.result
     c.in_ok-test.ensures good (sym (λ i. order_cause order.order (is.first_parents i) (hides i)) ∙ made.0) (subst (λ first. IsOrderOf order.order first c.in_ok-order_of.field-0) is.first_parents made.1) tips_are hidden_are
     tips (c.commits.ensures r s.stands tips hidden)
