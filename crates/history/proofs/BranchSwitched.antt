@@ -1,5 +1,5 @@
 -- HEAD names another branch: why not, what stands meanwhile, and what is left.
-use Rattle.std.proofs.Common.{◌≡◌, ◌⊎◌, inl, inr, ℕ, Bool, true, false, cond, not, ◌&&◌, ◌||◌, [], ◌∷◌, ◌++◌, refl, sym, ◌∙◌, ap, subst, Option, None, Some, bytes_eq, codes}
+use Rattle.std.proofs.Common.{◌≡◌, ◌⊎◌, inl, inr, ℕ, Bool, true, false, cond, not, ◌&&◌, ◌||◌, List, [], ◌∷◌, ◌++◌, refl, sym, ◌∙◌, ap, subst, Option, None, Some, bytes_eq, codes}
 use Rattle.std.specs.Prelude.{Result, Ok, Err, Vec}
 use Rattle.std.specs.declared.alloc.Global.{Global}
 use Rattle.std.specs.FinMap.{contains_key, get}
@@ -40,7 +40,10 @@ use Rattle.history_store.specs.Creation.{SameFolders, head_lock}
 use Rattle.history_store.specs.Face.{ids_of_objects}
 use Rattle.history_store.specs.References.{HasHeadRoom, MayBeWritten, PutsBeside}
 use Rattle.history.specs.Acts.{Acts}
-use Rattle.history.specs.Face.{objects_part, names_part}
+use Rattle.gix_traverse_commit.specs.Told.{rows_of}
+use Rattle.gix_traverse_commit.specs.declared.rows.Row.{Row}
+use Rattle.history.specs.Face.{objects_part, names_part, rows_in}
+use Rattle.history.specs.Indexed.{AgreeRows}
 use Rattle.history.specs.Faults.{file_fault}
 use Rattle.history.specs.Halves.{names_tree, objects_tree}
 use Rattle.history.specs.Moments.{GoesLater, StoodOnTheWay}
@@ -198,9 +201,9 @@ module _ {F : Type 0} (IsHonest : F → Type 0) (history : F → History) (failu
       folders = folders_stay (names_tree history new) same;
     }
 
-    pub switch_serves : IsHonest (names_part new) → new.names.kind ≡ old.names.kind → new.branch.items ≡ name → PutsBeside head_place (head_text name) (names_tree history old) (names_tree history new)
+    pub switch_serves : IsHonest (names_part new) → new.names.kind ≡ old.names.kind → new.branch.items ≡ name → rows_in new ≡ rows_in old → PutsBeside head_place (head_text name) (names_tree history old) (names_tree history new)
         → SameFolders (names_tree history old) (names_tree history new) → Serves IsHonest history new (after r (Switch name))
-    switch_serves honest kind branch puts same = record {
+    switch_serves honest kind branch same_rows puts same = record {
       stands = record {
         honest_objects = subst (λ o. IsHonest o.files) (sym objects) h.stands.honest_objects;
         honest_names = honest;
@@ -217,6 +220,7 @@ module _ {F : Type 0} (IsHonest : F → Type 0) (history : F → History) (failu
         names_kind = kind ∙ h.stands.names_kind;
         branch = branch;
         known = λ id. ap (λ o. contains_key (ids_of_objects o) id) objects ∙ h.stands.known id;
+        rows = subst (λ (rows : Option (List Row)). AgreeRows r.kind r.objects (rows_of rows)) (sym same_rows) h.stands.rows;
       };
       stage = record { unpacked = puts.others packed_place (λ same. cc) (λ same. cc) ∙ h.stage.unpacked };
     }

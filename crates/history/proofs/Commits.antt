@@ -32,7 +32,12 @@ use Rattle.history_steps.proofs.TreeMoves.{packed_apart, packed_no_log}
 use Rattle.history_steps.proofs.TreePuts.{halves_stand}
 use Rattle.history_model.proofs.WholeSteps.{steps_keep_sound}
 use Rattle.history_store.specs.Face.{ids_of_objects}
-use Rattle.history.specs.Face.{objects_part, names_part, KeepsAllButObjects, KeepsAllButNames}
+use Rattle.gix_traverse_commit.specs.Told.{rows_of}
+use Rattle.gix_traverse_commit.specs.declared.rows.Row.{Row}
+use Rattle.history.specs.Face.{objects_part, names_part, rows_in, KeepsAllButObjects, KeepsAllButNames}
+use Rattle.history.specs.Indexed.{AgreeRows}
+use Rattle.history_model.proofs.WholeStores.{all_keep}
+use Rattle.history.proofs.RowsKept.{agree_grown}
 use Rattle.history.specs.Halves.{objects_tree, names_tree, ObjectsStand, NamesStand, FitsAmong, KnowsIds}
 use Rattle.history.specs.Plans.{IsMove}
 use Rattle.history.specs.Stands.{pair_of, Stands}
@@ -137,6 +142,8 @@ module _ {F : Type 0} (IsHonest : F → Type 0) (history : F → History) where
         names_kind = kind_then ∙ ap (λ names. names.kind) kept.names ∙ h.stands.names_kind;
         branch = ap (λ branch. branch.items) (kept_then.branch ∙ kept.branch) ∙ h.stands.branch ∙ sym so.branch;
         known = λ id. ap (λ objects. contains_key (ids_of_objects objects) id) kept_then.objects ∙ known id;
+        rows = subst (λ (rows : Option (List Row)). AgreeRows r.kind (after r (Commit order)).objects (rows_of rows)) (sym (kept_then.rows ∙ kept.rows))
+            (agree_grown r.kind r.objects (after r (Commit order)).objects (rows_of (rows_in old)) (λ id value at. all_keep r.kind r.objects (stored_by r (Commit order)) id value at) h.stands.rows);
       };
       stage = record { unpacked = from_old.others packed_place (packed_apart move.name is_one) (packed_no_log move.name) ∙ h.stage.unpacked };
     }

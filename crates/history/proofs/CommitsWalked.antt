@@ -1,7 +1,7 @@
 -- The commits of a repository that stands, as walks read them from its store.
 use Rattle.std.proofs.Common.{◌≡◌, ◌∙◌, ap, refl, sym, subst, ℕ, zero, suc, pos, Bool, ◌||◌, true, false, List, [], ◌∷◌, map, Option, Some, None, option_map, inl, inr, Vec, arith}
 use Rattle.std.specs.declared.alloc.Global.{Global}
-use Rattle.std.specs.Prelude.{Contains, IsErrAnd, IsTrue, IsSome, Result, Ok, Err, ⊤, option_and_then, unwrap_or}
+use Rattle.std.specs.Prelude.{ℤ, Contains, IfErr, IsErrAnd, IsTrue, IsSome, Result, Ok, Err, ⊤, option_and_then, unwrap_or}
 use Rattle.std.specs.List.{AllZip, AllByRecursion, list_all, list_any}
 use Rattle.std.specs.FinMap.{get}
 use Rattle.gix_hash_id.specs.Id.{Id, id_of, bytes_from, digits_of}
@@ -21,14 +21,17 @@ use Rattle.gix_object_commit_tokens.proofs.OnePart.{one_id}
 use Rattle.gix_object_commit_tokens.proofs.ToldParts.{parts_read, end}
 use Rattle.gix_object_find.specs.Existing.{Stands}
 use Rattle.gix_object_find.specs.Table.{Object, Table, content_or_none}
-use Rattle.gix_traverse_commit.specs.Commits.{Commits, Reached, WalkRequest, asked_parents, tip, parent}
+use Rattle.gix_traverse_commit.specs.Commits.{Commit, Commits, Reached, WalkRequest, asked_parents, tip, parent}
 use Rattle.gix_traverse_commit.specs.Fetching.{LacksParents}
 use Rattle.gix_traverse_commit.specs.Order.{At}
 use Rattle.gix_traverse_commit.specs.declared.parents.Parents.{Parents}
 use Rattle.gix_traverse_commit.specs.declared.parents.Parents.TheVariants.{All}
 use Rattle.gix_traverse_commit.specs.Walks.{InSomeOrder, breadth, newest, oldest, date, topological}
 use Rattle.gix_traverse_commit.specs.Painting.{ReachedFrom}
+use Rattle.gix_traverse_commit.specs.RowCommits.{commit_of}
+use Rattle.gix_traverse_commit.specs.Rows.{AllHeld, HasParents, Holds}
 use Rattle.gix_traverse_commit.specs.Told.{AreTold, IsNoCommit, TellsCommit}
+use Rattle.gix_traverse_commit.specs.declared.rows.Row.{Row}
 use Rattle.gix_traverse_commit.proofs.Listing.{asked_parent, has_listed}
 use Rattle.gix_traverse_commit.proofs.Lists.{at_from_contains}
 use Rattle.gix_traverse_topo.specs.Standing.{NoneReachesItself}
@@ -56,6 +59,8 @@ use Rattle.history_walks.proofs.Named.{contains_from_map, contains_map}
 use Rattle.history_walks.proofs.Spelled.{line, commit_told, no_parent_fault, no_time_fault}
 use Rattle.history.specs.Acts.{GivesMeant, IsReadingFault}
 use Rattle.history.specs.Faults.{walk_fault}
+use Rattle.history.specs.Indexed.{AgreeRows, TellsRow}
+use Rattle.history_model.specs.declared.Fault.TheVariants as model_faults
 use Rattle.history.specs.Walked.{AllHold, IsLogged}
 use Rattle.history.specs.declared.stopped.Stopped.{Stopped}
 use Rattle.history.specs.declared.stopped.Stopped.TheVariants.{Fault}
@@ -75,6 +80,11 @@ values_named kind [] formed = refl
 values_named kind (id ∷ ids) formed =
     let parts = both (is_id kind id) (list_all (is_id kind) ids) formed in
     (λ i. value_named kind id parts.0 i ∷ values_named kind ids parts.1 i)
+
+-- the ids of values name them
+all_back : (ids : List ObjectId) → map object_id_of (map id_of ids) ≡ ids
+all_back [] = refl
+all_back (id ∷ ids) = λ i. object_id_of-id_of id i ∷ all_back ids i
 
 -- its hexadecimal text spells it
 hex_spells : (kind : Kind) (id : Id) → IsTrue (is_id kind id) → IsHexOfId (hex id) id
@@ -206,9 +216,23 @@ module _ (r : Repository) (store : IsWholeStore r) (written : IsWritten r) where
       go (Some (StoredBytes bytes)) at = refl
       go (Some (StoredFolder files)) at = refl
 
-  pub are_told : AreTold [] table read_commits
-  are_told = record {
-    rowed = λ row c. absurd (omega (arith, c.1));
+  -- a row tells its commit as it is read
+  rowed_so : (row : Row) → TellsRow r.kind r.objects row → read_commits row.id ≡ commit_of (Some row)
+  rowed_so row is =
+      let found = ap (option_and_then as_commit) is.stored in
+      let parents : map object_id_of (parents_at r (id_of row.id)) ≡ row.parents.items = ap (map object_id_of) (ap parents_in found ∙ sym is.parents) ∙ all_back row.parents.items in
+      let seconds : pos (time_at r (id_of row.id)) ≡ row.time = ap time_in found ∙ sym is.time in
+      λ i. record { parents = parents i; time = seconds i }
+    where
+      parents_in : Option CommitValue → List Id
+      parents_in found = unwrap_or (option_map (λ (commit : CommitValue). commit.parents) found) []
+
+      time_in : Option CommitValue → ℤ
+      time_in found = pos (unwrap_or (option_map (λ (commit : CommitValue). (commit.committer).seconds) found) 0)
+
+  pub are_told : (rows : List Row) → AgreeRows r.kind r.objects rows → AreTold rows table read_commits
+  are_told rows agree = record {
+    rowed = λ row c. rowed_so row (agree.told row c);
     stored = λ x content unrowed stands.
         let (value, at, same) = stands_of (id_of x) content stands in
         subst (λ text. TellsCommit (id_of x).kind text (read_commits x)) same (tells x value at);
@@ -230,7 +254,7 @@ module _ (r : Repository) (store : IsWholeStore r) (written : IsWritten r) where
   parent_named : (x y : ObjectId) → Contains (read_commits x).parents y → Contains (parents_at r (id_of x)) (id_of y)
   parent_named x y c = subst (λ ids. Contains ids (id_of y)) (parents_named x) (contains_map id_of object_id_of object_id_of-id_of (read_commits x).parents y c)
 
-  held_parent : (id p : Id) → Contains (parents_at r id) p → HoldsCommit r p
+  pub held_parent : (id p : Id) → Contains (parents_at r id) p → HoldsCommit r p
   held_parent id p c = let (value, at, among) = parent_of id p c in all_contained (HoldsCommit r) value.parents (store.closed id (StoredCommit value) at).0 p among
 
   parent_holds : (x y : ObjectId) → Contains (read_commits x).parents y → HoldsCommit r (id_of y)
@@ -304,9 +328,33 @@ module _ (r : Repository) (store : IsWholeStore r) (written : IsWritten r) where
   none_broken tips hidden tips_hold hidden_hold x (inr reached) unread = none_unread x (reached_holds hidden hidden_hold reached) unread
 
   -- so a walk from stored commits is stopped by a failed lookup, or for want of memory
-  pub walk_stopped : (tips hidden : List ObjectId) → AllHold r tips → AllHold r hidden → {T : Type 0} (MayFail : Type 0) (IsMeant : T → Type 0) (result : Result T Stopped) (error : WalkError)
-      → IsErrAnd result (λ stopped. stopped ≡ Fault (walk_fault error)) → WalkFault MayFail table read_commits tips hidden error → GivesMeant MayFail IsMeant result
-  walk_stopped tips hidden tips_hold hidden_hold MayFail IsMeant (Ok value) error is fails = absurd is
-  walk_stopped tips hidden tips_hold hidden_hold MayFail IsMeant (Err stopped) Failed is fails = subst (IsReadingFault MayFail) (sym is) fails
-  walk_stopped tips hidden tips_hold hidden_hold MayFail IsMeant (Err stopped) Broken is (x, met, unread) = absurd (none_broken tips hidden tips_hold hidden_hold x met unread)
-  walk_stopped tips hidden tips_hold hidden_hold MayFail IsMeant (Err stopped) Memory is fails = subst (IsReadingFault MayFail) (sym is) tt
+  pub walk_stopped : (rows : List Row) (tips hidden : List ObjectId) → AllHold r tips → AllHold r hidden → {T : Type 0} (MayFail : Type 0) (IsMeant : T → Type 0) (result : Result T Stopped) (error : WalkError)
+      → IsErrAnd result (λ stopped. stopped ≡ Fault (walk_fault error)) → WalkFault MayFail rows table read_commits tips hidden error → GivesMeant MayFail IsMeant result
+  walk_stopped rows tips hidden tips_hold hidden_hold MayFail IsMeant (Ok value) error is fails = absurd is
+  walk_stopped rows tips hidden tips_hold hidden_hold MayFail IsMeant (Err stopped) Failed is fails = subst (IsReadingFault MayFail) (sym is) fails.0
+  walk_stopped rows tips hidden tips_hold hidden_hold MayFail IsMeant (Err stopped) Broken is (x, met, unheld, unread) = absurd (none_broken tips hidden tips_hold hidden_hold x met unread)
+  walk_stopped rows tips hidden tips_hold hidden_hold MayFail IsMeant (Err stopped) Memory is fails = subst (IsReadingFault MayFail) (sym is) tt
+
+  -- ---- where all have rows
+
+  module _ (rows : List Row) (agree : AgreeRows r.kind r.objects rows) where
+    held_parent_too : (x y : ObjectId) → Holds rows x → Contains (read_commits x).parents y → Holds rows y
+    held_parent_too x y (row, c, of_row) among =
+        let same : (read_commits x).parents ≡ row.parents.items = ap (λ id. (read_commits id).parents) (sym of_row) ∙ ap (λ (commit : Commit ObjectId). commit.parents) (rowed_so row (agree.told row c)) in
+        (agree.graph).parents row c y (subst (λ ids. Contains ids y) same among)
+
+    all_held : (tips : List ObjectId) → AllHeld rows tips → {x : ObjectId} → ReachedFrom read_commits tips x → Holds rows x
+    all_held tips held (tip {x = x} c p) = held x c
+    all_held tips held (parent {x = x} {y = y} reached c p) = held_parent_too x y (all_held tips held reached) c
+
+    met_held : (tips hidden : List ObjectId) → AllHeld rows tips → AllHeld rows hidden → (x : ObjectId) → IsMet read_commits tips hidden x → Holds rows x
+    met_held tips hidden tips_held hidden_held x (inl reached) = all_held tips tips_held reached
+    met_held tips hidden tips_held hidden_held x (inr reached) = all_held hidden hidden_held reached
+
+    -- a walk is stopped for want of memory alone
+    pub walk_rowed : (tips hidden : List ObjectId) → AllHeld rows tips → AllHeld rows hidden → {T : Type 0} (MayFail : Type 0) (result : Result T Stopped) (error : WalkError)
+        → IsErrAnd result (λ stopped. stopped ≡ Fault (walk_fault error)) → WalkFault MayFail rows table read_commits tips hidden error → IfErr result (λ stopped. stopped ≡ Fault model_faults.Memory)
+    walk_rowed tips hidden tips_held hidden_held MayFail (Ok value) error is fails = tt
+    walk_rowed tips hidden tips_held hidden_held MayFail (Err stopped) Failed is (may, (x, met, unheld)) = absurd (unheld (met_held tips hidden tips_held hidden_held x met))
+    walk_rowed tips hidden tips_held hidden_held MayFail (Err stopped) Broken is (x, met, unheld, unread) = absurd (unheld (met_held tips hidden tips_held hidden_held x met))
+    walk_rowed tips hidden tips_held hidden_held MayFail (Err stopped) Memory is fails = is

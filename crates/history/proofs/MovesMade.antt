@@ -1,5 +1,5 @@
 -- The names of a move's lines move, one after another.
-use Rattle.std.proofs.Common.{◌≡◌, ◌⊎◌, inl, inr, ℕ, zero, suc, ◌+◌, ◌<◌, ◌≤◌, List, [], ◌∷◌, ◌++◌, length, take, get_or, refl, sym, ◌∙◌, ap, subst, arith, None, codes}
+use Rattle.std.proofs.Common.{◌≡◌, ◌⊎◌, inl, inr, ℕ, zero, suc, ◌+◌, ◌<◌, ◌≤◌, List, [], ◌∷◌, ◌++◌, length, take, get_or, refl, sym, ◌∙◌, ap, subst, arith, Option, None, codes}
 use Rattle.std.specs.Prelude.{Result, Err, Vec}
 use Rattle.std.specs.declared.alloc.Global.{Global}
 use Rattle.std.specs.List.{AllZip}
@@ -34,7 +34,10 @@ use Rattle.history_steps.proofs.TreePuts.{halves_stand}
 use Rattle.history_store.specs.Face.{ids_of_objects}
 use Rattle.history_store.specs.Formats.{entry_of}
 use Rattle.history.specs.Acts.{Acts, CountsRise, KeepsCounts}
+use Rattle.gix_traverse_commit.specs.Told.{rows_of}
+use Rattle.gix_traverse_commit.specs.declared.rows.Row.{Row}
 use Rattle.history.specs.Face.{objects_part, names_part, KeepsAllButNames}
+use Rattle.history.specs.Indexed.{AgreeRows}
 use Rattle.history.specs.Halves.{FitsAmong, MovesNames, NamesStand, names_tree, objects_tree}
 use Rattle.history.specs.Moments.{GoesLater, NamesPass, StoodOnTheWay}
 use Rattle.history.specs.Moving.{AskedMoves, IsLineMove, LeavesMoved}
@@ -96,7 +99,7 @@ module _ {F : Type 0} (IsHonest : F → Type 0) (history : F → History) (failu
 
   pub none_moved : (moves : List Moves) (old : Repository F) → HasMovedSome moves 0 old old
   none_moved moves old = record {
-    kept = record { objects = refl; branch = refl; failed = refl };
+    kept = record { objects = refl; branch = refl; rows = refl; failed = refl };
     counts = counts_same failures old;
     unfailed = stay_same failures old old refl;
     honest = λ honest. honest;
@@ -109,7 +112,7 @@ module _ {F : Type 0} (IsHonest : F → Type 0) (history : F → History) (failu
   }
 
   pub kept_then : (old mid new : Repository F) → KeepsAllButNames old mid → KeepsAllButNames mid new → KeepsAllButNames old new
-  kept_then old mid new h k = record { objects = k.objects ∙ h.objects; branch = k.branch ∙ h.branch; failed = k.failed ∙ h.failed }
+  kept_then old mid new h k = record { objects = k.objects ∙ h.objects; branch = k.branch ∙ h.branch; rows = k.rows ∙ h.rows; failed = k.failed ∙ h.failed }
 
   module _ (moves : List Moves) (i : ℕ) (one : Moves) (within : i < length moves) (at : one ≡ get_or moves i one) (old mid new : Repository F) (h : HasMovedSome moves i old mid) where
     module _ (r : plain.Repository) (order : MoveCommand) (asked : AskedMoves IsHonest history old moves r order) where
@@ -241,6 +244,7 @@ module _ {F : Type 0} (IsHonest : F → Type 0) (history : F → History) (failu
         names_kind = kind ∙ h.stands.names_kind;
         branch = ap (λ branch. branch.items) kept.branch ∙ h.stands.branch;
         known = λ id. ap (λ objects. contains_key (ids_of_objects objects) id) kept.objects ∙ h.stands.known id;
+        rows = subst (λ (rows : Option (List Row)). AgreeRows r.kind r.objects (rows_of rows)) (sym kept.rows) h.stands.rows;
       };
       stage = record { unpacked = stand.unpacked };
     }

@@ -1,5 +1,5 @@
 -- Commands that change names alone: what their files pass through, and what they leave.
-use Rattle.std.proofs.Common.{◌≡◌, ◌⊎◌, inl, inr, ℕ, true, false, sym, ◌∙◌, ap, subst, None}
+use Rattle.std.proofs.Common.{◌≡◌, ◌⊎◌, inl, inr, ℕ, true, false, sym, ◌∙◌, ap, subst, List, Option, None}
 use Rattle.std.specs.FinMap.{contains_key}
 use Rattle.gix_ref_file.specs.History.{History, Adds}
 use Rattle.history_model.specs.Repository as plain
@@ -20,7 +20,10 @@ use Rattle.history_steps.specs.TreeHalves.{HoldsValues}
 use Rattle.history_steps.proofs.PassedNames.{moving_stops, nothing_stops, values_recover}
 use Rattle.history_steps.proofs.TreePuts.{halves_stand}
 use Rattle.history_store.specs.Face.{ids_of_objects}
-use Rattle.history.specs.Face.{objects_part, names_part, KeepsAllButNames}
+use Rattle.gix_traverse_commit.specs.Told.{rows_of}
+use Rattle.gix_traverse_commit.specs.declared.rows.Row.{Row}
+use Rattle.history.specs.Face.{objects_part, names_part, rows_in, KeepsAllButNames}
+use Rattle.history.specs.Indexed.{AgreeRows}
 use Rattle.history.specs.Halves.{names_tree, objects_tree}
 use Rattle.history.specs.Moments.{GoesLater, StoodOnTheWay}
 use Rattle.history.specs.Serving.{Serves}
@@ -59,6 +62,7 @@ module _ {F : Type 0} (IsHonest : F → Type 0) (history : F → History) (failu
       objects_kind = ap (λ objects. objects.kind) kept.objects ∙ h.stands.objects_kind;
       names_kind = kind ∙ h.stands.names_kind;
       branch = ap (λ branch. branch.items) kept.branch ∙ h.stands.branch ∙ sym c.branch;
+      rows = subst (λ (kept_rows : Option (List Row)). AgreeRows r.kind (after r order).objects (rows_of kept_rows)) (sym kept.rows) (subst (λ (values : plain.Values). AgreeRows r.kind values (rows_of (rows_in old))) (sym c.values) h.stands.rows);
       known = λ id. ap (λ objects. contains_key (ids_of_objects objects) id) kept.objects ∙ h.stands.known id ∙ ap (λ (values : plain.Values). contains_key values id) (sym c.values);
     };
     stage = record { unpacked = unpacked };

@@ -34,7 +34,7 @@ module _ {F : Type 0} (IsHonest : F → Type 0) (history : F → History) (repos
   tree = (history (names_part repository)).tree
 
   parts : NamesStand IsHonest history repository r
-  parts = names_stand IsHonest history repository repository r stand (record { names = refl; branch = refl; failed = refl })
+  parts = names_stand IsHonest history repository repository r stand (record { names = refl; branch = refl; rows = refl; failed = refl })
 
   no_file : {A : Type 0} (path : Bytes) → IsTrue (is_file_at tree path) → file_at tree path ≡ None → A
   no_file path there none = absurd (cc (sym there ∙ ap is_some none))

@@ -23,7 +23,9 @@ use Rattle.history.specs.declared.running.RunError.TheVariants.{Read, Write}
 use Rattle.history.specs.declared.reply.Reply as own
 use Rattle.gix_ref_file.specs.History.{History, HasRisen}
 use Rattle.history_model.specs.Moments.{Moment, Traces, HasFailedCall as Failed}
+use Rattle.gix_traverse_commit.specs.declared.rows.Row.{Row}
 use Rattle.history.specs.Acts.{IsAnswer}
+use Rattle.history.specs.Indexed.{FollowsRows}
 use Rattle.history.specs.Replies.{text_of}
 use Rattle.history.specs.Runs.{EndsRun, EndsHere, GoesOn, Turns}
 use Rattle.history.proofs.ActLemmas.{told_text}
@@ -62,8 +64,8 @@ in_two old new text (count, less, wrote) =
     (take count text, drop count text, sym (take-append-drop count text), omega (arith, long, less), wrote)
 
 -- ---- of a command that was answered
-module _ (objects names : History) (MayFail : Type 0) (StandsNow RecoversNow : Repository → Type 0) (start finish : Moment) (r : Repository) (order : Command) (answer : own.Reply) (failed : Bool)
-    (a : IsAnswer objects names MayFail StandsNow RecoversNow start finish failed r order answer) where
+module _ (objects names : History) (MayFail : Type 0) (StandsNow RecoversNow : Repository → Type 0) (start finish : Moment) (kept rows : Option (List Row)) (r : Repository) (order : Command) (answer : own.Reply) (failed : Bool)
+    (a : IsAnswer objects names MayFail StandsNow RecoversNow start finish kept rows failed r order answer) where
   abbrev CallFailed : Type 0
   CallFailed = HasRisen start.object_failures finish.object_failures ⊎ HasRisen start.name_failures finish.name_failures ⊎ MayFail
 
@@ -73,14 +75,14 @@ module _ (objects names : History) (MayFail : Type 0) (StandsNow RecoversNow : R
   failed_so (inr may) = inr (inr may)
 
   abbrev Traced : List Command → List Reply → Repository → Type 0
-  Traced commands replies left = Traces objects names MayFail r start commands replies finish left
+  Traced commands replies left = Traces objects names MayFail r start commands replies finish left × FollowsRows kept rows r commands replies
 
   answer_ran : (taken rest : Bytes) → Spells taken order → Ran CallFailed r (order ∷ []) (a.reply ∷ []) (taken ++ rest) (text_of answer) rest [] failed a.left
   answer_ran taken rest k =
       ran_one CallFailed r a.left (taken ++ rest) (text_of answer) order a.reply rest failed (ap (λ xs. xs ++ rest) k.1) (told_text answer a.reply a.tells) k.0 (a.acted).step (a.fails ∙ only_fails (goes_on order a.reply)) (λ is. failed_so ((a.acted).failure is))
 
   traced : Traced (order ∷ []) (a.reply ∷ []) a.left
-  traced = record { moments = finish ∷ []; acts = (a.left, a.acted, inr refl, refl); ends = refl }
+  traced = (record { moments = finish ∷ []; acts = (a.left, a.acted, inr refl, refl); ends = refl }, a.rows_follow)
 
   stands_then : failed ≡ false → StandsNow a.left
   stands_then unfailed = a.stands (goes failed (goes_on order a.reply) a.fails unfailed)

@@ -1,5 +1,6 @@
 -- What callers see of a repository.
-use Rattle.std.specs.Prelude.{◌≡◌, Bool}
+use Rattle.std.specs.Prelude.{◌≡◌, Bool, List, Option}
+use Rattle.gix_traverse_commit.specs.declared.rows.Row.{Row}
 use Rattle.history_store.specs.Ids.{IdSet}
 use Rattle.history_store.specs.Face.{files_of_objects, files_of_names, ids_of_objects}
 use Rattle.history.specs.declared.repository.Repository.{Repository}
@@ -16,6 +17,10 @@ names_part repository = files_of_names repository.names
 abbrev pub known_ids : {F : Type 0} → Repository F → IdSet
 known_ids repository = ids_of_objects repository.objects
 
+-- the rows that it keeps of its commits, where it has any
+abbrev pub rows_in : {F : Type 0} → Repository F → Option (List Row)
+rows_in repository = repository.rows
+
 -- whether a command that changes files met a fault
 abbrev pub has_failed : {F : Type 0} → Repository F → Bool
 has_failed repository = repository.has_failed
@@ -24,10 +29,16 @@ has_failed repository = repository.has_failed
 pub record KeepsAllButObjects {F : Type 0} (old new : Repository F) : Type 0 where
   pub names : new.names ≡ old.names
   pub branch : new.branch ≡ old.branch
+  pub rows : new.rows ≡ old.rows
   pub failed : new.has_failed ≡ old.has_failed
 
 -- A part of a command left all but the names as it was.
 pub record KeepsAllButNames {F : Type 0} (old new : Repository F) : Type 0 where
   pub objects : new.objects ≡ old.objects
   pub branch : new.branch ≡ old.branch
+  pub rows : new.rows ≡ old.rows
   pub failed : new.has_failed ≡ old.has_failed
+
+-- It left all but the rows as it was.
+abbrev pub KeepsAllButRows : {F : Type 0} → Repository F → Repository F → Type 0
+KeepsAllButRows old new = new ≡ record old { rows = new.rows }

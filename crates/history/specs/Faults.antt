@@ -4,6 +4,8 @@ use Rattle.gix_ref_file.specs.declared.files.FileError.{FileError}
 use Rattle.gix_ref_file.specs.declared.files.FileError.TheVariants as file
 use Rattle.gix_object_find.specs.declared.find.Error as find
 use Rattle.gix_object_find.specs.declared.find.Error.TheVariants as found
+use Rattle.gix_traverse_commit.specs.declared.rows.RowsError.{RowsError}
+use Rattle.gix_traverse_commit.specs.declared.rows.RowsError.TheVariants as rows
 use Rattle.history_model.specs.declared.Fault.{Fault}
 use Rattle.history_model.specs.declared.Fault.TheVariants.{Memory, File, IdTaken}
 use Rattle.history_files.specs.declared.error.ReadError.{ReadError}
@@ -30,6 +32,13 @@ abbrev pub walk_fault : WalkError → Fault
 walk_fault walk.Failed = File
 walk_fault walk.Broken = File
 walk_fault walk.Memory = Memory
+
+-- The rows of a whole repository make a graph.
+abbrev pub rows_fault : RowsError → Fault
+rows_fault rows.Memory = Memory
+rows_fault (rows.Twice id) = File
+rows_fault (rows.MissingParent id parent) = File
+rows_fault (rows.BadGeneration id) = File
 
 abbrev pub find_fault : find.Error → Fault
 find_fault found.Failed = File

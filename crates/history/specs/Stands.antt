@@ -7,8 +7,10 @@ use Rattle.history_model.specs.StandsFor.{StandsWhole}
 use Rattle.history_model.specs.Recovery.{recovered}
 use Rattle.history.specs.declared.repository.Repository.{Repository}
 use Rattle.std.specs.FinMap.{contains_key}
+use Rattle.gix_traverse_commit.specs.Told.{rows_of}
 use Rattle.gix_hash_id.specs.Id.{Id}
-use Rattle.history.specs.Face.{objects_part, names_part, known_ids}
+use Rattle.history.specs.Face.{objects_part, names_part, known_ids, rows_in}
+use Rattle.history.specs.Indexed.{AgreeRows}
 use Rattle.history_store.specs.Face.{kind_of_names, kind_of_objects}
 
 -- the two trees that stand
@@ -32,6 +34,8 @@ pub record Stands {F : Type 0} (IsHonest : F → Type 0) (history : F → Histor
   pub branch : repository.branch.items ≡ r.branch
   -- the ids that are known are those of what is stored
   pub known : (id : Id) → contains_key (known_ids repository) id ≡ contains_key r.objects id
+  -- the rows that are kept tell stored commits, as they are stored
+  pub rows : AgreeRows r.kind r.objects (rows_of (rows_in repository))
 
 -- What recovery makes of the two trees that stand is the pair of this plain repository, which is whole and in its written form.
 abbrev pub RecoversTo : {F : Type 0} → (F → History) → Repository F → plain.Repository → Type 0

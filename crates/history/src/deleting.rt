@@ -14,7 +14,7 @@ ghost use Rattle.history_store.specs.Face.{kind_of_names};
 ghost use Rattle.history_word.specs.Commands.{IsDelete};
 ghost use Rattle.history.specs.Acts.{Acts, CountsFailure, CountsRise, KeepsCounts};
 ghost use Rattle.history.specs.Deleting.{DeletesFiles, TestsAll, gone_cause};
-ghost use Rattle.history.specs.Face.{KeepsAllButNames, has_failed, names_part};
+ghost use Rattle.history.specs.Face.{KeepsAllButNames, has_failed, names_part, rows_in};
 ghost use Rattle.history.specs.Faults.{IsFault, IsRefusal};
 ghost use Rattle.history.specs.Halves.{NamesStand, names_tree};
 ghost use Rattle.history.specs.Moments.{GoesLater, StoodOnTheWay};
@@ -82,6 +82,7 @@ impl<F: Files> Repository<F> {
     pub(crate) fn delete(&mut self, alloc: Global, command: &Delete) -> Result<Vec<u8>, Stopped>
         ensures refused { IfErr result (λ stopped. IsRefusal stopped → self.new ≡ self.old) }
         ensures failed { has_failed self.new ≡ has_failed self.old }
+        ensures rows { rows_in self.new ≡ rows_in self.old }
         ensures counts { CountsRise F.failures self.old self.new }
         ensures unfailed { OnOk result (KeepsCounts F.failures self.old self.new) }
         ensures later { (r : plain.Repository) (name : Bytes) (at : Option Bytes)

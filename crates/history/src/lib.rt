@@ -15,6 +15,7 @@ mod differing;
 mod editing;
 mod fields;
 mod held;
+mod indexing;
 mod listed;
 mod listing;
 mod log;
@@ -39,6 +40,7 @@ pub mod lookups {
 }
 
 pub use gix_hash::{Kind, ObjectId, Prefix, oid};
+pub use gix_traverse_commit::{Graph, Row};
 pub use history_model::{Cause, End, Fault};
 pub use history_recovery::{RecoverError, recover};
 pub use history_store::{

@@ -17,8 +17,8 @@ ghost use Rattle.history_store.specs.Face.{kind_of_names};
 ghost use Rattle.history_store.specs.Formats.{actor_of};
 ghost use Rattle.history_word.specs.Commands.{AreTos, IsActor, IsMove, IsTo};
 ghost use Rattle.history_word.specs.Fields.{Keeps};
-ghost use Rattle.history.specs.Acts.{Acts, CountsFailure, CountsRise, GivesMeant, KeepsCounts};
-ghost use Rattle.history.specs.Face.{KeepsAllButNames, has_failed, names_part};
+ghost use Rattle.history.specs.Acts.{Acts, CountsFailure, CountsRise, GivesMeant, IsReadingFault, KeepsCounts};
+ghost use Rattle.history.specs.Face.{KeepsAllButNames, has_failed, names_part, rows_in};
 ghost use Rattle.history.specs.Faults.{IsFault, IsRefusal};
 ghost use Rattle.history.specs.Meanings.{meaning_of};
 ghost use Rattle.history.specs.Moments.{GoesLater, StoodOnTheWay};
@@ -391,6 +391,7 @@ impl<F: Files> Repository<F> {
     ) -> Result<Vec<u8>, Stopped>
         ensures refused { IfErr result (λ stopped. IsRefusal stopped → self.new ≡ self.old) }
         ensures failed { has_failed self.new ≡ has_failed self.old }
+        ensures rows { rows_in self.new ≡ rows_in self.old }
         ensures counts { CountsRise F.failures self.old self.new }
         ensures unfailed { OnOk result (KeepsCounts F.failures self.old self.new) }
         ensures later { (r : plain.Repository) (order : orders.MoveCommand)

@@ -1,6 +1,6 @@
 //! Opening a repository.
 
-ghost use Rattle.std.specs.Prelude.{◌≡◌, false, IfOk, OnOk, IfErr};
+ghost use Rattle.std.specs.Prelude.{◌≡◌, false, None, IfOk, OnOk, IfErr};
 ghost use Rattle.history_steps.specs.Offered.{IsOfStage};
 ghost use Rattle.history_model.specs.Repository as plain;
 ghost use Rattle.history_store.specs.Creation.{IsNew};
@@ -22,7 +22,7 @@ pub struct OpenRefusal<F: Files> {
 
 impl<F: Files> Repository<F> {
     ghost use Rattle.history_model.specs.Repository.{fresh};
-    ghost use Rattle.history.specs.Face.{objects_part, names_part, has_failed};
+    ghost use Rattle.history.specs.Face.{objects_part, names_part, has_failed, rows_in};
     ghost use Rattle.history.specs.Stands.{Stands, pair_of};
 
     /// Opens a repository as [`create`](crate::create) leaves it. No file is changed.
@@ -37,7 +37,8 @@ impl<F: Files> Repository<F> {
         kind: Kind,
     ) -> Result<Repository<F>, OpenRefusal<F>>
         ensures ok { IfOk result (λ opened. (objects_part opened ≡ objects)
-            × (names_part opened ≡ names) × (has_failed opened ≡ false)) }
+            × (names_part opened ≡ names) × (has_failed opened ≡ false)
+            × (rows_in opened ≡ None)) }
         // What is opened stands for a repository of this kind, whole and in its written form.
         ensures stands { F.is_honest objects → F.is_honest names
             → IfOk result (λ opened. (r : plain.Repository) × (r.kind ≡ kind)
@@ -62,6 +63,7 @@ impl<F: Files> Repository<F> {
                 objects: Objects::new(alloc, objects, kind),
                 names,
                 branch,
+                rows: None,
                 has_failed: false,
             }),
             Err(error) => Err(OpenRefusal {

@@ -1,8 +1,9 @@
 //! A repository over two file trees.
 
-ghost use Rattle.std.specs.Prelude.{◌≡◌};
+ghost use Rattle.std.specs.Prelude.{◌≡◌, option_map};
 
 use gix_ref_file::Files;
+use gix_traverse_commit::Graph;
 use history_store::{Names, Objects};
 
 /// A repository over two file trees: one holds the objects, the other HEAD, the names and their logs.
@@ -12,11 +13,13 @@ pub struct Repository<F: Files> {
     pub(crate) names: Names<F>,
     /// The name that HEAD stands for.
     pub(crate) branch: Vec<u8>,
+    /// The rows that the last `ok index` counted.
+    pub(crate) rows: Option<Graph>,
     pub(crate) has_failed: bool,
 }
 
 impl<F: Files> Repository<F> {
-    ghost use Rattle.history.specs.Face.{objects_part, names_part, has_failed};
+    ghost use Rattle.history.specs.Face.{objects_part, names_part, has_failed, rows_in};
 
     /// Gives back the objects part and the names part, as they stand.
     pub fn into_parts(self) -> (F, F)
@@ -24,6 +27,13 @@ impl<F: Files> Repository<F> {
         ensures names { result.1 ≡ names_part self }
     {
         (self.objects.into_files(), self.names.into_files())
+    }
+
+    /// The rows of the commits that the last `ok index` counted; none before the first. It takes no memory.
+    pub fn rows(&self) -> Option<&Graph>
+        ensures { option_map (λ rows. rows.now) result ≡ rows_in self.now }
+    {
+        self.rows.as_ref()
     }
 
     /// Whether a command that changes files met a fault. The files then hold what a stop may leave, and [`run`](crate::run)

@@ -3,10 +3,11 @@
 ghost use Rattle.std.specs.Prelude.{◌≡◌};
 ghost use Rattle.history_model.specs.declared.Fault.TheVariants.{Memory};
 ghost use Rattle.history.specs.declared.stopped.Stopped.TheVariants as why;
-ghost use Rattle.history.specs.Faults.{file_fault, fault_of_put, find_fault, read_fault, walk_fault};
+ghost use Rattle.history.specs.Faults.{file_fault, fault_of_put, find_fault, read_fault, rows_fault, walk_fault};
 
 use gix_object::find;
 use gix_ref_file::FileError;
+use gix_traverse_commit::RowsError;
 use history_files::ReadError;
 use history_model::{Cause, Fault};
 use history_store::PutMadeError;
@@ -81,6 +82,20 @@ impl From<WalkError> for Stopped {
         Stopped::Fault(match error {
             WalkError::Failed | WalkError::Broken => Fault::File,
             WalkError::Memory => Fault::Memory,
+        })
+    }
+}
+
+// The rows of a whole repository make a graph.
+impl From<RowsError> for Stopped {
+    ghost from_gives = { λ error stopped. stopped ≡ why.Fault (rows_fault error) };
+
+    fn from(error: RowsError) -> Stopped {
+        Stopped::Fault(match error {
+            RowsError::Memory => Fault::Memory,
+            RowsError::Twice(_) | RowsError::MissingParent(..) | RowsError::BadGeneration(_) => {
+                Fault::File
+            }
         })
     }
 }

@@ -1,6 +1,6 @@
 //! The objects that a repository reads.
 
-ghost use Rattle.std.specs.Prelude.{◌≡◌, Some, map, option_map};
+ghost use Rattle.std.specs.Prelude.{◌≡◌, IfErr, IfOk, Some, map, option_map};
 ghost use Rattle.std.specs.FinMap.{entries, get};
 ghost use Rattle.history_model.specs.Answers.{file_line};
 ghost use Rattle.history_files.specs.Reading.{entry_of, line_of};
@@ -9,23 +9,29 @@ ghost use Rattle.history_model.specs.Objects as model;
 ghost use Rattle.history_model.specs.Objects.{CommitValue, Value, StoredCommit, StoredFolder, content_of, folder_id, object_kind};
 ghost use Rattle.history_store.specs.Commits.{SaysCommit};
 ghost use Rattle.gix_hash_id.specs.Id.{id_of};
+ghost use Rattle.gix_traverse_commit.specs.Rows.{AllHeld};
+ghost use Rattle.gix_traverse_commit.specs.Told.{rows_of};
+ghost use Rattle.history_model.specs.declared.Fault.TheVariants.{Memory};
+ghost use Rattle.history.specs.declared.stopped.Stopped.TheVariants as why;
 
 use crate::repository::Repository;
 use crate::stopped::Stopped;
 use gix_hash::ObjectId;
 use gix_object::Commit;
 use gix_ref_file::Files;
+use gix_traverse_commit::Graph;
 use history_files::{File, Found, entry_at, files};
 use history_model::Fault;
 use history_store::{commit_tree, parse_commit, tag_target};
 use history_walks::{Request, list_commits};
-use std::alloc::Global;
+use std::alloc::{AllocError, Global};
 
 // In a whole repository each id that is read names an object of its kind, so only a failed call leads to `fault File`.
 impl<F: Files> Repository<F> {
     ghost use Rattle.history_model.specs.Repository as plain;
     ghost use Rattle.history.specs.Stands.{Stands};
     ghost use Rattle.history.specs.Acts.{GivesMeant};
+    ghost use Rattle.history.specs.Face.{rows_in};
     ghost use Rattle.history.specs.Walked.{AllHold, IsLogged};
 
     /// The content of a stored object.
@@ -98,15 +104,32 @@ impl<F: Files> Repository<F> {
         Ok(files(alloc, &self.objects, tree)?)
     }
 
-    /// The commits that some tips reach and no hidden commit reaches, each once, in the order that is asked for.
+    /// The rows that are kept, once more, of which no row is copied.
+    fn copied_rows(&self) -> Result<Option<Graph>, AllocError>
+        ensures { IfOk result (λ rows. rows ≡ rows_in self.now) }
+    {
+        match &self.rows {
+            Some(rows) => Ok(Some(rows.try_clone()?)),
+            None => Ok(None),
+        }
+    }
+
+    /// The commits that some tips reach and no hidden commit reaches, each once, in the order that is asked for. Of a commit that has a
+    /// row no file is read.
     ///
     /// The tips and the hidden ones are stored commits. It is a fault where a call of the files failed, or where no memory is left.
     pub(crate) fn commits(&self, alloc: Global, request: Request) -> Result<Vec<ObjectId>, Stopped>
-        ensures { (r : plain.Repository) → Stands F.is_honest F.history self.now r
+        ensures lists { (r : plain.Repository) → Stands F.is_honest F.history self.now r
             → AllHold r request.tips.items → AllHold r request.hidden.items
             → GivesMeant F.reading_may_fail (IsLogged r request) result }
+        // Where all of them have rows the walk asks for no object, so that no failed call stops it.
+        ensures rowed { (r : plain.Repository) → Stands F.is_honest F.history self.now r
+            → AllHeld (rows_of (rows_in self.now)) request.tips.items
+            → AllHeld (rows_of (rows_in self.now)) request.hidden.items
+            → IfErr result (λ stopped. stopped ≡ why.Fault Memory) }
     {
-        Ok(list_commits(alloc, &self.objects, request)?)
+        let rows = self.copied_rows()?;
+        Ok(list_commits(alloc, &self.objects, rows, request)?)
     }
 
     /// What stands at a path below a stored tree. The trees on the path are read, and no other.

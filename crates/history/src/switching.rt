@@ -8,7 +8,7 @@ ghost use Rattle.history_model.specs.Moments.{LeavesStopped};
 ghost use Rattle.history_model.specs.Places.{Pair};
 ghost use Rattle.history_model.specs.Repository as plain;
 ghost use Rattle.history.specs.Acts.{Acts, CountsFailure, CountsRise, KeepsCounts};
-ghost use Rattle.history.specs.Face.{has_failed};
+ghost use Rattle.history.specs.Face.{has_failed, rows_in};
 ghost use Rattle.history.specs.Faults.{IsRefusal};
 ghost use Rattle.history.specs.Moments.{GoesLater, StoodOnTheWay};
 ghost use Rattle.history.specs.Serving.{Serves};
@@ -49,6 +49,7 @@ impl<F: Files> Repository<F> {
     pub(crate) fn switch(&mut self, alloc: Global, name: Vec<u8>) -> Result<Vec<u8>, Stopped>
         ensures refused { IfErr result (λ stopped. IsRefusal stopped → self.new ≡ self.old) }
         ensures failed { has_failed self.new ≡ has_failed self.old }
+        ensures rows { rows_in self.new ≡ rows_in self.old }
         ensures counts { CountsRise F.failures self.old self.new }
         ensures unfailed { OnOk result (KeepsCounts F.failures self.old self.new) }
         ensures later { (r : plain.Repository) → Serves F.is_honest F.history self.old r

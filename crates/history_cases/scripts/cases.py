@@ -548,10 +548,7 @@ def as_git_lists(made):
 
 def logs():
     """Eight commits on two branches in each order, from one tip and from more, with some that are hidden, and what is refused."""
-    m, s = b"refs/heads/m", b"refs/heads/s"
-    made = branch(m + b" new", 1) + branch(s + b" new", 2, b"parent m\n") + branch(m + b" any", 3) + branch(s + b" any", 4)
-    made += branch(m + b" any", 5) + branch(b"refs/heads/o new", 9, b"parent s\n") + branch(m + b" any", 6) + branch(s + b" any", 7)
-    made += branch(b"refs/heads/j new", 8, b"parent m\nparent s\n")
+    made = eight()
     lines = [b"log %s %s %s\n" % (order, how, items) for order in (b"breadth", b"newest", b"oldest", b"date", b"topological")
              for how in (b"all", b"first") for items in (b"+j", b"+m +s", b"+s +m +s", b"+o +j", b"+j -s", b"-o +j", b"+j -j", b"+m -o -s")
              if how == b"all" or order == b"breadth" or b"-" not in items and order in (b"date", b"topological")]
@@ -571,6 +568,75 @@ def logs():
     for line in (b"log\n", b"log breadth all -m\n", b"log breadth all m\n", b"log breadth all +\n", b"log breadth all path 1 +m\na\n",
                  b"log newest-since all +m\n", b"names a b\n", b"past\n", b"past a b\n"):
         answer(INPUT + line, "Syntax", end="Refused")
+
+
+def eight():
+    """The commits that `logs` lists: two branches, one that is joined of both, and one apart."""
+    m, s = b"refs/heads/m", b"refs/heads/s"
+    return b"".join([
+        branch(m + b" new", 1), branch(s + b" new", 2, b"parent m\n"), branch(m + b" any", 3), branch(s + b" any", 4), branch(m + b" any", 5),
+        branch(b"refs/heads/o new", 9, b"parent s\n"), branch(m + b" any", 6), branch(s + b" any", 7),
+        branch(b"refs/heads/j new", 8, b"parent m\nparent s\n")])
+
+
+def indexes():
+    """Rows: how many there are, what each tells, and logs over all, some and none of them, which list what they list without rows; how many
+    objects a log then reads; and a call that fails, which leaves the rows as they were."""
+    made, index = eight(), b"index\n"
+    lines = [b"log %s %s\n" % (order, items) for order in (b"breadth all", b"newest all", b"oldest all", b"date all", b"topological all",
+             b"newest-since 4 all", b"oldest-since 4 all", b"breadth first") for items in (b"+j", b"+o +j", b"+s +m +s")]
+    lines += [b"log %s all %s\n" % (order, items) for order in (b"breadth", b"newest", b"oldest", b"date", b"topological")
+              for items in (b"+j -s", b"-o +j", b"+j -j", b"+m -o -s")]
+    later = branch(b"refs/heads/j any", 10, b"parent o\n") + branch(b"refs/heads/m any", 11)
+    listed_ = b"".join(lines) + log_at(b"topological all +j", b"a")
+    runs((index,), (made,), (listed_,), (index,), (listed_,), (later,), (listed_,), (index + listed_,), by_git_alone=False)
+    runs((PUT_HELLO + index + index,), (b"files main\n" + index,), by_git_alone=False)
+    for kind in KINDS:
+        plain = Plain(kind)
+        ids = [reply.split()[-1] for reply, _ in plain.run(made)[1]]
+        rows_ = []
+        for digits in ids:
+            tree, parents, seconds, generation = plain.row(digits)
+            rows_.append(b"tree %s parents%s seconds %s generation %d" % (tree, b"".join(b" " + it for it in parents), seconds, generation))
+        asked = " ".join(f"row:{it.decode()}" for it in ids)
+        none, told_ = " ".join(["none"] * len(ids)), " ".join(f"row:{word(it)}" for it in rows_)
+        plain.run(later)
+        new = [it.decode() for it in plain.commits if it not in ids]
+        counted, more = word(b"ok index 9\n"), word(b"".join(b"ok commit %s\n" % it.encode() for it in new))
+        ROWS.append((f"{kind} create open {asked} run:{word(made)} {asked} run:{word(index)} {asked} run:{word(later)} {asked} "
+                     + " ".join(f"row:{it}" for it in new),
+                     f"created opened {none} {told('Input', Plain(kind).run(made)[1])} {none} Input:{counted} {told_} Input:{more} {told_} "
+                     + " ".join(["none"] * len(new))))
+        log = [b"log %s +%s\n" % (order, ids[-1]) for order in (b"breadth all", b"newest all", b"oldest all", b"date all", b"topological all")]
+        for line in log:
+            for before, count in [(made + index, 1), (made + index + branch(b"refs/heads/x new", 12), 1)]:
+                ROWS.append((f"{kind} reads:{word(before)}:{word(line)}", f"reads:{count}"))
+        for before, line, count in [(made, b"log breadth all +j\n", 8), (made, b"log topological all +j\n", 8), (made, b"log newest all +j\n", 8),
+                                    (made + index, b"log breadth all +j\n", 0), (made + index, b"log topological all +j -s\n", 0),
+                                    (made + index, b"log oldest-since 3 all +j -s\n", 0),
+                                    (made + index + later, b"log breadth all +j\n", 1), (made + index + later, b"log newest all +j +m\n", 2),
+                                    (made + index + later, b"log date all +j -m\n", 2)]:
+            ROWS.append((f"{kind} reads:{word(before)}:{word(line)}", f"reads:{count}"))
+
+
+def index_faults():
+    """Each call of either part fails in turn, of a commit, two `index` and a log behind each: the command that makes it tells so, the run
+    goes on, and what follows is right. `index` reads objects alone, and a log over rows names alone."""
+    fault, index, line = b"fault File\n", b"index\n", b"log topological all +main\n"
+    for kind in KINDS:
+        stream = PUT_HELLO + index + line + index + line
+        _, replies = Plain(kind).run(stream)
+        one, *rest = (reply for reply, _ in replies)
+
+        def ended(after):
+            return f"created opened Input:{word(one + b''.join(after))} sound"
+
+        for part, places in (("objects", [0, 2]), ("names", [1, 3])):
+            answers = ["created File closed closed", f"created opened Fault:{word(fault)} failed"]
+            for at in places:
+                answers.append(ended(rest[:at] + [fault] + rest[at + 1:]))
+            answers.append(ended(rest))
+            each(90, kind, f"create {part}:fail:#:- open run:{word(stream)} failed", answers)
 
 
 def log_at(words, path):
@@ -1029,8 +1095,8 @@ def by_chance(chance, kind):
 
 
 if __name__ == "__main__":
-    for part in (rows, first_causes, two_branches, of_names, moves, deletions, switches, tags, logs, path_logs, short_ids, removals, nested, limits,
-                 opening, readings, readers, faults, log_faults, move_stops, delete_stops, switch_stops, tag_stops, stops):
+    for part in (rows, first_causes, two_branches, of_names, moves, deletions, switches, tags, indexes, logs, path_logs, short_ids, removals, nested,
+                 limits, opening, readings, readers, faults, index_faults, log_faults, move_stops, delete_stops, switch_stops, tag_stops, stops):
         part()
     for kind in KINDS:
         recoveries(kind)

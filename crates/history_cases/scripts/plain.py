@@ -64,6 +64,8 @@ class Reader:
             return ("delete", words[1], words[2:])
         if words[0] == b"switch" and len(words) == 2:
             return ("switch", words[1])
+        if words == [b"index"]:
+            return ("index",)
         refuse_where(words[0] != b"commit" or len(words) not in (3, 4), "Syntax")
         refuse_where((len(words) == 4) != (words[2] == b"at") or words[2] not in (b"at", b"any", b"new"), "Syntax")
         return self.commit(words[1], words[2:])
@@ -395,6 +397,16 @@ class Plain:
         refuse_where(name == self.branch, "NothingMoves")
         self.branch = name
         return b"ok switch\n"
+
+    def index(self):
+        return b"ok index %d\n" % len(self.commits)
+
+    def row(self, digits):
+        """The tree, the parents, the seconds and the generation of a commit."""
+        commit, reached = self.commits[digits], {}
+        for at in self.commits:
+            reached[at] = 1 + max((reached[it] for it in self.commits[at]["parents"]), default=0)
+        return commit["tree"], commit["parents"], commit["committer"][2], reached[digits]
 
     def in_the_way(self, name, more=()):
         """Whether a name that doesn't stand is a folder of one that stands, or of one of these, or the other way round."""

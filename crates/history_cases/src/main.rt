@@ -3,6 +3,7 @@
 
 mod face;
 mod files;
+mod indexed;
 mod runs;
 mod session;
 

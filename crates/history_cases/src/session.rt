@@ -1,6 +1,6 @@
 //! A repository and its parts, and what words do with them.
 
-use crate::{face, files, runs};
+use crate::{face, files, indexed, runs};
 use case_words::{Page, Session, Trial, act_on, sound};
 use gix_ref_file::MemoryFiles;
 use history::{CreateError, Kind, OpenError, RecoverError, Repository, create, recover};
@@ -52,6 +52,13 @@ impl Session for Store {
             }
             "run" | "drops" => match &mut self.opened {
                 Some(repository) => runs::run(alloc, repository, operation, rest, number, page),
+                None => {
+                    page.word("closed");
+                    Some(())
+                }
+            },
+            "row" => match &self.opened {
+                Some(repository) => indexed::show_row(alloc, repository, rest, page),
                 None => {
                     page.word("closed");
                     Some(())

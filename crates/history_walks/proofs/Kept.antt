@@ -16,8 +16,10 @@ use Rattle.gix_object_find.specs.Table.{Table}
 use Rattle.gix_object_lines.specs.declared.kind.Kind.TheVariants as kinds
 use Rattle.gix_traverse_commit.specs.Commits.{Commits, Listed, Reached, tip, parent}
 use Rattle.gix_traverse_commit.specs.Painting.{ReachedFrom}
+use Rattle.gix_traverse_commit.specs.Rows.{Holds}
 use Rattle.gix_traverse_commit.specs.Simply.{Answers, request_in}
 use Rattle.gix_traverse_commit.specs.declared.parents.Parents.TheVariants.{All}
+use Rattle.gix_traverse_commit.specs.declared.rows.Row.{Row}
 use Rattle.gix_traverse_commit.specs.declared.simple.sorting.Sorting.TheVariants.{BreadthFirst}
 use Rattle.gix_traverse_commit.proofs.Lists.{at_from_contains, none_at_nil}
 use Rattle.history_walks.specs.Faults.{IsMet, WalkFault}
@@ -53,15 +55,25 @@ is_among contents id content found = found_among id contents.entries content fou
 
 -- ---- one more is kept
 
-module _ (table : Table) (old new : Contents) (ids : List ObjectId) (id : ObjectId) (content : Vec ℕ Global) (put : Updates by_id old new id (Some content)) where
+-- one that has a row needn't be
+pub none_more : (rows : List Row) (table kept : Table) (ids : List ObjectId) (id : ObjectId) → Holds rows id → AreKept rows table kept (Contains ids) → AreKept rows table kept (Contains (ids ++ id ∷ []))
+none_more rows table kept ids id held all = record {
+  stand = all.stand;
+  each = λ x c unheld. elim (Contains-push_cases ids id x c) [
+    | inl earlier ↦ all.each x earlier unheld
+    | inr same ↦ absurd (unheld (subst (λ y. Holds rows y) same held))
+  ];
+}
+
+module _ (rows : List Row) (table : Table) (old new : Contents) (ids : List ObjectId) (id : ObjectId) (content : Vec ℕ Global) (put : Updates by_id old new id (Some content)) where
   after : (x : ObjectId) (tied : Bool) → is_eq (by_id id x) ≡ tied → table_of new (id_of x) ≡ option_map commit_object (cond tied (Some content) (get by_id old x))
   after x tied is = ap (option_map commit_object) (put.0 x ∙ ap (λ b. cond b (Some content) (get by_id old x)) is)
 
-  pub one_kept : Stands table (id_of id) kinds.Commit content.items → AreKept table (table_of old) (Contains ids) → AreKept table (table_of new) (Contains (ids ++ id ∷ []))
+  pub one_kept : Stands table (id_of id) kinds.Commit content.items → AreKept rows table (table_of old) (Contains ids) → AreKept rows table (table_of new) (Contains (ids ++ id ∷ []))
   one_kept stands kept = record {
     stand = λ x bytes there. standing x bytes there (is_eq (by_id id x)) refl;
-    each = λ x c. elim (Contains-push_cases ids id x c) [
-      | inl earlier ↦ still x (kept.each x earlier) (is_eq (by_id id x)) refl
+    each = λ x c unheld. elim (Contains-push_cases ids id x c) [
+      | inl earlier ↦ still x (kept.each x earlier unheld) (is_eq (by_id id x)) refl
       | inr same ↦ subst (λ y. (bytes : List ℕ) × Stands (table_of new) (id_of y) kinds.Commit bytes) same (content.items, ap (option_map commit_object) put.1)
     ];
   }
@@ -94,22 +106,25 @@ module _ (g : Commits ObjectId) (tips hidden : List ObjectId) where
   met_by_one (tip {x = x} c p) = elim (Contains-append_cases tips hidden x c) [ inl a ↦ inl (tip a tt) | inr b ↦ inr (tip b tt) ]
   met_by_one (parent r c p) = elim (met_by_one r) [ inl a ↦ inl (parent a c tt) | inr b ↦ inr (parent b c tt) ]
 
-  pub fault_of_met : (may_fail : Type 0) (table : Table) (error : WalkError) → WalkFault may_fail table g (tips ++ hidden) [] error → WalkFault may_fail table g tips hidden error
-  fault_of_met may_fail table Failed f = f
-  fault_of_met may_fail table Broken (x, inl met, unread) = (x, met_by_one met, unread)
-  fault_of_met may_fail table Broken (x, inr met, unread) = absurd (none_reached g met)
-  fault_of_met may_fail table Memory f = tt
+  met_of_both : {x : ObjectId} → IsMet g (tips ++ hidden) [] x → IsMet g tips hidden x
+  met_of_both (inl met) = met_by_one met
+  met_of_both (inr met) = absurd (none_reached g met)
+
+  pub fault_of_met : (may_fail : Type 0) (rows : List Row) (table : Table) (error : WalkError) → WalkFault may_fail rows table g (tips ++ hidden) [] error → WalkFault may_fail rows table g tips hidden error
+  fault_of_met may_fail rows table Failed (f, (x, met, unheld)) = (f, (x, met_of_both met, unheld))
+  fault_of_met may_fail rows table Broken (x, met, unheld, unread) = (x, met_of_both met, unheld, unread)
+  fault_of_met may_fail rows table Memory f = tt
 
   comes : (x : ObjectId) → IsMet g tips hidden x → Listed g (request_in None (asked (tips ++ hidden) [] All BreadthFirst)) x
   comes x (inl r) = ((reached_as (λ y. (g y).parents) (λ _. ⊤) _ tips (tips ++ hidden) (λ y c. Contains-append_left tips hidden y c) (λ y _ _. (refl, tt)) r).0, λ h. none_reached g h)
   comes x (inr r) = ((reached_as (λ y. (g y).parents) (λ _. ⊤) _ hidden (tips ++ hidden) (λ y c. Contains-append_right tips hidden y c) (λ y _ _. (refl, tt)) r).0, λ h. none_reached g h)
 
-  pub met_kept : (table kept : Table) → (ids : List ObjectId) × Answers g (asked (tips ++ hidden) [] All BreadthFirst) ids × AreKept table kept (Contains ids) → AreKept table kept (IsMet g tips hidden)
-  met_kept table kept (ids, answers, all) = record {
+  pub met_kept : (rows : List Row) (table kept : Table) → (ids : List ObjectId) × Answers g (asked (tips ++ hidden) [] All BreadthFirst) ids × AreKept rows table kept (Contains ids) → AreKept rows table kept (IsMet g tips hidden)
+  met_kept rows table kept (ids, answers, all) = record {
     stand = all.stand;
-    each = λ x met. all.each x ((answers.list.each x).1 (comes x met));
+    each = λ x met unheld. all.each x ((answers.list.each x).1 (comes x met)) unheld;
   }
 
-pub kept_same : (g : Commits ObjectId) (lent tips lent_hidden hidden : List ObjectId) (table kept : Table) → lent ≡ tips → lent_hidden ≡ hidden → AreKept table kept (IsMet g lent lent_hidden) → AreKept table kept (IsMet g tips hidden)
-kept_same g lent tips lent_hidden hidden table kept same same_hidden all =
-    subst (λ (xs : List ObjectId). AreKept table kept (IsMet g xs hidden)) same (subst (λ (xs : List ObjectId). AreKept table kept (IsMet g lent xs)) same_hidden all)
+pub kept_same : (g : Commits ObjectId) (lent tips lent_hidden hidden : List ObjectId) (rows : List Row) (table kept : Table) → lent ≡ tips → lent_hidden ≡ hidden → AreKept rows table kept (IsMet g lent lent_hidden) → AreKept rows table kept (IsMet g tips hidden)
+kept_same g lent tips lent_hidden hidden rows table kept same same_hidden all =
+    subst (λ (xs : List ObjectId). AreKept rows table kept (IsMet g xs hidden)) same (subst (λ (xs : List ObjectId). AreKept rows table kept (IsMet g lent xs)) same_hidden all)

@@ -48,10 +48,10 @@ told_error P (Err error) want is p = subst P (sym is) p
 -- ---- in breadth order and by time
 
 module _ {F : Type 0} (honest may_fail : F → Type 0) (table : F → Table) (ids : F → List Id) (goes : All → Id → All → Type 0) (walk before after : Simple F All) (listed : List ObjectId)
-    (same : objects_of before ≡ objects_of walk) (bare : graph_of before ≡ None) where
+    (same : objects_of before ≡ objects_of walk) (kept_rows : graph_of before ≡ graph_of walk) where
   -- what the walk gave so far
   abbrev pub Given : List ObjectId → Simple F All → Type 0
-  Given xs now = honest (objects_of walk) → (h : Commits ObjectId) → AreTold [] (table (objects_of walk)) h → (a : Asked) → IsSure (may_fail (objects_of walk)) a
+  Given xs now = honest (objects_of walk) → (h : Commits ObjectId) → AreTold (rows_of (graph_of walk)) (table (objects_of walk)) h → (a : Asked) → IsSure (may_fail (objects_of walk)) a
       → IsMade (λ _ _. true) a walk → Stands (λ _ _. true) (ids (objects_of walk)) h a xs now
 
   abbrev NextOf : F → Option (Result Info simple.Error) → Type 0
@@ -62,8 +62,8 @@ module _ {F : Type 0} (honest may_fail : F → Type 0) (table : F → Table) (id
       over_walk : NextOf (objects_of walk) item
       over_walk = subst (λ o. NextOf o item) same next
 
-    rowed : (h : Commits ObjectId) → AreTold [] (table (objects_of walk)) h → AreTold (rows_of (graph_of before)) (table (objects_of walk)) h
-    rowed h told = subst (λ rows. AreTold (rows_of rows) (table (objects_of walk)) h) (sym bare) told
+    rowed : (h : Commits ObjectId) → AreTold (rows_of (graph_of walk)) (table (objects_of walk)) h → AreTold (rows_of (graph_of before)) (table (objects_of walk)) h
+    rowed h told = subst (λ rows. AreTold (rows_of rows) (table (objects_of walk)) h) (sym kept_rows) told
 
     pub one_more : (answer : Result Info simple.Error) (info : Info) → NextOf (objects_of before) (Some answer) → answer ≡ Ok info → Given (listed ++ info.id ∷ []) after
     one_more answer info next was is h told a sure made =
@@ -72,48 +72,48 @@ module _ {F : Type 0} (honest may_fail : F → Type 0) (table : F → Table) (id
         subst (λ (r : Result Info simple.Error). IfOk r (λ i. IsNext (λ _ _. true) (ids (objects_of walk)) h a listed (rows_of (graph_of before)) i after)) was given in
         inr there.stands
 
-    pub all_given : NextOf (objects_of before) None → honest (objects_of walk) → (h : Commits ObjectId) → AreTold [] (table (objects_of walk)) h → (a : Asked) → IsSure (may_fail (objects_of walk)) a
+    pub all_given : NextOf (objects_of before) None → honest (objects_of walk) → (h : Commits ObjectId) → AreTold (rows_of (graph_of walk)) (table (objects_of walk)) h → (a : Asked) → IsSure (may_fail (objects_of walk)) a
         → IsMade (λ _ _. true) a walk → Answers h a listed
     all_given next is h told a sure made = (over_walk None next).end is h (rowed h told) a listed sure (so_far is h told a sure made)
 
     pub stops_walk : (answer : Result Info simple.Error) (error : simple.Error) → NextOf (objects_of before) (Some answer) → answer ≡ Err error → honest (objects_of walk) → (h : Commits ObjectId)
-        → AreTold [] (table (objects_of walk)) h → (a : Asked) → IsSure (may_fail (objects_of walk)) a → IsMade (λ _ _. true) a walk
-        → WalkFault (may_fail (objects_of walk)) (table (objects_of walk)) h a.tips a.hidden (as_walked error)
+        → AreTold (rows_of (graph_of walk)) (table (objects_of walk)) h → (a : Asked) → IsSure (may_fail (objects_of walk)) a → IsMade (λ _ _. true) a walk
+        → WalkFault (may_fail (objects_of walk)) (rows_of (graph_of walk)) (table (objects_of walk)) h a.tips a.hidden (as_walked error)
     stops_walk answer error next was is h told a sure made =
         let refused = (over_walk (Some answer) next).refused is h (rowed h told) a listed sure (so_far is h told a sure made) in
         let fault : SimpleFault (IsTurn h a listed) a.parents (honest (objects_of walk)) (may_fail (objects_of walk)) (rows_of (graph_of before)) (table (objects_of walk)) a.hidden error =
         subst (λ (r : Result Info simple.Error). IfErr r (SimpleFault (IsTurn h a listed) a.parents (honest (objects_of walk)) (may_fail (objects_of walk)) (rows_of (graph_of before)) (table (objects_of walk)) a.hidden)) was refused in
-        walk_fault (honest (objects_of walk)) (may_fail (objects_of walk)) is (table (objects_of walk)) h told a listed error
-        (subst (λ (rows : Option (List Row)). SimpleFault (IsTurn h a listed) a.parents (honest (objects_of walk)) (may_fail (objects_of walk)) (rows_of rows) (table (objects_of walk)) a.hidden error) bare fault)
+        walk_fault (honest (objects_of walk)) (may_fail (objects_of walk)) is (rows_of (graph_of walk)) (table (objects_of walk)) h told a listed error
+        (subst (λ (rows : Option (List Row)). SimpleFault (IsTurn h a listed) a.parents (honest (objects_of walk)) (may_fail (objects_of walk)) (rows_of rows) (table (objects_of walk)) a.hidden error) kept_rows fault)
 
 -- ---- by date and in topological order
 
 module _ (goes : All → Id → All → Type 0) (walk before after : Topo All) (listed : List ObjectId) (same : before.parents ≡ walk.parents) where
   abbrev pub GivenSorted : List ObjectId → Topo All → Type 0
-  GivenSorted xs now = (sorting : Sorting) (faults : ObjectId → Option topo.Error) (g : Commits ObjectId) (tips ends : List ObjectId)
-      → HasGiven (λ _ _. true) walk sorting [] faults g tips ends [] → HasGiven (λ _ _. true) now sorting [] faults g tips ends xs
+  GivenSorted xs now = (sorting : Sorting) (rows : List Row) (faults : ObjectId → Option topo.Error) (g : Commits ObjectId) (tips ends : List ObjectId)
+      → HasGiven (λ _ _. true) walk sorting rows faults g tips ends [] → HasGiven (λ _ _. true) now sorting rows faults g tips ends xs
 
   abbrev NextSorted : Option (Result Info topo.Error) → Type 0
   NextSorted item = sorted.GivesNext (λ _ _. true) goes before item after
 
   module _ (so_far : GivenSorted listed before) where
     pub one_more_sorted : (answer : Result Info topo.Error) (info : Info) → NextSorted (Some answer) → answer ≡ Ok info → GivenSorted (listed ++ info.id ∷ []) after
-    one_more_sorted answer info next was sorting faults g tips ends begins =
-        let more = next.more sorting [] faults g tips ends listed (so_far sorting faults g tips ends begins) in
-        (subst (λ (r : Result Info topo.Error). IfOk r (λ i. HasGiven (λ _ _. true) after sorting [] faults g tips ends (listed ++ i.id ∷ []) × standing.IsInfo [] g i)) was more).0
+    one_more_sorted answer info next was sorting rows faults g tips ends begins =
+        let more = next.more sorting rows faults g tips ends listed (so_far sorting rows faults g tips ends begins) in
+        (subst (λ (r : Result Info topo.Error). IfOk r (λ i. HasGiven (λ _ _. true) after sorting rows faults g tips ends (listed ++ i.id ∷ []) × standing.IsInfo rows g i)) was more).0
 
-    pub all_given_sorted : NextSorted None → (sorting : Sorting) (faults : ObjectId → Option topo.Error) (g : Commits ObjectId) (tips ends : List ObjectId)
-        → HasGiven (λ _ _. true) walk sorting [] faults g tips ends [] → NoneReachesItself g (topo_request tips ends walk.parents all_accepted)
+    pub all_given_sorted : NextSorted None → (sorting : Sorting) (rows : List Row) (faults : ObjectId → Option topo.Error) (g : Commits ObjectId) (tips ends : List ObjectId)
+        → HasGiven (λ _ _. true) walk sorting rows faults g tips ends [] → NoneReachesItself g (topo_request tips ends walk.parents all_accepted)
         → standing.Answers sorting g (topo_request tips ends walk.parents all_accepted) listed
-    all_given_sorted next sorting faults g tips ends begins none =
+    all_given_sorted next sorting rows faults g tips ends begins none =
         subst (λ (p : Parents). standing.Answers sorting g (topo_request tips ends p all_accepted) listed) same
-        (next.end sorting [] faults g tips ends listed (so_far sorting faults g tips ends begins)
+        (next.end sorting rows faults g tips ends listed (so_far sorting rows faults g tips ends begins)
         (subst (λ (p : Parents). NoneReachesItself g (topo_request tips ends p all_accepted)) (sym same) none))
 
-    pub stops_sorted : (answer : Result Info topo.Error) (error : topo.Error) → NextSorted (Some answer) → answer ≡ Err error → (sorting : Sorting) (faults : ObjectId → Option topo.Error) (g : Commits ObjectId) (tips ends : List ObjectId)
-        → HasGiven (λ _ _. true) walk sorting [] faults g tips ends [] → StopsSorted faults g tips ends walk.parents (as_sorted error)
-    stops_sorted answer error next was sorting faults g tips ends begins =
-        let refused = next.refused sorting [] faults g tips ends listed (so_far sorting faults g tips ends begins) in
+    pub stops_sorted : (answer : Result Info topo.Error) (error : topo.Error) → NextSorted (Some answer) → answer ≡ Err error → (sorting : Sorting) (rows : List Row) (faults : ObjectId → Option topo.Error) (g : Commits ObjectId) (tips ends : List ObjectId)
+        → HasGiven (λ _ _. true) walk sorting rows faults g tips ends [] → StopsSorted faults g tips ends walk.parents (as_sorted error)
+    stops_sorted answer error next was sorting rows faults g tips ends begins =
+        let refused = next.refused sorting rows faults g tips ends listed (so_far sorting rows faults g tips ends begins) in
         let why : (error ≡ sorted_fault.Memory) ⊎ ((x : ObjectId) × (faults x ≡ Some error) × standing.IsTurn sorting faults g (topo_request tips ends before.parents all_accepted) listed x) =
         subst (λ (r : Result Info topo.Error). IfErr r (λ e. (e ≡ sorted_fault.Memory) ⊎ ((x : ObjectId) × (faults x ≡ Some e)
         × standing.IsTurn sorting faults g (topo_request tips ends before.parents all_accepted) listed x))) was refused in
@@ -124,9 +124,12 @@ module _ (goes : All → Id → All → Type 0) (walk before after : Topo All) (
 
 -- ---- what is asked for
 
--- the store is this one
-pub over_same : {F : Type 0} (honest : F → Type 0) (table : F → Table) (Q : F → Commits ObjectId → Type 0) (other store : F) → other ≡ store → OverTable (honest other) (table other) (Q other) → OverTable (honest store) (table store) (Q store)
-over_same honest table Q other store same over = subst (λ o. OverTable (honest o) (table o) (Q o)) same over
+-- the store and the rows are these
+pub over_same : {F : Type 0} (honest : F → Type 0) (table : F → Table) (Q : F → Option (List Row) → Commits ObjectId → Type 0) (other store : F) (graph rows : Option (List Row)) → other ≡ store → graph ≡ rows
+    → OverTable (honest other) (rows_of graph) (table other) (Q other graph) → OverTable (honest store) (rows_of rows) (table store) (Q store rows)
+over_same honest table Q other store graph rows same same_rows over =
+    subst (λ r. OverTable (honest store) (rows_of r) (table store) (Q store r)) same_rows
+    (subst (λ o. OverTable (honest o) (rows_of graph) (table o) (Q o graph)) same over)
 
 pub ok_then : {T E : Type 0} (result : Result T E) (P Q : T → Type 0) → ((value : T) → P value → Q value) → IfOk result P → IfOk result Q
 ok_then (Ok value) P Q f h = f value h
@@ -155,69 +158,70 @@ module _ (g : Commits ObjectId) (tips hidden ids : List ObjectId) (sorting : Sim
   oldest_answers is = subst In is h
 
 -- a commit of the walk that has a fault isn't read
-pub stopped_fault : (honest may_fail : Type 0) (is : honest) (table : Table) (g : Commits ObjectId) (told : AreTold [] table g) (faults : ObjectId → Option topo.Error) (tips ends : List ObjectId) (parents : Parents)
-    → ((x : ObjectId) → IfSome (faults x) (IsFaultOf honest may_fail [] table x)) → (error : WalkError) → StopsSorted faults g tips ends parents error → WalkFault may_fail table g tips ends error
-stopped_fault honest may_fail is table g told faults tips ends parents causes error (inl memory) = subst (λ e. WalkFault may_fail table g tips ends e) (sym memory) tt
-stopped_fault honest may_fail is table g told faults tips ends parents causes error (inr (x, cause, at, same, listed)) =
-    subst (λ e. WalkFault may_fail table g tips ends e) (sym same)
-    (sorted_fault honest may_fail is table g told tips ends x cause (inl (reached_by_all parents g _ tips listed.0)) (subst (λ (f : Option topo.Error). IfSome f (IsFaultOf honest may_fail [] table x)) at (causes x)))
+pub stopped_fault : (honest may_fail : Type 0) (is : honest) (rows : List Row) (table : Table) (g : Commits ObjectId) (told : AreTold rows table g) (faults : ObjectId → Option topo.Error) (tips ends : List ObjectId) (parents : Parents)
+    → ((x : ObjectId) → IfSome (faults x) (IsFaultOf honest may_fail rows table x)) → (error : WalkError) → StopsSorted faults g tips ends parents error → WalkFault may_fail rows table g tips ends error
+stopped_fault honest may_fail is rows table g told faults tips ends parents causes error (inl memory) = subst (λ e. WalkFault may_fail rows table g tips ends e) (sym memory) tt
+stopped_fault honest may_fail is rows table g told faults tips ends parents causes error (inr (x, cause, at, same, listed)) =
+    subst (λ e. WalkFault may_fail rows table g tips ends e) (sym same)
+    (sorted_fault honest may_fail is rows table g told tips ends x cause (inl (reached_by_all parents g _ tips listed.0)) (subst (λ (f : Option topo.Error). IfSome f (IsFaultOf honest may_fail rows table x)) at (causes x)))
 
 -- a walk that was built for tips and ends over a store
-module _ {S : Type 0} (honest may_fail : S → Type 0) (table : S → Table) (first second final : asking.Asked (Bor S) All) (store : Bor S) (tips ends : List ObjectId) (sorting : Sorting) (parents : Parents) (objects_are : first.objects ≡ store) (tips_are : first.tips ≡ tips)
-    (ends_are : first.ends ≡ ends) (bare : first.graph ≡ None) (along : second ≡ record first { parents = parents }) (ordered : final ≡ record second { sorting = sorting }) where
+module _ {S : Type 0} (honest may_fail : S → Type 0) (table : S → Table) (initial first second final : asking.Asked (Bor S) All) (store : Bor S) (graph : Option (List Row)) (tips ends : List ObjectId) (sorting : Sorting) (parents : Parents) (objects_are : initial.objects ≡ store) (tips_are : initial.tips ≡ tips)
+    (ends_are : initial.ends ≡ ends) (with_rows : first ≡ record initial { graph = graph }) (along : second ≡ record first { parents = parents }) (ordered : final ≡ record second { sorting = sorting }) where
   abbrev Wanted : asking.Asked (Bor S) All
   Wanted = record {
     objects = store;
-    predicate = first.predicate;
+    predicate = initial.predicate;
     tips = tips;
     ends = ends;
     sorting = sorting;
     parents = parents;
-    graph = None;
+    graph = graph;
   }
 
   wanted : final ≡ Wanted
   wanted =
       ordered ∙ ap (λ (x : asking.Asked (Bor S) All). record x { sorting = sorting }) along
+      ∙ ap (λ (x : asking.Asked (Bor S) All). record (record x { parents = parents }) { sorting = sorting }) with_rows
       ∙ (λ i. record {
         objects = objects_are i;
-        predicate = first.predicate;
+        predicate = initial.predicate;
         tips = tips_are i;
         ends = ends_are i;
         sorting = sorting;
         parents = parents;
-        graph = bare i;
+        graph = graph;
       })
 
-  pub unbuilt : honest store.now → (h : Commits ObjectId) → AreTold [] (table store.now) h → (error : topo.Error)
-      → IsBuildFault (honest (final.objects).now) (may_fail (final.objects).now) (rows_of final.graph) (table (final.objects).now) final.ends error → WalkFault (may_fail store.now) (table store.now) h tips ends (as_sorted error)
+  pub unbuilt : honest store.now → (h : Commits ObjectId) → AreTold (rows_of graph) (table store.now) h → (error : topo.Error)
+      → IsBuildFault (honest (final.objects).now) (may_fail (final.objects).now) (rows_of final.graph) (table (final.objects).now) final.ends error → WalkFault (may_fail store.now) (rows_of graph) (table store.now) h tips ends (as_sorted error)
   unbuilt is h told error fault =
-      build_fault (honest store.now) (may_fail store.now) is (table store.now) h told tips ends error
+      build_fault (honest store.now) (may_fail store.now) is (rows_of graph) (table store.now) h told tips ends error
       (subst (λ (x : asking.Asked (Bor S) All). IsBuildFault (honest (x.objects).now) (may_fail (x.objects).now) (rows_of x.graph) (table (x.objects).now) x.ends error) wanted fault)
 
   module _ (walk : Topo All) (begins : BeginsAs (λ _ _. true) (honest (final.objects).now) (may_fail (final.objects).now) (table (final.objects).now) final walk) (followed : walk.parents ≡ final.parents)
       (result : Result (Vec ObjectId Global) WalkError) where
-    begun : standing.Begins (honest store.now) (may_fail store.now) sorting [] (table store.now) tips ends parents (λ _. true) walk.known walk.ready
+    begun : standing.Begins (honest store.now) (may_fail store.now) sorting (rows_of graph) (table store.now) tips ends parents (λ _. true) walk.known walk.ready
     begun = subst (λ (x : asking.Asked (Bor S) All). BeginsAs (λ _ _. true) (honest (x.objects).now) (may_fail (x.objects).now) (table (x.objects).now) x walk) wanted begins
 
     goes_along : walk.parents ≡ parents
     goes_along = followed ∙ ap (λ (x : asking.Asked (Bor S) All). x.parents) wanted
 
-    stands : honest store.now → (h : Commits ObjectId) → AreTold [] (table store.now) h → HasGiven (λ _ _. true) walk sorting [] begun.faults h tips ends []
+    stands : honest store.now → (h : Commits ObjectId) → AreTold (rows_of graph) (table store.now) h → HasGiven (λ _ _. true) walk sorting (rows_of graph) begun.faults h tips ends []
     stands is h told =
-        subst (λ (p : Parents). standing.Stands sorting [] begun.faults h tips ends p (λ _. true) [] walk.known walk.ready) (sym goes_along) (begun.stands is h told)
+        subst (λ (p : Parents). standing.Stands sorting (rows_of graph) begun.faults h tips ends p (λ _. true) [] walk.known walk.ready) (sym goes_along) (begun.stands is h told)
 
-    pub sorted_lists : ((sorting : Sorting) (faults : ObjectId → Option topo.Error) (g : Commits ObjectId) (tips ends : List ObjectId) → HasGiven (λ _ _. true) walk sorting [] faults g tips ends []
+    pub sorted_lists : ((sorting : Sorting) (rows : List Row) (faults : ObjectId → Option topo.Error) (g : Commits ObjectId) (tips ends : List ObjectId) → HasGiven (λ _ _. true) walk sorting rows faults g tips ends []
         → NoneReachesItself g (topo_request tips ends walk.parents all_accepted) → IfOk result (λ (ids : Vec ObjectId Global). standing.Answers sorting g (topo_request tips ends walk.parents all_accepted) ids.items))
-        → honest store.now → (h : Commits ObjectId) → AreTold [] (table store.now) h → NoneReachesItself h (topo_request tips ends parents all_accepted)
+        → honest store.now → (h : Commits ObjectId) → AreTold (rows_of graph) (table store.now) h → NoneReachesItself h (topo_request tips ends parents all_accepted)
         → IfOk result (λ (ids : Vec ObjectId Global). standing.Answers sorting h (topo_request tips ends parents all_accepted) ids.items)
     sorted_lists lists is h told none =
         subst (λ (p : Parents). IfOk result (λ (ids : Vec ObjectId Global). standing.Answers sorting h (topo_request tips ends p all_accepted) ids.items)) goes_along
-        (lists sorting begun.faults h tips ends (stands is h told) (subst (λ (p : Parents). NoneReachesItself h (topo_request tips ends p all_accepted)) (sym goes_along) none))
+        (lists sorting (rows_of graph) begun.faults h tips ends (stands is h told) (subst (λ (p : Parents). NoneReachesItself h (topo_request tips ends p all_accepted)) (sym goes_along) none))
 
-    pub sorted_refused : ((sorting : Sorting) (faults : ObjectId → Option topo.Error) (g : Commits ObjectId) (tips ends : List ObjectId) → HasGiven (λ _ _. true) walk sorting [] faults g tips ends []
-        → IfErr result (StopsSorted faults g tips ends walk.parents)) → honest store.now → (h : Commits ObjectId) → AreTold [] (table store.now) h → IfErr result (WalkFault (may_fail store.now) (table store.now) h tips ends)
+    pub sorted_refused : ((sorting : Sorting) (rows : List Row) (faults : ObjectId → Option topo.Error) (g : Commits ObjectId) (tips ends : List ObjectId) → HasGiven (λ _ _. true) walk sorting rows faults g tips ends []
+        → IfErr result (StopsSorted faults g tips ends walk.parents)) → honest store.now → (h : Commits ObjectId) → AreTold (rows_of graph) (table store.now) h → IfErr result (WalkFault (may_fail store.now) (rows_of graph) (table store.now) h tips ends)
     sorted_refused refused is h told =
-        err_then result (StopsSorted begun.faults h tips ends walk.parents) (WalkFault (may_fail store.now) (table store.now) h tips ends)
-        (λ error stops. stopped_fault (honest store.now) (may_fail store.now) is (table store.now) h told begun.faults tips ends walk.parents begun.causes error stops)
-        (refused sorting begun.faults h tips ends (stands is h told))
+        err_then result (StopsSorted begun.faults h tips ends walk.parents) (WalkFault (may_fail store.now) (rows_of graph) (table store.now) h tips ends)
+        (λ error stops. stopped_fault (honest store.now) (may_fail store.now) is (rows_of graph) (table store.now) h told begun.faults tips ends walk.parents begun.causes error stops)
+        (refused sorting (rows_of graph) begun.faults h tips ends (stands is h told))

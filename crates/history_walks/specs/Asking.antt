@@ -1,5 +1,5 @@
 -- What is asked for, and which lists answer it.
-use Rattle.std.specs.Prelude.{true, ℤ, [], List, Option, None}
+use Rattle.std.specs.Prelude.{true, ℤ, List, Option, None}
 use Rattle.gix_hash_id.specs.declared.object_id.ObjectId.{ObjectId}
 use Rattle.gix_object_find.specs.Table.{Table}
 use Rattle.gix_traverse_commit.specs.Commits.{Commits, WalkRequest}
@@ -7,6 +7,7 @@ use Rattle.gix_traverse_commit.specs.Told.{AreTold}
 use Rattle.gix_traverse_commit.specs.Walks.{InBreadth, ByNewest, ByOldest, InDate, InTopological}
 use Rattle.gix_traverse_commit.specs.declared.parents.Parents.{Parents}
 use Rattle.gix_traverse_commit.specs.declared.parents.Parents.TheVariants.{All}
+use Rattle.gix_traverse_commit.specs.declared.rows.Row.{Row}
 use Rattle.history_walks.specs.declared.listing.Order.{Order}
 use Rattle.history_walks.specs.declared.listing.Order.TheVariants.{Breadth, Newest, Oldest, Date, Topological}
 use Rattle.history_walks.specs.declared.listing.Request.{Request}
@@ -48,6 +49,6 @@ IsInOrder (Oldest since) g q ids = ByOldest g q ids
 IsInOrder (Date parents) g q ids = InDate g q ids
 IsInOrder (Topological parents) g q ids = InTopological g q ids
 
--- it holds of each commits that the table tells, where the store answers by it
-abbrev pub OverTable : Type 0 → Table → (Commits ObjectId → Type 0) → Type 0
-OverTable honest table P = honest → (g : Commits ObjectId) → AreTold [] table g → P g
+-- it holds of each commits that the rows tell, and else the table, where the store answers by it
+abbrev pub OverTable : Type 0 → List Row → Table → (Commits ObjectId → Type 0) → Type 0
+OverTable honest rows table P = honest → (g : Commits ObjectId) → AreTold rows table g → P g

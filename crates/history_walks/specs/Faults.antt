@@ -15,8 +15,10 @@ use Rattle.gix_object_lines.specs.declared.kind.Kind.TheVariants as kinds
 use Rattle.gix_traverse_commit.specs.Commits.{Commits}
 use Rattle.gix_traverse_commit.specs.Fetching.{LacksParents}
 use Rattle.gix_traverse_commit.specs.Painting.{ReachedFrom}
+use Rattle.gix_traverse_commit.specs.Rows.{Holds}
 use Rattle.gix_traverse_commit.specs.Told.{IsNoCommit}
 use Rattle.gix_traverse_commit.specs.declared.parents.Parents.TheVariants.{All}
+use Rattle.gix_traverse_commit.specs.declared.rows.Row.{Row}
 use Rattle.gix_traverse_commit.specs.declared.simple.faults.Error as simple
 use Rattle.gix_traverse_commit.specs.declared.simple.faults.Error.TheVariants as walked
 use Rattle.gix_traverse_commit.specs.declared.simple.faults.HiddenGraphError.TheVariants as hidden
@@ -64,10 +66,11 @@ pub data IsUnread (table : Table) (id : ObjectId) : Type 0 where
 abbrev pub IsMet : Commits ObjectId → List ObjectId → List ObjectId → ObjectId → Type 0
 IsMet g tips hidden x = ReachedFrom g tips x ⊎ ReachedFrom g hidden x
 
--- why no list is given: a lookup failed, or a commit that is come to isn't read; or no memory was left
-abbrev pub WalkFault : Type 0 → Table → Commits ObjectId → List ObjectId → List ObjectId → WalkError
-    → Type 0
-WalkFault may_fail table g tips hidden Failed = may_fail
-WalkFault may_fail table g tips hidden Broken =
-    (x : ObjectId) × IsMet g tips hidden x × IsUnread table x
-WalkFault may_fail table g tips hidden Memory = ⊤
+-- why no list is given: of a commit that is come to and has no row the lookup failed, or it isn't read; or no memory was left
+abbrev pub WalkFault : Type 0 → List Row → Table → Commits ObjectId → List ObjectId → List ObjectId
+    → WalkError → Type 0
+WalkFault may_fail rows table g tips hidden Failed =
+    may_fail × ((x : ObjectId) × IsMet g tips hidden x × (¬ Holds rows x))
+WalkFault may_fail rows table g tips hidden Broken =
+    (x : ObjectId) × IsMet g tips hidden x × (¬ Holds rows x) × IsUnread table x
+WalkFault may_fail rows table g tips hidden Memory = ⊤

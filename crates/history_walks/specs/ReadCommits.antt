@@ -8,6 +8,8 @@ use Rattle.gix_hash_id.specs.declared.object_id.ObjectId.{ObjectId}
 use Rattle.gix_object_find.specs.Existing.{Stands}
 use Rattle.gix_object_find.specs.Table.{Object, Table}
 use Rattle.gix_object_lines.specs.declared.kind.Kind.TheVariants as kinds
+use Rattle.gix_traverse_commit.specs.Rows.{Holds}
+use Rattle.gix_traverse_commit.specs.declared.rows.Row.{Row}
 
 -- contents under the ids of their commits
 abbrev pub Contents : Type 0
@@ -25,9 +27,10 @@ table_of contents id =
 abbrev pub ids_of : Contents → List Id
 ids_of contents = map id_of (keys contents)
 
--- Of a table's commits some are kept: they stand in the table as they are kept, and each of these is among them.
-pub record AreKept (table kept : Table) (IsWanted : ObjectId → Type 0) : Type 0 where
+-- Of a table's commits some are kept: they stand in the table as they are kept, and each of these without a row is among them.
+pub record AreKept (rows : List Row) (table kept : Table)
+    (IsWanted : ObjectId → Type 0) : Type 0 where
   pub stand : (x : ObjectId) (content : List ℕ) → Stands kept (id_of x) kinds.Commit content
       → Stands table (id_of x) kinds.Commit content
-  pub each : (x : ObjectId) → IsWanted x
+  pub each : (x : ObjectId) → IsWanted x → ¬ Holds rows x
       → (content : List ℕ) × Stands kept (id_of x) kinds.Commit content

@@ -8,5 +8,5 @@ mod simply;
 mod sorted;
 
 pub use error::WalkError;
-pub use gix_traverse_commit::Parents;
+pub use gix_traverse_commit::{Graph, Parents};
 pub use listing::{Order, Request, list_commits};

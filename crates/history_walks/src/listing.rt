@@ -2,6 +2,7 @@
 
 ghost use Rattle.std.specs.Prelude.{◌≡◌, IfOk, IfErr, Some};
 ghost use Rattle.gix_traverse_commit.specs.Sorting.{timing_of};
+ghost use Rattle.gix_traverse_commit.specs.Told.{rows_of};
 ghost use Rattle.gix_traverse_commit.specs.declared.parents.Parents.TheVariants.{All as AllParents};
 ghost use Rattle.gix_traverse_topo.specs.Standing.{NoneReachesItself};
 ghost use Rattle.history_walks.specs.Asking.{IsInOrder, OverTable, request_of};
@@ -11,8 +12,8 @@ use crate::error::WalkError;
 use crate::{simply, sorted};
 use gix_hash::ObjectId;
 use gix_object_find::Find;
-use gix_traverse_commit::Parents;
 use gix_traverse_commit::simple::{CommitTimeOrder, Sorting};
+use gix_traverse_commit::{Graph, Parents};
 use gix_traverse_topo as topo;
 use std::alloc::Global;
 
@@ -48,21 +49,22 @@ pub struct Request {
     pub hidden: Vec<ObjectId>,
 }
 
-/// The commits that are asked for, in their order, each once.
+/// The commits that are asked for, in their order, each once. Where a commit has a row, the store isn't asked for it.
 ///
-/// It is `Failed` where a lookup failed, `Broken` where a commit that the tips or the hidden commits reach doesn't stand or can't be
-/// read, and `Memory` where no memory is left.
+/// It is `Failed` where a lookup failed, `Broken` where a commit that the tips or the hidden commits reach has no row and doesn't stand
+/// or can't be read, and `Memory` where no memory is left.
 pub fn list_commits<S: Find>(
     alloc: Global,
     store: &S,
+    rows: Option<Graph>,
     request: Request,
 ) -> Result<Vec<ObjectId>, WalkError>
-    ensures lists { OverTable (S.is_honest store.now) (S.table store.now) (λ g.
+    ensures lists { OverTable (S.is_honest store.now) (rows_of rows) (S.table store.now) (λ g.
         NoneReachesItself g (request_of request)
         → IfOk result (λ ids. IsInOrder request.order g (request_of request) ids.items)) }
-    ensures refused { OverTable (S.is_honest store.now) (S.table store.now) (λ g. IfErr result
-        (WalkFault (S.may_fail store.now) (S.table store.now) g request.tips.items
-        request.hidden.items)) }
+    ensures refused { OverTable (S.is_honest store.now) (rows_of rows) (S.table store.now) (λ g.
+        IfErr result (WalkFault (S.may_fail store.now) (rows_of rows) (S.table store.now) g
+        request.tips.items request.hidden.items)) }
 {
     let Request {
         order,
@@ -71,23 +73,31 @@ pub fn list_commits<S: Find>(
     } = request;
     match order {
         Order::Breadth(parents) => {
-            simply::listed(alloc, store, tips, hidden, parents, Sorting::BreadthFirst)
+            simply::listed(
+                alloc,
+                store,
+                rows,
+                tips,
+                hidden,
+                parents,
+                Sorting::BreadthFirst,
+            )
         }
         Order::Newest { since } => {
             let sorting = by_time(CommitTimeOrder::NewestFirst, since);
-            simply::listed_by_time(alloc, store, tips, hidden, sorting)
+            simply::listed_by_time(alloc, store, rows, tips, hidden, sorting)
         }
         Order::Oldest { since } => {
             let sorting = by_time(CommitTimeOrder::OldestFirst, since);
-            simply::listed_by_time(alloc, store, tips, hidden, sorting)
+            simply::listed_by_time(alloc, store, rows, tips, hidden, sorting)
         }
         Order::Date(parents) => {
             let sorting = topo::Sorting::DateOrder;
-            sorted::listed(alloc, store, &tips, &hidden, parents, sorting)
+            sorted::listed(alloc, store, rows, &tips, &hidden, parents, sorting)
         }
         Order::Topological(parents) => {
             let sorting = topo::Sorting::TopoOrder;
-            sorted::listed(alloc, store, &tips, &hidden, parents, sorting)
+            sorted::listed(alloc, store, rows, &tips, &hidden, parents, sorting)
         }
     }
 }

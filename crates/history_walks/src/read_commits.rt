@@ -1,8 +1,9 @@
 //! Commits that were read from a store.
 
-ghost use Rattle.std.specs.Prelude.{◌≡◌, ⊤, true, None, List, Contains, IfOk, IfErr};
+ghost use Rattle.std.specs.Prelude.{⊤, true, List, Contains, IfOk, IfErr};
 ghost use Rattle.gix_hash_id.specs.declared.object_id.ObjectId.{ObjectId};
 ghost use Rattle.gix_traverse_commit.specs.Simply.{Answers, Asked, IsMade, IsSure, graph_of, objects_of};
+ghost use Rattle.gix_traverse_commit.specs.Told.{rows_of};
 ghost use Rattle.history_walks.specs.Asking.{OverTable};
 ghost use Rattle.history_walks.specs.Faults.{IsMet, WalkFault};
 ghost use Rattle.history_walks.specs.ReadCommits.{AreKept, ids_of, table_of};
@@ -11,7 +12,7 @@ use crate::error::WalkError;
 use gix_hash::{ObjectId, oid};
 use gix_object_find::{Find, Lookup, find};
 use gix_object_lines::Kind;
-use gix_traverse_commit::{All, Simple};
+use gix_traverse_commit::{All, Graph, Simple};
 use std::alloc::Global;
 use std::collections::BTreeMap;
 
@@ -22,49 +23,55 @@ pub(crate) struct ReadCommits {
 }
 
 impl ReadCommits {
-    /// All commits that the tips or the hidden commits reach, each read once from the store.
+    /// All commits without rows that the tips or the hidden commits reach, each read once from the store.
     ///
     /// It is `Failed` where a lookup failed, `Broken` where one of these commits doesn't stand or can't be read, and `Memory` where
     /// no memory is left.
     pub(crate) fn reached<S: Find>(
         alloc: Global,
         store: &S,
+        rows: Option<Graph>,
         tips: &[ObjectId],
         hidden: &[ObjectId],
     ) -> Result<ReadCommits, WalkError>
-        ensures reads { OverTable (S.is_honest store.now) (S.table store.now) (λ g.
-            IfOk result (λ commits. AreKept (S.table store.now) (table_of commits.contents)
-            (IsMet g tips.now hidden.now))) }
-        ensures refused { OverTable (S.is_honest store.now) (S.table store.now) (λ g.
-            IfErr result (WalkFault
-            (S.may_fail store.now) (S.table store.now) g tips.now hidden.now)) }
+        ensures reads { OverTable (S.is_honest store.now) (rows_of rows) (S.table store.now) (λ g.
+            IfOk result (λ commits. AreKept (rows_of rows) (S.table store.now)
+            (table_of commits.contents) (IsMet g tips.now hidden.now))) }
+        ensures refused { OverTable (S.is_honest store.now) (rows_of rows) (S.table store.now) (λ g.
+            IfErr result (WalkFault (S.may_fail store.now) (rows_of rows) (S.table store.now) g
+            tips.now hidden.now)) }
     {
         let mut starts = Vec::from_slice(alloc, tips)?;
         starts.extend_from_slice(hidden)?;
-        read_all(alloc, Simple::new(starts, store)?)
+        read_all(alloc, Simple::new(starts, store)?.commit_graph(rows))
     }
 }
 
-// All commits of a walk.
+// All commits of a walk that have no row.
 fn read_all<F: Find + Drop>(
     alloc: Global,
     mut walk: Simple<F, All>,
 ) -> Result<ReadCommits, WalkError>
-    requires { graph_of walk ≡ None }
-    ensures reads { OverTable (F.is_honest (objects_of walk)) (F.table (objects_of walk)) (λ g.
-        (a : Asked) → IsSure (F.may_fail (objects_of walk)) a → IsMade (λ _ _. true) a walk
+    ensures reads { OverTable (F.is_honest (objects_of walk)) (rows_of (graph_of walk))
+        (F.table (objects_of walk)) (λ g. (a : Asked)
+        → IsSure (F.may_fail (objects_of walk)) a → IsMade (λ _ _. true) a walk
         → IfOk result (λ commits. (ids : List ObjectId) × Answers g a ids
-        × AreKept (F.table (objects_of walk)) (table_of commits.contents) (Contains ids))) }
-    ensures refused { OverTable (F.is_honest (objects_of walk)) (F.table (objects_of walk)) (λ g.
-        (a : Asked) → IsSure (F.may_fail (objects_of walk)) a → IsMade (λ _ _. true) a walk
+        × AreKept (rows_of (graph_of walk)) (F.table (objects_of walk))
+        (table_of commits.contents) (Contains ids))) }
+    ensures refused { OverTable (F.is_honest (objects_of walk)) (rows_of (graph_of walk))
+        (F.table (objects_of walk)) (λ g. (a : Asked)
+        → IsSure (F.may_fail (objects_of walk)) a → IsMade (λ _ _. true) a walk
         → IfErr result (WalkFault
-        (F.may_fail (objects_of walk)) (F.table (objects_of walk)) g a.tips a.hidden)) }
+        (F.may_fail (objects_of walk)) (rows_of (graph_of walk)) (F.table (objects_of walk)) g
+        a.tips a.hidden)) }
 {
     let mut contents = BTreeMap::new(alloc);
     'walk: while let Some(info) = walk.next() {
-        let id = info?.id;
-        let content = Vec::from_slice(alloc, walk.commit_data())?;
-        contents.insert(id, content)?;
+        let info = info?;
+        if info.generation.is_none() {
+            let content = Vec::from_slice(alloc, walk.commit_data())?;
+            contents.insert(info.id, content)?;
+        }
     }
     Ok(ReadCommits { contents })
 }

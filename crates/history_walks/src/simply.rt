@@ -1,8 +1,9 @@
 //! Lists in breadth order and by time.
 
-ghost use Rattle.std.specs.Prelude.{◌≡◌, true, None, IfOk, IfErr};
+ghost use Rattle.std.specs.Prelude.{◌≡◌, true, IfOk, IfErr};
 ghost use Rattle.gix_traverse_commit.specs.declared.parents.Parents.TheVariants.{All as AllParents};
 ghost use Rattle.gix_traverse_commit.specs.Simply.{Answers, Asked, IsMade, IsSure, graph_of, objects_of};
+ghost use Rattle.gix_traverse_commit.specs.Told.{rows_of};
 ghost use Rattle.history_walks.specs.Asking.{OverTable};
 ghost use Rattle.history_walks.specs.Faults.{WalkFault};
 ghost use Rattle.history_walks.specs.Simply.{asked};
@@ -12,8 +13,18 @@ use crate::read_commits::ReadCommits;
 use gix_hash::ObjectId;
 use gix_object_find::Find;
 use gix_traverse_commit::simple::Sorting;
-use gix_traverse_commit::{All, Parents, Simple};
-use std::alloc::Global;
+use gix_traverse_commit::{All, Graph, Parents, Simple};
+use std::alloc::{AllocError, Global};
+
+// The same rows once more.
+fn copied(rows: &Option<Graph>) -> Result<Option<Graph>, AllocError>
+    ensures { IfOk result (λ copy. copy ≡ rows.now) }
+{
+    match rows {
+        Some(graph) => Ok(Some(graph.try_clone()?)),
+        None => Ok(None),
+    }
+}
 
 /// All commits that a walk by time gives.
 ///
@@ -22,51 +33,60 @@ use std::alloc::Global;
 pub(crate) fn listed_by_time<S: Find>(
     alloc: Global,
     store: &S,
+    rows: Option<Graph>,
     tips: Vec<ObjectId>,
     hidden: Vec<ObjectId>,
     sorting: Sorting,
 ) -> Result<Vec<ObjectId>, WalkError>
-    ensures lists { OverTable (S.is_honest store.now) (S.table store.now) (λ g. IfOk result (λ ids.
-        Answers g (asked tips.items hidden.items AllParents sorting) ids.items)) }
-    ensures refused { OverTable (S.is_honest store.now) (S.table store.now) (λ g. IfErr result
-        (WalkFault (S.may_fail store.now) (S.table store.now) g tips.items hidden.items)) }
+    ensures lists { OverTable (S.is_honest store.now) (rows_of rows) (S.table store.now) (λ g.
+        IfOk result (λ ids. Answers g (asked tips.items hidden.items AllParents sorting)
+        ids.items)) }
+    ensures refused { OverTable (S.is_honest store.now) (rows_of rows) (S.table store.now) (λ g.
+        IfErr result (WalkFault (S.may_fail store.now) (rows_of rows) (S.table store.now) g
+        tips.items hidden.items)) }
 {
-    let commits = ReadCommits::reached(alloc, store, &tips, &hidden)?;
-    listed(alloc, commits, tips, hidden, Parents::All, sorting)
+    let commits = ReadCommits::reached(alloc, store, copied(&rows)?, &tips, &hidden)?;
+    listed(alloc, commits, rows, tips, hidden, Parents::All, sorting)
 }
 
 /// All commits that a walk in this order gives.
 pub(crate) fn listed<F: Find + Drop>(
     alloc: Global,
     store: F,
+    rows: Option<Graph>,
     tips: Vec<ObjectId>,
     hidden: Vec<ObjectId>,
     parents: Parents,
     sorting: Sorting,
 ) -> Result<Vec<ObjectId>, WalkError>
-    ensures lists { OverTable (F.is_honest store) (F.table store) (λ g.
+    ensures lists { OverTable (F.is_honest store) (rows_of rows) (F.table store) (λ g.
         IsSure (F.may_fail store) (asked tips.items hidden.items parents sorting)
         → IfOk result (λ ids.
         Answers g (asked tips.items hidden.items parents sorting) ids.items)) }
-    ensures refused { OverTable (F.is_honest store) (F.table store) (λ g.
+    ensures refused { OverTable (F.is_honest store) (rows_of rows) (F.table store) (λ g.
         IsSure (F.may_fail store) (asked tips.items hidden.items parents sorting)
-        → IfErr result
-        (WalkFault (F.may_fail store) (F.table store) g tips.items hidden.items)) }
+        → IfErr result (WalkFault (F.may_fail store) (rows_of rows) (F.table store) g tips.items
+        hidden.items)) }
 {
-    let walk = Simple::new(tips, store)?.parents(parents).hide(hidden)?;
+    let walk = Simple::new(tips, store)?
+        .commit_graph(rows)
+        .parents(parents)
+        .hide(hidden)?;
     given(alloc, walk.sorting(sorting)?)
 }
 
 // All commits of a walk.
 fn given<F: Find + Drop>(alloc: Global, walk: Simple<F, All>) -> Result<Vec<ObjectId>, WalkError>
-    requires { graph_of walk ≡ None }
-    ensures lists { OverTable (F.is_honest (objects_of walk)) (F.table (objects_of walk)) (λ g.
-        (a : Asked) → IsSure (F.may_fail (objects_of walk)) a → IsMade (λ _ _. true) a walk
+    ensures lists { OverTable (F.is_honest (objects_of walk)) (rows_of (graph_of walk))
+        (F.table (objects_of walk)) (λ g. (a : Asked)
+        → IsSure (F.may_fail (objects_of walk)) a → IsMade (λ _ _. true) a walk
         → IfOk result (λ ids. Answers g a ids.items)) }
-    ensures refused { OverTable (F.is_honest (objects_of walk)) (F.table (objects_of walk)) (λ g.
-        (a : Asked) → IsSure (F.may_fail (objects_of walk)) a → IsMade (λ _ _. true) a walk
+    ensures refused { OverTable (F.is_honest (objects_of walk)) (rows_of (graph_of walk))
+        (F.table (objects_of walk)) (λ g. (a : Asked)
+        → IsSure (F.may_fail (objects_of walk)) a → IsMade (λ _ _. true) a walk
         → IfErr result (WalkFault
-        (F.may_fail (objects_of walk)) (F.table (objects_of walk)) g a.tips a.hidden)) }
+        (F.may_fail (objects_of walk)) (rows_of (graph_of walk)) (F.table (objects_of walk)) g
+        a.tips a.hidden)) }
 {
     let mut ids = Vec::new(alloc);
     'walk: for info in walk {

@@ -3,6 +3,8 @@
 ghost use Rattle.std.specs.Prelude.{◌≡◌, ◌⊎◌, true, [], List, Option, Some, IfOk, IfErr};
 ghost use Rattle.gix_hash_id.specs.declared.object_id.ObjectId.{ObjectId};
 ghost use Rattle.gix_traverse_commit.specs.Commits.{Commits};
+ghost use Rattle.gix_traverse_commit.specs.Told.{rows_of};
+ghost use Rattle.gix_traverse_commit.specs.declared.rows.Row.{Row};
 ghost use Rattle.gix_traverse_topo.specs.Asking.{parents_of};
 ghost use Rattle.gix_traverse_topo.specs.Giving.{HasGiven};
 ghost use Rattle.gix_traverse_topo.specs.Standing.{Answers, NoneReachesItself, all_accepted, topo_request};
@@ -16,7 +18,7 @@ ghost use Rattle.history_walks.specs.Sorted.{StopsSorted};
 use crate::error::WalkError;
 use gix_hash::ObjectId;
 use gix_object_find::Find;
-use gix_traverse_commit::{All, Parents};
+use gix_traverse_commit::{All, Graph, Parents};
 use gix_traverse_topo::{Builder, Sorting, Topo};
 use std::alloc::Global;
 
@@ -24,33 +26,35 @@ use std::alloc::Global;
 pub(crate) fn listed<S: Find>(
     alloc: Global,
     store: &S,
+    rows: Option<Graph>,
     tips: &[ObjectId],
     hidden: &[ObjectId],
     parents: Parents,
     sorting: Sorting,
 ) -> Result<Vec<ObjectId>, WalkError>
-    ensures lists { OverTable (S.is_honest store.now) (S.table store.now) (λ g.
+    ensures lists { OverTable (S.is_honest store.now) (rows_of rows) (S.table store.now) (λ g.
         NoneReachesItself g (topo_request tips.now hidden.now parents all_accepted)
         → IfOk result (λ ids. Answers sorting g
         (topo_request tips.now hidden.now parents all_accepted) ids.items)) }
-    ensures refused { OverTable (S.is_honest store.now) (S.table store.now) (λ g. IfErr result
-        (WalkFault (S.may_fail store.now) (S.table store.now) g tips.now hidden.now)) }
+    ensures refused { OverTable (S.is_honest store.now) (rows_of rows) (S.table store.now) (λ g.
+        IfErr result (WalkFault (S.may_fail store.now) (rows_of rows) (S.table store.now) g
+        tips.now hidden.now)) }
 {
-    let builder = Builder::from_iters(alloc, store, tips, Some(hidden))?;
+    let builder = Builder::from_iters(alloc, store, tips, Some(hidden))?.with_commit_graph(rows);
     given(alloc, builder.parents(parents).sorting(sorting).build()?)
 }
 
 // All commits of a walk.
 fn given(alloc: Global, walk: Topo<All>) -> Result<Vec<ObjectId>, WalkError>
-    ensures lists { (sorting : Sorting) (faults : ObjectId → Option Error) (g : Commits ObjectId)
-        (tips ends : List ObjectId)
-        → HasGiven (λ _ _. true) walk sorting [] faults g tips ends []
+    ensures lists { (sorting : Sorting) (rows : List Row) (faults : ObjectId → Option Error)
+        (g : Commits ObjectId) (tips ends : List ObjectId)
+        → HasGiven (λ _ _. true) walk sorting rows faults g tips ends []
         → NoneReachesItself g (topo_request tips ends (parents_of walk) all_accepted)
         → IfOk result (λ ids. Answers sorting g
         (topo_request tips ends (parents_of walk) all_accepted) ids.items) }
-    ensures refused { (sorting : Sorting) (faults : ObjectId → Option Error)
+    ensures refused { (sorting : Sorting) (rows : List Row) (faults : ObjectId → Option Error)
         (g : Commits ObjectId) (tips ends : List ObjectId)
-        → HasGiven (λ _ _. true) walk sorting [] faults g tips ends []
+        → HasGiven (λ _ _. true) walk sorting rows faults g tips ends []
         → IfErr result (StopsSorted faults g tips ends (parents_of walk)) }
 {
     let mut ids = Vec::new(alloc);

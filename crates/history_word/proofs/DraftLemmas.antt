@@ -170,6 +170,13 @@ switch_goes name h i q e = absurd i
 pub switch_opens : (name : Word) → TakesOpening (opening.Switch name) (draft.Switch name) []
 switch_opens name = record { fields = []; heads = refl; spelled = refl; begins = switch_goes name }
 
+index_goes : (h : lines.Heading) → IsOpening opening.Index h → (q : Place) → next_offered table.Start h ≡ Some (place_of q) → HasCome q draft.Index (parts_with h [])
+index_goes lines.IndexHeading i q e = done_come draft.Index model.Index _ q e refl refl tt
+index_goes h i q e = absurd i
+
+pub index_opens : TakesOpening opening.Index draft.Index []
+index_opens = record { fields = []; heads = refl; spelled = refl; begins = index_goes }
+
 pub past_opens : (word : Word) → TakesOpening (opening.Past word) (draft.Past word) []
 past_opens word = record { fields = []; heads = refl; spelled = refl; begins = past_goes word }
 
@@ -237,6 +244,8 @@ at_start (opening.Past word) (lines.PastHeading w) i place.Start q e = refl
 at_start (opening.Past word) (lines.PastHeading w) i p q e = cc
 at_start (opening.Switch name) (lines.SwitchHeading n) i place.Start q e = refl
 at_start (opening.Switch name) (lines.SwitchHeading n) i p q e = cc
+at_start opening.Index lines.IndexHeading i place.Start q e = refl
+at_start opening.Index lines.IndexHeading i p q e = cc
 at_start (opening.Log said) (lines.LogHeading order first_parents items n) i place.Start q e = refl
 at_start (opening.Log said) (lines.LogHeading order first_parents items n) i p q e = cc
 at_start said h i p q e = absurd i

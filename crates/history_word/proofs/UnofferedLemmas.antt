@@ -75,8 +75,8 @@ said_behind said first words commit parent put remove remove_file author committ
 
 -- a line whose first word is none of those that are read
 pub no_line_of : (first : Bytes) (words : List Bytes) → bytes_eq first (codes "tag") ≡ false → bytes_eq first (codes "tagger") ≡ false → bytes_eq first (codes "move") ≡ false → bytes_eq first (codes "to") ≡ false → bytes_eq first (codes "actor") ≡ false
-    → bytes_eq first (codes "delete") ≡ false → bytes_eq first (codes "names") ≡ false → bytes_eq first (codes "past") ≡ false → bytes_eq first (codes "log") ≡ false → bytes_eq first (codes "switch") ≡ false → Says None (name_heading_of first words)
-no_line_of first words tag tagger move to actor delete names past log switch =
+    → bytes_eq first (codes "delete") ≡ false → bytes_eq first (codes "names") ≡ false → bytes_eq first (codes "past") ≡ false → bytes_eq first (codes "log") ≡ false → bytes_eq first (codes "switch") ≡ false → bytes_eq first (codes "index") ≡ false → Says None (name_heading_of first words)
+no_line_of first words tag tagger move to actor delete names past log switch index =
     passed None (bytes_eq first (codes "tag")) _ _ tag (
     passed None (bytes_eq first (codes "tagger")) _ _ tagger (
     passed None (bytes_eq first (codes "move")) _ _ move (
@@ -86,7 +86,7 @@ no_line_of first words tag tagger move to actor delete names past log switch =
     passed None (bytes_eq first (codes "delete")) _ _ delete (
     passed None (bytes_eq first (codes "switch")) _ _ switch (
     either (bytes_eq first (codes "pack")) (end_of_words lines.PackHeading words) _ (no_end lines.PackHeading (nowhere lines.PackHeading refl refl refl refl refl refl refl refl refl) words) (
-    either (bytes_eq first (codes "index")) (end_of_words lines.IndexHeading words) _ (no_end lines.IndexHeading (nowhere lines.IndexHeading refl refl refl refl refl refl refl refl refl) words) (
+    passed None (bytes_eq first (codes "index")) _ _ index (
     passed None (bytes_eq first (codes "names")) _ _ names (
     passed None (bytes_eq first (codes "past")) _ _ past (
     passed None (bytes_eq first (codes "log")) _ _ log tt))))))))))))

@@ -157,6 +157,8 @@ pub enum Command {
     Past(Vec<u8>),
     /// Makes HEAD name this branch.
     Switch(Vec<u8>),
+    /// Makes rows of all stored commits, which later logs walk over.
+    Index,
     Log(LogCommand),
 }
 

@@ -60,6 +60,7 @@ pub(crate) enum Draft {
     NamesIn(Option<Vec<u8>>),
     Past(Option<Vec<u8>>),
     Switch(Option<Vec<u8>>),
+    Index,
     Log(Option<LogCommand>),
 }
 
@@ -321,6 +322,7 @@ impl Draft {
             Draft::NamesIn(folder) => Some(Command::Names(Some(folder?))),
             Draft::Past(word) => Some(Command::Past(word?)),
             Draft::Switch(name) => Some(Command::Switch(name?)),
+            Draft::Index => Some(Command::Index),
             Draft::Log(log) => Some(Command::Log(log?)),
         }
     }

@@ -38,12 +38,12 @@ walk-preserved-in_ok-push c =
 pub returns-in_err-info-clause-refused : goal.returns-in_err-info-clause-refused
 returns-in_err-info-clause-refused c =
     let inv = c.walk.invariant in
-    λ sorting faults h tips ends begins. told_error (StopsSorted faults h tips ends (c.args.walk).parents) c.from_residual.result (as_sorted c.in_err-info.field-0.0) c.from_residual.ensures.1
-    (stops_sorted goes c.args.walk c.walk.info-iterator c.next.new.self c.walk.ids.items inv.parents inv.stands c.in-Some.info c.in_err-info.field-0.0 c.in-Some.ensures.steps c.in_err-info.was sorting faults h tips ends begins)
+    λ sorting rows faults h tips ends begins. told_error (StopsSorted faults h tips ends (c.args.walk).parents) c.from_residual.result (as_sorted c.in_err-info.field-0.0) c.from_residual.ensures.1
+    (stops_sorted goes c.args.walk c.walk.info-iterator c.next.new.self c.walk.ids.items inv.parents inv.stands c.in-Some.info c.in_err-info.field-0.0 c.in-Some.ensures.steps c.in_err-info.was sorting rows faults h tips ends begins)
 
 pub returns-in_err-push-clause-refused : goal.returns-in_err-push-clause-refused
 returns-in_err-push-clause-refused c =
-    λ sorting faults h tips ends begins. told_error (StopsSorted faults h tips ends (c.args.walk).parents) c.from_residual-in_err-push.result Memory c.from_residual-in_err-push.ensures.1 (inl refl)
+    λ sorting rows faults h tips ends begins. told_error (StopsSorted faults h tips ends (c.args.walk).parents) c.from_residual-in_err-push.result Memory c.from_residual-in_err-push.ensures.1 (inl refl)
 
 pub returns-clause-lists : goal.returns-clause-lists
 returns-clause-lists c =

@@ -1,6 +1,7 @@
 use Rattle.std.proofs.Common.{◌≡◌, true, List, [], Option}
 use Rattle.gix_hash_id.specs.declared.object_id.ObjectId.{ObjectId}
 use Rattle.gix_traverse_commit.specs.Commits.{Commits}
+use Rattle.gix_traverse_commit.specs.declared.rows.Row.{Row}
 use Rattle.gix_traverse_topo.specs.Asking.{parents_of}
 use Rattle.gix_traverse_topo.specs.Giving.{HasGiven}
 use Rattle.gix_traverse_topo.specs.declared.init.Sorting.{Sorting}
@@ -13,7 +14,7 @@ invariant-walk l = record {
   can : (goal.iterator-walk).can_next l.info-iterator;
   finite : (goal.iterator-walk).is_finite l.info-iterator;
   parents : parents_of l.info-iterator ≡ parents_of l.fn.walk;
-  stands : (sorting : Sorting) (faults : ObjectId → Option Error) (g : Commits ObjectId) (tips ends : List ObjectId)
-      → HasGiven (λ _ _. true) l.fn.walk sorting [] faults g tips ends []
-      → HasGiven (λ _ _. true) l.info-iterator sorting [] faults g tips ends l.ids.items;
+  stands : (sorting : Sorting) (rows : List Row) (faults : ObjectId → Option Error) (g : Commits ObjectId) (tips ends : List ObjectId)
+      → HasGiven (λ _ _. true) l.fn.walk sorting rows faults g tips ends []
+      → HasGiven (λ _ _. true) l.info-iterator sorting rows faults g tips ends l.ids.items;
 }

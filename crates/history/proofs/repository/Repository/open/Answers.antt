@@ -11,7 +11,7 @@ returns-in-Ok-clause-stands g c = λ objects names.
     let new = subst (λ files. IsNew (g.F.Files.history files).tree (g.F.Files.history c.new-names.result.files).tree) (sym c.new.ensures.files) found.1 in (
       fresh c.args.kind,
       refl,
-      opened_stands g.F.Files.is_honest g.F.Files.history _ c.args.kind (subst g.F.Files.is_honest (sym c.new.ensures.files) objects) honest c.new.ensures.kind c.new-names.ensures.kind found.0 c.new.ensures.ids new,
+      opened_stands g.F.Files.is_honest g.F.Files.history _ c.args.kind (subst g.F.Files.is_honest (sym c.new.ensures.files) objects) honest c.new.ensures.kind c.new-names.ensures.kind found.0 c.new.ensures.ids refl new,
       opened_of_stage _ _ new,
     )
 
@@ -20,7 +20,7 @@ returns-in-Ok-clause-fresh g c = λ objects names empty.
     let honest = subst g.F.Files.is_honest (sym c.new-names.ensures.files) names in
     let found = c.in-Ok.ensures.first objects honest in
     let new = subst (λ files. IsNew (g.F.Files.history files).tree (g.F.Files.history c.new-names.result.files).tree) (sym c.new.ensures.files) found.1 in
-    opened_stands g.F.Files.is_honest g.F.Files.history _ c.args.kind (subst g.F.Files.is_honest (sym c.new.ensures.files) objects) honest c.new.ensures.kind c.new-names.ensures.kind found.0 c.new.ensures.ids new
+    opened_stands g.F.Files.is_honest g.F.Files.history _ c.args.kind (subst g.F.Files.is_honest (sym c.new.ensures.files) objects) honest c.new.ensures.kind c.new-names.ensures.kind found.0 c.new.ensures.ids refl new
 
 pub returns-in-Ok-clause-stage : goal.returns-in-Ok-clause-stage
 returns-in-Ok-clause-stage g c = λ objects names.

@@ -94,7 +94,7 @@ returns-clause-acts g c = λ r h.
       switched_text c.new-text.result.items c.line.new.text.items c.as_slice.result.now c.as_slice-2.result.now c.new-text.ensures.items c.as_slice.ensures c.as_slice-2.ensures c.in_ok-line.ensures,
       accepted r c.args.name.items none,
       switch_serves g.F.Files.is_honest g.F.Files.history g.F.Files.failures c.args.self.now r h (record c.args.self.now { names = c.switch.new.self; branch = c.args.name }) c.args.name.items none refl
-          (c.switch.ensures.honest honest) c.switch.ensures.kind refl
+          (c.switch.ensures.honest honest) c.switch.ensures.kind refl refl
           (subst (λ n. PutsBeside head_place (head_text n) old.tree new.tree) c.deref-2.ensures.value (c.in_ok-switch.ensures.switched honest))
           (folders_now old new (c.switch.ensures.folders honest)),
     )

@@ -55,4 +55,4 @@ returns g c = λ r order s is.
     let request : Request = record { order = c.in_ok-order_of.field-0; tips = c.in_ok-ids_of.field-0; hidden = c.in_ok-ids_of-2.field-0 } in
     walk_given r order ends are g.F.Files.reading_may_fail request whole.store s.stands.whole.written c.commits.result
     c.in_ok-test.ensures good (sym (λ i. order_cause order.order (is.first_parents i) (hides i)) ∙ made.0) (subst (λ first. IsOrderOf order.order first c.in_ok-order_of.field-0) is.first_parents made.1) tips_are hidden_are
-    tips (c.commits.ensures r s.stands tips hidden)
+    tips (c.commits.ensures.lists r s.stands tips hidden)

@@ -1,0 +1,4 @@
+pub mod Members
+pub mod Generations
+pub mod Counted
+pub mod RowsMade
