@@ -1,9 +1,8 @@
 -- A name goes: what a `delete` is refused for, and what its files pass through.
-use Rattle.std.proofs.Common.{◌≡◌, ℕ, Bool, true, false, cond, not, ◌||◌, List, [], ◌∷◌, ◌++◌, map, refl, sym, ◌∙◌, ap, subst, Option, Some, None, option_map, is_some, unwrap_or, codes}
+use Rattle.std.proofs.Common.{◌≡◌, ℕ, Bool, true, false, cond, not, ◌||◌, List, [], ◌∷◌, ◌++◌, map, refl, sym, ◌∙◌, ap, subst, Option, Some, None, option_map, is_some, unwrap_or}
 use Rattle.std.specs.Prelude.{Result, Err, Vec}
 use Rattle.std.specs.declared.alloc.Global.{Global}
 use Rattle.std.specs.FinMap.{get}
-use Rattle.std.proofs.lemmas.List.{append-nil}
 use Rattle.gix_hash_id.specs.Id.{Id, id_of}
 use Rattle.gix_hash_id.specs.Order.{id_eq}
 use Rattle.gix_hash_id.specs.declared.kind.Kind.{Kind}
@@ -22,8 +21,7 @@ use Rattle.history_model.specs.Commands.{At, Command, Delete}
 use Rattle.history_model.specs.CommandParts.{option_expect}
 use Rattle.history_model.specs.Meaning.{after, name_commit}
 use Rattle.history_model.specs.Causes.{first_cause, holds, is_elsewhere, same_id}
-use Rattle.history_model.specs.Replies.{Deleted, reply_text}
-use Rattle.history_model.specs.Spelling.{Line as TextLine, part_text}
+use Rattle.history_model.specs.Replies.{Deleted}
 use Rattle.history_model.specs.Places.{file_at, packed_place}
 use Rattle.history_model.specs.Steps.{Accepts}
 use Rattle.history_model.specs.NameStates.{NameState, Holds, Absent, loose_state, name_state, packed_text_state}
@@ -213,11 +211,6 @@ accepted r name at none = record { no_cause = none; not_taken = refl; answer = r
 
 pub names_only : (r : plain.Repository) (name : Bytes) (at : Option Bytes) → first_cause r (Delete name at) ≡ None → ChangesNames r (Delete name at) Deleted
 names_only r name at none = record { changes = refl; spoken = refl; free = refl; values = refl; branch = refl; accepts = accepted r name at none; steps = accepted r name at none }
-
--- its reply
-pub deleted_text : (before text ok word : Bytes) → before ≡ [] → ok ≡ codes "ok" → word ≡ codes "delete" → text ≡ before ++ part_text (TextLine (ok ∷ word ∷ [])) → text ≡ reply_text Deleted
-deleted_text before text ok word none is_ok is_word is =
-    is ∙ (λ i. none i ++ part_text (TextLine (is_ok i ∷ is_word i ∷ []))) ∙ sym (append-nil (part_text (TextLine (codes "ok" ∷ codes "delete" ∷ []))))
 
 -- where the removal stops, so does the command
 pub acts_stopped : (C : Type 0) (old new : Tree) (StandsNow : plain.Repository → Type 0) (r : plain.Repository) (name place : Bytes) (at : Option Bytes) (result : Result (Unit {0}) Stopped) (ends : Result (Vec ℕ Global) Stopped) (stopped : Stopped)

@@ -1,47 +1,34 @@
 -- The names of a move's lines move, one after another.
-use Rattle.std.proofs.Common.{◌≡◌, ◌⊎◌, inl, inr, ℕ, zero, suc, ◌+◌, ◌<◌, ◌≤◌, List, [], ◌∷◌, ◌++◌, length, take, get_or, refl, sym, ◌∙◌, ap, subst, arith, Option, None, codes}
-use Rattle.std.specs.Prelude.{Result, Err, Vec}
-use Rattle.std.specs.declared.alloc.Global.{Global}
+use Rattle.std.proofs.Common.{◌≡◌, ℕ, zero, suc, ◌+◌, ◌<◌, ◌≤◌, List, [], ◌∷◌, ◌++◌, length, take, get_or, refl, sym, ◌∙◌, ap, subst, arith, None}
+use Rattle.std.specs.Prelude.{Result, Err}
 use Rattle.std.specs.List.{AllZip}
-use Rattle.std.specs.FinMap.{contains_key}
-use Rattle.std.proofs.lemmas.List.{append-nil, take_all}
+use Rattle.std.proofs.lemmas.List.{take_all}
 use Rattle.gix_ref_file.specs.History.{History, Adds}
 use Rattle.gix_ref_file.proofs.Histories.{adds_joined, adds_nothing, adds_weaker}
-use Rattle.history_model.specs.Bytes.{Bytes}
 use Rattle.history_model.specs.Repository as plain
 use Rattle.history_model.specs.Repository.{stands}
 use Rattle.history_model.specs.Commands.{Move, MoveCommand, To}
 use Rattle.history_model.specs.Meaning.{after}
 use Rattle.history_model.specs.Causes.{first_cause}
-use Rattle.history_model.specs.Replies.{Moved, reply_text}
-use Rattle.history_model.specs.Spelling.{Line as TextLine, part_text}
+use Rattle.history_model.specs.Replies.{Moved}
 use Rattle.history_model.specs.Steps.{Accepts}
-use Rattle.history_model.specs.Places.{Pair, file_at, packed_place}
-use Rattle.history_model.specs.Moments.{LeavesStopped}
-use Rattle.history_model.specs.Recovery.{recovered_objects}
+use Rattle.history_model.specs.Places.{file_at, packed_place}
 use Rattle.history_model.specs.StandsFor.{StandsFor}
 use Rattle.history_model.specs.Wholeness.{IsSound}
 use Rattle.history_model.specs.declared.Fault.TheVariants.{Memory, File, IdTaken}
 use Rattle.history_model.proofs.WholeSteps.{steps_keep_sound}
 use Rattle.history_steps.specs.MoveSteps.{FitsThen, IsAtLine, after_lines, line_entry}
 use Rattle.history_steps.specs.Passing.{HoldsBetween, MovesOnTheWay}
-use Rattle.history_steps.specs.TreeHalves.{HoldsValues}
 use Rattle.history_steps.specs.TreeSteps.{MovesName}
 use Rattle.history_steps.proofs.MoveLines.{lines_fit, lines_move, lines_pass}
-use Rattle.history_steps.proofs.PassedNames.{moving_stops, nothing_stops, values_recover}
 use Rattle.history_steps.proofs.TreeMoves.{packed_apart, packed_no_log}
 use Rattle.history_steps.proofs.TreePuts.{halves_stand}
-use Rattle.history_store.specs.Face.{ids_of_objects}
 use Rattle.history_store.specs.Formats.{entry_of}
-use Rattle.history.specs.Acts.{Acts, CountsRise, KeepsCounts}
-use Rattle.gix_traverse_commit.specs.Told.{rows_of}
-use Rattle.gix_traverse_commit.specs.declared.rows.Row.{Row}
-use Rattle.history.specs.Face.{objects_part, names_part, KeepsAllButNames}
-use Rattle.history.specs.Indexed.{AgreeRows}
-use Rattle.history.specs.Halves.{FitsAmong, MovesNames, NamesStand, names_tree, objects_tree}
-use Rattle.history.specs.Moments.{GoesLater, NamesPass, StoodOnTheWay}
+use Rattle.history.specs.Acts.{CountsRise, KeepsCounts}
+use Rattle.history.specs.Face.{names_part, KeepsAllButNames}
+use Rattle.history.specs.Halves.{FitsAmong, MovesNames, NamesStand, names_tree}
+use Rattle.history.specs.Moments.{NamesPass}
 use Rattle.history.specs.Moving.{AskedMoves, IsLineMove, LeavesMoved}
-use Rattle.history.specs.Serving.{Serves}
 use Rattle.history.specs.Stands.{pair_of}
 use Rattle.history.specs.declared.planning.Moves.{Moves}
 use Rattle.history.specs.declared.repository.Repository.{Repository}
@@ -49,7 +36,7 @@ use Rattle.history.specs.declared.stopped.Stopped.{Stopped}
 use Rattle.history.specs.declared.stopped.Stopped.TheVariants.{Refused, Fault}
 use Rattle.history.proofs.Commits.{name_formed}
 use Rattle.history.proofs.Counts.{counts_joined, counts_same, stay_joined, stay_same}
-use Rattle.history.proofs.Stood.{adds_later, adds_same, stands_now, stood_between_then, stood_then}
+use Rattle.history.proofs.NamesAlone.{ChangesNames}
 
 -- ---- lists side by side
 
@@ -69,17 +56,14 @@ long_zip R [] (y ∷ ys) all = absurd all
 long_zip R (x ∷ xs) [] all = absurd all
 long_zip R (x ∷ xs) (y ∷ ys) all = ap suc (long_zip R xs ys all.1)
 
--- an accepted move
-pub accepted : (r : plain.Repository) (order : MoveCommand) → first_cause r (Move order) ≡ None → Accepts r (Move order) Moved (after r (Move order))
-accepted r order none = record { no_cause = none; not_taken = refl; answer = refl; result = refl }
+-- a move changes names alone
+pub names_only : (r : plain.Repository) (order : MoveCommand) → first_cause r (Move order) ≡ None → ChangesNames r (Move order) Moved
+names_only r order none =
+    let accepted : Accepts r (Move order) Moved (after r (Move order)) = record { no_cause = none; not_taken = refl; answer = refl; result = refl } in
+    record { changes = refl; spoken = refl; free = refl; values = refl; branch = refl; accepts = accepted; steps = accepted }
 
-pub sound_after : (r : plain.Repository) (order : MoveCommand) → IsSound r → first_cause r (Move order) ≡ None → IsSound (after r (Move order))
-sound_after r order sound none = steps_keep_sound r (after r (Move order)) (Move order) Moved (accepted r order none) sound
-
--- its reply
-pub moved_text : (before text ok word : Bytes) → before ≡ [] → ok ≡ codes "ok" → word ≡ codes "move" → text ≡ before ++ part_text (TextLine (ok ∷ word ∷ [])) → text ≡ reply_text Moved
-moved_text before text ok word none is_ok is_word is =
-    is ∙ (λ i. none i ++ part_text (TextLine (is_ok i ∷ is_word i ∷ []))) ∙ sym (append-nil (part_text (TextLine (codes "ok" ∷ codes "move" ∷ []))))
+sound_after : (r : plain.Repository) (order : MoveCommand) → IsSound r → first_cause r (Move order) ≡ None → IsSound (after r (Move order))
+sound_after r order sound none = steps_keep_sound r (after r (Move order)) (Move order) Moved (names_only r order none).steps sound
 
 module _ {F : Type 0} (IsHonest : F → Type 0) (history : F → History) (failures : F → ℕ) where
   -- what stands where the names of the lines so far have moved
@@ -217,80 +201,3 @@ module _ {F : Type 0} (IsHonest : F → Type 0) (history : F → History) (failu
           (sound_after r order (record { whole = asked.serves.stands.whole.whole; written = asked.serves.stands.whole.written }) asked.none).written name stood;
       unpacked = (h.lines r order asked).unpacked;
     }
-
-  -- ---- the command
-
-  module _ (old new : Repository F) (r : plain.Repository) (order : MoveCommand) (h : Serves IsHonest history old r) (none : first_cause r (Move order) ≡ None) (kept : KeepsAllButNames old new) where
-    sound : IsSound r
-    sound = record { whole = h.stands.whole.whole; written = h.stands.whole.written }
-
-    values_old : HoldsValues r.kind (objects_tree history old) r.objects
-    values_old = ((halves_stand r.kind (pair_of history old) r).0 h.stands.whole.stands).1
-
-    values_new : HoldsValues r.kind (objects_tree history new) r.objects
-    values_new = subst (λ objects. HoldsValues r.kind (history objects.files).tree r.objects) (sym kept.objects) values_old
-
-    pub move_serves : new.names.kind ≡ old.names.kind → NamesStand IsHonest history new (after r (Move order)) → Serves IsHonest history new (after r (Move order))
-    move_serves kind stand = record {
-      stands = record {
-        honest_objects = subst (λ objects. IsHonest objects.files) (sym kept.objects) h.stands.honest_objects;
-        honest_names = stand.honest;
-        whole = record {
-          stands = (halves_stand r.kind (pair_of history new) (after r (Move order))).1 (refl, values_new, stand.holds);
-          written = (sound_after r order sound none).written;
-          whole = (sound_after r order sound none).whole;
-        };
-        objects_kind = ap (λ objects. objects.kind) kept.objects ∙ h.stands.objects_kind;
-        names_kind = kind ∙ h.stands.names_kind;
-        branch = ap (λ branch. branch.items) kept.branch ∙ h.stands.branch;
-        known = λ id. ap (λ objects. contains_key (ids_of_objects objects) id) kept.objects ∙ h.stands.known id;
-        rows = subst (λ (rows : Option (List Row)). AgreeRows r.kind r.objects (rows_of rows)) (sym kept.rows) h.stands.rows;
-      };
-      stage = record { unpacked = stand.unpacked };
-    }
-
-    module _ (pass : Adds (HoldsBetween r (Move order)) (history (names_part old)) (history (names_part new))) where
-      objects_stay : Adds (λ t. ⊥) (history (objects_part old)) (history (objects_part new))
-      objects_stay = adds_same _ _ (ap (λ o. history o.files) kept.objects)
-
-      nothing : (pair : Pair) → pair.objects ≡ objects_tree history old → pair.names ≡ names_tree history old → LeavesStopped r (Move order) pair
-      nothing pair objects names = subst (LeavesStopped r (Move order)) (λ i. record { objects = sym objects i; names = sym names i }) (nothing_stops r (Move order) (pair_of history old) h.stands.whole)
-
-      moving : (pair : Pair) → pair.objects ≡ objects_tree history old → HoldsBetween r (Move order) pair.names → LeavesStopped r (Move order) pair
-      moving pair objects held = moving_stops r (Move order) pair sound refl none refl
-          (subst (λ tree. HoldsValues r.kind (recovered_objects tree) r.objects) (sym objects) (values_recover r.kind (objects_tree history old) r.objects (h.stands.whole.whole.store).own_ids values_old)) held
-
-      or_never : {A : Type 0} → A ⊎ ⊥ → A
-      or_never (inl a) = a
-      or_never (inr never) = absurd never
-
-      pub move_stops : (pair : Pair) → StoodOnTheWay history failures old new pair → LeavesStopped r (Move order) pair
-      move_stops pair (inl (objects, names)) =
-          nothing pair (or_never (stood_between_then (history (objects_part old)) (history (objects_part new)) pair.objects objects_stay objects)) (stood_then (history (names_part old)) (history (names_part new)) pair.names pass names)
-      move_stops pair (inr (objects, names)) = by_names (stood_between_then (history (names_part old)) (history (names_part new)) pair.names pass names)
-        where
-          now : pair.objects ≡ objects_tree history old
-          now = stands_now (history (objects_part new)) pair.objects objects ∙ ap (λ o. (history o.files).tree) kept.objects
-
-          by_names : (pair.names ≡ names_tree history old) ⊎ HoldsBetween r (Move order) pair.names → LeavesStopped r (Move order) pair
-          by_names (inl same) = nothing pair now same
-          by_names (inr held) = moving pair now held
-
-      pub move_later : GoesLater history failures old new
-      move_later = (
-        adds_later (history (objects_part old)) (history (objects_part new)) objects_stay,
-        adds_later (history (names_part old)) (history (names_part new)) pass,
-        (objects_stay.during, objects_stay.added),
-        (pass.during, pass.added),
-      )
-
--- where the moves stop, so does the command
-pub acts_stopped : (C M : Type 0) (StandsNow : plain.Repository → Type 0) (r : plain.Repository) (order : MoveCommand) (result : Result (Unit {0}) Stopped) (ends : Result (Vec ℕ Global) Stopped) (stopped : Stopped)
-    → result ≡ Err stopped → ends ≡ Err stopped → LeavesMoved C M result → Acts C StandsNow r (Move order) ends
-acts_stopped C M StandsNow r order result ends stopped was is_end h = subst (Acts C StandsNow r (Move order)) (sym is_end) (by_case stopped (subst (LeavesMoved C M) was h))
-  where
-    by_case : (stopped : Stopped) → LeavesMoved C M (Err stopped) → Acts C StandsNow r (Move order) (Err stopped)
-    by_case (Refused cause) k = absurd k
-    by_case (Fault Memory) k = tt
-    by_case (Fault File) k = k
-    by_case (Fault IdTaken) k = absurd k

@@ -1,11 +1,16 @@
 -- Commands that change names alone: what their files pass through, and what they leave.
-use Rattle.std.proofs.Common.{◌≡◌, ◌⊎◌, inl, inr, ℕ, true, false, sym, ◌∙◌, ap, subst, List, Option, None}
+use Rattle.std.proofs.Common.{◌≡◌, ◌⊎◌, inl, inr, ℕ, true, false, List, [], ◌∷◌, ◌++◌, refl, sym, ◌∙◌, ap, subst, Option, None, codes}
+use Rattle.std.specs.Prelude.{Result, Err, Vec}
+use Rattle.std.specs.declared.alloc.Global.{Global}
 use Rattle.std.specs.FinMap.{contains_key}
+use Rattle.std.proofs.lemmas.List.{append-nil}
 use Rattle.gix_ref_file.specs.History.{History, Adds}
+use Rattle.history_model.specs.Bytes.{Bytes}
 use Rattle.history_model.specs.Repository as plain
 use Rattle.history_model.specs.Commands.{Command}
 use Rattle.history_model.specs.Meaning.{after, takes_id}
 use Rattle.history_model.specs.Replies.{Reply}
+use Rattle.history_model.specs.Spelling.{Line as TextLine, part_text, parts_text}
 use Rattle.history_model.specs.Stage.{is_spoken}
 use Rattle.history_model.specs.Steps.{Accepts, Step}
 use Rattle.history_model.specs.Stops.{is_changing}
@@ -14,6 +19,7 @@ use Rattle.history_model.specs.Moments.{LeavesStopped}
 use Rattle.history_model.specs.Recovery.{recovered_objects}
 use Rattle.history_model.specs.StandsFor.{StandsFor}
 use Rattle.history_model.specs.Wholeness.{IsSound}
+use Rattle.history_model.specs.declared.Fault.TheVariants.{Memory, File, IdTaken}
 use Rattle.history_model.proofs.WholeSteps.{steps_keep_sound}
 use Rattle.history_steps.specs.Passing.{HoldsBetween}
 use Rattle.history_steps.specs.TreeHalves.{HoldsValues}
@@ -22,13 +28,17 @@ use Rattle.history_steps.proofs.TreePuts.{halves_stand}
 use Rattle.history_store.specs.Face.{ids_of_objects}
 use Rattle.gix_traverse_commit.specs.Told.{rows_of}
 use Rattle.gix_traverse_commit.specs.declared.rows.Row.{Row}
+use Rattle.history.specs.Acts.{Acts}
 use Rattle.history.specs.Face.{objects_part, names_part, rows_in, KeepsAllButNames}
 use Rattle.history.specs.Indexed.{AgreeRows}
-use Rattle.history.specs.Halves.{names_tree, objects_tree}
+use Rattle.history.specs.Halves.{NamesStand, names_tree, objects_tree}
 use Rattle.history.specs.Moments.{GoesLater, StoodOnTheWay}
+use Rattle.history.specs.Moving.{LeavesMoved}
 use Rattle.history.specs.Serving.{Serves}
 use Rattle.history.specs.Stands.{pair_of}
 use Rattle.history.specs.declared.repository.Repository.{Repository}
+use Rattle.history.specs.declared.stopped.Stopped.{Stopped}
+use Rattle.history.specs.declared.stopped.Stopped.TheVariants.{Refused, Fault}
 use Rattle.history.proofs.Stood.{adds_later, adds_same, stands_now, stood_between_then, stood_then}
 
 -- The command stores nothing, and leaves HEAD's branch: it is accepted with this reply.
@@ -68,6 +78,14 @@ module _ {F : Type 0} (IsHonest : F → Type 0) (history : F → History) (failu
     stage = record { unpacked = unpacked };
   }
 
+  values_new : HoldsValues r.kind (objects_tree history new) (after r order).objects
+  values_new = subst (λ (values : plain.Values). HoldsValues r.kind (objects_tree history new) values) (sym c.values)
+      (subst (λ objects. HoldsValues r.kind (history objects.files).tree r.objects) (sym kept.objects) values_old)
+
+  -- so are names that stand
+  pub stand_serves : NamesStand IsHonest history new (after r order) → new.names.kind ≡ old.names.kind → Serves IsHonest history new (after r order)
+  stand_serves stand kind = names_serve stand.honest ((halves_stand r.kind (pair_of history new) (after r order)).1 (refl, values_new, stand.holds)) stand.unpacked kind
+
   module _ (pass : Adds (HoldsBetween r order) (history (names_part old)) (history (names_part new))) where
     objects_stay : Adds (λ t. ⊥) (history (objects_part old)) (history (objects_part new))
     objects_stay = adds_same _ _ (ap (λ o. history o.files) kept.objects)
@@ -104,3 +122,19 @@ module _ {F : Type 0} (IsHonest : F → Type 0) (history : F → History) (failu
       (objects_stay.during, objects_stay.added),
       (pass.during, pass.added),
     )
+
+-- where the change stops, so does the command
+pub acts_stopped : (C M : Type 0) (StandsNow : plain.Repository → Type 0) (r : plain.Repository) (order : Command) (result : Result (Unit {0}) Stopped) (ends : Result (Vec ℕ Global) Stopped) (stopped : Stopped)
+    → result ≡ Err stopped → ends ≡ Err stopped → LeavesMoved C M result → Acts C StandsNow r order ends
+acts_stopped C M StandsNow r order result ends stopped was is_end h = subst (Acts C StandsNow r order) (sym is_end) (by_case stopped (subst (LeavesMoved C M) was h))
+  where
+    by_case : (stopped : Stopped) → LeavesMoved C M (Err stopped) → Acts C StandsNow r order (Err stopped)
+    by_case (Refused cause) k = absurd k
+    by_case (Fault Memory) k = tt
+    by_case (Fault File) k = k
+    by_case (Fault IdTaken) k = absurd k
+
+-- a reply of `ok` and one word
+pub word_told : (name before text ok word : Bytes) → before ≡ [] → ok ≡ codes "ok" → word ≡ name → text ≡ before ++ part_text (TextLine (ok ∷ word ∷ [])) → text ≡ parts_text (TextLine (codes "ok" ∷ name ∷ []) ∷ [])
+word_told name before text ok word none is_ok is_word is =
+    is ∙ (λ i. none i ++ part_text (TextLine (is_ok i ∷ is_word i ∷ []))) ∙ sym (append-nil (part_text (TextLine (codes "ok" ∷ name ∷ []))))

@@ -32,6 +32,7 @@ abbrev pub changes_files : read_commands.Command → Bool
 changes_files (command.Commit commit) = true
 changes_files (command.Tag tag) = true
 changes_files (command.Move move) = true
+changes_files (command.Rename rename) = true
 changes_files (command.Delete delete) = true
 changes_files (command.Files word) = false
 changes_files (command.Show show) = false

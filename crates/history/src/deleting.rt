@@ -59,7 +59,7 @@ impl<F: Files> Repository<F> {
     }
 
     /// Removes a name's log and then the name. The objects stay as they are.
-    fn delete_name(&mut self, alloc: Global, name: &[u8]) -> Result<(), Stopped>
+    pub(crate) fn delete_name(&mut self, alloc: Global, name: &[u8]) -> Result<(), Stopped>
         ensures kept { KeepsAllButNames self.old self.new }
         ensures honest { F.is_honest (names_part self.old) → F.is_honest (names_part self.new) }
         ensures kind { kind_of_names self.new.names ≡ kind_of_names self.old.names }

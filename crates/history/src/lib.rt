@@ -24,6 +24,7 @@ mod naming;
 mod open;
 mod past;
 mod planning;
+mod renaming;
 mod reply;
 mod repository;
 mod running;

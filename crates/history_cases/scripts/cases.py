@@ -536,6 +536,86 @@ def delete_stops():
             each(120, kind, f"create names:{how}:#:{kept} open run:{word(PUT_HELLO + second + deleting)} left", [closed, *states, whole])
 
 
+def as_git_renames(kind, made, old, new):
+    """Stops where git makes a rename that the plain repository doesn't, or the other way, or where it leaves other names or logs."""
+    plain = Plain(kind)
+    plain.run(made)
+    git = Moved(plain)
+    held = plain.names.get(old, plain.null)
+    _, ((reply, _),) = plain.run(b"rename %s %s\n" % (old, new))
+    assert (old in git.names() and git.rename(old, new, held)) == (reply == b"ok rename\n"), (old, new, reply)
+    assert git.holds(plain), (old, new)
+    assert old in plain.names or not (git.folder / "logs" / old.decode()).is_file(), (old, new)
+
+
+def renames():
+    """Names that are renamed, HEAD's branch too, there and back, with the one line that their logs have then; and each refusal, where it
+    is the first of two that hold."""
+    main, x, y, v, trunk = b"refs/heads/main", b"refs/heads/x", b"refs/heads/y", b"refs/tags/v", b"refs/heads/trunk"
+    made = branch(main + b" new", 1) + branch(x + b" new", 2, b"parent main\n") + branch(main + b" any", 3) + branch(v + b" new", 4)
+    accepted = [(x, y), (x, b"refs/tags/x"), (v, b"refs/heads/v"), (main, trunk), (main, b"refs/a/b/c"), (x, b"refs/heads/xy"),
+                (x, b"refs/heads/x.y"), (v, b"refs/tags/w/v"), (x, b"refs/heads/\xc3\xa4"), (x, b"refs/heads/HEAD")]
+    for old, new in accepted:
+        runs((made,), (b"rename %s %s\n" % (old, new),), (b"names\n",), (b"past %s\n" % new,), (b"past %s\n" % old, "NoSuchName"),
+             by_git_alone=False)
+        for kind in KINDS:
+            as_git_renames(kind, made, old, new)
+    runs((made,), (b"rename %s %s\n" % (x, b"refs/heads/" + b"n" * 1013),), (b"names\n",), by_git_alone=False)
+    # HEAD stays on its branch, which is unborn then, and may be made anew.
+    runs((made,), (b"rename %s %s\n" % (main, trunk),), (b"show HEAD\n", "UnbornHead"), (b"show trunk\n",), (branch(b"HEAD new", 5),),
+         (b"past HEAD\n",), (b"rename %s %s\n" % (trunk, main), "Taken"), (b"names\n",), by_git_alone=False)
+    runs((made,), (b"rename %s %s\n" % (main, trunk),), (b"rename %s %s\n" % (trunk, main),), (b"past HEAD\n",),
+         (branch(b"HEAD any", 5),), (b"past HEAD\n",), (b"names\n",), by_git_alone=False)
+    # The folder that a name leaves is in nobody's way.
+    runs((made,), (b"rename %s %s/z\n" % (v, y),), (b"rename %s/z %s\n" % (y, v),), (b"rename %s %s\n" % (x, y),), (b"names\n",),
+         (b"past y\n",), by_git_alone=False)
+    git_refuses = [(x, x + b"/y", "Collides"), (x, main + b"/z", "Collides"), (x, b"refs/heads", "Collides"), (v, b"refs/tags", "Collides"),
+                   (x, main, "Taken"), (b"refs/heads/z", y, "NoSuchName"), (b"refs/heads", y, "NoSuchName"),
+                   (b"refs/heads/z", main, "NoSuchName")]
+    for old, new, cause in git_refuses:
+        runs((made,), (b"rename %s %s\n" % (old, new), cause), (b"names\n",), (b"past x\n",), by_git_alone=False)
+        for kind in KINDS:
+            as_git_renames(kind, made, old, new)
+    # A name collides with the one that it would take the place of, also below it.
+    deep = branch(b"refs/heads/a/b new", 6)
+    runs((deep,), (b"rename refs/heads/a/b refs/heads/a\n", "Collides"), (b"rename refs/heads/a/b refs/heads/a/b/c\n", "Collides"),
+         (b"rename refs/heads/a/b refs/heads/a/c\n",), (b"names\n",), by_git_alone=False)
+    refused = [(x, x, "NameTwice"), (b"HEAD", y, "BadName"), (x, b"HEAD", "BadName"), (b"x", b"y", "BadName"),
+               (b"refs/bisect/x", b"refs/heads/a..b", "BadName"), (b"refs/heads/a.lock", b"refs/bisect/x", "BadName"),
+               (x, b"refs/heads/" + b"n" * 1014, "BadName"), (x, b"refs/heads/\xff", "BadName"),
+               (b"refs/bisect/x", b"refs/bisect/x", "PrivateName"), (b"refs/heads/z", b"refs/worktree/x", "PrivateName"),
+               (b"refs/rewritten/x", main, "PrivateName"), (b"refs/heads/z", b"refs/heads/z", "NameTwice"),
+               (b"refs/heads/z", x + b"/y", "NoSuchName"), (x, v, "Taken")]
+    runs((made,), *((b"rename %s %s\n" % (old, new), cause) for old, new, cause in refused), (b"names\n",), (b"past x\n",),
+         by_git_alone=False)
+    for text in (b"rename\n", b"rename refs/heads/x\n", b"rename refs/heads/x refs/heads/y any\n", b"rename  refs/heads/x refs/heads/y\n",
+                 b"renames refs/heads/x refs/heads/y\n"):
+        answer(PUT_HELLO + text, "Syntax", end="Refused")
+    answer(PUT_HELLO + b"rename refs/heads/main refs/heads/y", "Truncated", end="Refused")
+
+
+def rename_stops():
+    """A run of a commit and a rename of HEAD's branch that is stopped at each call, or of which each call fails: the old name stands
+    alone, or both do, and then the old one without its log, or the new one alone. A log without its name is none's."""
+    stream = PUT_HELLO + b"rename refs/heads/main refs/heads/trunk\n"
+    fault = b"fault File\n"
+    for kind in KINDS:
+        plain, first, both, unlogged = (Plain(kind) for _ in range(4))
+        _, replies = plain.run(stream)
+        first.run(PUT_HELLO)
+        for state in (both, unlogged):
+            state.run(PUT_HELLO)
+            state.names, state.logs = {**first.names, **plain.names}, {**first.logs, **plain.logs}
+        del unlogged.logs[b"refs/heads/main"]
+        ends = [f"created opened Fault:{word(b''.join(reply for reply, _ in replies[:count]) + fault)} " for count in range(2)]
+        closed, whole = f"created File closed {left(first, 0, False)}", f"created opened {told('Input', replies)} {left(plain)}"
+        for how, kept in [*(("stop", kept) for kept in ["-", 0, 3, 20, 50, 1000]), ("fail", "-")]:
+            made = kept != "-"
+            states = [ends[0] + left(first, 0, False), ends[0] + left(first, 3, False), *([ends[0] + left(first)] if made else [])]
+            states += [ends[1] + left(first), ends[1] + left(both), ends[1] + left(unlogged), *([ends[1] + left(plain)] if made else [])]
+            each(80, kind, f"create names:{how}:#:{kept} open run:{word(stream)} left", [closed, *states, whole])
+
+
 def as_git_lists(made):
     """Stops where a log isn't the list that git printed."""
     plain = Plain("sha1")
@@ -1095,8 +1175,8 @@ def by_chance(chance, kind):
 
 
 if __name__ == "__main__":
-    for part in (rows, first_causes, two_branches, of_names, moves, deletions, switches, tags, indexes, logs, path_logs, short_ids, removals, nested,
-                 limits, opening, readings, readers, faults, index_faults, log_faults, move_stops, delete_stops, switch_stops, tag_stops, stops):
+    for part in (rows, first_causes, two_branches, of_names, moves, renames, deletions, switches, tags, indexes, logs, path_logs, short_ids, removals, nested,
+                 limits, opening, readings, readers, faults, index_faults, log_faults, move_stops, rename_stops, delete_stops, switch_stops, tag_stops, stops):
         part()
     for kind in KINDS:
         recoveries(kind)

@@ -1,5 +1,6 @@
 """Names and HEAD as git moves and deletes them: the rows of moves are held against `git update-ref --stdin`, one transaction for each
-command, and against the logs that git writes then; those of deletions against `git update-ref -d`, those of switches against
+command, and against the logs that git writes then; those of renames against one such transaction, which makes one name and
+deletes the other; those of deletions against `git update-ref -d`, those of switches against
 `git symbolic-ref HEAD`, and the tags of those of tags against `git tag -a` and `git mktag`."""
 import os
 import subprocess
@@ -37,6 +38,14 @@ class Moved(Git):
         text = b"".join(b"update %s\0%s\0%s\0" % (name, new, old) for name, old, new in lines)
         made = subprocess.run(["git", "update-ref", "--create-reflog", "-m", message, "-z", "--stdin"], input=text,
                               capture_output=True, env=env)
+        return made.returncode == 0
+
+    def rename(self, old, new, held):
+        """Whether git makes the new name at this id and deletes the old one, which must hold it, in one transaction."""
+        env = dict(self.env, GIT_COMMITTER_NAME="history", GIT_COMMITTER_EMAIL="", GIT_COMMITTER_DATE="@0 +0000")
+        text = b"create %s\0%s\0delete %s\0%s\0" % (new, held, old, held)
+        made = subprocess.run(["git", "update-ref", "--create-reflog", "-m", "rename", "-z", "--stdin"], input=text, capture_output=True,
+                              env=env)
         return made.returncode == 0
 
     def delete(self, name, held):

@@ -62,6 +62,8 @@ class Reader:
         if words[0] == b"delete":
             refuse_where(words[2:3] != ([b"any"] if len(words) == 3 else [b"at"]) or len(words) > 4, "Syntax")
             return ("delete", words[1], words[2:])
+        if words[0] == b"rename" and len(words) == 3:
+            return ("rename", *words[1:])
         if words[0] == b"switch" and len(words) == 2:
             return ("switch", words[1])
         if words == [b"index"]:
@@ -353,6 +355,17 @@ class Plain:
         refuse_where(wanted not in ([], [self.held(name)]), "NotExpected")
         del self.names[name], self.logs[name]
         return b"ok delete\n"
+
+    def rename(self, old, new):
+        refuse_where(not is_name(old) or not is_name(new), "BadName")
+        refuse_where(old.startswith(PRIVATE) or new.startswith(PRIVATE), "PrivateName")
+        refuse_where(old == new, "NameTwice")
+        refuse_where(old not in self.names, "NoSuchName")
+        refuse_where(new in self.names, "Taken")
+        refuse_where(self.in_the_way(new), "Collides")
+        self.hold(new, self.names[old], (b"history", b"", b"0", b"+0000"), b"rename")
+        del self.names[old], self.logs[old]
+        return b"ok rename\n"
 
     def move(self, lines, actor, message):
         names = [name for name, _, _ in lines]

@@ -13,4 +13,5 @@ pub mod PassedStates
 pub mod PassedMoments
 pub mod MoveLines
 pub mod Deletions
+pub mod Renames
 pub mod HeadSwitched

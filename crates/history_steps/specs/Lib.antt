@@ -7,4 +7,5 @@ pub mod Offered
 pub mod OfferedWords
 pub mod MoveSteps
 pub mod DeleteSteps
+pub mod RenameSteps
 pub mod SwitchSteps

@@ -3,6 +3,7 @@
 ghost use Rattle.history_steps.specs.Passing.{PutsPass, CommitsStoreWhole, TagsStoreWhole, StoringStops, MovesPass, MovingStops, ActsLater, ActsThen, SomeStops, FirstAreSome, NamesPass, NamesBegin};
 ghost use Rattle.history_steps.specs.MoveSteps.{LinesFit, LinesMove, LinesPass};
 ghost use Rattle.history_steps.specs.DeleteSteps.{DeletionsStand, DeletionsPass};
+ghost use Rattle.history_steps.specs.RenameSteps.{RenamesFit, RenamesMake, MakingPasses, RenamesStand, GoingPasses};
 ghost use Rattle.history_steps.specs.SwitchSteps.{SwitchesStand, SwitchesPass};
 
 /// While a value is put that takes no id, the values that stood are there once recovered, and the value whole or not at all.
@@ -89,6 +90,31 @@ pub fn deletions_stand()
 /// While they go, each name is as before the command or as after it.
 pub fn deletions_pass()
     ensures { DeletionsPass }
+{}
+
+/// Where no cause holds of a rename, the new name may come to stand.
+pub fn renames_fit()
+    ensures { RenamesFit }
+{}
+
+/// The move of its files makes it, beside the old name.
+pub fn renames_make()
+    ensures { RenamesMake }
+{}
+
+/// Meanwhile each name is as before the rename or as after it, and the old one holds its id.
+pub fn making_passes()
+    ensures { MakingPasses }
+{}
+
+/// Where the old name's files are gone too, what stands stands for the repository after the rename.
+pub fn renames_stand()
+    ensures { RenamesStand }
+{}
+
+/// While they go, each name is as before the rename or as after it, and the new one holds the id.
+pub fn going_passes()
+    ensures { GoingPasses }
 {}
 
 /// Where HEAD alone was written anew, the tree holds the names and the branch after a switch.

@@ -24,6 +24,7 @@ spoken : (d : Draft) (order : model.Command) → IsDraft d order → is_spoken o
 spoken (draft.Commit c) (model.Commit order) h = refl
 spoken (draft.Tag c) (model.Tag order) h = refl
 spoken (draft.Move c) (model.Move order) h = refl
+spoken (draft.Rename x) (model.Rename from to) h = refl
 spoken (draft.Delete d) (model.Delete name at) h = refl
 spoken (draft.Files w) (model.Files word) h = refl
 spoken (draft.Show s) (model.Show word path) h = refl

@@ -112,6 +112,14 @@ done_come : (d : Draft) (order : model.Command) (parts : List spelling.Part) (q 
 done_come d order parts place.Done e spelled enough has = (order, spelled, record { enough = enough; has = has })
 done_come d order parts q e spelled enough has = cc
 
+rename_goes : (from to : Word) (new : Draft) → ((f t : Bytes) → IfSome from (λ x. x.items ≡ f) → IfSome to (λ x. x.items ≡ t) → IsDraft new (model.Rename f t))
+    → (h : lines.Heading) → IsOpening (opening.Rename from to) h → (q : Place) → next_offered table.Start h ≡ Some (place_of q) → HasCome q new (parts_with h [])
+rename_goes from to new f (lines.RenameHeading o n) i q e = done_come new (model.Rename o n) _ q e refl refl (f o n i.0 i.1)
+rename_goes from to new f h i q e = absurd i
+
+pub rename_opens : (from to : Word) (new : Draft) → ((f t : Bytes) → IfSome from (λ x. x.items ≡ f) → IfSome to (λ x. x.items ≡ t) → IsDraft new (model.Rename f t)) → TakesOpening (opening.Rename from to) new []
+rename_opens from to new f = record { fields = []; heads = refl; spelled = refl; begins = rename_goes from to new f }
+
 delete_goes : (name : Word) (expect : Option Expect) (new : Draft) → ((n : Bytes) (at : Option Bytes) → IfSome name (λ x. x.items ≡ n) → IfSome expect (λ x. IsExpect x (option_expect at)) → IsDraft new (model.Delete n at))
     → (h : lines.Heading) → IsOpening (opening.Delete name expect) h → (q : Place) → next_offered table.Start h ≡ Some (place_of q) → HasCome q new (parts_with h [])
 delete_goes name expect new f (lines.DeleteHeading n at) i q e = done_come new (model.Delete n at) _ q e refl refl (f n at i.0 i.1)
@@ -228,6 +236,8 @@ at_start (opening.Tag target) (lines.TagHeading n x w) i place.Start q e = refl
 at_start (opening.Tag target) (lines.TagHeading n x w) i p q e = cc
 at_start opening.Move lines.MoveHeading i place.Start q e = refl
 at_start opening.Move lines.MoveHeading i p q e = cc
+at_start (opening.Rename from to) (lines.RenameHeading o n) i place.Start q e = refl
+at_start (opening.Rename from to) (lines.RenameHeading o n) i p q e = cc
 at_start (opening.Delete name expect) (lines.DeleteHeading n at) i place.Start q e = refl
 at_start (opening.Delete name expect) (lines.DeleteHeading n at) i p q e = cc
 at_start (opening.Files word) (lines.FilesHeading w) i place.Start q e = refl

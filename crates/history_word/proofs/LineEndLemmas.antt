@@ -31,6 +31,7 @@ opening_sizes_are : (said : Opening) (h : lines.Heading) â†’ IsOpening said h â†
 opening_sizes_are (opening.Commit name expect) (lines.CommitHeading n x) e = refl
 opening_sizes_are (opening.Tag target) (lines.TagHeading n x w) e = refl
 opening_sizes_are opening.Move lines.MoveHeading e = refl
+opening_sizes_are (opening.Rename from to) (lines.RenameHeading old new) e = refl
 opening_sizes_are (opening.Delete name expect) (lines.DeleteHeading n at) e = refl
 opening_sizes_are (opening.Files word) (lines.FilesHeading w) e = refl
 opening_sizes_are (opening.Show word) (lines.ShowHeading w None) e = refl

@@ -18,6 +18,7 @@ use Rattle.history_word.specs.declared.command.CommitCommand.{CommitCommand}
 use Rattle.history_word.specs.declared.command.TagCommand.{TagCommand}
 use Rattle.history_word.specs.declared.command.To.{To}
 use Rattle.history_word.specs.declared.command.MoveCommand.{MoveCommand}
+use Rattle.history_word.specs.declared.command.Rename.{Rename}
 use Rattle.history_word.specs.declared.command.Delete.{Delete}
 use Rattle.history_word.specs.declared.command.Order.{Order}
 use Rattle.history_word.specs.declared.command.Order.TheVariants.{Breadth, Newest, Oldest, NewestSince, OldestSince, Date, Topological}
@@ -80,6 +81,11 @@ pub record IsMove (move : MoveCommand) (order : model.MoveCommand) : Type 0 wher
   pub actor : IsActor move.actor order.actor
   pub message : Keeps max_content move.message order.message
 
+-- the two names are these
+pub record IsRename (rename : Rename) (from to : Bytes) : Type 0 where
+  pub from_is : rename.from.items ≡ from
+  pub to_is : rename.to.items ≡ to
+
 -- the name is this one, and is to be at the word's commit, if there is a word
 pub record IsDelete (delete : Delete) (name : Bytes) (at : Option Bytes) : Type 0 where
   pub name_is : delete.name.items ≡ name
@@ -120,6 +126,7 @@ abbrev pub IsCommandOf : Command → model.Command → Type 0
 IsCommandOf (command.Commit commit) (model.Commit order) = IsCommit commit order
 IsCommandOf (command.Tag tag) (model.Tag order) = IsTag tag order
 IsCommandOf (command.Move move) (model.Move order) = IsMove move order
+IsCommandOf (command.Rename rename) (model.Rename from to) = IsRename rename from to
 IsCommandOf (command.Delete delete) (model.Delete name at) = IsDelete delete name at
 IsCommandOf (command.Files word) (model.Files bytes) = word.items ≡ bytes
 IsCommandOf (command.Show show) (model.Show word path) =

@@ -10,7 +10,7 @@ use Rattle.history_model.specs.Lines as lines
 use Rattle.history_word.specs.LineTable as table
 use Rattle.history_word.specs.TableRuns as runs
 use Rattle.history_word.specs.Fields.{Keeps}
-use Rattle.history_word.specs.Commands.{IsDelete, IsExpect, AreEdits, IsActor, AreTos, IsTo, IsPath, IsOrder, IsLogItem, IsLog}
+use Rattle.history_word.specs.Commands.{IsRename, IsDelete, IsExpect, AreEdits, IsActor, AreTos, IsTo, IsPath, IsOrder, IsLogItem, IsLog}
 use Rattle.history_model.specs.Forms.{max_content}
 use Rattle.history_word.specs.declared.command.Expect.{Expect}
 use Rattle.history_word.specs.declared.command.Order.{Order}
@@ -89,6 +89,8 @@ IsOpening (opening.Commit name expect) (lines.CommitHeading n e) =
     IfSome name (λ word. word.items ≡ n) × IfSome expect (λ x. IsExpect x e)
 IsOpening (opening.Tag target) (lines.TagHeading n e w) = IfSome target (λ x. IsTo x (to_of n e w))
 IsOpening opening.Move lines.MoveHeading = ⊤
+IsOpening (opening.Rename from to) (lines.RenameHeading old new) =
+    IfSome from (λ word. word.items ≡ old) × IfSome to (λ word. word.items ≡ new)
 IsOpening (opening.Delete name expect) (lines.DeleteHeading n at) =
     IfSome name (λ word. word.items ≡ n) × IfSome expect (λ x. IsExpect x (option_expect at))
 IsOpening (opening.Files word) (lines.FilesHeading w) = IfSome word (λ x. x.items ≡ w)
@@ -190,6 +192,7 @@ abbrev pub IsDraft : Draft → model.Command → Type 0
 IsDraft (draft.Commit commit) (model.Commit order) = IsCommitDraft commit order
 IsDraft (draft.Tag tag) (model.Tag order) = IsTagDraft tag order
 IsDraft (draft.Move move) (model.Move order) = IsMoveDraft move order
+IsDraft (draft.Rename rename) (model.Rename from to) = IfSome rename (λ x. IsRename x from to)
 IsDraft (draft.Delete delete) (model.Delete name at) = IfSome delete (λ x. IsDelete x name at)
 IsDraft (draft.Files word) (model.Files bytes) = IfSome word (λ x. x.items ≡ bytes)
 IsDraft (draft.Show show) (model.Show word path) =

@@ -93,6 +93,13 @@ pub struct MoveCommand {
     pub message: Field,
 }
 
+/// Makes a name at what another holds, and deletes that one with its log.
+#[derive(Debug, Drop)]
+pub struct Rename {
+    pub from: Vec<u8>,
+    pub to: Vec<u8>,
+}
+
 /// Deletes a name with its log. What is expected of the name is nothing, or that it is at a word's commit.
 #[derive(Debug, Drop)]
 pub struct Delete {
@@ -147,6 +154,7 @@ pub enum Command {
     Commit(CommitCommand),
     Tag(TagCommand),
     Move(MoveCommand),
+    Rename(Rename),
     Delete(Delete),
     /// Lists the files of this word's commit.
     Files(Vec<u8>),

@@ -12,7 +12,7 @@ ghost use Rattle.history_word.specs.Drafts.{IsCommitDraft, IsTagDraft, IsMoveDra
 
 use crate::command::{
     ActorLine, Command, CommitCommand, Delete, Edit, Expect, Field, LogCommand, MoveCommand, Put,
-    Show, TagCommand, To,
+    Rename, Show, TagCommand, To,
 };
 use crate::heading::Role;
 use history_model::FileKind;
@@ -53,6 +53,7 @@ pub(crate) enum Draft {
     Commit(CommitDraft),
     Tag(TagDraft),
     Move(MoveDraft),
+    Rename(Option<Rename>),
     Delete(Option<Delete>),
     Files(Option<Vec<u8>>),
     Show(Option<Show>),
@@ -195,6 +196,17 @@ impl Draft {
         Draft::Move(MoveDraft::new(alloc))
     }
 
+    pub(crate) fn rename(from: Option<Vec<u8>>, to: Option<Vec<u8>>) -> Self
+        ensures { (old new : Bytes) → IfSome from (λ x. x.items ≡ old)
+            → IfSome to (λ x. x.items ≡ new)
+            → IsDraft result (model.Rename old new) }
+    {
+        let (Some(from), Some(to)) = (from, to) else {
+            return Draft::Rename(None);
+        };
+        Draft::Rename(Some(Rename { from, to }))
+    }
+
     pub(crate) fn delete(name: Option<Vec<u8>>, expect: Option<Expect>) -> Self
         ensures { (n : Bytes) (at : Option Bytes) → IfSome name (λ x. x.items ≡ n)
             → IfSome expect (λ x. IsExpect x (option_expect at))
@@ -301,7 +313,12 @@ impl Draft {
     {
         matches!(
             self,
-            Draft::Commit(_) | Draft::Tag(_) | Draft::Move(_) | Draft::Delete(_) | Draft::Switch(_)
+            Draft::Commit(_)
+                | Draft::Tag(_)
+                | Draft::Move(_)
+                | Draft::Rename(_)
+                | Draft::Delete(_)
+                | Draft::Switch(_)
         )
     }
 
@@ -315,6 +332,7 @@ impl Draft {
             Draft::Commit(commit) => Some(Command::Commit(commit.finish()?)),
             Draft::Tag(tag) => Some(Command::Tag(tag.finish()?)),
             Draft::Move(order) => Some(Command::Move(order.finish()?)),
+            Draft::Rename(rename) => Some(Command::Rename(rename?)),
             Draft::Delete(delete) => Some(Command::Delete(delete?)),
             Draft::Files(word) => Some(Command::Files(word?)),
             Draft::Show(show) => Some(Command::Show(show?)),

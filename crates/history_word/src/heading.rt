@@ -2,7 +2,7 @@
 
 ghost use Rattle.std.specs.Prelude.{◌≡◌, ◌∷◌, ◌≤◌, length, IfSome, IfNone, OnSome, IsTrue};
 ghost use Rattle.history_model.specs.Lines.{ParentHeading, RemoveHeading, RemoveFileHeading, MessageHeading, EndHeading, MoveHeading, FilesHeading, PastHeading, SwitchHeading, IndexHeading};
-ghost use Rattle.history_word.specs.LineTable.{heading_of, end_of_words, word_of_words, size_of_words, commit_of_words, put_of_words, actor_of_words, show_of_words, names_of_words, log_of_words, name_heading_of, delete_of_words};
+ghost use Rattle.history_word.specs.LineTable.{heading_of, end_of_words, word_of_words, size_of_words, commit_of_words, put_of_words, actor_of_words, show_of_words, names_of_words, log_of_words, name_heading_of, rename_of_words, delete_of_words};
 ghost use Rattle.history_model.specs.Spelling.{max_line};
 ghost use Rattle.history_word.specs.TableRuns.{IsLineAt};
 ghost use Rattle.history_word.specs.Held.{IsUnbroken};
@@ -67,6 +67,10 @@ pub(crate) enum Opening {
     /// The name of a tag, what is expected of it, and the word of its commit.
     Tag(Option<To>),
     Move,
+    Rename {
+        from: Option<Vec<u8>>,
+        to: Option<Vec<u8>>,
+    },
     Delete {
         name: Option<Vec<u8>>,
         expect: Option<Expect>,
@@ -298,6 +302,18 @@ fn move_line(words: &Words) -> Option<Heading>
     }
 }
 
+/// What follows `rename`: `<old name> <new name>`.
+fn rename(alloc: Global, words: &mut Words) -> Option<Heading>
+    ensures { Says result (rename_of_words (left words.old)) }
+{
+    let from = words.next()?;
+    let to = words.last()?;
+    Some(Heading::Opening(Opening::Rename {
+        from: kept(alloc, from),
+        to: kept(alloc, to),
+    }))
+}
+
 /// What follows `delete`: `<name> any`, or `<name> at <word>`.
 fn delete(alloc: Global, words: &mut Words) -> Option<Heading>
     ensures { Says result (delete_of_words (left words.old)) }
@@ -347,6 +363,8 @@ fn said_of_names(alloc: Global, first: &[u8], words: &mut Words) -> Option<Headi
         log(alloc, words)
     } else if first == b"switch".as_slice() {
         switch(alloc, words)
+    } else if first == b"rename".as_slice() {
+        rename(alloc, words)
     } else if first == b"index".as_slice() {
         index(words)
     } else {

@@ -18,7 +18,7 @@ mod words;
 pub use buffer::Buffer;
 pub use command::{
     ActorLine, Command, CommitCommand, Delete, Edit, Expect, Field, LogCommand, LogItem,
-    MoveCommand, Order, Put, Show, TagCommand, To,
+    MoveCommand, Order, Put, Rename, Show, TagCommand, To,
 };
 pub use memory::{Bytes, Collected};
 pub use reader::{Received, Stop, read_command};

@@ -233,6 +233,7 @@ fn read_opening<R: Source>(
         Opening::Commit { name, expect } => Ok(Draft::commit(alloc, name, expect)),
         Opening::Tag(target) => Ok(Draft::tag(target)),
         Opening::Move => Ok(Draft::new_move(alloc)),
+        Opening::Rename { from, to } => Ok(Draft::rename(from, to)),
         Opening::Delete { name, expect } => Ok(Draft::delete(name, expect)),
         Opening::Files { word } => Ok(Draft::Files(word)),
         Opening::Show { word } => Ok(Draft::show(word)),

@@ -131,6 +131,7 @@ def commands():
     cut(COMMIT_TEXT, COMMIT.words())
     moves()
     tags()
+    renames()
     deletions()
     row("read", b"files main\n", "more files:main end")
     row("read", b"show HEAD\n", "more show:HEAD end")
@@ -190,6 +191,12 @@ def tags():
     row("read", TAG_TEXT.replace(b"one", b"\n\nx"), "more " + TAG.words().replace("message:one", "message:%0a%0ax") + " end")
 
 
+def renames():
+    cut(b"rename refs/heads/s refs/heads/t\n", "rename:refs/heads/s to:refs/heads/t")
+    row("read", b"rename rename to\n", "more rename:rename to:to end")
+    row("stream", b"rename a b\nrename b a\n", "more rename:a to:b more")
+
+
 def deletions():
     cut(b"delete refs/heads/s at main\n", "delete:refs/heads/s at:main")
     cut(b"delete refs/heads/s any\n", "delete:refs/heads/s any")
@@ -217,6 +224,9 @@ def limits():
     row("read", "files%20+x*4091+%0a", "more LineTooLong")
     row("read", "switch%20+x*4089+%0a", "more switch:" + "x" * 4089 + " end")
     row("read", "switch%20+x*4090+%0a", "more LineTooLong")
+    row("read", "rename%20a%20+x*4087+%0a", "more rename:a to:" + "x" * 4087 + " end")
+    row("read", "rename%20+x*4087+%20b%0a", "more rename:" + "x" * 4087 + " to:b end")
+    row("read", "rename%20a%20+x*4088+%0a", "more LineTooLong")
     row("read", "show%20a%20path%204096%0a+x*4096+%0a", "more show:a path:" + "x" * 4096 + " end")
     row("read", "show%20a%20path%204097%0a+x*4096+%0a", "more Truncated")
     row("read", "show%20a%20path%204097%0a+x*4096+%0a%0a", "more show:a path:" + "x" * 1025 + "... end")
@@ -268,7 +278,9 @@ LINES = [
     b"index a\n", b"index \n", b" index\n", b"Index\n", b"indexes\n", b"commit HEAD new\nindex\n",
     b"delete\n", b"delete main\n", b"delete main new\n", b"delete main at\n",
     b"delete main any any\n", b"delete main at a b\n", b"delete main anyone\n", b"delete main to a\n", b"delete  any\n", b"delete main a\n",
-    b"commit HEAD new\ndelete main any\n", b"delete main any \n", b"Delete main any\n", b"rename a b\n", b"pack\n",
+    b"commit HEAD new\ndelete main any\n", b"delete main any \n", b"Delete main any\n",
+    b"rename\n", b"rename a\n", b"rename a b c\n", b"rename  a b\n", b"rename a  b\n", b"rename a b \n",
+    b"Rename a b\n", b"commit HEAD new\nrename a b\n", b"pack\n",
     b"move a\n", b"move \n", b"to a new b\n", b"actor 0 0 s o\n",
     b"tag\n", b"tag a\n", b"tag a new\n", b"tag a any\n", b"tag a at b\n", b"tag a old b\n", b"tag a new b c\n", b"tag a any b c\n",
     b"tag a at b c d\n",
@@ -284,7 +296,7 @@ WRONG = [
               b"tagger 0 1 s o\n\nab\n", b"names\n", b"\n"]),
     (BY_TAGGER, [TAGGED, b"tagger 0 0 s o\n", b"end\n", b"message\n", b"message 01\n", b"message 0 0\n", b"message 0\na\n", TO, ACTOR]),
     (BY_TAGGER + MESSAGE, [TAGGED, b"tagger 0 0 s o\n", MESSAGE, b"end end\n"]),
-    (FIRST, [b"move\n", b"delete main any\n", b"switch a\n", b"index\n", b"actor 0 0 s o\n", b"message 0\n", b"end\n", b"names\n", b"to\n", b"to a\n", b"to a new\n", b"to a any\n",
+    (FIRST, [b"move\n", b"rename a b\n", b"delete main any\n", b"switch a\n", b"index\n", b"actor 0 0 s o\n", b"message 0\n", b"end\n", b"names\n", b"to\n", b"to a\n", b"to a new\n", b"to a any\n",
              b"to a at b\n", b"to a old b\n", b"to a new b c\n", b"to a any b c\n", b"to a at b c d\n", b"to a at\n", b"to  new b\n",
              b"To a new b\n", b"\n", b"parent a\n"]),
     (MORE, [b"move\n", b"message 0\n", b"end\n", b"author 0 0 s o\n", b"committer 0 0 s o\n", b"tagger 0 0 s o\n", b"parent a\n",

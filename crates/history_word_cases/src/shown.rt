@@ -4,7 +4,7 @@ use case_words::Page;
 use history_model::{Cause, FileKind};
 use history_word::{
     ActorLine, Command, CommitCommand, Delete, Edit, Expect, Field, LogCommand, LogItem,
-    MoveCommand, Order, Put, Received, Show, Stop, TagCommand,
+    MoveCommand, Order, Put, Received, Rename, Show, Stop, TagCommand,
 };
 
 /// What reading a command ended with.
@@ -35,6 +35,7 @@ fn show_command(command: &Command, page: &mut Page) {
         Command::Commit(commit) => show_commit(commit, page),
         Command::Tag(tag) => show_tag(tag, page),
         Command::Move(order) => show_move(order, page),
+        Command::Rename(rename) => show_rename(rename, page),
         Command::Delete(delete) => show_delete(delete, page),
         Command::Files(word) => page.named("files", word),
         Command::Show(show) => show_show(show, page),
@@ -115,6 +116,11 @@ fn show_move(order: &MoveCommand, page: &mut Page) {
     }
     show_actor("actor", &order.actor, page);
     show_field("message", &order.message, page);
+}
+
+fn show_rename(rename: &Rename, page: &mut Page) {
+    page.named("rename", &rename.from);
+    page.named("to", &rename.to);
 }
 
 fn show_delete(delete: &Delete, page: &mut Page) {

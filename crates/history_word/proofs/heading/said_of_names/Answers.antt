@@ -61,10 +61,15 @@ returns-then-eq-10 c =
 pub returns-then-eq-11 : goal.returns-then-eq-11
 returns-then-eq-11 c =
     let name = (slice_eq-Decides Decides-eqb _ _ _ c.eq-else-eq-10.ensures).0 c.if-eq-11.true ∙ c.as_slice-else-eq-10.ensures in
+    subst (λ first. Says c.rename.result (name_heading_of first (left c.args.words.now))) (sym name) c.rename.ensures
+
+pub returns-then-eq-12 : goal.returns-then-eq-12
+returns-then-eq-12 c =
+    let name = (slice_eq-Decides Decides-eqb _ _ _ c.eq-else-eq-11.ensures).0 c.if-eq-12.true ∙ c.as_slice-else-eq-11.ensures in
     subst (λ first. Says c.index.result (name_heading_of first (left c.args.words.now))) (sym name) c.index.ensures
 
-pub returns-else-eq-11 : goal.returns-else-eq-11
-returns-else-eq-11 c =
+pub returns-else-eq-12 : goal.returns-else-eq-12
+returns-else-eq-12 c =
     no_line_of c.args.first.now (left c.args.words.now)
     (is_other c.args.first.now _ (codes "tag") _ (slice_eq-Decides Decides-eqb _ _ _ c.eq.ensures).1 c.as_slice.ensures c.if-eq.false)
     (is_other c.args.first.now _ (codes "tagger") _ (slice_eq-Decides Decides-eqb _ _ _ c.eq-else-eq.ensures).1 c.as_slice-else-eq.ensures c.if-eq-2.false)
@@ -76,4 +81,5 @@ returns-else-eq-11 c =
     (is_other c.args.first.now _ (codes "past") _ (slice_eq-Decides Decides-eqb _ _ _ c.eq-else-eq-7.ensures).1 c.as_slice-else-eq-7.ensures c.if-eq-8.false)
     (is_other c.args.first.now _ (codes "log") _ (slice_eq-Decides Decides-eqb _ _ _ c.eq-else-eq-8.ensures).1 c.as_slice-else-eq-8.ensures c.if-eq-9.false)
     (is_other c.args.first.now _ (codes "switch") _ (slice_eq-Decides Decides-eqb _ _ _ c.eq-else-eq-9.ensures).1 c.as_slice-else-eq-9.ensures c.if-eq-10.false)
-    (is_other c.args.first.now _ (codes "index") _ (slice_eq-Decides Decides-eqb _ _ _ c.eq-else-eq-10.ensures).1 c.as_slice-else-eq-10.ensures c.if-eq-11.false)
+    (is_other c.args.first.now _ (codes "rename") _ (slice_eq-Decides Decides-eqb _ _ _ c.eq-else-eq-10.ensures).1 c.as_slice-else-eq-10.ensures c.if-eq-11.false)
+    (is_other c.args.first.now _ (codes "index") _ (slice_eq-Decides Decides-eqb _ _ _ c.eq-else-eq-11.ensures).1 c.as_slice-else-eq-11.ensures c.if-eq-12.false)

@@ -6,7 +6,7 @@ use Rattle.history_word.specs.Progress.{IsNoField, StopsFrom}
 use Rattle.history_word.proofs.TakingLemmas.{took_none}
 use Rattle.history_word.proofs.StopLemmas.{stops_then}
 use Rattle.history_word.proofs.LineEndLemmas.{field_first_stops}
-use Rattle.history_word.proofs.DraftLemmas.{commit_opens, tag_opens, move_opens, delete_opens, files_opens, show_opens, path_opens, names_opens, folder_opens, past_opens, switch_opens, index_opens, log_opens}
+use Rattle.history_word.proofs.DraftLemmas.{commit_opens, tag_opens, move_opens, rename_opens, delete_opens, files_opens, show_opens, path_opens, names_opens, folder_opens, past_opens, switch_opens, index_opens, log_opens}
 use Rattle.history_word.proofs.reader.read_opening.Goals as goal
 
 pub returns-in-Commit : goal.returns-in-Commit
@@ -17,6 +17,9 @@ returns-in-Tag g c = rw (c.in-Tag.is) ([], took_none g.R.Source.left g.R.Source.
 
 pub returns-in-Move : goal.returns-in-Move
 returns-in-Move g c = rw (c.in-Move.is) ([], took_none g.R.Source.left g.R.Source.readings c.args.source.now c.args.buffer.now, (move_opens _ c.new_move.ensures, λ _. refl))
+
+pub returns-in-Rename : goal.returns-in-Rename
+returns-in-Rename g c = rw (c.in-Rename.is) ([], took_none g.R.Source.left g.R.Source.readings c.args.source.now c.args.buffer.now, (rename_opens c.in-Rename.from c.in-Rename.to _ c.rename.ensures, λ _. refl))
 
 pub returns-in-Delete : goal.returns-in-Delete
 returns-in-Delete g c = rw (c.in-Delete.is) ([], took_none g.R.Source.left g.R.Source.readings c.args.source.now c.args.buffer.now, (delete_opens c.in-Delete.name c.in-Delete.expect _ c.delete.ensures, λ _. refl))

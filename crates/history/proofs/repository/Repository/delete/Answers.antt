@@ -1,4 +1,4 @@
-use Rattle.std.proofs.Common.{◌∙◌, ap, inr, Err}
+use Rattle.std.proofs.Common.{◌∙◌, ap, inr, Err, codes}
 use Rattle.std.proofs.lemmas.Result.{err_from_is_err_and}
 use Rattle.history_model.specs.Commands.{Delete}
 use Rattle.history_model.specs.Meaning.{after}
@@ -6,8 +6,8 @@ use Rattle.history_model.specs.Replies.{Deleted}
 use Rattle.history.specs.Acts.{CountsFailure}
 use Rattle.history.specs.Serving.{Serves}
 use Rattle.history.proofs.Acted.{idle_later, idle_stops}
-use Rattle.history.proofs.DeleteLemmas.{acts_stopped, acts_tested, deleted_text, names_only, passes_names, stand_now, stands_after, there_now, unpacked_after}
-use Rattle.history.proofs.NamesAlone.{names_later, names_serve, names_stop}
+use Rattle.history.proofs.DeleteLemmas.{acts_stopped, acts_tested, names_only, passes_names, stand_now, stands_after, there_now, unpacked_after}
+use Rattle.history.proofs.NamesAlone.{names_later, names_serve, names_stop, word_told}
 use Rattle.history.proofs.repository.Repository.delete.Goals as goal
 
 pub returns-in_err-test_delete-clause-later : goal.returns-in_err-test_delete-clause-later
@@ -82,7 +82,7 @@ returns-clause-acts g c = λ r name at h is.
     let kept = c.delete_name.ensures.kept in (
       Deleted,
       after r (Delete name at),
-      deleted_text c.new-text.result.items c.line.new.text.items c.as_slice.result.now c.as_slice-2.result.now c.new-text.ensures.items c.as_slice.ensures c.as_slice-2.ensures c.in_ok-line.ensures,
+      word_told (codes "delete") c.new-text.result.items c.line.new.text.items c.as_slice.result.now c.as_slice-2.result.now c.new-text.ensures.items c.as_slice.ensures c.as_slice-2.ensures c.in_ok-line.ensures,
       (names_only r name at none).accepts,
       names_serve F.is_honest F.history F.failures c.args.self.now c.delete_name.new.self r (Delete name at) Deleted h (names_only r name at none) kept (c.delete_name.ensures.honest stand.honest)
           (stands_after F.is_honest F.history c.args.self.now r h name c.deref.result.now at place none c.delete_name.new.self kept deleted)

@@ -1,4 +1,4 @@
-use Rattle.std.proofs.Common.{◌∙◌, ap, inr, subst, sym, Err}
+use Rattle.std.proofs.Common.{◌∙◌, ap, inr, subst, sym, Err, codes}
 use Rattle.std.proofs.lemmas.Result.{err_from_is_err_and}
 use Rattle.history_model.specs.Commands.{Move}
 use Rattle.history_model.specs.Meaning.{after}
@@ -9,7 +9,8 @@ use Rattle.history.specs.Moving.{AreMoves, AskedMoves}
 use Rattle.history.specs.Serving.{Serves}
 use Rattle.history.proofs.Acted.{idle_later, idle_stops}
 use Rattle.history.proofs.LineLemmas.{plan_acts}
-use Rattle.history.proofs.MovesMade.{accepted, acts_stopped, move_later, move_serves, move_stops, moved_text}
+use Rattle.history.proofs.MovesMade.{names_only}
+use Rattle.history.proofs.NamesAlone.{acts_stopped, names_later, names_stop, stand_serves, word_told}
 use Rattle.history.proofs.repository.Repository.move_together.Goals as goal
 
 pub returns-in_err-moves-clause-later : goal.returns-in_err-moves-clause-later
@@ -34,13 +35,13 @@ pub returns-in_err-move_each-clause-later : goal.returns-in_err-move_each-clause
 returns-in_err-move_each-clause-later g c = λ r order h is.
     let plan = c.in_ok-moves.ensures r order h is in
     let asked : AskedMoves g.F.Files.is_honest g.F.Files.history c.args.self.now c.deref.result.now r order = record { serves = h; none = plan.0; moves_are = subst (AreMoves r order order.to) (sym c.deref.ensures.value) plan.1 } in
-    move_later g.F.Files.is_honest g.F.Files.history g.F.Files.failures c.args.self.now c.move_each.new.self r order h plan.0 c.move_each.ensures.kept (c.move_each.ensures.passes r order asked)
+    names_later g.F.Files.is_honest g.F.Files.history g.F.Files.failures c.args.self.now c.move_each.new.self r (Move order) Moved h (names_only r order plan.0) c.move_each.ensures.kept (c.move_each.ensures.passes r order asked)
 
 pub returns-in_err-move_each-clause-stops : goal.returns-in_err-move_each-clause-stops
 returns-in_err-move_each-clause-stops g c = λ r order h is.
     let plan = c.in_ok-moves.ensures r order h is in
     let asked : AskedMoves g.F.Files.is_honest g.F.Files.history c.args.self.now c.deref.result.now r order = record { serves = h; none = plan.0; moves_are = subst (AreMoves r order order.to) (sym c.deref.ensures.value) plan.1 } in
-    move_stops g.F.Files.is_honest g.F.Files.history g.F.Files.failures c.args.self.now c.move_each.new.self r order h plan.0 c.move_each.ensures.kept (c.move_each.ensures.passes r order asked)
+    names_stop g.F.Files.is_honest g.F.Files.history g.F.Files.failures c.args.self.now c.move_each.new.self r (Move order) Moved h (names_only r order plan.0) c.move_each.ensures.kept (c.move_each.ensures.passes r order asked)
 
 pub returns-in_err-move_each-clause-acts : goal.returns-in_err-move_each-clause-acts
 returns-in_err-move_each-clause-acts g c = λ r order h is.
@@ -48,20 +49,20 @@ returns-in_err-move_each-clause-acts g c = λ r order h is.
     let asked : AskedMoves g.F.Files.is_honest g.F.Files.history c.args.self.now c.deref.result.now r order = record { serves = h; none = plan.0; moves_are = subst (AreMoves r order order.to) (sym c.deref.ensures.value) plan.1 } in
     let stopped = err_from_is_err_and c.from_residual-in_err-move_each.result c.from_residual-in_err-move_each.ensures.1 in
     acts_stopped (CountsFailure g.F.Files.failures g.F.Files.reading_may_fail c.args.self.now c.move_each.new.self) (NamesStand g.F.Files.is_honest g.F.Files.history c.move_each.new.self (after r (Move order)))
-    (Serves g.F.Files.is_honest g.F.Files.history c.move_each.new.self) r order c.move_each.result c.from_residual-in_err-move_each.result c.in_err-move_each.field-0.0 c.in_err-move_each.was (stopped.1 ∙ ap Err stopped.2)
+    (Serves g.F.Files.is_honest g.F.Files.history c.move_each.new.self) r (Move order) c.move_each.result c.from_residual-in_err-move_each.result c.in_err-move_each.field-0.0 c.in_err-move_each.was (stopped.1 ∙ ap Err stopped.2)
     (c.move_each.ensures.moves r order asked)
 
 pub returns-clause-later : goal.returns-clause-later
 returns-clause-later g c = λ r order h is.
     let plan = c.in_ok-moves.ensures r order h is in
     let asked : AskedMoves g.F.Files.is_honest g.F.Files.history c.args.self.now c.deref.result.now r order = record { serves = h; none = plan.0; moves_are = subst (AreMoves r order order.to) (sym c.deref.ensures.value) plan.1 } in
-    move_later g.F.Files.is_honest g.F.Files.history g.F.Files.failures c.args.self.now c.move_each.new.self r order h plan.0 c.move_each.ensures.kept (c.move_each.ensures.passes r order asked)
+    names_later g.F.Files.is_honest g.F.Files.history g.F.Files.failures c.args.self.now c.move_each.new.self r (Move order) Moved h (names_only r order plan.0) c.move_each.ensures.kept (c.move_each.ensures.passes r order asked)
 
 pub returns-clause-stops : goal.returns-clause-stops
 returns-clause-stops g c = λ r order h is.
     let plan = c.in_ok-moves.ensures r order h is in
     let asked : AskedMoves g.F.Files.is_honest g.F.Files.history c.args.self.now c.deref.result.now r order = record { serves = h; none = plan.0; moves_are = subst (AreMoves r order order.to) (sym c.deref.ensures.value) plan.1 } in
-    move_stops g.F.Files.is_honest g.F.Files.history g.F.Files.failures c.args.self.now c.move_each.new.self r order h plan.0 c.move_each.ensures.kept (c.move_each.ensures.passes r order asked)
+    names_stop g.F.Files.is_honest g.F.Files.history g.F.Files.failures c.args.self.now c.move_each.new.self r (Move order) Moved h (names_only r order plan.0) c.move_each.ensures.kept (c.move_each.ensures.passes r order asked)
 
 pub returns-clause-acts : goal.returns-clause-acts
 returns-clause-acts g c = λ r order h is.
@@ -69,7 +70,7 @@ returns-clause-acts g c = λ r order h is.
     let asked : AskedMoves g.F.Files.is_honest g.F.Files.history c.args.self.now c.deref.result.now r order = record { serves = h; none = plan.0; moves_are = subst (AreMoves r order order.to) (sym c.deref.ensures.value) plan.1 } in (
       Moved,
       after r (Move order),
-      moved_text c.new-text.result.items c.line.new.text.items c.as_slice.result.now c.as_slice-2.result.now c.new-text.ensures.items c.as_slice.ensures c.as_slice-2.ensures c.in_ok-line.ensures,
-      accepted r order plan.0,
-      move_serves g.F.Files.is_honest g.F.Files.history g.F.Files.failures c.args.self.now c.move_each.new.self r order h plan.0 c.move_each.ensures.kept c.move_each.ensures.kind (c.in_ok-move_each.ensures.moves r order asked),
+      word_told (codes "move") c.new-text.result.items c.line.new.text.items c.as_slice.result.now c.as_slice-2.result.now c.new-text.ensures.items c.as_slice.ensures c.as_slice-2.ensures c.in_ok-line.ensures,
+      (names_only r order plan.0).accepts,
+      stand_serves g.F.Files.is_honest g.F.Files.history g.F.Files.failures c.args.self.now c.move_each.new.self r (Move order) Moved h (names_only r order plan.0) c.move_each.ensures.kept (c.in_ok-move_each.ensures.moves r order asked) c.move_each.ensures.kind,
     )
