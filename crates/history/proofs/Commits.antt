@@ -1,5 +1,5 @@
 -- A command that moves one name, on the two parts: its values are put, and then its name moves.
-use Rattle.std.proofs.Common.{◌≡◌, refl, sym, ◌∙◌, ap, subst, Bool, true, false, ◌||◌, [], ◌∷◌, ◌++◌, None, codes}
+use Rattle.std.proofs.Common.{◌≡◌, refl, sym, ◌∙◌, ap, subst, Bool, true, false, ◌||◌, List, [], ◌∷◌, ◌++◌, None, codes}
 use Rattle.std.specs.Prelude.{IsFalse, Option, Some, is_some, not, ◌&&◌}
 use Rattle.std.proofs.lemmas.List.{append-nil}
 use Rattle.gix_ref_file.specs.History.{History}
@@ -142,8 +142,8 @@ module _ {F : Type 0} (IsHonest : F → Type 0) (history : F → History) where
         names_kind = kind_then ∙ ap (λ names. names.kind) kept.names ∙ h.stands.names_kind;
         branch = ap (λ branch. branch.items) (kept_then.branch ∙ kept.branch) ∙ h.stands.branch ∙ sym so.branch;
         known = λ id. ap (λ objects. contains_key (ids_of_objects objects) id) kept_then.objects ∙ known id;
-        rows = subst (λ (rows : Option (List Row)). AgreeRows r.kind (after r (Commit order)).objects (rows_of rows)) (sym (kept_then.rows ∙ kept.rows))
-            (agree_grown r.kind r.objects (after r (Commit order)).objects (rows_of (rows_in old)) (λ id value at. all_keep r.kind r.objects (stored_by r (Commit order)) id value at) h.stands.rows);
+        rows = subst (λ (rows : Option (List Row)). AgreeRows r.kind (after r command).objects (rows_of rows)) (sym (kept_then.rows ∙ kept.rows))
+            (agree_grown r.kind r.objects (after r command).objects (rows_of (rows_in old)) (λ id value at. all_keep r.kind r.objects (stored_by r command) id value at) h.stands.rows);
       };
       stage = record { unpacked = from_old.others packed_place (packed_apart move.name is_one) (packed_no_log move.name) ∙ h.stage.unpacked };
     }

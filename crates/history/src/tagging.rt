@@ -14,7 +14,7 @@ ghost use Rattle.history_word.specs.Commands.{IsActor, IsExpect, IsTag};
 ghost use Rattle.history_word.specs.Fields.{Keeps};
 ghost use Rattle.history.specs.Acts.{Acts, CountsFailure, CountsRise, KeepsCounts};
 ghost use Rattle.history.specs.CommitCauses.{TestsOf};
-ghost use Rattle.history.specs.Face.{has_failed};
+ghost use Rattle.history.specs.Face.{has_failed, rows_in};
 ghost use Rattle.history.specs.Faults.{IsRefusal};
 ghost use Rattle.history.specs.Moments.{GoesLater, StoodOnTheWay};
 ghost use Rattle.history.specs.Serving.{Serves};
@@ -161,6 +161,7 @@ impl<F: Files> Repository<F> {
     pub(crate) fn tag(&mut self, alloc: Global, command: TagCommand) -> Result<Vec<u8>, Stopped>
         ensures refused { IfErr result (λ stopped. IsRefusal stopped → self.new ≡ self.old) }
         ensures failed { has_failed self.new ≡ has_failed self.old }
+        ensures rows { rows_in self.new ≡ rows_in self.old }
         ensures counts { CountsRise F.failures self.old self.new }
         ensures unfailed { OnOk result (KeepsCounts F.failures self.old self.new) }
         ensures later { (r : plain.Repository) (order : orders.TagCommand)

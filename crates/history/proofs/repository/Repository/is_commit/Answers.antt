@@ -4,8 +4,8 @@ use Rattle.gix_object_find.specs.Table.{header_at}
 use Rattle.history_model.specs.Objects.{content_of, object_kind}
 use Rattle.history_store.specs.KnownObjects.{table_of}
 use Rattle.history.proofs.AllTold.{is_commit_kind, other_kind}
-use Rattle.history.proofs.ShortIds.{header_kind}
-use Rattle.history.proofs.Tables.{header_there, holds_known}
+use Rattle.history.proofs.Headers.{header_kind, header_there}
+use Rattle.history.proofs.Tables.{holds_known}
 use Rattle.history.proofs.repository.Repository.is_commit.Goals as goal
 
 pub returns-in_err-header : goal.returns-in_err-header

@@ -1,0 +1,12 @@
+mod Listed
+mod Walked
+mod Found
+mod Heads
+mod LogTexts
+mod LooseTexts
+mod MadeNames
+mod Standing
+mod Told
+mod Accepted
+mod Surveyed
+mod Joining

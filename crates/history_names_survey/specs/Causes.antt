@@ -1,0 +1,130 @@
+-- Why a names part isn't a repository's.
+use Rattle.std.specs.Prelude.{◌≡◌, ◌≢◌, ◌⊎◌, ⊤, ℕ, Bool, ◌&&◌, ◌||◌, Option, Some, None, Result, IfErr, Vec, bytes_eq, IsTrue, IsFalse}
+use Rattle.std.specs.FinMap.{get}
+use Rattle.std.specs.declared.alloc.Global.{Global}
+use Rattle.gix_hash_id.specs.Id.{id_of}
+use Rattle.gix_hash_id.specs.declared.kind.Kind.{Kind}
+use Rattle.gix_hash_id.specs.declared.object_id.ObjectId.{ObjectId}
+use Rattle.gix_object_find.specs.declared.find.Error as find
+use Rattle.gix_object_find.specs.declared.find.Error.TheVariants as finds
+use Rattle.gix_object_lines.specs.declared.kind.Kind.{Kind as ObjectKind}
+use Rattle.gix_ref_file.specs.Changes.{is_file_at}
+use Rattle.gix_ref_file.specs.Tree.{Tree, is_folder}
+use Rattle.gix_ref_file.specs.declared.files.FileError.{FileError}
+use Rattle.gix_ref_file.specs.declared.files.FileError.TheVariants as files
+use Rattle.history_model.specs.Bytes.{Bytes, begins}
+use Rattle.history_model.specs.Forms.{is_branch, is_name, is_private, refs_front}
+use Rattle.history_model.specs.NameStates as states
+use Rattle.history_model.specs.NameStates.{name_state, is_absent}
+use Rattle.history_model.specs.Places.{file_at, head_place, packed_place, is_lock_file, is_log_place, log_name, is_name_folder}
+use Rattle.history_model.specs.StandsFor.{head_text}
+use Rattle.history_names_survey.specs.Logs.{HasBadLine, HasLongLine}
+use Rattle.history_names_survey.specs.Stored.{Kinds, is_of_wrong_kind}
+use Rattle.history_names_survey.specs.declared.error.NamesError.{NamesError}
+use Rattle.history_names_survey.specs.declared.error.NamesError.TheVariants.{NoHead, BadHead, Stray, NotYet, Unfinished, BadName, PrivateName, Symbolic, Missing, WrongKind, BadLog, LongLogLine, LogWithoutName, File, Memory}
+use Rattle.history_names_survey.specs.declared.log.LogFault.{LogFault}
+use Rattle.history_names_survey.specs.declared.log.LogFault.TheVariants as logs
+
+abbrev pub file_fault : FileError → NamesError
+file_fault files.Failed = File
+file_fault files.Memory = Memory
+
+abbrev pub find_fault : find.Error → NamesError
+find_fault finds.Failed = File
+find_fault finds.Memory = Memory
+
+abbrev pub log_error : Vec ℕ Global → LogFault → NamesError
+log_error path (logs.Bad number) = BadLog path number
+log_error path (logs.Long number) = LongLogLine path number
+log_error path logs.Memory = Memory
+
+-- whether a repository, whole or with files that aren't renamed to their places, may have a file at the path
+abbrev pub may_hold_file : Bytes → Bool
+may_hold_file path =
+    bytes_eq path head_place || bytes_eq path packed_place || is_lock_file path
+    || begins refs_front path || is_log_place path
+
+-- a file or a folder that stands where none may
+abbrev pub IsStray : Tree → Bytes → Type 0
+IsStray tree path =
+    (IsTrue (is_file_at tree path) × IsFalse (may_hold_file path))
+    ⊎ (IsTrue (is_folder (get tree path)) × IsFalse (is_name_folder path))
+
+-- HEAD stands, and isn't the text of a branch
+pub record HasBadHead (tree : Tree) : Type 0 where
+  pub text : Bytes
+  pub stands : file_at tree head_place ≡ Some text
+  pub bad : (branch : Bytes) → IsTrue (is_branch branch) → text ≢ head_text branch
+
+-- a file below `refs` that is to stay, whose path is no name, or that holds neither an id nor a name
+pub record IsBadName (kind : Kind) (tree : Tree) (path : Bytes) : Type 0 where
+  pub stands : IsTrue (is_file_at tree path)
+  pub below : IsTrue (begins refs_front path)
+  pub finished : IsFalse (is_lock_file path)
+  pub bad : IsFalse (is_name path) ⊎ (name_state kind tree path ≡ states.Faulty)
+
+-- of the text of the log that stands at the path this holds
+pub record IsLogOf (tree : Tree) (path : Bytes) (What : Bytes → Type 0) : Type 0 where
+  pub text : Bytes
+  pub place : IsTrue (is_log_place path)
+  pub stands : file_at tree path ≡ Some text
+  pub what : What text
+
+-- The cause holds: of the files that stand, or that a reading may fail.
+abbrev pub HasCause : Type 0 → Kind → Kinds → Tree → NamesError → Type 0
+HasCause MayFail kind kinds tree NoHead = file_at tree head_place ≡ None
+HasCause MayFail kind kinds tree BadHead = HasBadHead tree
+HasCause MayFail kind kinds tree (Stray path) = IsStray tree path.items
+HasCause MayFail kind kinds tree (NotYet path) =
+    (path.items ≡ packed_place) × IsTrue (is_file_at tree packed_place)
+HasCause MayFail kind kinds tree (Unfinished path) =
+    IsTrue (is_file_at tree path.items) × IsTrue (is_lock_file path.items)
+HasCause MayFail kind kinds tree (BadName path) = IsBadName kind tree path.items
+HasCause MayFail kind kinds tree (PrivateName name) =
+    IsTrue (is_file_at tree name.items) × IsTrue (is_private name.items)
+HasCause MayFail kind kinds tree (Symbolic name) =
+    (target : Bytes) × (name_state kind tree name.items ≡ states.Symbolic target)
+HasCause MayFail kind kinds tree (Missing id name) =
+    (name_state kind tree name.items ≡ states.Holds (id_of id)) × (kinds (id_of id) ≡ None)
+HasCause MayFail kind kinds tree (WrongKind id name) =
+    (name_state kind tree name.items ≡ states.Holds (id_of id))
+    × IsTrue (is_of_wrong_kind (kinds (id_of id)))
+HasCause MayFail kind kinds tree (BadLog path number) =
+    IsLogOf tree path.items (λ text. HasBadLine kind text number)
+HasCause MayFail kind kinds tree (LongLogLine path number) =
+    IsLogOf tree path.items (λ text. HasLongLine kind text number)
+HasCause MayFail kind kinds tree (LogWithoutName path) =
+    IsTrue (is_file_at tree path.items) × IsTrue (is_log_place path.items)
+    × IsTrue (is_absent (name_state kind tree (log_name path.items)))
+HasCause MayFail kind kinds tree File = MayFail
+HasCause MayFail kind kinds tree Memory = ⊤
+
+-- ---- calls
+
+-- where a file stands at the path, and no names are packed, an error has its cause
+abbrev pub Excuses : {T : Type 0} → Type 0 → Kind → Kinds → Bytes → Result T NamesError → Tree
+    → Type 0
+Excuses MayFail kind kinds path result tree =
+    IsTrue (is_file_at tree path) → file_at tree packed_place ≡ None
+    → IfErr result (HasCause MayFail kind kinds tree)
+
+-- where no names are packed, an error has its cause
+abbrev pub ExcusesAll : {T : Type 0} → Type 0 → Kind → Kinds → Result T NamesError → Tree → Type 0
+ExcusesAll MayFail kind kinds result tree =
+    file_at tree packed_place ≡ None → IfErr result (HasCause MayFail kind kinds tree)
+
+-- why no commit and no tag is told to be stored under the id that a name holds
+abbrev pub IsUnheld : Type 0 → Option ObjectKind → ObjectId → Vec ℕ Global → NamesError → Type 0
+IsUnheld MayFail stored id name (Missing missing holder) =
+    (stored ≡ None) × (missing ≡ id) × (holder ≡ name)
+IsUnheld MayFail stored id name (WrongKind wrong holder) =
+    IsTrue (is_of_wrong_kind stored) × (wrong ≡ id) × (holder ≡ name)
+IsUnheld MayFail stored id name File = MayFail
+IsUnheld MayFail stored id name Memory = ⊤
+IsUnheld MayFail stored id name _ = ⊥
+
+-- a call of the files or of the store failed, or memory was refused
+abbrev pub IsFault : NamesError → Type 0
+IsFault File = ⊤
+IsFault Memory = ⊤
+IsFault _ = ⊥

@@ -1,0 +1,102 @@
+//! Why a names part isn't a repository's.
+
+ghost use Rattle.std.specs.Prelude.{◌≡◌};
+ghost use Rattle.history_names_survey.specs.Causes.{file_fault, find_fault, log_error};
+ghost use Rattle.history_names_survey.specs.declared.error.NamesError.TheVariants.{Memory};
+
+use crate::log::LogFault;
+use gix_hash::ObjectId;
+use gix_object_find::find;
+use gix_ref_file::FileError;
+use std::alloc::AllocError;
+use thiserror::Error;
+
+/// Why a names part isn't a repository's. Paths and names are in bytes, whole from the part's root; lines of a log count from 1.
+#[derive(Debug, Drop, PartialEq, Eq, Error)]
+pub enum NamesError {
+    #[error("no HEAD stands")]
+    NoHead,
+    /// HEAD isn't `ref: `, a branch's name and a line feed.
+    #[error("HEAD doesn't name a branch")]
+    BadHead,
+    /// A file or a folder stands where no repository has one.
+    #[error("stray: {0:?}")]
+    Stray(Vec<u8>),
+    /// Names are packed in this file, which isn't read yet.
+    #[error("not yet: {0:?}")]
+    NotYet(Vec<u8>),
+    /// A file that was to be renamed to its place.
+    #[error("unfinished: {0:?}")]
+    Unfinished(Vec<u8>),
+    /// A file below `refs` whose path is no name, or that holds neither an id of the repository's kind nor a name.
+    #[error("no name: {0:?}")]
+    BadName(Vec<u8>),
+    /// The name belongs to one working tree.
+    #[error("private: {0:?}")]
+    PrivateName(Vec<u8>),
+    /// The name stands for another name.
+    #[error("symbolic: {0:?}")]
+    Symbolic(Vec<u8>),
+    /// Nothing is stored under the id that the name holds.
+    #[error("missing: {0:?}, which {1:?} holds")]
+    Missing(ObjectId, Vec<u8>),
+    /// The name holds neither a commit nor a tag.
+    #[error("wrong kind: {0:?}, which {1:?} holds")]
+    WrongKind(ObjectId, Vec<u8>),
+    /// A line of a log that isn't in its form and limits.
+    #[error("{0:?}: line {1} tells no move")]
+    BadLog(Vec<u8>, usize),
+    /// A line of a log that has more than 4,096 bytes, its line feed counted.
+    #[error("{0:?}: line {1} is too long")]
+    LongLogLine(Vec<u8>, usize),
+    /// A log whose name doesn't stand.
+    #[error("no name has the log {0:?}")]
+    LogWithoutName(Vec<u8>),
+    #[error("a call of the files failed")]
+    File,
+    #[error("a growth was refused")]
+    Memory,
+}
+
+impl From<FileError> for NamesError {
+    ghost from_gives = { λ error given. given ≡ file_fault error };
+
+    fn from(error: FileError) -> NamesError {
+        match error {
+            FileError::Failed => NamesError::File,
+            FileError::Memory => NamesError::Memory,
+        }
+    }
+}
+
+impl From<find::Error> for NamesError {
+    ghost from_gives = { λ error given. given ≡ find_fault error };
+
+    fn from(error: find::Error) -> NamesError {
+        match error {
+            find::Error::Failed => NamesError::File,
+            find::Error::Memory => NamesError::Memory,
+        }
+    }
+}
+
+impl From<AllocError> for NamesError {
+    ghost from_gives = { λ _ given. given ≡ Memory };
+
+    fn from(_: AllocError) -> NamesError {
+        NamesError::Memory
+    }
+}
+
+impl NamesError {
+    /// The error of a log at this path.
+    pub(crate) fn of_log(path: Vec<u8>, fault: LogFault) -> NamesError
+        ensures { result ≡ log_error path fault }
+    {
+        match fault {
+            LogFault::Bad(line) => NamesError::BadLog(path, line),
+            LogFault::Long(line) => NamesError::LongLogLine(path, line),
+            LogFault::Memory => NamesError::Memory,
+        }
+    }
+}

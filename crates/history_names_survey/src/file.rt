@@ -1,0 +1,185 @@
+//! One file of the names part.
+
+ghost use Rattle.std.specs.Prelude.{◌≡◌, ◌⊎◌, IfErr, IfOk, IsErrOf, IsFalse, IsTrue, OnOk};
+ghost use Rattle.gix_hash_id.specs.Id.{id_of};
+ghost use Rattle.gix_object_find.specs.Table.{kind_at};
+ghost use Rattle.gix_ref_file.specs.Calls.{Finds};
+ghost use Rattle.gix_ref_file.specs.Changes.{is_file_at};
+ghost use Rattle.gix_ref_file.specs.Tree.{bytes_at};
+ghost use Rattle.gix_ref_file.specs.declared.files.FileError.TheVariants.{Failed};
+ghost use Rattle.history_model.specs.Bytes.{begins};
+ghost use Rattle.history_model.specs.Forms.{is_private, refs_front};
+ghost use Rattle.history_model.specs.Places.{is_lock_file, is_log_place, log_name};
+ghost use Rattle.history_names_survey.specs.Causes.{Excuses, IsUnheld};
+ghost use Rattle.history_names_survey.specs.Sound.{Sounds, has_name_file};
+ghost use Rattle.history_names_survey.specs.Stored.{Kinds, may_be_held};
+
+use crate::error::NamesError;
+use crate::log::test_log;
+use crate::loose::{Loose, read_loose};
+use gix_hash::{Kind, ObjectId};
+use gix_object_find::FindHeader;
+use gix_object_lines::Kind as ObjectKind;
+use gix_ref_file::{FileError, Files, Place};
+use history_model::names::{HEAD, REFS};
+use history_store::is_name;
+use std::alloc::Global;
+
+/// How the path of a log begins.
+const LOGS: &[u8] = b"logs/";
+
+/// How the path of a file ends that is to be renamed to its place.
+const LOCK_END: &[u8] = b".lock";
+
+/// Tests that the file at this path is one that a repository has there: a name's, which holds a stored commit or tag, or a log of a
+/// name that stands. The file is read once. HEAD isn't read.
+pub(crate) fn test_file<F: Files, S: FindHeader>(
+    alloc: Global,
+    files: &F,
+    kind: Kind,
+    stored: &S,
+    path: Vec<u8>,
+) -> Result<(), NamesError>
+    ensures sound { S.is_honest stored.now → Finds F.is_honest F.history files.now
+        (Sounds kind (kind_at (S.table stored.now)) path.items result) }
+    ensures wrong { S.is_honest stored.now → Finds F.is_honest F.history files.now
+        (Excuses (F.reading_may_fail ⊎ S.may_fail stored.now) kind
+        (kind_at (S.table stored.now)) path.items result) }
+{
+    if path.as_slice() == HEAD {
+        return Ok(());
+    }
+    if path.ends_with(LOCK_END) {
+        return Err(NamesError::Unfinished(path));
+    }
+    if path.starts_with(REFS) {
+        return test_name(alloc, files, kind, stored, path);
+    }
+    if path.starts_with(LOGS) {
+        return test_log_file(alloc, files, kind, path);
+    }
+    Err(NamesError::Stray(path))
+}
+
+// Tests the file of a name.
+fn test_name<F: Files, S: FindHeader>(
+    alloc: Global,
+    files: &F,
+    kind: Kind,
+    stored: &S,
+    name: Vec<u8>,
+) -> Result<(), NamesError>
+    requires below { IsTrue (begins refs_front name.items) }
+    requires finished { IsFalse (is_lock_file name.items) }
+    ensures sound { S.is_honest stored.now → Finds F.is_honest F.history files.now
+        (Sounds kind (kind_at (S.table stored.now)) name.items result) }
+    ensures wrong { S.is_honest stored.now → Finds F.is_honest F.history files.now
+        (Excuses (F.reading_may_fail ⊎ S.may_fail stored.now) kind
+        (kind_at (S.table stored.now)) name.items result) }
+{
+    if !is_name(&name) {
+        return Err(NamesError::BadName(name));
+    }
+    if is_private(&name) {
+        return Err(NamesError::PrivateName(name));
+    }
+    let text = text_at(alloc, files, &name)?;
+    match read_loose(kind, &text) {
+        Loose::Holds(id) => test_held(stored, id, name),
+        Loose::Symbolic => Err(NamesError::Symbolic(name)),
+        Loose::Faulty => Err(NamesError::BadName(name)),
+    }
+}
+
+// Tests that a commit or a tag is stored under the id that a name holds.
+fn test_held<S: FindHeader>(stored: &S, id: ObjectId, name: Vec<u8>) -> Result<(), NamesError>
+    ensures held { S.is_honest stored.now
+        → OnOk result (IsTrue (may_be_held (kind_at (S.table stored.now) (id_of id)))) }
+    ensures unheld { S.is_honest stored.now
+        → IfErr result
+        (IsUnheld (S.may_fail stored.now) (kind_at (S.table stored.now) (id_of id)) id name) }
+{
+    let Some(header) = stored.try_header(id.as_oid())? else {
+        return Err(NamesError::Missing(id, name));
+    };
+    match header.kind {
+        ObjectKind::Commit | ObjectKind::Tag => Ok(()),
+        ObjectKind::Tree | ObjectKind::Blob => Err(NamesError::WrongKind(id, name)),
+    }
+}
+
+// Whether the name belongs to one working tree.
+fn is_private(name: &[u8]) -> bool
+    ensures { result ≡ is_private name.now }
+{
+    name.starts_with(b"refs/bisect/")
+        || name.starts_with(b"refs/worktree/")
+        || name.starts_with(b"refs/rewritten/")
+}
+
+// Tests the file of a log.
+fn test_log_file<F: Files>(
+    alloc: Global,
+    files: &F,
+    kind: Kind,
+    path: Vec<u8>,
+) -> Result<(), NamesError>
+    requires { IsTrue (is_log_place path.items) }
+    ensures sound { (kinds : Kinds) → Finds F.is_honest F.history files.now
+        (Sounds kind kinds path.items result) }
+    ensures wrong { (kinds : Kinds) → Finds F.is_honest F.history files.now
+        (Excuses F.reading_may_fail kind kinds path.items result) }
+{
+    if !stands(files, log_name(&path))? {
+        return Err(NamesError::LogWithoutName(path));
+    }
+    let text = text_at(alloc, files, &path)?;
+    match test_log(alloc, kind, &text) {
+        Ok(()) => Ok(()),
+        Err(fault) => Err(NamesError::of_log(path, fault)),
+    }
+}
+
+// The name that a log is of.
+fn log_name(path: &[u8]) -> &[u8]
+    requires { IsTrue (is_log_place path.now) }
+    ensures { result.now ≡ log_name path.now }
+{
+    &path[LOGS.len()..]
+}
+
+// Whether a name's file stands.
+fn stands<F: Files>(files: &F, name: &[u8]) -> Result<bool, FileError>
+    ensures found { Finds F.is_honest F.history files.now
+        (λ tree. IfOk result (λ stands. stands ≡ has_name_file tree name.now)) }
+    ensures failed { IsErrOf result Failed → F.reading_may_fail }
+{
+    if !is_name(name) {
+        return Ok(false);
+    }
+    is_file(files, name)
+}
+
+/// Whether a file stands at the path.
+pub(crate) fn is_file<F: Files>(files: &F, path: &[u8]) -> Result<bool, FileError>
+    ensures found { Finds F.is_honest F.history files.now
+        (λ tree. IfOk result (λ found. found ≡ is_file_at tree path.now)) }
+    ensures failed { IsErrOf result Failed → F.reading_may_fail }
+{
+    match files.kind_of(path)? {
+        Place::File(_) => Ok(true),
+        Place::Folder => Ok(false),
+        Place::Absent => Ok(false),
+    }
+}
+
+// What a file has in it, nothing where none stands.
+fn text_at<F: Files>(alloc: Global, files: &F, path: &[u8]) -> Result<Vec<u8>, FileError>
+    ensures found { Finds F.is_honest F.history files.now
+        (λ tree. IfOk result (λ text. text.items ≡ bytes_at tree path.now)) }
+    ensures failed { IsErrOf result Failed → F.reading_may_fail }
+{
+    let mut text = Vec::new(alloc);
+    files.read(path, &mut text)?;
+    Ok(text)
+}

@@ -1,0 +1,12 @@
+//! The names part of a folder: whether it holds HEAD, names and logs of a repository, and nothing else.
+#![tactic(auto)]
+
+mod error;
+mod file;
+pub mod laws;
+mod log;
+mod loose;
+mod survey;
+
+pub use error::NamesError;
+pub use survey::survey_names;
