@@ -162,12 +162,23 @@ pub mod store {
     pub use gix_ref_store::WriteReflog;
 }
 
-/// Edits of references.
+/// Edits of references, and transactions of their own files.
 pub mod transaction {
+    /// Preparing a transaction.
+    pub mod prepare {
+        pub use gix_ref_loose_transaction::{PrepareError as Error, Refusal};
+    }
+
+    /// Committing it.
+    pub mod commit {
+        pub use gix_ref_moves::{CommitError as Error, LogError};
+    }
+
     pub use gix_ref_edit::{
         Change, FindTarget, FindTargetError, LogChange, PreProcessError, PreviousValue, RefEdit,
         RefEditsExt, RefLog, SplitError, TwiceError,
     };
+    pub use gix_ref_loose_transaction::transaction::{Transaction, prepare as prepare_edits};
 }
 
 pub use gix_ref_file::{FileError, Files, Fuse, MemoryFiles, Place};

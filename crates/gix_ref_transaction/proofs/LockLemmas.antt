@@ -11,7 +11,7 @@ use Rattle.gix_ref_file.proofs.Histories.{adds_weaker, adds_joined}
 use Rattle.gix_ref_file.proofs.Others.{others_stay, rename_gone}
 use Rattle.gix_ref_file.proofs.Rooted.{adds_now}
 use Rattle.gix_ref_file.proofs.Trees.{get-removed, get_inserted, node_at_path, one_path, same_path_itself}
-use Rattle.gix_ref_transaction.specs.Locks.{lock_of, OthersStay, IsTaken, MayBePut, IsPut}
+use Rattle.gix_ref_transaction.specs.Locks.{lock_of, OthersStay, KeepsHeld, IsTaken, MayBePut, IsPut}
 
 clash : {A : Type 0} → true ≡ false → A
 clash e = absurd (go e)
@@ -26,7 +26,7 @@ apart_test p q apart = go (same_path p q) refl
     go true is = absurd (apart (one_path p q is))
     go false is = is
 
-one_other : (p q : List ℕ) → p ≢ q → IsFalse (list_any (same_path p) (q ∷ []))
+pub one_other : (p q : List ℕ) → p ≢ q → IsFalse (list_any (same_path p) (q ∷ []))
 one_other p q apart = ap (λ b. b || false) (apart_test p q apart)
 
 -- ---- one change
@@ -61,6 +61,15 @@ renamed_put lock place old x (inr (n, may, is)) = record {
   here = inr (ap (λ t. node_at t place) is ∙ renamed_there lock place old may);
   others = λ path one other. ap (λ t. node_at t path) is ∙ others_stay (to_rename lock place) old path (two_others path lock place other one);
 }
+
+-- a lock that stood isn't made
+pub created_held : (lock : List ℕ) (old x : Tree) → MayLeave (to_create lock) old x → KeepsHeld lock old x
+created_held lock old x (inl same) = λ stood. ap (λ t. node_at t lock) same
+created_held lock old x (inr (n, may, is)) = λ stood. ap (λ t. node_at t lock) (is ∙ by_node (node_at old lock) refl stood)
+  where
+    by_node : (o : Option Node) → node_at old lock ≡ o → node_at old lock ≢ None → after (to_create lock) old ≡ old
+    by_node None none stood = absurd (stood none)
+    by_node (Some n) some stood = ap (λ o. cond (is_some o) old (insert old lock (file []))) some
 
 -- ---- what stands at a lock
 

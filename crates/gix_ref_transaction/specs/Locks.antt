@@ -11,6 +11,10 @@ lock_of place = place ++ codes ".lock"
 abbrev pub OthersStay : List ℕ → Tree → Tree → Type 0
 OthersStay here old tree = (path : List ℕ) → path ≢ here → node_at tree path ≡ node_at old path
 
+-- what stands at this path is as before, if anything stood there
+abbrev pub KeepsHeld : List ℕ → Tree → Tree → Type 0
+KeepsHeld lock old tree = node_at old lock ≢ None → node_at tree lock ≡ node_at old lock
+
 -- no lock stood, and an empty one stands
 pub record IsTaken (lock : List ℕ) (old new : Tree) : Type 0 where
   pub free : node_at old lock ≡ None

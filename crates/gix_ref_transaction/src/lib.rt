@@ -1,5 +1,5 @@
 //! Transactions of references: edits that are prepared and made, after the crate `gix-ref` 0.67.
 #![tactic(auto)]
 
-mod lock;
+pub mod lock;
 pub mod packed;

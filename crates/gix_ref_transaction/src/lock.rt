@@ -6,21 +6,24 @@ ghost use Rattle.gix_ref_file.specs.History.{HasRisen};
 ghost use Rattle.gix_ref_file.specs.declared.files.FileError.TheVariants.{Failed};
 ghost use Rattle.gix_ref_file.specs.Tree.{file, node_at, bytes_at};
 ghost use Rattle.gix_ref_file.specs.Calls.{Achieves, Passes};
-ghost use Rattle.gix_ref_transaction.specs.Locks.{lock_of, OthersStay, IsTaken, MayBePut, IsPut};
+ghost use Rattle.gix_ref_transaction.specs.Locks.{lock_of, OthersStay, KeepsHeld, IsTaken, MayBePut, IsPut};
 
 use gix_ref_file::{FileError, Files};
 use std::alloc::{AllocError, Global};
 
 /// A lock that is held: a file stands at its path.
 #[derive(Debug, Drop)]
-pub(crate) struct Lock {
-    pub(crate) place: Vec<u8>,
-    pub(crate) path: Vec<u8>,
+pub struct Lock {
+    /// The path of what is locked.
+    pub place: Vec<u8>,
+    /// The path of the lock itself.
+    pub path: Vec<u8>,
     ghost beside: { path.items ≡ lock_of place.items },
 }
 
-// Makes the lock of a place; `None` where something stands there already.
-pub(crate) fn acquire<F: Files>(
+/// Makes the lock of a place, an empty file; `None` where something stands at the lock's path already. It is `Failed` where no file may
+/// stand there or a call of the files failed, and `Memory` where no memory is left.
+pub fn acquire<F: Files>(
     alloc: Global,
     files: &mut F,
     place: &[u8],
@@ -29,6 +32,7 @@ pub(crate) fn acquire<F: Files>(
     ensures place { IfOk result (λ found. IfSome found (λ lock. lock.place.items ≡ place.now)) }
     ensures moments { Passes F.is_honest F.history files.old files.new
         (OthersStay (lock_of place.now)) }
+    ensures fresh { Passes F.is_honest F.history files.old files.new (KeepsHeld (lock_of place.now)) }
     ensures taken { F.is_honest files.old → IfOk result (λ found. IfSome found (λ _.
         IsTaken (lock_of place.now) (F.history files.old).tree (F.history files.new).tree)) }
     ensures held { F.is_honest files.old → IfOk result (λ found. found ≡ None
@@ -59,8 +63,8 @@ fn lock_path(alloc: Global, place: &[u8]) -> Result<Vec<u8>, AllocError>
 }
 
 impl Lock {
-    // Writes these bytes into the lock, in place of what it held.
-    pub(crate) fn fill<F: Files>(
+    /// Writes these bytes into the lock, in place of what it held. It is `Failed` where a call of the files failed.
+    pub fn fill<F: Files>(
         &self,
         alloc: Global,
         files: &mut F,
@@ -76,8 +80,8 @@ impl Lock {
         files.write(alloc, &self.path, bytes)
     }
 
-    // Removes the lock.
-    pub(crate) fn give_back<F: Files>(&self, alloc: Global, files: &mut F) -> Result<(), FileError>
+    /// Removes the lock. It is `Failed` where none stands or a call of the files failed.
+    pub fn give_back<F: Files>(&self, alloc: Global, files: &mut F) -> Result<(), FileError>
         ensures honest { F.is_honest files.old → F.is_honest files.new }
         ensures moments { Passes F.is_honest F.history files.old files.new
             (OthersStay self.now.path.items) }
@@ -90,8 +94,9 @@ impl Lock {
         files.remove_file(alloc, &self.path)
     }
 
-    // Puts the lock in its place.
-    pub(crate) fn put<F: Files>(&self, alloc: Global, files: &mut F) -> Result<(), FileError>
+    /// Puts the lock in its place, where a file that stood is replaced whole. It is `Failed` where a folder stands in the place or a
+    /// call of the files failed.
+    pub fn put<F: Files>(&self, alloc: Global, files: &mut F) -> Result<(), FileError>
         ensures honest { F.is_honest files.old → F.is_honest files.new }
         ensures moments { Passes F.is_honest F.history files.old files.new
             (MayBePut self.now.place.items self.now.path.items

@@ -162,6 +162,13 @@ impl Transaction {
         }
     }
 
+    /// The lock that it holds.
+    pub fn lock(&self) -> &Lock
+        ensures { result.now ≡ self.now.lock }
+    {
+        &self.lock
+    }
+
     /// The records of the file, as they were when the transaction began; `None` where no file stood.
     pub fn buffer(&self) -> Option<&Buffer>
         ensures { option_map (λ buffer. buffer.now) result ≡ self.now.buffer }

@@ -8,6 +8,8 @@ import os
 import subprocess
 import tempfile
 
+import loose_rows
+
 rows = []
 WHO = {f"GIT_{who}_{what}": value for who in ["AUTHOR", "COMMITTER"] for what, value in [("NAME", "a"), ("EMAIL", "b"), ("DATE", "@1 +0000")]}
 
@@ -102,6 +104,8 @@ for bad, told in [(b"x\n", "BufferOpen(Iter { line_number: 1 })"), (b"# none\n",
     add("commit", "stop 3", bad, lines, told, bad, b"")
 rows.append((f"commit - {header.hex()} {b'lose refs/heads/a'.hex()}".replace(" - ", "  "), "refused"))
 rows.append((f"commit {b'burn 1'.hex()} {header.hex()} ", "no fuse"))
+
+rows += loose_rows.rows()
 
 here = os.path.dirname(os.path.dirname(os.path.abspath(__file__)))
 with open(os.path.join(here, "stdin"), "w") as out:

@@ -1,6 +1,7 @@
 //! The operations.
 
 use crate::edits::read_edits;
+use crate::loose;
 use case_page::{read_texts, text_of};
 use gix_hash::Kind;
 use gix_ref_file::{Files, Fuse, MemoryFiles};
@@ -21,6 +22,9 @@ pub fn answer(alloc: Global, line: &str) -> Result<String, AllocError> {
         return format!(in alloc; "no bytes: {line}");
     };
     match fields.as_slice() {
+        [fuse, files, edits] if operation.starts_with("loose") => {
+            loose::answer(alloc, operation, [fuse, files], edits)
+        }
         [fuse, file, edits] => of_file(alloc, operation, [fuse, file], edits),
         _ => format!(in alloc; "no operation: {operation}"),
     }
@@ -58,7 +62,7 @@ fn files_with(alloc: Global, operation: &str, file: &[u8]) -> Option<MemoryFiles
 }
 
 // The files with the call of which the text speaks: nothing, or `stop` or `fail`, its number and how many bytes it leaves.
-fn fused(files: MemoryFiles, text: &[u8]) -> Option<Fuse<MemoryFiles>> {
+pub fn fused(files: MemoryFiles, text: &[u8]) -> Option<Fuse<MemoryFiles>> {
     let text = text_of(text)?;
     if text.is_empty() {
         return Some(Fuse::failing_at(files, 0, None));

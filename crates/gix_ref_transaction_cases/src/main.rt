@@ -3,6 +3,9 @@
 
 mod cases;
 mod edits;
+mod loose;
+mod ref_edits;
+mod trees;
 
 use std::io;
 

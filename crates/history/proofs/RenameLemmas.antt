@@ -35,6 +35,7 @@ use Rattle.history_steps.proofs.Renames.{going_passes, making_passes, renames_fi
 use Rattle.history_steps.proofs.TreeMoves.{packed_apart, packed_no_log, stands_moved}
 use Rattle.history_steps.proofs.TreePuts.{halves_stand}
 use Rattle.history_store.specs.Formats.{actor_of, entry_of}
+use Rattle.history_store.specs.References.{NameHolds}
 use Rattle.history_store.specs.declared.log_entry.LogEntry.{LogEntry}
 use Rattle.history.specs.Acts.{Acts}
 use Rattle.history.specs.Deleting.{DeletesFiles}
@@ -54,7 +55,8 @@ use Rattle.history.proofs.Commits.{name_formed}
 use Rattle.history.proofs.DeleteLemmas.{stand_now}
 use Rattle.history.proofs.LineLemmas.{all_named}
 use Rattle.history.proofs.NamesAlone.{ChangesNames}
-use Rattle.history.proofs.WordReads.{stands_so}
+use Rattle.history.proofs.NameReads.{held, refs_front}
+use Rattle.history.proofs.WordReads.{of_one_kind, stands_so}
 
 -- ---- what the names and the files tell of the causes
 
@@ -116,7 +118,13 @@ module _ (r : plain.Repository) (from to : Bytes) where
           past_old ∙ ap (λ s. cond s (Some Taken) (cond (some_collide r (Rename from to)) (Some Collides) None)) free
           ∙ ap (λ b. cond b (Some Collides) None) (new_collides r to free ∙ told)
 
--- what the file of a name tells of it
+-- what the file of a name tells is what it holds
+module _ {F : Type 0} (IsHonest : F → Type 0) (history : F → History) (old : Repository F) (r : plain.Repository) (h : Serves IsHonest history old r) where
+  pub held_at : (name path : Bytes) → path ≡ name → is_name name ≡ true → (found : Option ObjectId) → NameHolds old.names.kind (history (names_part old)).tree path found → id_at r name ≡ option_map id_of found
+  held_at name path same formed found tells =
+      ap (id_at r) (sym same) ∙ sym (held IsHonest history old r h path (refs_front path (ap is_name same ∙ formed)) found (of_one_kind IsHonest history old r h path found tells))
+
+-- whether it stands, by that
 pub stands_told : (held : Option Id) (found : Option ObjectId) → held ≡ option_map id_of found → is_some found ≡ true → is_some held ≡ true
 stands_told held None e there = cc
 stands_told held (Some id) e there = ap is_some e

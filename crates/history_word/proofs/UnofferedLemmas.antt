@@ -38,7 +38,6 @@ no_end : (h : lines.Heading) → Nowhere h → (words : List Bytes) → Says Non
 no_end h none [] = none
 no_end h none (word ∷ words) = tt
 
-
 -- ---- by the first word
 
 -- the first word isn't this one, where a test of them fails

@@ -35,7 +35,8 @@ use std::alloc::{AllocError, Global};
 /// The references of a repository, or of one of its worktrees, in a tree of files.
 #[derive(Drop)]
 pub struct Store<F: Files> {
-    pub(crate) files: F,
+    /// The files.
+    pub files: F,
     pub(crate) git_dir: Vec<u8>,
     // `None` where the folder of the worktree is the shared one.
     pub(crate) common_dir: Option<Vec<u8>>,

@@ -3,7 +3,7 @@
 ghost use Rattle.std.specs.Prelude.{◌≡◌, ◌&&◌, not, is_some, IfErr};
 ghost use Rattle.gix_ref_name.specs.Names.{part_of};
 ghost use Rattle.gix_ref_format.specs.Lookup.{lookup_names, is_complete, packed_key};
-ghost use Rattle.gix_ref_store.specs.Finds.{FindsOpened, MayTell, OnExisting};
+ghost use Rattle.gix_ref_store.specs.Finds.{FindsOpened, MayTell, OnExisting, TellsState};
 ghost use Rattle.gix_ref_store.specs.Lookups.{reads_with, FindsNames, FindsWord, FindsWith, FindsLoose, FindsOne, FindsOneWith, FindsOneLoose};
 ghost use Rattle.gix_ref_store.specs.Searches.{Finds};
 ghost use Rattle.gix_ref_store.specs.Stores.{base_of};
@@ -16,7 +16,7 @@ use gix_ref_file::Files;
 use gix_ref_format::lookup::{is_complete, key_of};
 use gix_ref_format::loose;
 use gix_ref_format::packed::{Buffer, buffer};
-use gix_ref_name::PartialNameRef;
+use gix_ref_name::{FullName, PartialNameRef};
 use std::alloc::{AllocError, Global};
 use thiserror::Error;
 
@@ -146,6 +146,27 @@ impl<F: Files> Store<F> {
     {
         let word = self.known(alloc, name.to_partial_path())?;
         self.find_among(alloc, word.as_bytes(), packed)
+    }
+
+    /// The reference of just this full name, with these packed references: no rule completes the name. `ReferenceCreation` where its
+    /// file tells no target, and `ReadFileContents` where a reading failed.
+    pub fn try_read(
+        &self,
+        alloc: Global,
+        name: FullName,
+        packed: Option<&Buffer>,
+    ) -> Result<Option<Reference>, Error>
+        ensures told { F.is_honest self.now.files
+            → TellsState name (reads_with self.now (F.history self.now.files).tree packed.entry name)
+            result }
+        ensures failed { IfErr result (MayTell F.reading_may_fail) }
+    {
+        let search = Search {
+            alloc,
+            store: self,
+            packed,
+        };
+        search.of_full_name(name)
     }
 
     /// The reference with a file of its own that a name stands for, as `try_find_packed` has it without packed references.

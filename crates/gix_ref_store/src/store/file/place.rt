@@ -2,6 +2,7 @@
 
 ghost use Rattle.std.specs.Prelude.{◌≡◌, option_map, IfOk, OnOk};
 ghost use Rattle.gix_ref_file.specs.Tree.{under};
+ghost use Rattle.gix_ref_name.specs.Names.{name_of};
 ghost use Rattle.gix_ref_store.specs.Places as spec;
 ghost use Rattle.gix_ref_store.specs.Places.{place_in, log_place_in, main_home, linked_home};
 ghost use Rattle.gix_ref_store.specs.Stores.{base_of};
@@ -11,6 +12,7 @@ use crate::store::file::Store;
 use gix_object_lines::lines::is_capitals;
 use gix_ref_file::Files;
 use gix_ref_format::lookup::{behind_slash, is_own};
+use gix_ref_name::FullNameRef;
 use std::alloc::{AllocError, Global};
 
 // A folder, a folder below it where there is one, and a path in that.
@@ -41,6 +43,26 @@ impl<F: Files> Store<F> {
             return self.home_in_linked(name, behind_slash(&name[10..]));
         }
         self.shared_home(name)
+    }
+
+    /// The path at which a reference's own file stands.
+    pub fn reference_path(
+        &self,
+        alloc: Global,
+        name: FullNameRef<'_>,
+    ) -> Result<Vec<u8>, AllocError>
+        ensures { IfOk result (λ path.
+            path.items ≡ spec.place (base_of self.now) (name_of name.entry)) }
+    {
+        self.home(name.to_path()).place(alloc)
+    }
+
+    /// The path at which its log stands.
+    pub fn reflog_path(&self, alloc: Global, name: FullNameRef<'_>) -> Result<Vec<u8>, AllocError>
+        ensures { IfOk result (λ path.
+            path.items ≡ spec.log_place (base_of self.now) (name_of name.entry)) }
+    {
+        self.home(name.to_path()).log_place(alloc)
     }
 
     fn shared_home<'a>(&'a self, path: &'a [u8]) -> Home<'a>

@@ -5,7 +5,7 @@ use Rattle.gix_ref_file.specs.Changes.{to_create}
 use Rattle.gix_ref_file.specs.History.{Makes}
 use Rattle.gix_ref_file.proofs.Histories.{adds_weaker}
 use Rattle.gix_ref_transaction.specs.Locks.{lock_of}
-use Rattle.gix_ref_transaction.proofs.LockLemmas.{created_others, taken_by}
+use Rattle.gix_ref_transaction.proofs.LockLemmas.{created_others, created_held, taken_by}
 use Rattle.gix_ref_transaction.proofs.lock.acquire.Goals as goal
 
 pub returns-in_err-create_new-clause-moments : goal.returns-in_err-create_new-clause-moments
@@ -37,3 +37,24 @@ returns-else-branch-clause-moments g c = λ honest.
     let new = g.F.Files.history c.create_new.new.self in
     let change = subst (λ (path : List ℕ). Makes (to_create path) old new c.create_new.result) (c.deref.ensures.value ∙ c.in_ok-path.ensures) (c.create_new.ensures.change honest) in
     adds_weaker old new change.moments (λ x left. created_others (lock_of c.args.place.now) old.tree x left)
+
+pub returns-in_err-create_new-clause-fresh : goal.returns-in_err-create_new-clause-fresh
+returns-in_err-create_new-clause-fresh g c = λ honest.
+    let old = g.F.Files.history c.args.files.now in
+    let new = g.F.Files.history c.create_new.new.self in
+    let change = subst (λ (path : List ℕ). Makes (to_create path) old new c.create_new.result) (c.deref.ensures.value ∙ c.in_ok-path.ensures) (c.create_new.ensures.change honest) in
+    adds_weaker old new change.moments (λ x left. created_held (lock_of c.args.place.now) old.tree x left)
+
+pub returns-then-branch-clause-fresh : goal.returns-then-branch-clause-fresh
+returns-then-branch-clause-fresh g c = λ honest.
+    let old = g.F.Files.history c.args.files.now in
+    let new = g.F.Files.history c.create_new.new.self in
+    let change = subst (λ (path : List ℕ). Makes (to_create path) old new c.create_new.result) (c.deref.ensures.value ∙ c.in_ok-path.ensures) (c.create_new.ensures.change honest) in
+    adds_weaker old new change.moments (λ x left. created_held (lock_of c.args.place.now) old.tree x left)
+
+pub returns-else-branch-clause-fresh : goal.returns-else-branch-clause-fresh
+returns-else-branch-clause-fresh g c = λ honest.
+    let old = g.F.Files.history c.args.files.now in
+    let new = g.F.Files.history c.create_new.new.self in
+    let change = subst (λ (path : List ℕ). Makes (to_create path) old new c.create_new.result) (c.deref.ensures.value ∙ c.in_ok-path.ensures) (c.create_new.ensures.change honest) in
+    adds_weaker old new change.moments (λ x left. created_held (lock_of c.args.place.now) old.tree x left)

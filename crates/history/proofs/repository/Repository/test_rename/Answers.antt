@@ -8,9 +8,8 @@ use Rattle.history_model.specs.declared.Cause.TheVariants.{Collides}
 use Rattle.history_store.specs.References.{TellsCollision}
 use Rattle.history.specs.Face.{names_part}
 use Rattle.history.specs.Moving.{names_cause}
-use Rattle.history.proofs.DeleteLemmas.{held_at}
 use Rattle.history.proofs.PlaceLemmas.{collision_told}
-use Rattle.history.proofs.RenameLemmas.{are_named, by_missing, by_names, by_place, by_taken, free_told, refusal_told, stands_told}
+use Rattle.history.proofs.RenameLemmas.{are_named, by_missing, by_names, by_place, by_taken, free_told, held_at, refusal_told, stands_told}
 use Rattle.history.proofs.repository.Repository.test_rename.Goals as goal
 
 pub returns-in_err-test_both : goal.returns-in_err-test_both
@@ -47,7 +46,7 @@ returns-then-branch g c = λ r from to h is.
     let place : c.deref-5.result.now ≡ to = c.deref-5.ensures.value ∙ is.to_is in
     let found = c.in_ok-collides.ensures.found (ap is_name place ∙ are.1) h.stands.honest_names in
     let told = collision_told g.F.Files.is_honest g.F.Files.history c.args.self.now r h to are.1 c.in_ok-collides.field-0
-        (subst (λ (n : Bytes). TellsCollision n (g.F.Files.history (names_part c.args.self.now)).tree c.in_ok-collides.field-0) place found) in
+    (subst (λ (n : Bytes). TellsCollision n (g.F.Files.history (names_part c.args.self.now)).tree c.in_ok-collides.field-0) place found) in
     let first = by_place r from to named there free c.in_ok-collides.field-0 told in
     first ∙ ap (λ b. cond b (Some Collides) None) c.if-branch.true
 
@@ -62,6 +61,6 @@ returns g c = λ r from to h is.
     let place : c.deref-5.result.now ≡ to = c.deref-5.ensures.value ∙ is.to_is in
     let found = c.in_ok-collides.ensures.found (ap is_name place ∙ are.1) h.stands.honest_names in
     let told = collision_told g.F.Files.is_honest g.F.Files.history c.args.self.now r h to are.1 c.in_ok-collides.field-0
-        (subst (λ (n : Bytes). TellsCollision n (g.F.Files.history (names_part c.args.self.now)).tree c.in_ok-collides.field-0) place found) in
+    (subst (λ (n : Bytes). TellsCollision n (g.F.Files.history (names_part c.args.self.now)).tree c.in_ok-collides.field-0) place found) in
     let first = by_place r from to named there free c.in_ok-collides.field-0 told in
     (first ∙ ap (λ b. cond b (Some Collides) None) c.if-branch.false, old ∙ ap (option_map id_of) c.in-Some.is)

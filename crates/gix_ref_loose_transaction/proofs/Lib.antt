@@ -1,0 +1,4 @@
+mod PathEnds
+mod Alikes
+mod Twice
+mod Plannings

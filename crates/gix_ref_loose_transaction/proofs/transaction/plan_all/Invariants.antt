@@ -1,0 +1,22 @@
+use Rattle.std.proofs.Common.{◌≡◌, length}
+use Rattle.gix_ref_file.specs.History.{Adds}
+use Rattle.gix_ref_store.specs.Lookups.{reads_with}
+use Rattle.gix_ref_store.specs.Stores.{base_of}
+use Rattle.gix_ref_moves.specs.Moments.{SameButLocks}
+use Rattle.gix_ref_loose_transaction.proofs.Plannings.{PlannedSoFar, TestedSoFar}
+use Rattle.gix_ref_loose_transaction.proofs.transaction.plan_all.Given as goal
+
+-- locks alone came, of the edits that are planned
+abbrev pub invariant-edits : goal.invariant-edits
+invariant-edits g l =
+    let history = g.F.Files.history in
+    record {
+      honest : g.F.Files.is_honest l.fn.store.files → g.F.Files.is_honest l.store.files;
+      base : base_of l.store ≡ base_of l.fn.store;
+      moments : g.F.Files.is_honest l.fn.store.files → Adds (SameButLocks (history l.fn.store.files).tree) (history l.fn.store.files) (history l.store.files);
+      planned : PlannedSoFar (base_of l.fn.store) l.edits l.rest l.fn.moves.items l.moves.items;
+      tested : g.F.Files.is_honest l.fn.store.files → TestedSoFar (reads_with l.fn.store (history l.fn.store.files).tree l.packed) l.edits l.rest l.fn.moves.items l.moves.items (history l.store.files).tree;
+    }
+
+abbrev pub decreases-edits : goal.decreases-edits
+decreases-edits g l = length l.rest

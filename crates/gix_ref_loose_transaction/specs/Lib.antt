@@ -1,0 +1,5 @@
+pub mod Asked
+pub mod Found
+pub mod Paths
+pub mod Alike
+pub mod Plans

@@ -1,0 +1,80 @@
+//! Whether paths are all different.
+
+ghost use Rattle.std.specs.Prelude.{◌≡◌, ◌++◌, IfOk, OnOk, map};
+ghost use Rattle.gix_ref_moves.specs.Committing.{commit_paths, packed_paths};
+ghost use Rattle.gix_ref_moves.specs.Moves.{all_paths};
+ghost use Rattle.gix_ref_loose_transaction.specs.Paths.{bytes_of, has_twice};
+
+use gix_ref_edit::RefEdit;
+use gix_ref_file::Files;
+use gix_ref_moves::Move;
+use gix_ref_store::store::file::Store;
+use gix_ref_transaction::packed::Transaction;
+use std::alloc::{AllocError, Global};
+use std::collections::BTreeSet;
+
+// Whether two edits are of one place.
+pub(crate) fn share_place<F: Files>(
+    alloc: Global,
+    store: &Store<F>,
+    edits: &[RefEdit],
+) -> Result<bool, AllocError> {
+    let mut places = Vec::new(alloc);
+    for edit in edits {
+        places.push(store.reference_path(alloc, edit.name.as_ref())?)?;
+    }
+    have_twice(alloc, &places)
+}
+
+// Whether two of the paths that a commit concerns are one.
+pub(crate) fn stand_twice(
+    alloc: Global,
+    moves: &[Move],
+    packed: &Option<Transaction>,
+) -> Result<bool, AllocError>
+    ensures { IfOk result (λ twice. twice ≡ has_twice (commit_paths packed.now moves.now)) }
+{
+    let mut paths = paths_of_records(alloc, packed)?;
+    add_paths(alloc, moves, &mut paths)?;
+    have_twice(alloc, &paths)
+}
+
+// The paths of packed records.
+fn paths_of_records(alloc: Global, packed: &Option<Transaction>) -> Result<Vec<Vec<u8>>, AllocError>
+    ensures { IfOk result (λ paths. map bytes_of paths.items ≡ packed_paths packed.now) }
+{
+    let mut paths = Vec::new(alloc);
+    if let Some(packed) = packed {
+        paths.push(packed.lock().place.to_vec(alloc)?)?;
+        paths.push(packed.lock().path.to_vec(alloc)?)?;
+    }
+    Ok(paths)
+}
+
+// Adds the paths of the moves.
+fn add_paths(alloc: Global, moves: &[Move], paths: &mut Vec<Vec<u8>>) -> Result<(), AllocError>
+    ensures { OnOk result
+        (map bytes_of paths.new.items ≡ map bytes_of paths.old.items ++ all_paths moves.now) }
+{
+    for made in moves {
+        paths.push(made.lock.place.to_vec(alloc)?)?;
+        paths.push(made.lock.path.to_vec(alloc)?)?;
+        paths.push(made.log.to_vec(alloc)?)?;
+    }
+    Ok(())
+}
+
+// Whether a path stands twice.
+fn have_twice(alloc: Global, paths: &[Vec<u8>]) -> Result<bool, AllocError>
+    ensures { IfOk result (λ twice. twice ≡ has_twice (map bytes_of paths.now)) }
+{
+    let mut seen = BTreeSet::new(alloc);
+    let mut rest = paths;
+    'paths: while let Some((path, others)) = rest.split_first() {
+        if !seen.insert(path.as_slice())? {
+            return Ok(true);
+        }
+        rest = others;
+    }
+    Ok(false)
+}

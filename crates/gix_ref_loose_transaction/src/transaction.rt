@@ -1,0 +1,321 @@
+//! Transactions: prepared, and then committed or rolled back.
+
+ghost use Rattle.std.specs.Prelude.{◌≡◌, [], false, Ok, IfOk, OnOk};
+ghost use Rattle.gix_ref_file.specs.Calls.{Achieves, Passes};
+ghost use Rattle.gix_ref_edit.specs.Names.{AllOnce, names_of};
+ghost use Rattle.gix_ref_store.specs.Lookups.{reads_with};
+ghost use Rattle.gix_ref_store.specs.RefStates.{ref_state};
+ghost use Rattle.gix_ref_store.specs.Stores.{base_of};
+ghost use Rattle.gix_ref_moves.specs.Moments.{SameButLocks};
+ghost use Rattle.gix_ref_moves.specs.Committing.{IsCommitted, OnTheWay, commit_paths};
+ghost use Rattle.gix_ref_loose_transaction.specs.Alike.{ReadsAlike};
+ghost use Rattle.gix_ref_loose_transaction.specs.Paths.{has_twice};
+ghost use Rattle.gix_ref_loose_transaction.specs.Plans.{AllHold, AllPlanned, AllTested, AreSplit, LocksGone};
+
+use crate::error::PrepareError;
+use crate::finder::Names;
+use crate::once::{share_place, stand_twice};
+use crate::plan::plan;
+use crate::records::remove_records;
+use gix_object_lines::lines::ActorRef;
+use gix_ref_edit::{RefEdit, RefEditsExt};
+use gix_ref_file::{FileError, Files};
+use gix_ref_format::packed::Buffer;
+use gix_ref_moves::commit::{commit, give_back_all};
+use gix_ref_moves::{CommitError, Move};
+use gix_ref_store::store::file::Store;
+use gix_ref_transaction::packed;
+use std::alloc::Global;
+
+/// Edits of references that are prepared: all locks are held. It must be committed or rolled back.
+#[derive(Debug)]
+pub struct Transaction {
+    pub(crate) edits: Vec<RefEdit>,
+    pub(crate) moves: Vec<Move>,
+    pub(crate) packed: Option<packed::Transaction>,
+    ghost once: { has_twice (commit_paths packed moves.items) ≡ false },
+}
+
+/// Prepares edits: those of symbolic references are split, each reference is locked, read and tested, and its new text is written into the
+/// lock; packed records that are to go are left out of the packed references' lock. `committer` is who log lines tell of.
+///
+/// `PreprocessingFailed` where symbolic references lead too far or a name has two edits, `SamePlace` where two edits concern one file,
+/// `LockAcquire` where a lock stands or a file is in its way, `Refused` where a reference isn't as its edit asks, `ReferenceDecode` where it
+/// can't be read, `CreateOrUpdateRefLog` where a line for its log can't be made, `Packed`, `PackedTransactionAcquire` and
+/// `PackedTransactionPrepare` where packed references can't be opened, locked or written, and `Io` where a lock can't be written. At each
+/// moment each file but locks is as before, and after an error the locks have gone, as far as that succeeds.
+pub fn prepare<F: Files>(
+    alloc: Global,
+    store: &mut Store<F>,
+    edits: Vec<RefEdit>,
+    committer: Option<ActorRef<'_>>,
+) -> Result<Transaction, PrepareError>
+    ensures honest { F.is_honest store.old.files → F.is_honest store.new.files }
+    ensures base { base_of store.new ≡ base_of store.old }
+    ensures moments { Passes F.is_honest F.history store.old.files store.new.files SameButLocks }
+    ensures alike { Passes F.is_honest F.history store.old.files store.new.files
+        (ReadsAlike (base_of store.old)) }
+    ensures split { F.is_honest store.old.files → let tree = (F.history store.old.files).tree in
+        IfOk result (λ t. AreSplit (ref_state (base_of store.old) tree) edits.items t.edits.items) }
+    ensures once { IfOk result (λ t. AllOnce (names_of t.edits.items)) }
+    ensures tested { F.is_honest store.old.files → let tree = (F.history store.old.files).tree in
+        IfOk result (λ t. AllTested (ref_state (base_of store.old) tree) t.edits.items) }
+    ensures planned { IfOk result (λ t. AllPlanned (base_of store.old) t.edits.items
+        t.moves.items) }
+    ensures texts { F.is_honest store.old.files → let tree = (F.history store.new.files).tree in
+        IfOk result (λ t. AllHold tree t.edits.items t.moves.items) }
+{
+    prepared(alloc, store, edits, committer)
+}
+
+// The same, told by the files alone.
+fn prepared<F: Files>(
+    alloc: Global,
+    store: &mut Store<F>,
+    edits: Vec<RefEdit>,
+    committer: Option<ActorRef<'_>>,
+) -> Result<Transaction, PrepareError>
+    ensures honest { F.is_honest store.old.files → F.is_honest store.new.files }
+    ensures base { base_of store.new ≡ base_of store.old }
+    ensures moments { Passes F.is_honest F.history store.old.files store.new.files SameButLocks }
+    ensures split { F.is_honest store.old.files → let tree = (F.history store.old.files).tree in
+        IfOk result (λ t. AreSplit (ref_state (base_of store.old) tree) edits.items t.edits.items) }
+    ensures once { IfOk result (λ t. AllOnce (names_of t.edits.items)) }
+    ensures tested { F.is_honest store.old.files → let tree = (F.history store.old.files).tree in
+        IfOk result (λ t. AllTested (ref_state (base_of store.old) tree) t.edits.items) }
+    ensures planned { IfOk result (λ t. AllPlanned (base_of store.old) t.edits.items
+        t.moves.items) }
+    ensures texts { F.is_honest store.old.files → let tree = (F.history store.new.files).tree in
+        IfOk result (λ t. AllHold tree t.edits.items t.moves.items) }
+{
+    let mut edits = edits;
+    let records = store.open_packed_buffer(alloc)?;
+    ready(alloc, &*store, records.as_ref(), &mut edits)?;
+    locked(alloc, store, edits, records.as_ref(), committer)
+}
+
+// Splits the edits of symbolic references, and tests that no two are of one place.
+fn ready<F: Files>(
+    alloc: Global,
+    store: &Store<F>,
+    packed: Option<&Buffer>,
+    edits: &mut Vec<RefEdit>,
+) -> Result<(), PrepareError>
+    ensures split { F.is_honest store.now.files → let tree = (F.history store.now.files).tree in
+        OnOk result (AreSplit (reads_with store.now tree packed.entry) edits.old.items
+        edits.new.items) }
+    ensures once { OnOk result (AllOnce (names_of edits.new.items)) }
+{
+    edits.pre_process(alloc, &Names { store, packed })?;
+    if share_place(alloc, store, edits.as_slice())? {
+        return Err(PrepareError::SamePlace);
+    }
+    Ok(())
+}
+
+// Locks all that the edits concern, first the packed records.
+fn locked<F: Files>(
+    alloc: Global,
+    store: &mut Store<F>,
+    edits: Vec<RefEdit>,
+    packed: Option<&Buffer>,
+    committer: Option<ActorRef<'_>>,
+) -> Result<Transaction, PrepareError>
+    ensures honest { F.is_honest store.old.files → F.is_honest store.new.files }
+    ensures base { base_of store.new ≡ base_of store.old }
+    ensures moments { Passes F.is_honest F.history store.old.files store.new.files SameButLocks }
+    ensures edits { IfOk result (λ t. t.edits ≡ edits) }
+    ensures tested { F.is_honest store.old.files → let tree = (F.history store.old.files).tree in
+        IfOk result (λ t. AllTested (reads_with store.old tree packed.entry) t.edits.items) }
+    ensures planned { IfOk result (λ t. AllPlanned (base_of store.old) t.edits.items
+        t.moves.items) }
+    ensures texts { F.is_honest store.old.files → let tree = (F.history store.new.files).tree in
+        IfOk result (λ t. AllHold tree t.edits.items t.moves.items) }
+{
+    let records = begun(alloc, store, packed, &edits)?;
+    let mut moves = Vec::new(alloc);
+    match plan_all(alloc, store, &edits, packed, committer, &mut moves) {
+        Ok(()) => finish(alloc, store, edits, moves, records),
+        Err(error) => {
+            drop_all(alloc, &mut store.files, &moves, records);
+            Err(error)
+        }
+    }
+}
+
+// The transaction of the packed records, where any stand and may go.
+fn begun<F: Files>(
+    alloc: Global,
+    store: &mut Store<F>,
+    packed: Option<&Buffer>,
+    edits: &[RefEdit],
+) -> Result<Option<packed::Transaction>, PrepareError>
+    ensures honest { F.is_honest store.old.files → F.is_honest store.new.files }
+    ensures base { base_of store.new ≡ base_of store.old }
+    ensures moments { Passes F.is_honest F.history store.old.files store.new.files SameButLocks }
+{
+    let place = store.packed_refs_path(alloc)?;
+    let kind = store.options().object_hash;
+    match packed {
+        Some(_) => remove_records(alloc, &mut store.files, &place, kind, edits),
+        None => Ok(None),
+    }
+}
+
+// Plans the edits, one after another.
+fn plan_all<F: Files>(
+    alloc: Global,
+    store: &mut Store<F>,
+    edits: &[RefEdit],
+    packed: Option<&Buffer>,
+    committer: Option<ActorRef<'_>>,
+    moves: &mut Vec<Move>,
+) -> Result<(), PrepareError>
+    ensures honest { F.is_honest store.old.files → F.is_honest store.new.files }
+    ensures base { base_of store.new ≡ base_of store.old }
+    ensures moments { Passes F.is_honest F.history store.old.files store.new.files SameButLocks }
+    ensures tested { F.is_honest store.old.files → let tree = (F.history store.old.files).tree in
+        OnOk result (AllTested (reads_with store.old tree packed.entry) edits.now) }
+    ensures planned { moves.old.items ≡ [] → OnOk result
+        (AllPlanned (base_of store.old) edits.now moves.new.items) }
+    ensures texts { F.is_honest store.old.files → moves.old.items ≡ [] → OnOk result
+        (AllHold (F.history store.new.files).tree edits.now moves.new.items) }
+{
+    let mut rest = edits;
+    'edits: while let Some((edit, others)) = rest.split_first() {
+        let planned = plan(alloc, store, edit, packed, committer)?;
+        moves.push(planned)?;
+        rest = others;
+    }
+    Ok(())
+}
+
+// The transaction of these moves, if no two of their paths are one; else their locks go.
+fn finish<F: Files>(
+    alloc: Global,
+    store: &mut Store<F>,
+    edits: Vec<RefEdit>,
+    moves: Vec<Move>,
+    packed: Option<packed::Transaction>,
+) -> Result<Transaction, PrepareError>
+    ensures honest { F.is_honest store.old.files → F.is_honest store.new.files }
+    ensures base { base_of store.new ≡ base_of store.old }
+    ensures edits { IfOk result (λ t. t.edits ≡ edits) }
+    ensures moves { IfOk result (λ t. t.moves ≡ moves) }
+    ensures still { IfOk result (λ _. store.new ≡ store.old) }
+    ensures moments { Passes F.is_honest F.history store.old.files store.new.files SameButLocks }
+{
+    match stand_twice(alloc, &moves, &packed) {
+        Ok(false) => Ok(Transaction {
+            edits,
+            moves,
+            packed,
+        }),
+        Ok(true) => {
+            drop_all(alloc, &mut store.files, &moves, packed);
+            Err(PrepareError::SamePlace)
+        }
+        Err(_) => {
+            drop_all(alloc, &mut store.files, &moves, packed);
+            Err(PrepareError::Memory)
+        }
+    }
+}
+
+// Gives all locks back.
+fn drop_all<F: Files>(
+    alloc: Global,
+    files: &mut F,
+    moves: &[Move],
+    packed: Option<packed::Transaction>,
+)
+    ensures honest { F.is_honest files.old → F.is_honest files.new }
+    ensures moments { Passes F.is_honest F.history files.old files.new SameButLocks }
+{
+    let _ = drop_records(alloc, files, packed);
+    let _ = give_back_all(alloc, files, moves);
+}
+
+// Gives the lock of packed records back.
+fn drop_records<F: Files>(
+    alloc: Global,
+    files: &mut F,
+    packed: Option<packed::Transaction>,
+) -> Result<(), CommitError>
+    ensures honest { F.is_honest files.old → F.is_honest files.new }
+    ensures moments { Passes F.is_honest F.history files.old files.new SameButLocks }
+{
+    match packed {
+        Some(packed) => match packed.rollback(alloc, files) {
+            Ok(()) => Ok(()),
+            Err(error) => Err(CommitError::PackedTransactionCommit(error)),
+        },
+        None => Ok(()),
+    }
+}
+
+// What giving locks back told.
+fn given_back(outcome: Result<(), FileError>) -> Result<(), CommitError>
+    ensures { OnOk result (outcome ≡ Ok tt) }
+{
+    match outcome {
+        Ok(()) => Ok(()),
+        Err(FileError::Failed) => Err(CommitError::LockCommit),
+        Err(FileError::Memory) => Err(CommitError::Memory),
+    }
+}
+
+impl Transaction {
+    /// The edits, those of symbolic references split.
+    pub fn edits(&self) -> &[RefEdit]
+        ensures { result.now ≡ self.now.edits.items }
+    {
+        self.edits.as_slice()
+    }
+
+    /// Makes the edits: first all updates, each with its line in the log before it shows; then the logs of what is removed go, then
+    /// packed records, and at last the files. At each moment, and so wherever a stop comes, each file is as before or as in the end,
+    /// and nothing is removed before all updates show. It answers the edits.
+    ///
+    /// The errors name the call of the files that failed. After one, no lock stands, as far as giving them back succeeds.
+    pub fn commit<F: Files>(self, alloc: Global, files: &mut F) -> Result<Vec<RefEdit>, CommitError>
+        ensures honest { F.is_honest files.old → F.is_honest files.new }
+        ensures edits { IfOk result (λ edits. edits ≡ self.edits) }
+        ensures moments { Passes F.is_honest F.history files.old files.new
+            (OnTheWay self.packed self.moves.items) }
+        ensures done { Achieves F.is_honest F.history files.old files.new result
+            (IsCommitted self.packed self.moves.items) }
+    {
+        let Transaction {
+            edits,
+            moves,
+            packed,
+        } = self;
+        commit(alloc, files, &moves, packed)?;
+        Ok(edits)
+    }
+
+    /// Gives all locks back; nothing else changes. It answers the edits. `PackedTransactionCommit` and `LockCommit` where one couldn't be
+    /// given back: then the others are.
+    pub fn rollback<F: Files>(
+        self,
+        alloc: Global,
+        files: &mut F,
+    ) -> Result<Vec<RefEdit>, CommitError>
+        ensures honest { F.is_honest files.old → F.is_honest files.new }
+        ensures edits { IfOk result (λ edits. edits ≡ self.edits) }
+        ensures moments { Passes F.is_honest F.history files.old files.new SameButLocks }
+        ensures gone { Achieves F.is_honest F.history files.old files.new result
+            (λ _ new. LocksGone self.moves.items new) }
+    {
+        let Transaction {
+            edits,
+            moves,
+            packed,
+        } = self;
+        let records = drop_records(alloc, files, packed);
+        given_back(give_back_all(alloc, files, &moves))?;
+        records?;
+        Ok(edits)
+    }
+}

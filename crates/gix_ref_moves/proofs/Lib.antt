@@ -1,0 +1,10 @@
+pub mod PathLists
+mod Progress
+mod StepEnds
+pub mod FileMoves
+mod ActMoves
+mod ActWays
+pub mod OnWays
+mod Givings
+mod PackedMoves
+pub mod LockPaths

@@ -1,0 +1,43 @@
+use Rattle.std.proofs.Common.{refl, subst, List}
+use Rattle.gix_ref_file.proofs.Histories.{adds_weaker, adds_joined, adds_nothing}
+use Rattle.gix_ref_transaction.specs.Locks.{OthersStay}
+use Rattle.gix_ref_moves.specs.Contents.{lock_path_of}
+use Rattle.gix_ref_moves.specs.declared.act.Move.{Move}
+use Rattle.gix_ref_moves.proofs.FileMoves.{now_of}
+use Rattle.gix_ref_moves.proofs.LockPaths.{locks_joined, one_lock}
+use Rattle.gix_ref_moves.proofs.Givings.{Giving, giving_begun, giving, one_given, giving_ended}
+use Rattle.gix_ref_moves.proofs.commit.give_back_all.Goals as goal
+
+pub moves-init : goal.moves-init
+moves-init g c = record {
+  honest = λ honest. honest;
+  locks = λ honest. adds_nothing (g.F.Files.history c.args.files.now);
+  moments = λ once honest. adds_nothing (g.F.Files.history c.args.files.now);
+  given = λ once honest. giving_begun c.args.moves.now (g.F.Files.history c.args.files.now).tree;
+}
+
+pub moves-preserved : goal.moves-preserved
+moves-preserved g c =
+    let old = g.F.Files.history c.args.files.now in
+    let mid = g.F.Files.history c.moves.files in
+    let new = g.F.Files.history c.give_back.new.files in
+    let moves = c.args.moves.now in
+    let first = c.in-Some.first.now in
+    let others = c.in-Some.others.now in
+    record {
+      honest = λ honest. c.give_back.ensures.honest (c.moves.invariant.honest honest);
+      locks = λ honest. locks_joined old mid new (c.moves.invariant.locks honest)
+          (adds_weaker mid new (c.give_back.ensures.moments (c.moves.invariant.honest honest)) (one_lock first.lock.place.items first.lock.path.items first.lock.beside mid.tree));
+      moments = λ once honest.
+          let so_far = subst (λ (rest : List Move). Giving c.moves.outcome moves rest old.tree mid.tree) c.in-Some.ensures.cases.0 (c.moves.invariant.given once honest) in
+          adds_joined old mid new (c.moves.invariant.moments once honest)
+          (adds_weaker mid new (c.give_back.ensures.moments (c.moves.invariant.honest honest)) (giving c.moves.outcome moves first others old.tree mid.tree so_far once));
+      given = λ once honest.
+          let so_far = subst (λ (rest : List Move). Giving c.moves.outcome moves rest old.tree mid.tree) c.in-Some.ensures.cases.0 (c.moves.invariant.given once honest) in
+          let stay = now_of (OthersStay (lock_path_of first) mid.tree) mid new (λ path apart. refl) (c.give_back.ensures.moments (c.moves.invariant.honest honest)) in
+          one_given c.moves.outcome moves first others old.tree mid.tree so_far once new.tree stay c.give_back.result c.both-outcome.result c.both-outcome.ensures (c.give_back.ensures.gone (c.moves.invariant.honest honest));
+    }
+
+pub returns-clause-gone : goal.returns-clause-gone
+returns-clause-gone g c = λ once honest.
+    giving_ended c.moves.outcome c.args.moves.now c.moves.rest.now (g.F.Files.history c.args.files.now).tree (g.F.Files.history c.moves.files).tree c.in_default.ensures.cases (c.moves.invariant.given once honest)

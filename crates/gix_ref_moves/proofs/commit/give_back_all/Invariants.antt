@@ -1,0 +1,21 @@
+use Rattle.std.proofs.Common.{length}
+use Rattle.gix_ref_file.specs.History.{Adds}
+use Rattle.gix_ref_moves.specs.Committing.{LocksAlone}
+use Rattle.gix_ref_moves.specs.Moments.{SameButLocks}
+use Rattle.gix_ref_moves.specs.Moves.{AllMay, Once, all_paths}
+use Rattle.gix_ref_moves.proofs.Givings.{Giving}
+use Rattle.gix_ref_moves.proofs.commit.give_back_all.Given as goal
+
+-- locks alone went, those of all moves but those left, as far as that succeeded
+abbrev pub invariant-moves : goal.invariant-moves
+invariant-moves g l =
+    let history = g.F.Files.history in
+    record {
+      honest : g.F.Files.is_honest l.fn.files → g.F.Files.is_honest l.files;
+      locks : g.F.Files.is_honest l.fn.files → Adds (SameButLocks (history l.fn.files).tree) (history l.fn.files) (history l.files);
+      moments : Once (all_paths l.moves) → g.F.Files.is_honest l.fn.files → Adds (AllMay LocksAlone l.moves (history l.fn.files).tree) (history l.fn.files) (history l.files);
+      given : Once (all_paths l.moves) → g.F.Files.is_honest l.fn.files → Giving l.outcome l.moves l.rest (history l.fn.files).tree (history l.files).tree;
+    }
+
+abbrev pub decreases-moves : goal.decreases-moves
+decreases-moves g l = length l.rest

@@ -1,0 +1,56 @@
+use Rattle.std.proofs.Common.{subst, List}
+use Rattle.gix_ref_file.proofs.Histories.{adds_weaker, adds_joined, adds_nothing}
+use Rattle.gix_ref_moves.specs.Moments.{IsMaking, made_by}
+use Rattle.gix_ref_moves.specs.declared.act.Move.{Move}
+use Rattle.gix_ref_moves.proofs.Progress.{Progress, begun, ended, apart_now, one_made, one_may}
+use Rattle.gix_ref_moves.proofs.StepEnds.{not_made, all_made}
+use Rattle.gix_ref_moves.proofs.steps.make_all.Goals as goal
+
+pub moves-init : goal.moves-init
+moves-init g c = record {
+  honest = λ honest. honest;
+  moments = λ once honest. adds_nothing (g.F.Files.history c.args.files.now);
+  made = λ once honest. begun (made_by c.args.step) c.args.moves.now (g.F.Files.history c.args.files.now).tree;
+}
+
+pub returns-in_err-make-clause-moments : goal.returns-in_err-make-clause-moments
+returns-in_err-make-clause-moments g c = λ once honest.
+    let old = g.F.Files.history c.args.files.now in
+    let mid = g.F.Files.history c.moves.files in
+    let new = g.F.Files.history c.make.new.files in
+    let f = made_by c.args.step in
+    let moves = c.args.moves.now in
+    let first = c.in-Some.first.now in
+    let others = c.in-Some.others.now in
+    let so_far = subst (λ (rest : List Move). Progress f moves rest old.tree mid.tree) c.in-Some.ensures.cases.0 (c.moves.invariant.made once honest) in
+    let apart = apart_now f moves first others old.tree mid.tree so_far once in
+    adds_joined old mid new (c.moves.invariant.moments once honest)
+    (adds_weaker mid new (c.make.ensures.moments apart (c.moves.invariant.honest honest))
+    (one_may f moves first others old.tree mid.tree so_far once (IsMaking c.args.step) (not_made c.args.step) (all_made c.args.step)))
+
+pub moves-preserved : goal.moves-preserved
+moves-preserved g c =
+    let old = g.F.Files.history c.args.files.now in
+    let mid = g.F.Files.history c.moves.files in
+    let new = g.F.Files.history c.make.new.files in
+    let f = made_by c.args.step in
+    let moves = c.args.moves.now in
+    let first = c.in-Some.first.now in
+    let others = c.in-Some.others.now in
+    record {
+      honest = λ honest. c.make.ensures.honest (c.moves.invariant.honest honest);
+      moments = λ once honest.
+          let so_far = subst (λ (rest : List Move). Progress f moves rest old.tree mid.tree) c.in-Some.ensures.cases.0 (c.moves.invariant.made once honest) in
+          let apart = apart_now f moves first others old.tree mid.tree so_far once in
+          adds_joined old mid new (c.moves.invariant.moments once honest)
+          (adds_weaker mid new (c.make.ensures.moments apart (c.moves.invariant.honest honest))
+          (one_may f moves first others old.tree mid.tree so_far once (IsMaking c.args.step) (not_made c.args.step) (all_made c.args.step)));
+      made = λ once honest.
+          let so_far = subst (λ (rest : List Move). Progress f moves rest old.tree mid.tree) c.in-Some.ensures.cases.0 (c.moves.invariant.made once honest) in
+          let apart = apart_now f moves first others old.tree mid.tree so_far once in
+          one_made f moves first others old.tree mid.tree so_far once new.tree (c.in_ok-make.ensures.made apart (c.moves.invariant.honest honest));
+    }
+
+pub returns-clause-made : goal.returns-clause-made
+returns-clause-made g c = λ once honest.
+    ended (made_by c.args.step) c.args.moves.now c.moves.rest.now (g.F.Files.history c.args.files.now).tree (g.F.Files.history c.moves.files).tree c.in_default.ensures.cases (c.moves.invariant.made once honest)

@@ -1,0 +1,19 @@
+use Rattle.std.proofs.Common.{length}
+use Rattle.gix_ref_file.specs.History.{Adds}
+use Rattle.gix_ref_moves.specs.Moments.{IsMaking, made_by}
+use Rattle.gix_ref_moves.specs.Moves.{AllMay, Once, all_paths}
+use Rattle.gix_ref_moves.proofs.Progress.{Progress}
+use Rattle.gix_ref_moves.proofs.steps.make_all.Given as goal
+
+-- the step is made of all moves but those left
+abbrev pub invariant-moves : goal.invariant-moves
+invariant-moves g l =
+    let history = g.F.Files.history in
+    record {
+      honest : g.F.Files.is_honest l.fn.files → g.F.Files.is_honest l.files;
+      moments : Once (all_paths l.moves) → g.F.Files.is_honest l.fn.files → Adds (AllMay (IsMaking l.step) l.moves (history l.fn.files).tree) (history l.fn.files) (history l.files);
+      made : Once (all_paths l.moves) → g.F.Files.is_honest l.fn.files → Progress (made_by l.step) l.moves l.rest (history l.fn.files).tree (history l.files).tree;
+    }
+
+abbrev pub decreases-moves : goal.decreases-moves
+decreases-moves g l = length l.rest

@@ -1,0 +1,59 @@
+use Rattle.std.proofs.Common.{inl, refl, subst, List, ℕ}
+use Rattle.gix_ref_file.specs.Tree.{bytes_at}
+use Rattle.gix_ref_file.specs.History.{Adds}
+use Rattle.gix_ref_file.proofs.Histories.{adds_weaker, adds_joined}
+use Rattle.gix_ref_transaction.specs.Locks.{OthersStay, MayBePut}
+use Rattle.std.proofs.lemmas.Result.{on_ok_weaker}
+use Rattle.gix_ref_moves.specs.Contents.{place_of, lock_path_of}
+use Rattle.gix_ref_moves.specs.Moments.{MayNote, NotesLog}
+use Rattle.gix_ref_moves.proofs.ActMoves.{noting_put, putting, is_put, noting_note, giving_note, is_note}
+use Rattle.gix_ref_moves.proofs.FileMoves.{on_told, now_of}
+use Rattle.gix_ref_moves.proofs.steps.update.Goals as goal
+
+pub returns-in_ok-note-in-Put-clause-moments : goal.returns-in_ok-note-in-Put-clause-moments
+returns-in_ok-note-in-Put-clause-moments g c = λ apart honest.
+    let m = c.args.made.now in
+    let line = c.in-Put.line in
+    let old = g.F.Files.history c.args.files.now in
+    let mid = g.F.Files.history c.note.new.files in
+    let new = g.F.Files.history c.put.new.files in
+    let first = subst (λ (p : List ℕ). Adds (MayNote line p old.tree) old mid) c.deref.ensures.value (c.note.ensures.moments honest) in
+    let is_noted = subst (λ (p : List ℕ). NotesLog line p old.tree mid.tree) c.deref.ensures.value (c.in_ok-note-in-Put.ensures.noted honest) in
+    adds_joined old mid new (adds_weaker old mid first (noting_put m apart line old.tree c.in-Put.is))
+    (adds_weaker mid new (c.put.ensures.moments (c.note.ensures.honest honest)) (putting m apart line old.tree c.in-Put.is mid.tree is_noted))
+
+pub returns-in_ok-note-in-Put-clause-made : goal.returns-in_ok-note-in-Put-clause-made
+returns-in_ok-note-in-Put-clause-made g c = λ apart honest.
+    let m = c.args.made.now in
+    let line = c.in-Put.line in
+    let old = g.F.Files.history c.args.files.now in
+    let mid = g.F.Files.history c.note.new.files in
+    let new = g.F.Files.history c.put.new.files in
+    let is_noted = subst (λ (p : List ℕ). NotesLog line p old.tree mid.tree) c.deref.ensures.value (c.in_ok-note-in-Put.ensures.noted honest) in
+    let may = now_of (MayBePut (place_of m) (lock_path_of m) (bytes_at mid.tree (lock_path_of m)) mid.tree) mid new (record { here = inl refl; others = λ path a b. refl }) (c.put.ensures.moments (c.note.ensures.honest honest)) in
+    on_told _ c.told.result c.put.result tt c.told.ensures
+    (on_ok_weaker c.put.result (is_put m apart line old.tree c.in-Put.is mid.tree is_noted new.tree may) (c.put.ensures.put (c.note.ensures.honest honest)))
+
+pub returns-in_ok-note-in-Note-clause-moments : goal.returns-in_ok-note-in-Note-clause-moments
+returns-in_ok-note-in-Note-clause-moments g c = λ apart honest.
+    let m = c.args.made.now in
+    let line = c.in-Note.line in
+    let old = g.F.Files.history c.args.files.now in
+    let mid = g.F.Files.history c.note-in-Note.new.files in
+    let new = g.F.Files.history c.give_back.new.files in
+    let first = subst (λ (p : List ℕ). Adds (MayNote line p old.tree) old mid) c.deref-in-Note.ensures.value (c.note-in-Note.ensures.moments honest) in
+    let is_noted = subst (λ (p : List ℕ). NotesLog line p old.tree mid.tree) c.deref-in-Note.ensures.value (c.in_ok-note-in-Note.ensures.noted honest) in
+    adds_joined old mid new (adds_weaker old mid first (noting_note m apart line old.tree c.in-Note.is))
+    (adds_weaker mid new (c.give_back.ensures.moments (c.note-in-Note.ensures.honest honest)) (giving_note m apart line old.tree c.in-Note.is mid.tree is_noted))
+
+pub returns-in_ok-note-in-Note-clause-made : goal.returns-in_ok-note-in-Note-clause-made
+returns-in_ok-note-in-Note-clause-made g c = λ apart honest.
+    let m = c.args.made.now in
+    let line = c.in-Note.line in
+    let old = g.F.Files.history c.args.files.now in
+    let mid = g.F.Files.history c.note-in-Note.new.files in
+    let new = g.F.Files.history c.give_back.new.files in
+    let is_noted = subst (λ (p : List ℕ). NotesLog line p old.tree mid.tree) c.deref-in-Note.ensures.value (c.in_ok-note-in-Note.ensures.noted honest) in
+    let stay = now_of (OthersStay (lock_path_of m) mid.tree) mid new (λ path apart. refl) (c.give_back.ensures.moments (c.note-in-Note.ensures.honest honest)) in
+    on_told _ c.told-in-Note.result c.give_back.result tt c.told-in-Note.ensures
+    (on_ok_weaker c.give_back.result (is_note m apart line old.tree c.in-Note.is mid.tree is_noted new.tree stay) (c.give_back.ensures.gone (c.note-in-Note.ensures.honest honest)))

@@ -1,0 +1,112 @@
+-- What stands while moves of several references are committed, with records that are packed.
+use Rattle.std.specs.Prelude.{◌≡◌, ◌⊎◌, List, [], ◌∷◌, ◌++◌, Option, Some, None, if◌then◌else◌}
+use Rattle.std.specs.List.{AllByRecursion}
+use Rattle.gix_ref_file.specs.Tree.{Tree, bytes_at}
+use Rattle.gix_ref_way.specs.Ways.{Bytes, file_at}
+use Rattle.gix_ref_transaction.specs.PackedEdits as packed
+use Rattle.gix_ref_transaction.specs.declared.packed.Transaction.{Transaction}
+use Rattle.gix_ref_moves.specs.Contents.{Contents, contents, updated, forgotten, moved, IsBetween, lock_path_of}
+use Rattle.gix_ref_moves.specs.Moves.{all_paths, IsNone, AllMay}
+use Rattle.gix_ref_moves.specs.declared.act.Act.{Act}
+use Rattle.gix_ref_moves.specs.declared.act.Act.TheVariants.{Put, Note, Remove, Forget}
+use Rattle.gix_ref_moves.specs.declared.act.Move.{Move}
+
+-- where packed records stand, and their lock
+abbrev pub packed_paths : Option Transaction → List Bytes
+packed_paths None = []
+packed_paths (Some t) = packed.place_of t ∷ packed.lock_path_of t ∷ []
+
+-- all paths that a commit concerns
+abbrev pub commit_paths : Option Transaction → List Move → List Bytes
+commit_paths t moves = packed_paths t ++ all_paths moves
+
+-- the packed records' file in the end: with the text of its lock, where one was written
+abbrev pub packed_end : Transaction → Tree → Option Bytes
+packed_end t old =
+    if t.is_written then Some (bytes_at old (packed.lock_path_of t))
+    else file_at old (packed.place_of t)
+
+-- the file of packed records as before
+abbrev pub PackedStays : Option Transaction → Tree → Tree → Type 0
+PackedStays None old tree = Unit {0}
+PackedStays (Some t) old tree =
+    file_at tree (packed.place_of t) ≡ file_at old (packed.place_of t)
+
+-- or as in the end
+abbrev pub PackedIsNew : Option Transaction → Tree → Tree → Type 0
+PackedIsNew None old tree = Unit {0}
+PackedIsNew (Some t) old tree = file_at tree (packed.place_of t) ≡ packed_end t old
+
+-- the update shows, with its line in the log
+abbrev pub Shows : Act → Contents → Contents → Type 0
+Shows (Put line) before now =
+    (now.file ≡ (updated (Put line) before).file) × (now.log ≡ (updated (Put line) before).log)
+Shows (Note line) before now = now.log ≡ (updated (Note line) before).log
+Shows Remove before now = Unit {0}
+Shows Forget before now = Unit {0}
+
+-- nothing is removed yet
+abbrev pub StaysYet : Act → Contents → Contents → Type 0
+StaysYet (Put line) before now = Unit {0}
+StaysYet (Note line) before now = Unit {0}
+StaysYet Remove before now = (now.file ≡ before.file) × (now.log ≡ before.log)
+StaysYet Forget before now = (now.file ≡ before.file) × (now.log ≡ before.log)
+
+abbrev pub EachOf : (Act → Contents → Contents → Type 0) → List Move → Tree → Tree → Type 0
+EachOf Rel moves old tree =
+    AllByRecursion (λ m. Rel m.act (contents m old) (contents m tree)) moves
+
+-- Nothing is removed yet, and packed records are as before; or all updates show.
+abbrev pub UpdatesFirst : Option Transaction → List Move → Tree → Tree → Type 0
+UpdatesFirst t moves old tree =
+    (EachOf StaysYet moves old tree × PackedStays t old tree) ⊎ EachOf Shows moves old tree
+
+-- What stands at each moment of a commit.
+pub record OnTheWay (t : Option Transaction) (moves : List Move) (old tree : Tree) : Type 0 where
+  pub each : EachOf IsBetween moves old tree
+  pub order : UpdatesFirst t moves old tree
+  pub packed : PackedStays t old tree ⊎ PackedIsNew t old tree
+  pub others : (path : Bytes) → IsNone path (commit_paths t moves)
+      → file_at tree path ≡ file_at old path
+
+-- What stands after it: each act is made, and no lock stands.
+pub record IsCommitted (t : Option Transaction) (moves : List Move) (old new : Tree) : Type 0 where
+  pub each : AllByRecursion (λ m. contents m new ≡ moved m.act (contents m old)) moves
+  pub packed : PackedIsNew t old new
+  pub others : (path : Bytes) → IsNone path (commit_paths t moves)
+      → file_at new path ≡ file_at old path
+
+-- ---- of the single steps
+
+-- all updates are made, and the logs of what is removed are gone
+abbrev pub shown : Act → Contents → Contents
+shown act c = forgotten act (updated act c)
+
+-- what stands until then
+abbrev pub IsShowing : List Move → Tree → Tree → Type 0
+IsShowing moves old tree = OnTheWay None moves old tree
+
+-- the file and the log as before
+abbrev pub LocksAlone : Act → Contents → Contents → Type 0
+LocksAlone act before now = (now.file ≡ before.file) × (now.log ≡ before.log)
+
+-- no lock stands, and all else is as before
+pub record NoneLocked (moves : List Move) (old new : Tree) : Type 0 where
+  pub gone : AllByRecursion (λ m. file_at new (lock_path_of m) ≡ None) moves
+  pub may : AllMay LocksAlone moves old new
+
+-- The file of packed records as before, or as in the end; each file but it and its lock as before.
+pub record MayReplace (t : Option Transaction) (old tree : Tree) : Type 0 where
+  pub packed : PackedStays t old tree ⊎ PackedIsNew t old tree
+  pub others : (path : Bytes) → IsNone path (packed_paths t)
+      → file_at tree path ≡ file_at old path
+
+pub record Replaces (t : Option Transaction) (old new : Tree) : Type 0 where
+  pub packed : PackedIsNew t old new
+  pub others : (path : Bytes) → IsNone path (packed_paths t)
+      → file_at new path ≡ file_at old path
+
+pub record KeepsPacked (t : Option Transaction) (old tree : Tree) : Type 0 where
+  pub packed : PackedStays t old tree
+  pub others : (path : Bytes) → IsNone path (packed_paths t)
+      → file_at tree path ≡ file_at old path

@@ -1,0 +1,88 @@
+-- What stands in the files of one reference: its own file, its log, and the lock of its own file (gitrepository-layout).
+use Rattle.std.specs.Prelude.{ℕ, ◌≡◌, ◌⊎◌, [], ◌++◌, Option, Some, None, Vec, take, unwrap_or}
+use Rattle.std.specs.declared.alloc.Global.{Global}
+use Rattle.gix_ref_file.specs.Tree.{Tree}
+use Rattle.gix_ref_way.specs.Ways.{Bytes, file_at}
+use Rattle.gix_ref_moves.specs.declared.act.Act.{Act}
+use Rattle.gix_ref_moves.specs.declared.act.Act.TheVariants.{Put, Note, Remove, Forget}
+use Rattle.gix_ref_moves.specs.declared.act.Move.{Move}
+
+-- the bytes of each; `None` where no file stands
+pub record Contents : Type 0 where
+  pub file : Option Bytes
+  pub log : Option Bytes
+  pub lock : Option Bytes
+
+-- where they stand
+abbrev pub place_of : Move → Bytes
+place_of m = m.lock.place.items
+
+abbrev pub lock_path_of : Move → Bytes
+lock_path_of m = m.lock.path.items
+
+abbrev pub log_path_of : Move → Bytes
+log_path_of m = m.log.items
+
+-- what a tree holds of them
+abbrev pub contents : Move → Tree → Contents
+contents m tree = record {
+  file = file_at tree (place_of m);
+  log = file_at tree (log_path_of m);
+  lock = file_at tree (lock_path_of m);
+}
+
+-- a log with a line behind what it holds, where there is one
+abbrev pub noted : Option (Vec ℕ Global) → Option Bytes → Option Bytes
+noted None log = log
+noted (Some line) log = Some (unwrap_or log [] ++ line.items)
+
+-- ---- one act after another
+
+-- an update's log has its line, the lock's bytes stand in the file's place, and the lock is gone
+abbrev pub updated : Act → Contents → Contents
+updated (Put line) c = record {
+  file = Some (unwrap_or c.lock []);
+  log = noted line c.log;
+  lock = None;
+}
+updated (Note line) c = record { file = c.file; log = noted line c.log; lock = None }
+updated Remove c = c
+updated Forget c = c
+
+-- the log of what is removed is gone
+abbrev pub forgotten : Act → Contents → Contents
+forgotten (Put line) c = c
+forgotten (Note line) c = c
+forgotten Remove c = record { file = c.file; log = None; lock = c.lock }
+forgotten Forget c = record { file = c.file; log = None; lock = c.lock }
+
+-- its file is gone too, and its lock
+abbrev pub removed : Act → Contents → Contents
+removed (Put line) c = c
+removed (Note line) c = c
+removed Remove c = record { file = None; log = c.log; lock = None }
+removed Forget c = record { file = c.file; log = c.log; lock = None }
+
+-- the end of an act
+abbrev pub moved : Act → Contents → Contents
+moved act c = removed act (forgotten act (updated act c))
+
+-- ---- on the way
+
+-- the log as before, or with any beginning of the line behind
+abbrev pub MayBeNoted : Option (Vec ℕ Global) → Option Bytes → Option Bytes → Type 0
+MayBeNoted None before now = now ≡ before
+MayBeNoted (Some line) before now = (now ≡ before)
+    ⊎ ((n : ℕ) × (now ≡ Some (unwrap_or before [] ++ take n line.items)))
+
+abbrev pub MayBeLogged : Act → Option Bytes → Option Bytes → Type 0
+MayBeLogged (Put line) before now = MayBeNoted line before now
+MayBeLogged (Note line) before now = MayBeNoted line before now
+MayBeLogged Remove before now = (now ≡ before) ⊎ (now ≡ None)
+MayBeLogged Forget before now = (now ≡ before) ⊎ (now ≡ None)
+
+-- The file is as before, or as in the end: then so is its log.
+pub record IsBetween (act : Act) (before now : Contents) : Type 0 where
+  pub log : MayBeLogged act before.log now.log
+  pub file : (now.file ≡ before.file)
+      ⊎ ((now.file ≡ (moved act before).file) × (now.log ≡ (moved act before).log))

@@ -1,0 +1,139 @@
+//! Commits of moves.
+
+ghost use Rattle.std.specs.Prelude.{◌≡◌, OnOk};
+ghost use Rattle.gix_ref_file.specs.Calls.{Achieves, Passes};
+ghost use Rattle.gix_ref_moves.specs.Committing.{IsCommitted, IsShowing, KeepsPacked, LocksAlone, MayReplace, NoneLocked, OnTheWay, Replaces, commit_paths, shown};
+ghost use Rattle.gix_ref_moves.specs.Moments.{SameButLocks};
+ghost use Rattle.gix_ref_moves.specs.Moves.{AllHave, AllMay, Once, all_paths};
+
+use crate::act::{CommitError, Move};
+use crate::steps::{Step, make_all};
+use gix_ref_file::{FileError, Files};
+use gix_ref_transaction::packed::Transaction;
+use std::alloc::Global;
+
+/// Makes moves, and replaces the packed records whose transaction is prepared. First all updates: each log gets its line, and then
+/// the lock is put in the place of the file. Then the logs go of what is removed, then packed records are replaced, and at last the
+/// files go. So at each moment, and wherever a stop comes, each file is as before or as in the end, with its log as in the end where the
+/// file is; and nothing is removed before all updates show.
+///
+/// The errors name the call of the files that failed. After one, no lock stands, as far as giving them back succeeds.
+pub fn commit<F: Files>(
+    alloc: Global,
+    files: &mut F,
+    moves: &[Move],
+    packed: Option<Transaction>,
+) -> Result<(), CommitError>
+    ensures honest { F.is_honest files.old → F.is_honest files.new }
+    ensures moments { Once (commit_paths packed moves.now)
+        → Passes F.is_honest F.history files.old files.new (OnTheWay packed moves.now) }
+    ensures done { Once (commit_paths packed moves.now)
+        → Achieves F.is_honest F.history files.old files.new result
+        (IsCommitted packed moves.now) }
+{
+    let outcome = make(alloc, files, moves, packed);
+    if outcome.is_err() {
+        let _ = give_back_all(alloc, files, moves);
+    }
+    outcome
+}
+
+/// Gives the locks back of all moves; also where one can't be given back, then the others. The error is the last one's.
+pub fn give_back_all<F: Files>(
+    alloc: Global,
+    files: &mut F,
+    moves: &[Move],
+) -> Result<(), FileError>
+    ensures honest { F.is_honest files.old → F.is_honest files.new }
+    ensures locks { Passes F.is_honest F.history files.old files.new SameButLocks }
+    ensures moments { Once (all_paths moves.now)
+        → Passes F.is_honest F.history files.old files.new (AllMay LocksAlone moves.now) }
+    ensures gone { Once (all_paths moves.now)
+        → Achieves F.is_honest F.history files.old files.new result (NoneLocked moves.now) }
+{
+    let mut outcome = Ok(());
+    let mut rest = moves;
+    'moves: while let Some((first, others)) = rest.split_first() {
+        outcome = both(outcome, first.lock.give_back(alloc, files));
+        rest = others;
+    }
+    outcome
+}
+
+// The error of the later one, where it failed, else what the earlier told.
+fn both(earlier: Result<(), FileError>, later: Result<(), FileError>) -> Result<(), FileError>
+    ensures { OnOk result ((earlier ≡ Ok tt) × (later ≡ Ok tt)) }
+{
+    match later {
+        Ok(()) => earlier,
+        Err(error) => Err(error),
+    }
+}
+
+// Makes all steps, one after another.
+fn make<F: Files>(
+    alloc: Global,
+    files: &mut F,
+    moves: &[Move],
+    packed: Option<Transaction>,
+) -> Result<(), CommitError>
+    ensures honest { F.is_honest files.old → F.is_honest files.new }
+    ensures moments { Once (commit_paths packed moves.now)
+        → Passes F.is_honest F.history files.old files.new (OnTheWay packed moves.now) }
+    ensures done { Once (commit_paths packed moves.now)
+        → Achieves F.is_honest F.history files.old files.new result
+        (IsCommitted packed moves.now) }
+{
+    match show_updates(alloc, files, moves) {
+        Ok(()) => {
+            replace_packed(alloc, files, packed)?;
+            make_all(alloc, files, Step::Remove, moves)
+        }
+        Err(error) => {
+            drop_packed(alloc, files, packed);
+            Err(error)
+        }
+    }
+}
+
+// Makes all updates, and lets the logs go of what is removed.
+fn show_updates<F: Files>(alloc: Global, files: &mut F, moves: &[Move]) -> Result<(), CommitError>
+    ensures honest { F.is_honest files.old → F.is_honest files.new }
+    ensures moments { Once (all_paths moves.now)
+        → Passes F.is_honest F.history files.old files.new (IsShowing moves.now) }
+    ensures shown { Once (all_paths moves.now)
+        → Achieves F.is_honest F.history files.old files.new result (AllHave shown moves.now) }
+{
+    make_all(alloc, files, Step::Update, moves)?;
+    make_all(alloc, files, Step::Forget, moves)
+}
+
+// Puts the packed records in their place, where there are new ones.
+fn replace_packed<F: Files>(
+    alloc: Global,
+    files: &mut F,
+    packed: Option<Transaction>,
+) -> Result<(), CommitError>
+    ensures honest { F.is_honest files.old → F.is_honest files.new }
+    ensures moments { Passes F.is_honest F.history files.old files.new (MayReplace packed) }
+    ensures replaced { Achieves F.is_honest F.history files.old files.new result
+        (Replaces packed) }
+{
+    match packed {
+        Some(packed) => match packed.commit(alloc, files) {
+            Ok(()) => Ok(()),
+            Err(error) => Err(CommitError::PackedTransactionCommit(error)),
+        },
+        None => Ok(()),
+    }
+}
+
+// Gives the lock of packed records back.
+fn drop_packed<F: Files>(alloc: Global, files: &mut F, packed: Option<Transaction>)
+    ensures honest { F.is_honest files.old → F.is_honest files.new }
+    ensures moments { Passes F.is_honest F.history files.old files.new (KeepsPacked packed) }
+{
+    if let Some(packed) = packed {
+        let _ = packed.rollback(alloc, files);
+    }
+}

@@ -1,0 +1,52 @@
+//! Lines for logs.
+
+ghost use Rattle.std.specs.Prelude.{◌≡◌, ◌≤◌};
+ghost use Rattle.gix_ref_file.specs.Calls.{Achieves, Passes};
+ghost use Rattle.gix_ref_way.specs.Ways.{file_at};
+ghost use Rattle.gix_ref_moves.specs.Contents.{noted};
+ghost use Rattle.gix_ref_moves.specs.Moments.{MayNote, NotesLog};
+
+use crate::act::{CommitError, LogError, told};
+use gix_ref_file::Files;
+use gix_ref_way::make_way;
+use std::alloc::Global;
+
+// Puts the line behind what the log holds, where there is a line.
+pub(crate) fn note<F: Files>(
+    alloc: Global,
+    files: &mut F,
+    log: &[u8],
+    line: &Option<Vec<u8>>,
+) -> Result<(), CommitError>
+    ensures honest { F.is_honest files.old → F.is_honest files.new }
+    ensures moments { Passes F.is_honest F.history files.old files.new (MayNote line.now log.now) }
+    ensures noted { Achieves F.is_honest F.history files.old files.new result
+        (NotesLog line.now log.now) }
+{
+    match line {
+        Some(line) => append(alloc, files, log, line),
+        None => Ok(()),
+    }
+}
+
+fn append<F: Files>(
+    alloc: Global,
+    files: &mut F,
+    log: &[u8],
+    line: &Vec<u8>,
+) -> Result<(), CommitError>
+    ensures honest { F.is_honest files.old → F.is_honest files.new }
+    ensures moments { Passes F.is_honest F.history files.old files.new
+        (MayNote (Some line.now) log.now) }
+    ensures noted { Achieves F.is_honest F.history files.old files.new result
+        (NotesLog (Some line.now) log.now) }
+{
+    told(
+        make_way(alloc, files, log),
+        CommitError::CreateOrUpdateRefLog(LogError::CreateLeadingDirectories),
+    )?;
+    told(
+        files.append(alloc, log, line),
+        CommitError::CreateOrUpdateRefLog(LogError::Append),
+    )
+}

@@ -1,0 +1,128 @@
+//! The steps in which moves are made: all updates first, then the logs go of what is removed, and at last its files.
+
+ghost use Rattle.gix_ref_file.specs.Calls.{Achieves, Passes};
+ghost use Rattle.gix_ref_moves.specs.Contents.{forgotten, removed, updated};
+ghost use Rattle.gix_ref_moves.specs.Moments.{AreApart, Has, IsForgetting, IsGone, IsMaking, IsRemoving, IsUpdating, MayGo, MayMove, made_by};
+ghost use Rattle.gix_ref_moves.specs.Moves.{AllHave, AllMay, Once, all_paths};
+
+use crate::act::{Act, CommitError, Move, told};
+use crate::notes::note;
+use gix_ref_file::{FileError, Files, Place};
+use std::alloc::Global;
+
+#[derive(Debug, Clone, Copy, PartialEq, Eq)]
+pub(crate) enum Step {
+    // Lines are put into logs, and locks in their places.
+    Update,
+    // The logs go of what is removed.
+    Forget,
+    // Its files go, and its locks.
+    Remove,
+}
+
+// Makes a step of each move, one after another.
+pub(crate) fn make_all<F: Files>(
+    alloc: Global,
+    files: &mut F,
+    step: Step,
+    moves: &[Move],
+) -> Result<(), CommitError>
+    ensures honest { F.is_honest files.old → F.is_honest files.new }
+    ensures moments { Once (all_paths moves.now)
+        → Passes F.is_honest F.history files.old files.new (AllMay (IsMaking step) moves.now) }
+    ensures made { Once (all_paths moves.now)
+        → Achieves F.is_honest F.history files.old files.new result
+        (AllHave (made_by step) moves.now) }
+{
+    let mut rest = moves;
+    'moves: while let Some((first, others)) = rest.split_first() {
+        make(alloc, files, step, first)?;
+        rest = others;
+    }
+    Ok(())
+}
+
+fn make<F: Files>(alloc: Global, files: &mut F, step: Step, made: &Move) -> Result<(), CommitError>
+    ensures honest { F.is_honest files.old → F.is_honest files.new }
+    ensures moments { AreApart made.now
+        → Passes F.is_honest F.history files.old files.new (MayMove (IsMaking step) made.now) }
+    ensures made { AreApart made.now
+        → Achieves F.is_honest F.history files.old files.new result (Has (made_by step) made.now) }
+{
+    match step {
+        Step::Update => update(alloc, files, made),
+        Step::Forget => forget(alloc, files, made),
+        Step::Remove => remove(alloc, files, made),
+    }
+}
+
+fn update<F: Files>(alloc: Global, files: &mut F, made: &Move) -> Result<(), CommitError>
+    ensures honest { F.is_honest files.old → F.is_honest files.new }
+    ensures moments { AreApart made.now
+        → Passes F.is_honest F.history files.old files.new (MayMove IsUpdating made.now) }
+    ensures made { AreApart made.now
+        → Achieves F.is_honest F.history files.old files.new result (Has updated made.now) }
+{
+    match &made.act {
+        Act::Put(line) => {
+            note(alloc, files, &made.log, line)?;
+            told(made.lock.put(alloc, files), CommitError::LockCommit)
+        }
+        Act::Note(line) => {
+            note(alloc, files, &made.log, line)?;
+            told(made.lock.give_back(alloc, files), CommitError::LockCommit)
+        }
+        Act::Remove | Act::Forget => Ok(()),
+    }
+}
+
+fn forget<F: Files>(alloc: Global, files: &mut F, made: &Move) -> Result<(), CommitError>
+    ensures honest { F.is_honest files.old → F.is_honest files.new }
+    ensures moments { AreApart made.now
+        → Passes F.is_honest F.history files.old files.new (MayMove IsForgetting made.now) }
+    ensures made { AreApart made.now
+        → Achieves F.is_honest F.history files.old files.new result (Has forgotten made.now) }
+{
+    match &made.act {
+        Act::Put(_) | Act::Note(_) => Ok(()),
+        Act::Remove | Act::Forget => {
+            remove_file(alloc, files, &made.log, CommitError::DeleteReflog)
+        }
+    }
+}
+
+fn remove<F: Files>(alloc: Global, files: &mut F, made: &Move) -> Result<(), CommitError>
+    ensures honest { F.is_honest files.old → F.is_honest files.new }
+    ensures moments { AreApart made.now
+        → Passes F.is_honest F.history files.old files.new (MayMove IsRemoving made.now) }
+    ensures made { AreApart made.now
+        → Achieves F.is_honest F.history files.old files.new result (Has removed made.now) }
+{
+    match &made.act {
+        Act::Put(_) | Act::Note(_) => Ok(()),
+        Act::Remove => {
+            remove_file(alloc, files, &made.lock.place, CommitError::DeleteReference)?;
+            told(made.lock.give_back(alloc, files), CommitError::LockCommit)
+        }
+        Act::Forget => told(made.lock.give_back(alloc, files), CommitError::LockCommit),
+    }
+}
+
+// Removes a file, where one stands.
+fn remove_file<F: Files>(
+    alloc: Global,
+    files: &mut F,
+    path: &[u8],
+    why: CommitError,
+) -> Result<(), CommitError>
+    ensures honest { F.is_honest files.old → F.is_honest files.new }
+    ensures moments { Passes F.is_honest F.history files.old files.new (MayGo path.now) }
+    ensures gone { Achieves F.is_honest F.history files.old files.new result (IsGone path.now) }
+{
+    match files.kind_of(path) {
+        Ok(Place::File(_)) => told(files.remove_file(alloc, path), why),
+        Ok(Place::Absent) | Ok(Place::Folder) => Ok(()),
+        Err(FileError::Failed) => Err(why),
+        Err(FileError::Memory) => Err(CommitError::Memory),
+    }
+}

@@ -1,0 +1,162 @@
+"""Rows of transactions of references' own files, for rows.py: the files before and after are those that git leaves.
+
+git makes a repository, its references and logs; its files are the case's. Then `git update-ref --stdin` or `git symbolic-ref` makes the same
+edits, or refuses them, and the files that stand then are the answer. What a stop or a failed call leaves comes from the order of the calls,
+which the documents of the crates tell.
+"""
+import os
+import subprocess
+import tempfile
+
+WHO = {f"GIT_{who}_{what}": value for who in ["AUTHOR", "COMMITTER"] for what, value in [("NAME", "a"), ("EMAIL", "b"), ("DATE", "@1 +0000")]}
+
+
+def git(room, *words, text=b"", check=True):
+    done = subprocess.run(["git", "-C", room, "-c", "core.logAllRefUpdates=true", *words], input=text, capture_output=True, env={**os.environ, **WHO})
+    if check and done.returncode != 0:
+        raise RuntimeError(done.stderr.decode())
+    return done.returncode, done.stdout.strip().decode()
+
+
+def files_of(room):
+    """The files of references and logs, by path, in the order in which a walk of folders meets them."""
+    root = os.path.join(room, ".git")
+    found = {}
+    for path in ["HEAD", "packed-refs"]:
+        if os.path.exists(os.path.join(root, path)):
+            found[path] = open(os.path.join(root, path), "rb").read()
+    for top in ["refs", "logs"]:
+        for folder, _, names in os.walk(os.path.join(root, top)):
+            for name in names:
+                path = os.path.relpath(os.path.join(folder, name), root)
+                found[path] = open(os.path.join(folder, name), "rb").read()
+    return found
+
+
+def walk_order(path):
+    return [part.encode() for part in path.split("/")]
+
+
+def shown(files):
+    return "".join(f"{path}={files[path].decode().replace(chr(10), '|')};" for path in sorted(files, key=walk_order))
+
+
+class Repository:
+    """HEAD is on a branch that doesn't stand, so that no update of another is written to its log."""
+
+    def __init__(self, packed=False, head="refs/heads/unborn"):
+        self.room = tempfile.mkdtemp()
+        git(self.room, "init", "-q")
+        git(self.room, "symbolic-ref", "HEAD", head)
+        _, tree = git(self.room, "mktree")
+        self.ids = {text: git(self.room, "commit-tree", "-m", text, tree)[1] for text in ["one", "two", "three"]}
+        for name, target in [("refs/heads/main", "one"), ("refs/heads/a", "two"), ("refs/tags/v", "one")]:
+            git(self.room, "update-ref", "-m", "m", name, self.ids[target])
+        if packed:
+            git(self.room, "pack-refs", "--all")
+
+    def id(self, word):
+        return self.ids.get(word, "0" * 40)
+
+    def files(self):
+        return files_of(self.room)
+
+
+def row(operation, fuse, files, edits, answer):
+    lines = "".join(f"{path} {text.hex()}\n" for path, text in files.items())
+    fields = [fuse.encode(), lines.encode(), edits.encode()]
+    return (" ".join([operation, *(field.hex() for field in fields)]), answer)
+
+
+def update_ref(repository, edits):
+    """The lines of a case's edits, whether git accepts them, and the files that it leaves."""
+    lines, words = [], []
+    for verb, name, new, test in edits:
+        old = {"any": "", "new": " " + "0" * 40}.get(test)
+        told = test
+        if old is None:
+            old = " " + repository.id(test)
+            told = f"at:{repository.id(test)}"
+        if verb == "delete":
+            lines.append(f"delete {name} {told}")
+            words.append(f"delete {name}{old if test != 'any' else ''}")
+        else:
+            lines.append(f"update {name} {repository.id(new)} {told}")
+            words.append(f"update {name} {repository.id(new)}{old}")
+    script = "".join(f"option no-deref\n{line}\n" for line in words)
+    code, _ = git(repository.room, "update-ref", "-m", "m", "--stdin", text=script.encode(), check=False)
+    return "".join(line + "\n" for line in lines), code == 0, repository.files()
+
+
+LISTS = [
+    [("update", "refs/heads/new", "two", "new")],
+    [("update", "refs/heads/main", "two", "one")],
+    [("update", "refs/heads/main", "two", "any"), ("update", "refs/heads/a", "one", "any")],
+    [("update", "refs/heads/deep/er/name", "three", "new")],
+    [("update", "refs/tags/w", "three", "any")],
+    [("delete", "refs/heads/a", None, "any")],
+    [("delete", "refs/heads/main", None, "one"), ("update", "refs/heads/trunk", "one", "new")],
+    [("delete", "refs/tags/v", None, "any")],
+]
+
+REFUSED = [
+    ([("update", "refs/heads/main", "two", "three")], "Refused(ReferenceOutOfDate)"),
+    ([("update", "refs/heads/new", "two", "one")], "Refused(MustExist)"),
+    ([("update", "refs/heads/main", "two", "new")], "Refused(MustNotExist)"),
+    ([("delete", "refs/heads/main", None, "two")], "Refused(ReferenceOutOfDate)"),
+    ([("update", "refs/heads/a", "one", "any"), ("update", "refs/heads/main", "two", "three")], "Refused(ReferenceOutOfDate)"),
+]
+
+
+def rows():
+    found = []
+    for packed in [False, True]:
+        for edits in LISTS:
+            repository = Repository(packed)
+            before = repository.files()
+            lines, accepted, after = update_ref(repository, edits)
+            assert accepted, edits
+            found.append(row("loose", "", before, lines, f"made {len(edits)}; {shown(after)}"))
+            found.append(row("loose-rollback", "", before, lines, f"rolled back {len(edits)}; {shown(before)}"))
+        for edits, told in REFUSED:
+            repository = Repository(packed)
+            before = repository.files()
+            lines, accepted, after = update_ref(repository, edits)
+            assert not accepted and after == before, edits
+            found.append(row("loose", "", before, lines, f"{told}; {shown(before)}"))
+    found += symbolic() + locked()
+    return found
+
+
+def symbolic():
+    """HEAD and the branch that it leads to: by HEAD, and each by itself."""
+    found = []
+    for packed in [False, True]:
+        repository = Repository(packed, head="refs/heads/main")
+        before = repository.files()
+        git(repository.room, "update-ref", "-m", "m", "HEAD", repository.id("two"))
+        found.append(row("loose", "", before, f"deref-update HEAD {repository.id('two')} any\n", f"made 2; {shown(repository.files())}"))
+    repository = Repository()
+    before = repository.files()
+    git(repository.room, "symbolic-ref", "HEAD", "refs/heads/main")
+    # git tells HEAD's log of it; here an update to another reference's name is in no log.
+    after = {path: text for path, text in repository.files().items() if path != "logs/HEAD"}
+    found.append(row("loose", "", before, "update HEAD ref:refs/heads/main any\n", f"made 1; {shown(after)}"))
+    return found
+
+
+def locked():
+    """Another's lock stands, or a file where a folder is needed: nothing changes."""
+    found = []
+    files = Repository().files()
+    one = "1" * 40
+    held = {**files, "refs/heads/main.lock": b"x"}
+    found.append(row("loose", "", held, f"update refs/heads/a {one} any\nupdate refs/heads/main {one} any\n", f"LockAcquire; {shown(held)}"))
+    found.append(row("loose", "", files, f"update refs/heads/main/x {one} any\n", f"LockAcquire; {shown(files)}"))
+    twice = f"update refs/heads/a {one} any\nupdate main-worktree/refs/heads/a {one} any\n"
+    found.append(row("loose", "", files, twice, f"SamePlace; {shown(files)}"))
+    found.append(row("loose", "", files, "delete refs/heads/a new\n", f"Refused(DeleteMustNotExist); {shown(files)}"))
+    found.append(row("loose", "", files, "delete refs/heads/none exist\n", f"Refused(DeleteReferenceMustExist); {shown(files)}"))
+    packed = {**Repository(packed=True).files(), "packed-refs.lock": b""}
+    found.append(row("loose", "", packed, "delete refs/heads/a any\n", f"PackedTransactionAcquire(TransactionLock(Held)); {shown(packed)}"))
+    return found

@@ -1,0 +1,5 @@
+mod Stored
+mod Above
+mod FoldersMade
+mod Clearings
+mod Surveys

@@ -1,0 +1,61 @@
+-- The way of a file: the folders that it stands in, and what stands in its place.
+use Rattle.std.specs.Prelude.{ℕ, ◌≡◌, ◌⊎◌, List, ◌∷◌, ◌++◌, Option, Some, None, IsTrue}
+use Rattle.std.specs.FinMap.{get}
+use Rattle.gix_ref_file.specs.Tree.{Tree, folder, node_at, bytes_of, is_folder}
+
+abbrev pub Bytes : Type 0
+Bytes = List ℕ
+
+-- the bytes of the file at a path; `None` where no file stands
+abbrev pub file_at : Tree → Bytes → Option Bytes
+file_at tree path = bytes_of (node_at tree path)
+
+-- each file stands as before: at most folders differ
+abbrev pub SameFiles : Tree → Tree → Type 0
+SameFiles old new = (path : Bytes) → file_at new path ≡ file_at old path
+
+-- the path stands below this one: a slash follows it there
+abbrev pub IsAbove : Bytes → Bytes → Type 0
+IsAbove place path = (rest : Bytes) × (path ≡ place ++ 47 ∷ rest)
+
+-- no file stands where the path needs a folder
+abbrev pub NoFileAbove : Bytes → Tree → Type 0
+NoFileAbove path tree = (place : Bytes) → IsAbove place path → file_at tree place ≡ None
+
+-- no file stands below the path
+abbrev pub NoFileBelow : Bytes → Tree → Type 0
+NoFileBelow path tree = (other : Bytes) → IsAbove path other → file_at tree other ≡ None
+
+-- A file may come to stand at the path: no file stands above or below it, and folders in its way may go.
+pub record HasWay (path : Bytes) (tree : Tree) : Type 0 where
+  pub above : NoFileAbove path tree
+  pub below : NoFileBelow path tree
+
+-- each place that the path stands below is a folder
+abbrev pub HasFoldersAbove : Bytes → Tree → Type 0
+HasFoldersAbove path tree =
+    (place : Bytes) → IsAbove place path → IsTrue (is_folder (node_at tree place))
+
+-- each folder that stood stands
+abbrev pub KeepsFolders : Tree → Tree → Type 0
+KeepsFolders old new =
+    (place : Bytes) → IsTrue (is_folder (node_at old place))
+    → IsTrue (is_folder (node_at new place))
+
+-- each folder that stands stood before, or is this one
+abbrev pub OneFolderMore : Bytes → Tree → Tree → Type 0
+OneFolderMore made old new =
+    (place : Bytes) → get new place ≡ Some folder → (get old place ≡ Some folder) ⊎ (place ≡ made)
+
+-- each folder that stands stood before, or is one that the path stands in
+abbrev pub FoldersAbove : Bytes → Tree → Tree → Type 0
+FoldersAbove path old new =
+    (place : Bytes) → get new place ≡ Some folder
+    → (get old place ≡ Some folder) ⊎ IsAbove place path
+
+-- Each file stands as before, no folder came, and none went but the one at this path and those below it.
+pub record ClearsWay (path : Bytes) (old new : Tree) : Type 0 where
+  pub files : SameFiles old new
+  pub folders : (place : Bytes) → get new place ≡ Some folder → get old place ≡ Some folder
+  pub others : (place : Bytes) → get old place ≡ Some folder
+      → (get new place ≡ Some folder) ⊎ (place ≡ path) ⊎ IsAbove path place
