@@ -6,6 +6,7 @@ pub mod Face
 pub mod Formats
 pub mod Ids
 pub mod KeptIds
+pub mod KnownIds
 pub mod KnownObjects
 pub mod Lookups
 pub mod NameLists

@@ -15,17 +15,18 @@ use gix_object_lines::cut::split_once;
 use std::alloc::{AllocError, Global};
 pub use tags::is_name;
 use tags::named_by_tag;
+pub use trees::is_written_tree;
 use trees::named_by_tree;
 
 /// An object that another one names, and the kind that it must be of.
 #[derive(Clone, Copy)]
-pub(crate) struct Named {
-    pub(crate) id: ObjectId,
-    pub(crate) kind: ObjectKind,
+pub struct Named {
+    pub id: ObjectId,
+    pub kind: ObjectKind,
 }
 
 /// The objects that a content of this kind names; `None` where it isn't in written form.
-pub(crate) fn named_by(
+pub fn named_by(
     alloc: Global,
     digests: Kind,
     kind: ObjectKind,

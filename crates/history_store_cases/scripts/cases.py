@@ -336,7 +336,7 @@ def tags():
         # A name that no tag may have is none here, with a line feed or without.
         for name in (b"", b"-a", b"a..b", b"a\nb"):
             row(kind, (f"tag:{commit}:{word(name)}:{word(tagger)}:one", "none"))
-        for text, told in [(front, commit), (front.upper().replace(b"OBJECT", b"object"), commit), (front[:-13], commit), (front[:-14], None),
+        for text, told in [(front, commit), (front.upper().replace(b"OBJECT", b"object"), commit), (front[:-12], commit), (front[:-13], None),
                            (front.replace(b"object ", b"object  "), None), (front.replace(b"object", b"tree"), None), (b"\n" + front, None),
                            (front[:20] + front[21:], None), (b"", None), (b"tag " + front, None)]:
             row(kind, (f"tag-target:{word(text)}", f"target:{told}" if told else "none"))

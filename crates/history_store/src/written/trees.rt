@@ -44,14 +44,16 @@ fn named_by_entries(
         × (map naming_of named.items
         ≡ map named_by_item (map item_of tree.now.entries.items)))) }
 {
-    if is_written(alloc, digests, content, tree)? {
+    if is_written_tree(alloc, digests, content, tree)? {
         Ok(Some(names_of(alloc, tree.entries.as_slice())?))
     } else {
         Ok(None)
     }
 }
 
-fn is_written(
+/// Whether these entries of a content are those of a tree in written form: in Git's order, each name once, with the modes of files,
+/// programs, links and folders that aren't empty, in the digits that Git writes.
+pub fn is_written_tree(
     alloc: Global,
     digests: Kind,
     content: &[u8],

@@ -1,0 +1,15 @@
+pub mod Advances
+pub mod Begins
+pub mod Empties
+pub mod Ends
+pub mod Folders
+pub mod Grouped
+pub mod Joins
+pub mod Listings
+pub mod Nexts
+pub mod Opens
+pub mod Paths
+pub mod Placed
+pub mod Steps
+pub mod Texts
+pub mod Turns

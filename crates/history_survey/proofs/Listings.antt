@@ -1,0 +1,279 @@
+-- Listings from the root reach each file.
+use Rattle.std.proofs.Common.{◌≡◌, ℕ, zero, suc, ◌+◌, ◌-◌, ◌<◌, ◌≤◌, true, false, cond, List, [], ◌∷◌, ◌++◌, length, take, drop, Option, Some, None, refl, sym, ◌∙◌, ap, subst, arith, inl, inr, codes, append_assoc, append-nil}
+use Rattle.std.specs.Prelude.{Contains, IsTrue, IsSome, IfErr, Result, Err}
+use Rattle.std.specs.FinMap.{contains_key-keys, get, keys}
+use Rattle.std.proofs.Math.ListN.{get_or}
+use Rattle.gix_hash_id.specs.Id.{Id, id_of}
+use Rattle.gix_hash_id.specs.declared.kind.Kind.{Kind}
+use Rattle.gix_hash_id.specs.declared.object_id.ObjectId.{ObjectId}
+use Rattle.gix_ref_file.specs.declared.files.Place.TheVariants as places
+use Rattle.gix_ref_file.specs.Tree.{Tree, Node, file, folder, is_path, parent, names_at, node_at, place_of, is_folder, bytes_of, IsRooted, under}
+use Rattle.gix_ref_file.proofs.Listings.{in_folder, node_is, names_in, found}
+use Rattle.gix_ref_file.proofs.Below.{inside}
+use Rattle.gix_ref_file.proofs.Moved.{some_of_folder}
+use Rattle.std.proofs.lemmas.List.{length-take-le}
+use Rattle.std.specs.List.{suffix_len}
+use Rattle.history_model.specs.Bytes.{Bytes}
+use Rattle.history_model.specs.Forms.{is_id}
+use Rattle.history_model.specs.Objects.{hex}
+use Rattle.history_model.specs.Places.{file_at, is_object_folder, object_place}
+use Rattle.history_model.proofs.IdLemmas.{hex_tells, length-hex}
+use Rattle.history_model.proofs.PlaceLemmas.{id_length}
+use Rattle.history_model.proofs.WholeLists.{in_either, in_left, in_right}
+use Rattle.history_model.proofs.WholeSteps.{contains_in, in_contains}
+use Rattle.history_store.specs.Parts.{above}
+use Rattle.history_store.proofs.Surveys.{one_more}
+use Rattle.gix_hash_id.specs.Kind.{hex_len}
+use Rattle.gix_hash_id.specs.declared.kind.Kind.TheVariants as digests
+use Rattle.history_survey.specs.Flaws.{IsObjectsFlaw, IsStray, stray_file, stray_folder}
+use Rattle.history_survey.specs.Listing.{Gathers, HasObjectFile, IsListedAt, IsNoPlace, IsPlaceIn}
+use Rattle.history_survey.specs.declared.flaw.ObjectsFlaw.{ObjectsFlaw}
+use Rattle.history_survey.specs.declared.flaw.ObjectsFlaw.TheVariants.{Stray, Unfinished, BadObject, WrongId, TooLarge, BadTree, Missing, WrongKind, Cycle, IdReserved, File, Memory}
+use Rattle.history_survey.specs.Surveying.{AreListed}
+
+-- ---- what stands above
+
+parent_of_folder : (tree : Tree) (path : Bytes) → IsRooted tree → IsTrue (is_folder (node_at tree path)) → IsTrue (is_folder (node_at tree (parent path)))
+parent_of_folder tree [] rooted is = refl
+parent_of_folder tree (b ∷ path) rooted is = (rooted (b ∷ path) (some_of_folder (get tree (b ∷ path)) is)).1
+
+folder_above : (tree : Tree) (n : ℕ) (path : Bytes) → IsRooted tree → IsSome (get tree path) → IsTrue (is_folder (node_at tree (above (suc n) path)))
+folder_above tree zero path rooted there = (rooted path there).1
+folder_above tree (suc n) path rooted there = parent_of_folder tree (above (suc n) path) rooted (folder_above tree n path rooted there)
+
+shorter : (path : Bytes) → length (parent path) ≤ length path - 1
+shorter path = omega (arith, length-take-le (length path - suffix_len inside path - 1) path (omega arith))
+
+above_shorter : (n : ℕ) (path : Bytes) → length (above n path) ≤ length path - n
+above_shorter zero path = omega arith
+above_shorter (suc n) path = omega (arith, shorter (above n path), above_shorter n path)
+
+no_bytes : (path : Bytes) → length path ≤ 0 → path ≡ []
+no_bytes [] short = refl
+no_bytes (b ∷ path) short = absurd (omega (arith, short))
+
+above_all : (path : Bytes) → above (suc (length path)) path ≡ []
+above_all path = no_bytes _ (omega (arith, above_shorter (suc (length path)) path))
+
+-- ---- what a walk over folders meets, where P holds of what stands at each path
+
+module _ (tree : Tree) (rooted : IsRooted tree) (P : Bytes → Option Node → Type 0) (nothing : (path : Bytes) → P path None) where
+  -- a path and all below it
+  abbrev pub Everywhere : Bytes → Type 0
+  Everywhere path = P path (get tree path) × ((n : ℕ) (q : Bytes) → above (suc n) q ≡ path → P q (get tree q))
+
+  if_stands : (path : Bytes) (o : Option Node) → (IsSome o → P path o) → P path o
+  if_stands path None h = nothing path
+  if_stands path (Some node) h = h refl
+
+  child : (place : Bytes) (names : List Bytes) → names ≡ names_at tree place → ((i : ℕ) → i < length names → Everywhere (under place (get_or names i [])))
+      → (path : Bytes) → IsSome (get tree path) → parent path ≡ place → Everywhere path
+  child place names is all path there here =
+      let r = found place (keys tree) path [] (sym (contains_key-keys tree path) ∙ there) here in
+      let in_place : is_folder (node_at tree place) ≡ true = subst (λ p. IsTrue (is_folder (node_at tree p))) here (rooted path there).1 in
+      let names_are : names ≡ names_in place (keys tree) = is ∙ ap (λ b. cond b (names_in place (keys tree)) []) in_place in
+      let same : under place (get_or names r.0 []) ≡ path = (λ j. under (sym here j) ((ap (λ (ns : List Bytes). get_or ns r.0 []) names_are ∙ r.2) j)) ∙ sym (in_folder path (rooted path there).0) in
+      subst Everywhere same (all r.0 (subst (λ (ns : List Bytes). r.0 < length ns) (sym names_are) r.1))
+
+  below : (place : Bytes) → ((path : Bytes) → IsSome (get tree path) → parent path ≡ place → Everywhere path)
+      → (n : ℕ) (path : Bytes) → above (suc n) path ≡ place → IsSome (get tree path) → P path (get tree path)
+  below place child zero path under there = (child path there under).0
+  below place child (suc n) path under there = by_case (above (suc n) path) refl (below place child n path)
+    where
+      by_case : (q : Bytes) → above (suc n) path ≡ q → (above (suc n) path ≡ place → IsSome (get tree path) → P path (get tree path)) → P path (get tree path)
+      by_case [] is rest = rest (is ∙ sym (ap parent is) ∙ under) there
+      by_case (b ∷ q) is rest = (child (b ∷ q) (some_of_folder (get tree (b ∷ q)) (subst (λ p. IsTrue (is_folder (node_at tree p))) is (folder_above tree n path rooted there))) (ap parent (sym is) ∙ under)).1 n path is
+
+  pub all_below : (place : Bytes) (names : List Bytes) → names ≡ names_at tree place → ((i : ℕ) → i < length names → Everywhere (under place (get_or names i [])))
+      → (n : ℕ) (path : Bytes) → above (suc n) path ≡ place → P path (get tree path)
+  all_below place names is all n path under = if_stands path (get tree path) (below place (child place names is all) n path under)
+
+  -- nothing stands below a file
+  pub of_file : (path : Bytes) (size : ℕ) → place_of (node_at tree path) ≡ places.File size → P path (get tree path) → Everywhere path
+  of_file path size there here = (here, λ n q under. if_stands q (get tree q) (λ some. absurd (no_folder (node_at tree path) there (subst (λ p. IsTrue (is_folder (node_at tree p))) under (folder_above tree n q rooted some)))))
+    where
+      no_folder : (o : Option Node) → place_of o ≡ places.File size → IsTrue (is_folder o) → ⊥
+      no_folder None h is = cc
+      no_folder (Some (file bytes)) h is = cc
+      no_folder (Some folder) h is = cc
+
+  pub from_root : ((n : ℕ) (path : Bytes) → above (suc n) path ≡ [] → P path (get tree path)) → (path : Bytes) → P path (get tree path)
+  from_root all path = all (length path) path (above_all path)
+
+-- ---- lists that grow
+
+pub in_more : (ids more : List ObjectId) (id : ObjectId) → Contains ids id → Contains (ids ++ more) id
+in_more ids more id has = in_contains (ids ++ more) id (in_left id ids more (contains_in ids id has))
+
+place_more : (ids more : List ObjectId) (path : Bytes) → IsPlaceIn ids path → IsPlaceIn (ids ++ more) path
+place_more ids more path (id, has, is) = (id, in_more ids more id has, is)
+
+pub listed_more : (ids more : List ObjectId) (path : Bytes) (o : Option Node) → IsListedAt ids path o → IsListedAt (ids ++ more) path o
+listed_more ids more path None is = tt
+listed_more ids more path (Some (file bytes)) is = place_more ids more path is
+listed_more ids more path (Some folder) is = is
+
+-- ---- what is gathered below a folder
+
+-- a path and all below it is listed
+abbrev pub ListedFrom : Tree → List ObjectId → Bytes → Type 0
+ListedFrom tree ids path = IsListedAt ids path (get tree path) × ((n : ℕ) (q : Bytes) → above (suc n) q ≡ path → IsListedAt ids q (get tree q))
+
+from_more : (tree : Tree) (ids more : List ObjectId) (path : Bytes) → ListedFrom tree ids path → ListedFrom tree (ids ++ more) path
+from_more tree ids more path (here, all) = (listed_more ids more path (get tree path) here, λ n q under. listed_more ids more q (get tree q) (all n q under))
+
+-- the first of these names of a folder were gone through
+pub record GathersSome (kind : Kind) (tree : Tree) (place : Bytes) (old new : List ObjectId) (names : List Bytes) (count : ℕ) : Type 0 where
+  pub more : List ObjectId
+  pub are : new ≡ old ++ more
+  pub each : (id : ObjectId) → Contains more id → HasObjectFile kind tree id
+  pub all : (i : ℕ) → i < count → ListedFrom tree new (under place (get_or names i []))
+
+pub none_yet : (kind : Kind) (tree : Tree) (place : Bytes) (old : List ObjectId) (names : List Bytes) → GathersSome kind tree place old old names 0
+none_yet kind tree place old names = record { more = []; are = sym (append-nil old); each = λ id has. absurd (contains_in [] id has); all = λ i less. absurd (omega arith) }
+
+module _ (kind : Kind) (tree : Tree) (rooted : IsRooted tree) (place : Bytes) (old new : List ObjectId) (names : List Bytes) (k : ℕ) (some : GathersSome kind tree place old new names k) (path : Bytes) (at : path ≡ under place (get_or names k []))
+    (is_path : IsTrue (is_path path)) where
+  both : (more : List ObjectId) → ((id : ObjectId) → Contains more id → HasObjectFile kind tree id) → (id : ObjectId) → Contains (some.more ++ more) id → HasObjectFile kind tree id
+  both more each id has = elim (in_either id some.more more (contains_in (some.more ++ more) id has)) [
+    | inl a ↦ some.each id (in_contains some.more id a)
+    | inr b ↦ each id (in_contains more id b)
+  ]
+
+  more_names : (more : List ObjectId) → ((id : ObjectId) → Contains more id → HasObjectFile kind tree id) → ListedFrom tree (new ++ more) path → GathersSome kind tree place old (new ++ more) names (k + 1)
+  more_names more each here = record {
+    more = some.more ++ more;
+    are = ap (λ ids. ids ++ more) some.are ∙ append_assoc old some.more more;
+    each = both more each;
+    all = one_more (ListedFrom tree (new ++ more)) place path names k (λ i less. from_more tree new more (under place (get_or names i [])) (some.all i less)) at here;
+  }
+
+  -- a folder with what was gathered below it
+  pub folder_more : (newer : List ObjectId) → place_of (node_at tree path) ≡ places.Folder → IsTrue (is_object_folder path) → Gathers kind tree path new newer → GathersSome kind tree place old newer names (k + 1)
+  folder_more newer there is below =
+      subst (λ ids. GathersSome kind tree place old ids names (k + 1)) (sym below.are)
+      (more_names below.more below.each (subst (λ ids. ListedFrom tree ids path) below.are (at_folder (get tree path) (ap place_of (sym (node_is tree path is_path)) ∙ there), below.all)))
+    where
+      at_folder : (o : Option Node) → place_of o ≡ places.Folder → IsListedAt newer path o
+      at_folder None h = cc
+      at_folder (Some (file bytes)) h = cc
+      at_folder (Some folder) h = is
+
+  -- the file of an object
+  pub file_more : (size : ℕ) (id : ObjectId) → place_of (node_at tree path) ≡ places.File size → IsTrue (is_id kind (id_of id)) → path ≡ object_place (id_of id) → GathersSome kind tree place old (new ++ id ∷ []) names (k + 1)
+  file_more size id there formed is = more_names (id ∷ []) each (of_file tree rooted (IsListedAt (new ++ id ∷ [])) (λ p. tt) path size there (at_file (get tree path) (ap place_of (sym (node_is tree path is_path)) ∙ there)))
+    where
+      bytes_there : (o : Option Node) → place_of o ≡ places.File size → (text : Bytes) × (bytes_of o ≡ Some text)
+      bytes_there None h = cc
+      bytes_there (Some (file bytes)) h = (bytes, refl)
+      bytes_there (Some folder) h = cc
+
+      each : (other : ObjectId) → Contains (id ∷ []) other → HasObjectFile kind tree other
+      each other has = elim (contains_in (id ∷ []) other has) [
+        | inl e ↦ subst (HasObjectFile kind tree) (sym e) (let text = bytes_there (node_at tree path) there in record { formed = formed; text = text.0; stands = ap (file_at tree) (sym is) ∙ text.1 })
+        | inr none ↦ absurd none
+      ]
+
+      at_file : (o : Option Node) → place_of o ≡ places.File size → IsListedAt (new ++ id ∷ []) path o
+      at_file None h = cc
+      at_file (Some (file bytes)) h = (id, in_contains (new ++ id ∷ []) id (in_right id new (id ∷ []) (inl refl)), is)
+      at_file (Some folder) h = cc
+
+pub all_gathered : (kind : Kind) (tree : Tree) → IsRooted tree → (place : Bytes) (old new : List ObjectId) (names : List Bytes) (k : ℕ) → GathersSome kind tree place old new names k → length names ≤ k → names ≡ names_at tree place → Gathers kind tree place old new
+all_gathered kind tree rooted place old new names k some whole are = record {
+  more = some.more;
+  are = some.are;
+  each = some.each;
+  all = all_below tree rooted (IsListedAt new) (λ p. tt) place names are (λ i less. some.all i (omega arith));
+}
+
+-- all below the root
+pub root_listed : (kind : Kind) (tree : Tree) (ids : List ObjectId) → IsRooted tree → Gathers kind tree [] [] ids → AreListed kind tree ids
+root_listed kind tree ids rooted below = record {
+  formed = λ id has. (below.each id (more_is id has)).formed;
+  stand = λ id has. let is = below.each id (more_is id has) in (is.text, is.stands);
+  files = files;
+  folders = λ path there. subst (IsListedAt ids path) there (everywhere path);
+}
+  where
+    more_is : (id : ObjectId) → Contains ids id → Contains below.more id
+    more_is id has = subst (λ (xs : List ObjectId). Contains xs id) below.are has
+
+    everywhere : (path : Bytes) → IsListedAt ids path (get tree path)
+    everywhere = from_root tree rooted (IsListedAt ids) (λ p. tt) below.all
+
+    files : (path text : Bytes) → file_at tree path ≡ Some text → IsPlaceIn ids path
+    files [] text h = cc
+    files (b ∷ path) text h = go (get tree (b ∷ path)) h (everywhere (b ∷ path))
+      where
+        go : (o : Option Node) → bytes_of o ≡ Some text → IsListedAt ids (b ∷ path) o → IsPlaceIn ids (b ∷ path)
+        go None e is = cc
+        go (Some (file bytes)) e is = is
+        go (Some folder) e is = cc
+
+-- ---- the id of a place
+
+-- the digits stand in the place of an id
+pub digits_placed : (kind : Kind) (id : Id) (path : Bytes) → is_id kind id ≡ true → path ≡ object_place id → (take 2 (drop 8 path) ++ drop 11 path ≡ hex id) × (11 ≤ length path)
+digits_placed kind id path formed is = go (hex id) refl
+  where
+    long : (k : Kind) → 2 ≤ hex_len k
+    long digests.Sha1 = omega arith
+    long digests.Sha256 = omega arith
+
+    enough : 2 ≤ length (hex id)
+    enough = subst (λ n. 2 ≤ n) (sym (length-hex id ∙ id_length kind id formed)) (long kind)
+
+    go : (h : Bytes) → hex id ≡ h → (take 2 (drop 8 path) ++ drop 11 path ≡ hex id) × (11 ≤ length path)
+    go [] e = absurd (few (subst (λ (h : Bytes). 2 ≤ length h) e enough))
+      where
+        few : 2 ≤ 0 → ⊥
+        few h = omega (arith, h)
+    go (a ∷ []) e = absurd (few (subst (λ (h : Bytes). 2 ≤ length h) e enough))
+      where
+        few : 2 ≤ 1 → ⊥
+        few h = omega (arith, h)
+    go (a ∷ b ∷ rest) e =
+        let whole : path ≡ codes "objects/" ++ take 2 (a ∷ b ∷ rest) ++ 47 ∷ drop 2 (a ∷ b ∷ rest) = is ∙ ap (λ h. codes "objects/" ++ take 2 h ++ 47 ∷ drop 2 h) e in
+        (ap (λ (p : Bytes). take 2 (drop 8 p) ++ drop 11 p) whole ∙ sym e, subst (λ (p : Bytes). 11 ≤ length p) (sym whole) (omega arith))
+
+-- the place of an id tells it
+pub other_place : (kind : Kind) (id other : Id) (path digits : Bytes) → is_id kind id ≡ true → is_id kind other ≡ true → path ≡ object_place id → digits ≡ take 2 (drop 8 path) ++ drop 11 path → digits ≡ hex other → path ≡ object_place other
+other_place kind id other path digits formed other_formed is cut spelled =
+    is ∙ ap object_place (hex_tells kind id other formed other_formed (sym (digits_placed kind id path formed is).0 ∙ sym cut ∙ spelled))
+
+-- ---- what is no place of an object
+
+pub no_place : (MayFail : Type 0) (kind : Kind) (tree : Tree) (path : Bytes) (size : ℕ) → place_of (node_at tree path) ≡ places.File size → (flaw : ObjectsFlaw) → IsNoPlace kind path flaw → IsObjectsFlaw MayFail kind tree flaw
+no_place MayFail kind tree path size there flaw is = go (text_there (node_at tree path) there) flaw is
+  where
+    text_there : (o : Option Node) → place_of o ≡ places.File size → (text : Bytes) × (bytes_of o ≡ Some text)
+    text_there None h = cc
+    text_there (Some (file bytes)) h = (bytes, refl)
+    text_there (Some folder) h = cc
+
+    go : (text : Bytes) × (file_at tree path ≡ Some text) → (flaw : ObjectsFlaw) → IsNoPlace kind path flaw → IsObjectsFlaw MayFail kind tree flaw
+    go (text, at) (Stray other) (same, apart, none) = subst (IsStray kind tree) (sym same) (stray_file text at apart none)
+    go (text, at) (Unfinished other) (same, here) = (same ∙ here, (text, ap (file_at tree) (sym here) ∙ at))
+    go (text, at) Memory is = tt
+    go (text, at) (BadObject other) is = absurd is
+    go (text, at) (WrongId other) is = absurd is
+    go (text, at) (TooLarge other) is = absurd is
+    go (text, at) (BadTree id) is = absurd is
+    go (text, at) (Missing id by) is = absurd is
+    go (text, at) (WrongKind id by) is = absurd is
+    go (text, at) (Cycle id) is = absurd is
+    go (text, at) IdReserved is = absurd is
+    go (text, at) File is = absurd is
+
+-- a folder that is none of objects
+pub folder_is_stray : (kind : Kind) (tree : Tree) (path : Bytes) → IsTrue (is_path path) → place_of (node_at tree path) ≡ places.Folder → is_object_folder path ≡ false → IsStray kind tree path
+folder_is_stray kind tree path is there other = stray_folder (folder_at (get tree path) (ap place_of (sym (node_is tree path is)) ∙ there)) other
+  where
+    folder_at : (o : Option Node) → place_of o ≡ places.Folder → o ≡ Some folder
+    folder_at None h = cc
+    folder_at (Some (file bytes)) h = cc
+    folder_at (Some folder) h = refl
+
+pub told : {X : Type 0} (P : ObjectsFlaw → Type 0) (r : Result X ObjectsFlaw) (flaw : ObjectsFlaw) → r ≡ Err flaw → P flaw → IfErr r P
+told P r flaw same is = subst (λ x. IfErr x P) (sym same) is

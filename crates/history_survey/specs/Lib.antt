@@ -1,0 +1,10 @@
+pub mod Faults
+pub mod Flaws
+pub mod Links
+pub mod Listing
+pub mod Nexts
+pub mod Opened
+pub mod Passing
+pub mod Reading
+pub mod Surveyed
+pub mod Surveying

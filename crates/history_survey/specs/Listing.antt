@@ -1,0 +1,54 @@
+-- The objects that stand below a folder, by the places of their files.
+use Rattle.std.specs.Prelude.{◌≡◌, ◌≢◌, ⊤, ℕ, suc, List, ◌++◌, Contains, Option, Some, None, IsTrue}
+use Rattle.std.specs.FinMap.{get}
+use Rattle.gix_hash_id.specs.Id.{Id, id_of}
+use Rattle.gix_hash_id.specs.declared.kind.Kind.{Kind}
+use Rattle.gix_hash_id.specs.declared.object_id.ObjectId.{ObjectId}
+use Rattle.gix_ref_file.specs.Tree.{Tree, Node, file, folder}
+use Rattle.history_model.specs.Bytes.{Bytes}
+use Rattle.history_model.specs.Forms.{is_id}
+use Rattle.history_model.specs.Places.{file_at, is_object_folder, object_place, unfinished_place}
+use Rattle.history_store.specs.Parts.{above}
+use Rattle.history_survey.specs.declared.flaw.ObjectsFlaw.{ObjectsFlaw}
+use Rattle.history_survey.specs.declared.flaw.ObjectsFlaw.TheVariants.{Stray, Unfinished, BadObject, WrongId, TooLarge, BadTree, Missing, WrongKind, Cycle, IdReserved, File, Memory}
+
+-- the place of one of these ids
+abbrev pub IsPlaceIn : List ObjectId → Bytes → Type 0
+IsPlaceIn ids path = (id : ObjectId) × Contains ids id × (path ≡ object_place (id_of id))
+
+-- what stands at a path is the file of one of these ids, a folder of objects, or nothing
+abbrev pub IsListedAt : List ObjectId → Bytes → Option Node → Type 0
+IsListedAt ids path None = ⊤
+IsListedAt ids path (Some (file bytes)) = IsPlaceIn ids path
+IsListedAt ids path (Some folder) = IsTrue (is_object_folder path)
+
+-- a file stands at the place of the id, which is one of the kind
+pub record HasObjectFile (kind : Kind) (tree : Tree) (id : ObjectId) : Type 0 where
+  pub formed : IsTrue (is_id kind (id_of id))
+  pub text : Bytes
+  pub stands : file_at tree (object_place (id_of id)) ≡ Some text
+
+-- All files below the folder are of these ids, some of which came last, and all folders are of objects.
+pub record Gathers (kind : Kind) (tree : Tree) (place : Bytes) (old new : List ObjectId)
+    : Type 0 where
+  pub more : List ObjectId
+  pub are : new ≡ old ++ more
+  pub each : (id : ObjectId) → Contains more id → HasObjectFile kind tree id
+  pub all : (n : ℕ) (path : Bytes) → above (suc n) path ≡ place
+      → IsListedAt new path (get tree path)
+
+-- the path is the place of no object: it is the unfinished one's, or a stray
+abbrev pub IsNoPlace : Kind → Bytes → ObjectsFlaw → Type 0
+IsNoPlace kind path (Stray other) = (other.items ≡ path) × (path ≢ unfinished_place)
+    × ((id : Id) → IsTrue (is_id kind id) → path ≢ object_place id)
+IsNoPlace kind path (Unfinished other) = (other.items ≡ path) × (path ≡ unfinished_place)
+IsNoPlace kind path Memory = ⊤
+IsNoPlace kind path (BadObject other) = ⊥
+IsNoPlace kind path (WrongId other) = ⊥
+IsNoPlace kind path (TooLarge other) = ⊥
+IsNoPlace kind path (BadTree id) = ⊥
+IsNoPlace kind path (Missing id by) = ⊥
+IsNoPlace kind path (WrongKind id by) = ⊥
+IsNoPlace kind path (Cycle id) = ⊥
+IsNoPlace kind path IdReserved = ⊥
+IsNoPlace kind path File = ⊥

@@ -1,0 +1,14 @@
+//! Laws on the values of a tree of objects, over the definitions alone.
+
+ghost use Rattle.history_survey.specs.Nexts.{NextsAreStored};
+ghost use Rattle.history_survey.specs.Opened.{StaysWhole};
+
+/// An object of a tree all of whose links are stored is a value that can be stored with the others.
+pub fn nexts_are_stored()
+    ensures { NextsAreStored }
+{}
+
+/// A store that is whole is so beside any names.
+pub fn stays_whole()
+    ensures { StaysWhole }
+{}
