@@ -20,14 +20,14 @@ wrong-bodies:
 	planted/try $(CRATES)
 
 # Runs the program on a stream of several commands and prints its replies: the proved program where it stands and is of these
-# sources, else the sources as they are, by rt try, which proves nothing: it took 38 to 54 seconds from a fresh checkout, and 1.5
+# sources, else the sources as they are, by rt try, which proves nothing: it took 38 to 79 seconds from a fresh checkout, and 1.5
 # minutes beside much other work.
 demo:
 	@if [ -x $(PROGRAM) ] && [ -z "$$($(NEWER))" ]; then \
 	  $(PROGRAM) < demo/first.stream; \
 	else \
 	  echo 'This run is not the proved build, which make program makes.' >&2; \
-	  cd crates/history_program && rt try < ../../demo/first.stream; \
+	  cd crates/history_program && rt try --steps 60000000 < ../../demo/first.stream; \
 	fi
 
 # A report, no test: commits per second as the history grows, one large content, the hashing of a stream, look-ups of prefixes,

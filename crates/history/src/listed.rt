@@ -79,7 +79,10 @@ impl<F: Files> Repository<F> {
             let id = named.id;
             let commit = self.peeled(alloc, id)?.ok_or(Fault::File)?;
             let held = Held { id, commit };
-            shown.push(Shown { name: named.name, held })?;
+            shown.push(Shown {
+                name: named.name,
+                held,
+            })?;
         }
         Ok(shown)
     }

@@ -691,17 +691,21 @@ def indexes():
         for line in log:
             for before, count in [(made + index, 1), (made + index + branch(b"refs/heads/x new", 12), 1)]:
                 ROWS.append((f"{kind} reads:{word(before)}:{word(line)}", f"reads:{count}"))
-        for before, line, count in [(made, b"log breadth all +j\n", 8), (made, b"log topological all +j\n", 8), (made, b"log newest all +j\n", 8),
-                                    (made + index, b"log breadth all +j\n", 0), (made + index, b"log topological all +j -s\n", 0),
-                                    (made + index, b"log oldest-since 3 all +j -s\n", 0),
-                                    (made + index + later, b"log breadth all +j\n", 1), (made + index + later, b"log newest all +j +m\n", 2),
-                                    (made + index + later, b"log date all +j -m\n", 2)]:
+        # Each word that is a name asks for the object that it holds, which may be a tag; the rest is what the walk asks for.
+        for before, line, count in [(made, b"log breadth all +j\n", 1 + 8), (made, b"log topological all +j\n", 1 + 8),
+                                    (made, b"log newest all +j\n", 1 + 8),
+                                    (made + index, b"log breadth all +j\n", 1), (made + index, b"log topological all +j -s\n", 2),
+                                    (made + index, b"log oldest-since 3 all +j -s\n", 2),
+                                    (made + index + later, b"log breadth all +j\n", 1 + 1),
+                                    (made + index + later, b"log newest all +j +m\n", 2 + 2),
+                                    (made + index + later, b"log date all +j -m\n", 2 + 2)]:
             ROWS.append((f"{kind} reads:{word(before)}:{word(line)}", f"reads:{count}"))
 
 
 def index_faults():
     """Each call of either part fails in turn, of a commit, two `index` and a log behind each: the command that makes it tells so, the run
-    goes on, and what follows is right. `index` reads objects alone, and a log over rows names alone."""
+    goes on, and what follows is right. `index` reads objects alone; a log over rows reads its word's name, and the object that it holds, which
+    may be a tag."""
     fault, index, line = b"fault File\n", b"index\n", b"log topological all +main\n"
     for kind in KINDS:
         stream = PUT_HELLO + index + line + index + line
@@ -711,7 +715,7 @@ def index_faults():
         def ended(after):
             return f"created opened Input:{word(one + b''.join(after))} sound"
 
-        for part, places in (("objects", [0, 2]), ("names", [1, 3])):
+        for part, places in (("objects", [0, 1, 2, 3]), ("names", [1, 3])):
             answers = ["created File closed closed", f"created opened Fault:{word(fault)} failed"]
             for at in places:
                 answers.append(ended(rest[:at] + [fault] + rest[at + 1:]))
@@ -947,9 +951,10 @@ MANY = (b"commit refs/heads/main new\nput file 5 1\na/b/c\n1\nput file 5 1\na/b/
 
 
 def readings():
-    """How many objects are read: the commit, the trees on the way, and no content but the one that is asked for."""
-    asked = [(b"show main\n", 1), (b"files main\n", 4), (b"show main path 5\na/b/c\n", 5), (b"show main path 1\nd\n", 3),
-             (b"show main path 3\na/b\n", 3), (b"show main path 5\na/b/x\n", 4)]
+    """How many objects are read: what the name holds, to see whether it is a tag, then the commit, the trees on the way, and no content but
+    the one that is asked for."""
+    asked = [(b"show main\n", 2), (b"files main\n", 5), (b"show main path 5\na/b/c\n", 6), (b"show main path 1\nd\n", 4),
+             (b"show main path 3\na/b\n", 4), (b"show main path 5\na/b/x\n", 5)]
     for kind in KINDS:
         for commit in (FEW, MANY):
             for command, count in asked:
