@@ -1,9 +1,9 @@
 # On a fresh machine with `rt` on the path each of these works alone.
 PREFIX ?= /usr/local
 PROGRAM := crates/history_program/out/history_program
-HASHING := crates/gix_hash_cases/out/gix_hash_cases
-WALKS := crates/gix_traverse_cases/out/gix_traverse_cases
-REFERENCES := crates/gix_ref_store_cases/out/gix_ref_store_cases
+HASHING := crates/gix_hash_bench/out/gix_hash_bench
+WALKS := crates/gix_traverse_bench/out/gix_traverse_bench
+REFERENCES := crates/gix_ref_bench/out/gix_ref_bench
 # Names a source that is newer than the program, if there is one.
 NEWER = find crates.txt crates -name out -prune -o -type f -newer $(PROGRAM) -print -quit
 
@@ -55,17 +55,17 @@ program:
 # Proves, compiles and links what bench/hashing times.
 hashing:
 	@echo 'building what bench/hashing times'
-	@cd crates/gix_hash_cases && log=$$(mktemp) && \
+	@cd crates/gix_hash_bench && log=$$(mktemp) && \
 	if rt run < stdin > /dev/null 2> "$$log"; then rm "$$log"; else cat "$$log"; rm "$$log"; exit 1; fi
 
 # Proves, compiles and links what bench/walks times.
 walks:
 	@echo 'building what bench/walks times'
-	@cd crates/gix_traverse_cases && log=$$(mktemp) && \
+	@cd crates/gix_traverse_bench && log=$$(mktemp) && \
 	if rt run < stdin > /dev/null 2> "$$log"; then rm "$$log"; else cat "$$log"; rm "$$log"; exit 1; fi
 
 # Proves, compiles and links what bench/references times.
 references:
 	@echo 'building what bench/references times'
-	@cd crates/gix_ref_store_cases && log=$$(mktemp) && \
+	@cd crates/gix_ref_bench && log=$$(mktemp) && \
 	if rt run < stdin > /dev/null 2> "$$log"; then rm "$$log"; else cat "$$log"; rm "$$log"; exit 1; fi

@@ -40,14 +40,31 @@ pub fn act_on(
             page.put(files.calls());
             Some(())
         }
-        _ => {
-            let path = read_bytes(alloc, first)?;
-            if read(alloc, files, operation, &path, rest, page).is_none() {
-                show_changed(change(alloc, files, operation, &path, rest)?, page);
-            }
-            Some(())
-        }
+        _ => call(alloc, files, operation, first, rest, page),
     }
+}
+
+/// Changes or reads any files as a word says, and answers on the page; `None` where the word says nothing.
+pub fn call_by<F: Files>(alloc: Global, files: &mut F, word: &str, page: &mut Page) -> Option<()> {
+    let mut parts = word.split(':');
+    let (operation, first) = (parts.next()?, parts.next().unwrap_or("-"));
+    let rest = parts.next().unwrap_or("-");
+    call(alloc, files, operation, first, rest, page)
+}
+
+fn call<F: Files>(
+    alloc: Global,
+    files: &mut F,
+    operation: &str,
+    first: &str,
+    rest: &str,
+    page: &mut Page,
+) -> Option<()> {
+    let path = read_bytes(alloc, first)?;
+    if read(alloc, files, operation, &path, rest, page).is_none() {
+        show_changed(change(alloc, files, operation, &path, rest)?, page);
+    }
+    Some(())
 }
 
 // The number of a word, or this one.
@@ -73,9 +90,9 @@ fn set_fuse(alloc: Global, files: &mut Trial, how: &str, call: u64, kept: &str) 
 }
 
 // What a change answers; what `create_new` does, and else true.
-fn change(
+fn change<F: Files>(
     alloc: Global,
-    files: &mut Trial,
+    files: &mut F,
     operation: &str,
     path: &[u8],
     rest: &str,
@@ -110,9 +127,9 @@ fn show_error(error: FileError, page: &mut Page) {
 }
 
 // Answers a reading; `None` where the operation is none.
-fn read(
+fn read<F: Files>(
     alloc: Global,
-    files: &Trial,
+    files: &F,
     operation: &str,
     path: &[u8],
     rest: &str,
@@ -131,7 +148,7 @@ fn read(
     Some(())
 }
 
-fn show_place(files: &Trial, path: &[u8], page: &mut Page) -> Result<(), FileError> {
+fn show_place<F: Files>(files: &F, path: &[u8], page: &mut Page) -> Result<(), FileError> {
     match files.kind_of(path)? {
         Place::Absent => page.word("absent"),
         Place::Folder => page.word("folder"),
@@ -144,7 +161,12 @@ fn show_place(files: &Trial, path: &[u8], page: &mut Page) -> Result<(), FileErr
 }
 
 // What is read behind `so `, and how many bytes that is.
-fn show_file(alloc: Global, files: &Trial, path: &[u8], page: &mut Page) -> Result<(), FileError> {
+fn show_file<F: Files>(
+    alloc: Global,
+    files: &F,
+    path: &[u8],
+    page: &mut Page,
+) -> Result<(), FileError> {
     let mut out = b"so ".as_slice().to_vec(alloc)?;
     let count = files.read(path, &mut out)?;
     show_count(count, page);
@@ -153,7 +175,7 @@ fn show_file(alloc: Global, files: &Trial, path: &[u8], page: &mut Page) -> Resu
 }
 
 // What is read from a byte on into six dots, and how many bytes that is.
-fn show_part(files: &Trial, path: &[u8], at: u64, page: &mut Page) -> Result<(), FileError> {
+fn show_part<F: Files>(files: &F, path: &[u8], at: u64, page: &mut Page) -> Result<(), FileError> {
     let mut buffer = *b"......";
     let count = files.read_at(path, at, &mut buffer)?;
     show_count(count, page);
@@ -172,9 +194,9 @@ fn show_count(count: Option<usize>, page: &mut Page) {
     page.text(":");
 }
 
-fn show_names(
+fn show_names<F: Files>(
     alloc: Global,
-    files: &Trial,
+    files: &F,
     folder: &[u8],
     page: &mut Page,
 ) -> Result<(), FileError> {

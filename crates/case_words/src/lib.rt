@@ -7,5 +7,5 @@ mod session;
 
 pub use bytes::read_bytes;
 pub use case_page::Page;
-pub use files::{Trial, act_on, sound};
+pub use files::{Trial, act_on, call_by, sound};
 pub use session::{Session, answer};

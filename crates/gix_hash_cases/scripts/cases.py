@@ -311,9 +311,6 @@ for name, count in [("sha1", 200), ("sha256", 100)]:
     runs(name, blobs_of_git(name, count))
 for part in [kinds, ids, readings, orders, prefixes, lists, digests, streams]:
     part()
-# what a bench counts is told by the program alone, so that a change of it is seen
-ROWS.append(("bench hashing 70000", f"{hashlib.sha1(bytes(70000)).hexdigest()} of the stream too: true"))
-ROWS.append(("bench look_ups 1000 2", "2000 matches by 39910 calls"))
 for name, column in [("stdin", 0), ("stdout", 1)]:
     with open(name, "w") as file:
         file.writelines(f"{row[column]}\n" for row in ROWS)

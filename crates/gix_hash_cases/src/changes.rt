@@ -2,66 +2,54 @@
 
 use crate::fields;
 use bstr::BStr;
-use case_page::{Page, text_of};
+use case_page::text_of;
 use gix_hash::{ChangeId, Kind, ObjectId};
 use std::alloc::Global;
 
 // Prints itself in reverse, then its digits.
-fn told(page: &mut Page, change: &ChangeId) {
+fn told(alloc: Global, change: &ChangeId) -> Option<String> {
     let kind = change.kind();
     let first = change.first_byte();
     let is_null = change.is_null();
     let is_blob = change.is_empty_blob();
     let is_tree = change.is_empty_tree();
     let id = ObjectId::from(*change);
-    page.put(*change);
-    page.value(id);
-    page.value(kind);
-    page.value(first);
-    page.value(is_null);
-    page.value(is_blob);
-    page.value(is_tree);
+    format!(in alloc; "{change} {id} {kind} {first} {is_null} {is_blob} {is_tree}").ok()
 }
 
 /// What the change id of the bytes tells.
-pub fn change(page: &mut Page, fields: &[Vec<u8>]) -> Option<()> {
+pub fn change(alloc: Global, fields: &[Vec<u8>]) -> Option<String> {
     let [bytes] = fields else {
         return None;
     };
     let change = ChangeId::from(fields::id(bytes)?);
-    told(page, &change);
-    Some(())
+    told(alloc, &change)
 }
 
 /// The change id that reverse hexadecimal digits spell.
-pub fn read(page: &mut Page, fields: &[Vec<u8>]) -> Option<()> {
+pub fn read(alloc: Global, fields: &[Vec<u8>]) -> Option<String> {
     let [text] = fields else {
         return None;
     };
     match ChangeId::from_reverse_hex(text) {
-        Ok(change) => {
-            page.put(change);
-            page.value(change.to_hex());
-        },
-        Err(error) => page.put(error),
+        Ok(change) => format!(in alloc; "{change} {}", change.to_hex()).ok(),
+        Err(error) => format!(in alloc; "{error}").ok(),
     }
-    Some(())
 }
 
 /// The same, of a text.
-pub fn parse(page: &mut Page, fields: &[Vec<u8>]) -> Option<()> {
+pub fn parse(alloc: Global, fields: &[Vec<u8>]) -> Option<String> {
     let [text] = fields else {
         return None;
     };
     match text_of(text)?.parse::<ChangeId>() {
-        Ok(change) => page.put(change),
-        Err(error) => page.put(error),
+        Ok(change) => format!(in alloc; "{change}").ok(),
+        Err(error) => format!(in alloc; "{error}").ok(),
     }
-    Some(())
 }
 
 /// The change id's first digits, as many as are asked for, in reverse and plain, all in reverse, and its digits in a buffer.
-pub fn texts(page: &mut Page, fields: &[Vec<u8>]) -> Option<()> {
+pub fn texts(alloc: Global, fields: &[Vec<u8>]) -> Option<String> {
     let [bytes, length] = fields else {
         return None;
     };
@@ -72,21 +60,16 @@ pub fn texts(page: &mut Page, fields: &[Vec<u8>]) -> Option<()> {
     let whole = change.to_reverse_hex();
     let mut buffer = Kind::hex_buf();
     let text = change.hex_to_buf(&mut buffer);
-    page.put(reverse);
-    page.value(plain);
-    page.value(whole);
-    page.value(text);
-    Some(())
+    format!(in alloc; "{reverse} {plain} {whole} {text}").ok()
 }
 
 /// The change id's digits as they are written.
-pub fn write(page: &mut Page, alloc: Global, fields: &[Vec<u8>]) -> Option<()> {
+pub fn write(alloc: Global, fields: &[Vec<u8>]) -> Option<String> {
     let [bytes] = fields else {
         return None;
     };
     let change = ChangeId::from(fields::id(bytes)?);
     let mut out = Vec::new(alloc);
     change.write_hex_to(&mut out).ok()?;
-    page.put(BStr::new(&out));
-    Some(())
+    format!(in alloc; "{}", BStr::new(&out)).ok()
 }

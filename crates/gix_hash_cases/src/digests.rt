@@ -2,21 +2,19 @@
 
 use crate::fields;
 use bstr::BStr;
-use case_page::Page;
 use gix_hash::hasher::{Hasher, hasher};
 use gix_hash::io::Write;
 use std::alloc::Global;
 use std::io::Write as _;
 
 /// The digest of a kind of all pieces.
-pub fn digest(page: &mut Page, fields: &[Vec<u8>]) -> Option<()> {
+pub fn digest(alloc: Global, fields: &[Vec<u8>]) -> Option<String> {
     let [kind, pieces @ ..] = fields else {
         return None;
     };
     let mut hasher = hasher(fields::kind(kind)?);
     feed(&mut hasher, pieces);
-    page.put(hasher.try_finalize());
-    Some(())
+    format!(in alloc; "{}", hasher.try_finalize()).ok()
 }
 
 fn feed(hasher: &mut Hasher, pieces: &[Vec<u8>]) {
@@ -26,7 +24,7 @@ fn feed(hasher: &mut Hasher, pieces: &[Vec<u8>]) {
 }
 
 /// The id of a kind of a blob.
-pub fn blob(page: &mut Page, alloc: Global, fields: &[Vec<u8>]) -> Option<()> {
+pub fn blob(alloc: Global, fields: &[Vec<u8>]) -> Option<String> {
     let [kind, content] = fields else {
         return None;
     };
@@ -34,12 +32,11 @@ pub fn blob(page: &mut Page, alloc: Global, fields: &[Vec<u8>]) -> Option<()> {
     let header = format!(in alloc; "blob {}\0", content.len()).ok()?;
     hasher.update(header.as_bytes());
     hasher.update(content);
-    page.put(hasher.try_finalize());
-    Some(())
+    format!(in alloc; "{}", hasher.try_finalize()).ok()
 }
 
 /// What a writer that hashes hands on, and the digest of it.
-pub fn write(page: &mut Page, alloc: Global, fields: &[Vec<u8>]) -> Option<()> {
+pub fn write(alloc: Global, fields: &[Vec<u8>]) -> Option<String> {
     let [kind, pieces @ ..] = fields else {
         return None;
     };
@@ -47,9 +44,7 @@ pub fn write(page: &mut Page, alloc: Global, fields: &[Vec<u8>]) -> Option<()> {
     write_pieces(&mut writer, pieces)?;
     let Write { hash, inner } = writer;
     let inner = BStr::new(&inner);
-    page.name(inner);
-    page.value(hash.try_finalize());
-    Some(())
+    format!(in alloc; "{inner:?} {}", hash.try_finalize()).ok()
 }
 
 fn write_pieces(writer: &mut Write<Vec<u8>>, pieces: &[Vec<u8>]) -> Option<()> {

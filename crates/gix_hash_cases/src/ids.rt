@@ -2,65 +2,56 @@
 
 use crate::{fields, kinds};
 use bstr::BStr;
-use case_page::{Page, text_of};
+use case_page::text_of;
 use gix_hash::{Kind, ObjectId};
 use std::alloc::Global;
 use std::convert::TryFrom;
 
 /// What the id of the bytes tells.
-pub fn id(page: &mut Page, fields: &[Vec<u8>]) -> Option<()> {
+pub fn id(alloc: Global, fields: &[Vec<u8>]) -> Option<String> {
     let [bytes] = fields else {
         return None;
     };
     match ObjectId::try_from(bytes.as_slice()) {
-        Ok(id) => told(page, &id),
-        Err(error) => page.put(error),
+        Ok(id) => told(alloc, &id),
+        Err(error) => format!(in alloc; "{error}").ok(),
     }
-    Some(())
 }
 
-fn told(page: &mut Page, id: &ObjectId) {
+fn told(alloc: Global, id: &ObjectId) -> Option<String> {
     let kind = id.kind();
     let first = id.first_byte();
     let is_null = id.is_null();
     let is_blob = id.is_empty_blob();
     let is_tree = id.is_empty_tree();
     let is_known = kinds::known(kind).contains(id);
-    page.name(*id);
-    page.value(kind);
-    page.value(first);
-    page.value(is_null);
-    page.value(is_blob);
-    page.value(is_tree);
-    page.value(is_known);
+    format!(in alloc; "{id:?} {kind} {first} {is_null} {is_blob} {is_tree} {is_known}").ok()
 }
 
 /// The id that hexadecimal digits spell.
-pub fn read(page: &mut Page, fields: &[Vec<u8>]) -> Option<()> {
+pub fn read(alloc: Global, fields: &[Vec<u8>]) -> Option<String> {
     let [text] = fields else {
         return None;
     };
     match ObjectId::from_hex(text) {
-        Ok(id) => page.name(id),
-        Err(error) => page.put(error),
+        Ok(id) => format!(in alloc; "{id:?}").ok(),
+        Err(error) => format!(in alloc; "{error}").ok(),
     }
-    Some(())
 }
 
 /// The same, of a text.
-pub fn parse(page: &mut Page, fields: &[Vec<u8>]) -> Option<()> {
+pub fn parse(alloc: Global, fields: &[Vec<u8>]) -> Option<String> {
     let [text] = fields else {
         return None;
     };
     match text_of(text)?.parse::<ObjectId>() {
-        Ok(id) => page.put(id),
-        Err(error) => page.put(error),
+        Ok(id) => format!(in alloc; "{id}").ok(),
+        Err(error) => format!(in alloc; "{error}").ok(),
     }
-    Some(())
 }
 
 /// The id's first digits, as many as are asked for, all, and its digits in a buffer.
-pub fn texts(page: &mut Page, fields: &[Vec<u8>]) -> Option<()> {
+pub fn texts(alloc: Global, fields: &[Vec<u8>]) -> Option<String> {
     let [bytes, length] = fields else {
         return None;
     };
@@ -70,26 +61,22 @@ pub fn texts(page: &mut Page, fields: &[Vec<u8>]) -> Option<()> {
     let whole = id.to_hex();
     let mut buffer = Kind::hex_buf();
     let text = id.hex_to_buf(&mut buffer);
-    page.put(short);
-    page.value(whole);
-    page.value(text);
-    Some(())
+    format!(in alloc; "{short} {whole} {text}").ok()
 }
 
 /// The id's digits as they are written.
-pub fn write(page: &mut Page, alloc: Global, fields: &[Vec<u8>]) -> Option<()> {
+pub fn write(alloc: Global, fields: &[Vec<u8>]) -> Option<String> {
     let [bytes] = fields else {
         return None;
     };
     let id = fields::id(bytes)?;
     let mut out = Vec::new(alloc);
     id.write_hex_to(&mut out).ok()?;
-    page.put(BStr::new(&out));
-    Some(())
+    format!(in alloc; "{}", BStr::new(&out)).ok()
 }
 
 /// The null id of a kind, over whose bytes others were written.
-pub fn overwrite(page: &mut Page, fields: &[Vec<u8>]) -> Option<()> {
+pub fn overwrite(alloc: Global, fields: &[Vec<u8>]) -> Option<String> {
     let [kind, bytes] = fields else {
         return None;
     };
@@ -99,6 +86,5 @@ pub fn overwrite(page: &mut Page, fields: &[Vec<u8>]) -> Option<()> {
         return None;
     }
     places.copy_from_slice(bytes);
-    page.put(id);
-    Some(())
+    format!(in alloc; "{id}").ok()
 }

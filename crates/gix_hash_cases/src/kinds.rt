@@ -1,51 +1,46 @@
 //! Kinds of ids.
 
 use crate::fields;
-use case_page::{Page, text_of};
+use case_page::text_of;
 use gix_hash::{Kind, ObjectId};
+use std::alloc::Global;
 use std::convert::TryFrom;
 
 /// The kind that a text names.
-pub fn of_name(page: &mut Page, fields: &[Vec<u8>]) -> Option<()> {
+pub fn of_name(alloc: Global, fields: &[Vec<u8>]) -> Option<String> {
     let [name] = fields else {
         return None;
     };
     match text_of(name)?.parse::<Kind>() {
-        Ok(kind) => page.put(kind),
-        Err(error) => page.put(error),
+        Ok(kind) => format!(in alloc; "{kind}").ok(),
+        Err(error) => format!(in alloc; "{error}").ok(),
     }
-    Some(())
 }
 
 /// The kind of a number, which is a byte.
-pub fn of_number(page: &mut Page, fields: &[Vec<u8>]) -> Option<()> {
+pub fn of_number(alloc: Global, fields: &[Vec<u8>]) -> Option<String> {
     let [number] = fields else {
         return None;
     };
     match Kind::try_from(*number.first()?) {
-        Ok(kind) => page.put(kind),
-        Err(number) => {
-            page.text("none ");
-            page.put(number);
-        },
+        Ok(kind) => format!(in alloc; "{kind}").ok(),
+        Err(number) => format!(in alloc; "none {number}").ok(),
     }
-    Some(())
 }
 
 /// The kind of so many hexadecimal digits.
-pub fn of_length(page: &mut Page, fields: &[Vec<u8>]) -> Option<()> {
+pub fn of_length(alloc: Global, fields: &[Vec<u8>]) -> Option<String> {
     let [length] = fields else {
         return None;
     };
     match Kind::from_hex_len(fields::number(length)?) {
-        Some(kind) => page.put(kind),
-        None => page.text("none"),
+        Some(kind) => format!(in alloc; "{kind}").ok(),
+        None => format!(in alloc; "none").ok(),
     }
-    Some(())
 }
 
 /// The lengths of a kind's ids, and those that it knows.
-pub fn kind(page: &mut Page, fields: &[Vec<u8>]) -> Option<()> {
+pub fn kind(alloc: Global, fields: &[Vec<u8>]) -> Option<String> {
     let [name] = fields else {
         return None;
     };
@@ -56,31 +51,18 @@ pub fn kind(page: &mut Page, fields: &[Vec<u8>]) -> Option<()> {
     let view = kind.null_ref();
     let blob = kind.empty_blob();
     let tree = kind.empty_tree();
-    page.name(kind);
-    page.value(digits);
-    page.value(bytes);
-    page.value(null);
-    page.value(view);
-    page.value(blob);
-    page.value(tree);
-    Some(())
+    format!(in alloc; "{kind:?} {digits} {bytes} {null} {view} {blob} {tree}").ok()
 }
 
 /// The kinds that there are, and the lengths of their buffers.
-pub fn all(page: &mut Page, _fields: &[Vec<u8>]) -> Option<()> {
+pub fn all(alloc: Global, _fields: &[Vec<u8>]) -> Option<String> {
     let all = Kind::all();
     let shortest = Kind::shortest();
     let longest = Kind::longest();
     let usual = Kind::default();
     let hex = Kind::hex_buf().len();
     let bytes = Kind::buf().len();
-    page.name(all);
-    page.value(shortest);
-    page.value(longest);
-    page.value(usual);
-    page.value(hex);
-    page.value(bytes);
-    Some(())
+    format!(in alloc; "{all:?} {shortest} {longest} {usual} {hex} {bytes}").ok()
 }
 
 /// The null id of a kind, and those of the empty objects.

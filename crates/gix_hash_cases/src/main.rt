@@ -1,7 +1,6 @@
-//! Answers cases of `gix_hash`, a line each: an operation and its fields, as the README's table has them; `bench` times some.
+//! Answers cases of `gix_hash`, a line each: an operation and its fields, as the README's table has them.
 #![tactic(auto)]
 
-mod bench;
 mod cases;
 mod changes;
 mod digests;
@@ -25,11 +24,10 @@ fn main(rt: HostRuntime) -> io::Result<()> {
         if let Some(ids) = runs::list(alloc, line.as_str()) {
             list = ids;
         }
-        let text = match line.as_str().strip_prefix("bench ") {
-            Some(case) => bench::answer(&rt, case)?,
-            None => cases::answer(&rt, alloc, list.as_slice(), line.as_str())?,
-        };
-        println!(rt; "{text}")?;
+        match cases::answer(&rt, alloc, list.as_slice(), line.as_str()) {
+            Some(text) => println!(rt; "{text}")?,
+            None => println!(rt; "no case")?,
+        }
     }
     Ok(())
 }

@@ -1,7 +1,7 @@
 //! Runs of a prefix's matches in a list of ids.
 
 use crate::fields;
-use case_page::{Page, read_texts, text_of};
+use case_page::{read_texts, text_of};
 use gix_hash::{ObjectId, Prefix, Run, can_run, prefix_run};
 use std::alloc::Global;
 
@@ -24,31 +24,26 @@ fn ids(alloc: Global, fields: &[Vec<u8>]) -> Option<Vec<ObjectId>> {
 }
 
 /// How many ids the list has.
-pub fn told(page: &mut Page, list: &[ObjectId]) -> Option<()> {
-    page.put(list.len());
-    page.text(" ids");
-    Some(())
+pub fn told(alloc: Global, list: &[ObjectId]) -> Option<String> {
+    format!(in alloc; "{} ids", list.len()).ok()
 }
 
 /// Where the run of a text's prefix begins and ends in the list, and whether the comparisons stayed within twice the binary digits of
 /// the list's length.
-pub fn find(page: &mut Page, list: &[ObjectId], fields: &[Vec<u8>]) -> Option<()> {
+pub fn find(alloc: Global, list: &[ObjectId], fields: &[Vec<u8>]) -> Option<String> {
     let [text] = fields else {
         return None;
     };
     let prefix = Prefix::from_hex_nonempty(text_of(text)?).ok()?;
     if can_run(list, &prefix) {
-        shown(page, &prefix_run(list, &prefix), list.len());
+        shown(alloc, &prefix_run(list, &prefix), list.len())
     } else {
-        page.text("no run");
+        format!(in alloc; "no run").ok()
     }
-    Some(())
 }
 
-fn shown(page: &mut Page, run: &Run, length: usize) {
+fn shown(alloc: Global, run: &Run, length: usize) -> Option<String> {
     let digits = usize::BITS - length.leading_zeros();
     let is_within = run.calls <= 2 * digits as usize;
-    page.put(run.first);
-    page.value(run.past);
-    page.value(is_within);
+    format!(in alloc; "{} {} {is_within}", run.first, run.past).ok()
 }

@@ -1,7 +1,7 @@
 //! Streams and files that are hashed.
 
 use crate::fields;
-use case_page::{Page, text_of};
+use case_page::text_of;
 use gix_hash::hasher::hasher;
 use gix_hash::io::{Error, Interrupt, Progress, bytes, bytes_of_file, bytes_with_hasher};
 use gix_hash::{Kind, ObjectId};
@@ -32,48 +32,40 @@ impl Interrupt for YesAt {
 }
 
 // The id, or why there is none, and how many bytes were told.
-fn shown(page: &mut Page, answer: Result<ObjectId, Error>, told: usize) {
+fn shown(alloc: Global, answer: Result<ObjectId, Error>, told: usize) -> Option<String> {
     match answer {
-        Ok(id) => {
-            page.put(id);
-            page.value(told);
-        },
-        Err(Error::Interrupted) => {
-            page.put(Error::Interrupted);
-            page.value(told);
-        },
-        Err(Error::Io(_)) => {
-            page.text("failed ");
-            page.put(told);
-        },
+        Ok(id) => format!(in alloc; "{id} {told}").ok(),
+        Err(Error::Interrupted) => format!(in alloc; "{} {told}", Error::Interrupted).ok(),
+        Err(Error::Io(_)) => format!(in alloc; "failed {told}").ok(),
     }
 }
 
 // How the hashing of a stream's first bytes ends, and how many of its bytes are left where they were all there.
-fn hashed(page: &mut Page, kind: Kind, stream: &[u8], count: u64, number: usize) {
+fn hashed(alloc: Global, kind: Kind, stream: &[u8], count: u64, number: usize) -> Option<String> {
     let mut progress = Amount(0);
     let mut interrupt = YesAt { number, asked: 0 };
     let mut reader = stream;
     let answer = bytes(&mut reader, count, kind, &mut progress, &mut interrupt);
-    shown(page, answer, progress.0);
+    let shown = shown(alloc, answer, progress.0)?;
     if stream.len() as u64 >= count {
-        page.value(reader.len());
+        format!(in alloc; "{shown} {}", reader.len()).ok()
+    } else {
+        Some(shown)
     }
 }
 
 /// The hashing of a kind of so many first bytes of a stream, and the number of the asking that is answered yes.
-pub fn stream(page: &mut Page, fields: &[Vec<u8>]) -> Option<()> {
+pub fn stream(alloc: Global, fields: &[Vec<u8>]) -> Option<String> {
     let [kind, count, number, stream] = fields else {
         return None;
     };
     let count = fields::number(count)? as u64;
     let number = fields::number(number)?;
-    hashed(page, fields::kind(kind)?, stream, count, number);
-    Some(())
+    hashed(alloc, fields::kind(kind)?, stream, count, number)
 }
 
 /// The same with a hasher that was fed bytes before; the askings are all answered no.
-pub fn behind(page: &mut Page, fields: &[Vec<u8>]) -> Option<()> {
+pub fn behind(alloc: Global, fields: &[Vec<u8>]) -> Option<String> {
     let [kind, fed, count, stream] = fields else {
         return None;
     };
@@ -87,12 +79,11 @@ pub fn behind(page: &mut Page, fields: &[Vec<u8>]) -> Option<()> {
     };
     let mut reader = stream.as_slice();
     let answer = bytes_with_hasher(&mut reader, count, before, &mut progress, &mut interrupt);
-    shown(page, answer, progress.0);
-    Some(())
+    shown(alloc, answer, progress.0)
 }
 
 /// The same, of a stream of so many zero bytes.
-pub fn zeros(page: &mut Page, alloc: Global, fields: &[Vec<u8>]) -> Option<()> {
+pub fn zeros(alloc: Global, fields: &[Vec<u8>]) -> Option<String> {
     let [kind, count, number, length] = fields else {
         return None;
     };
@@ -101,12 +92,11 @@ pub fn zeros(page: &mut Page, alloc: Global, fields: &[Vec<u8>]) -> Option<()> {
     let number = fields::number(number)?;
     let length = fields::number(length)?;
     let zeros = vec![in alloc; 0u8; length].ok()?;
-    hashed(page, kind, &zeros, count, number);
-    Some(())
+    hashed(alloc, kind, &zeros, count, number)
 }
 
 /// The hashing of a kind of so many first bytes of the file at a path.
-pub fn file<F: Files>(page: &mut Page, files: &F, alloc: Global, fields: &[Vec<u8>]) -> Option<()> {
+pub fn file<F: Files>(files: &F, alloc: Global, fields: &[Vec<u8>]) -> Option<String> {
     let [kind, count, path] = fields else {
         return None;
     };
@@ -119,6 +109,5 @@ pub fn file<F: Files>(page: &mut Page, files: &F, alloc: Global, fields: &[Vec<u
         asked: 0,
     };
     let answer = bytes_of_file(files, path, count, kind, &mut progress, &mut interrupt);
-    shown(page, answer, progress.0);
-    Some(())
+    shown(alloc, answer, progress.0)
 }

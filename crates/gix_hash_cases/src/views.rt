@@ -2,39 +2,32 @@
 
 use crate::fields;
 use bstr::BStr;
-use case_page::Page;
 use gix_hash::{Kind, ObjectId, oid};
 use std::alloc::Global;
 use std::convert::TryFrom;
 
 /// What the view of the bytes tells.
-pub fn view(page: &mut Page, fields: &[Vec<u8>]) -> Option<()> {
+pub fn view(alloc: Global, fields: &[Vec<u8>]) -> Option<String> {
     let [bytes] = fields else {
         return None;
     };
     match oid::try_from_bytes(bytes) {
-        Ok(id) => told(page, id),
-        Err(error) => page.put(error),
+        Ok(id) => told(alloc, id),
+        Err(error) => format!(in alloc; "{error}").ok(),
     }
-    Some(())
 }
 
-fn told(page: &mut Page, id: oid<'_>) {
+fn told(alloc: Global, id: oid<'_>) -> Option<String> {
     let kind = id.kind();
     let first = id.first_byte();
     let is_null = id.is_null();
     let is_blob = id.is_empty_blob();
     let is_tree = id.is_empty_tree();
-    page.name(id);
-    page.value(kind);
-    page.value(first);
-    page.value(is_null);
-    page.value(is_blob);
-    page.value(is_tree);
+    format!(in alloc; "{id:?} {kind} {first} {is_null} {is_blob} {is_tree}").ok()
 }
 
 /// The view's first digits, as many as are asked for, all, its digits in a buffer, and the id that it shows.
-pub fn texts(page: &mut Page, fields: &[Vec<u8>]) -> Option<()> {
+pub fn texts(alloc: Global, fields: &[Vec<u8>]) -> Option<String> {
     let [bytes, length] = fields else {
         return None;
     };
@@ -45,28 +38,23 @@ pub fn texts(page: &mut Page, fields: &[Vec<u8>]) -> Option<()> {
     let owned = id.to_owned();
     let mut buffer = Kind::hex_buf();
     let text = id.hex_to_buf(&mut buffer);
-    page.put(short);
-    page.value(whole);
-    page.value(text);
-    page.value(owned);
-    Some(())
+    format!(in alloc; "{short} {whole} {text} {owned}").ok()
 }
 
 /// The view's digits as they are written.
-pub fn write(page: &mut Page, alloc: Global, fields: &[Vec<u8>]) -> Option<()> {
+pub fn write(alloc: Global, fields: &[Vec<u8>]) -> Option<String> {
     let [bytes] = fields else {
         return None;
     };
     let id = oid::try_from_bytes(bytes).ok()?;
     let mut out = Vec::new(alloc);
     id.write_hex_to(&mut out).ok()?;
-    page.put(BStr::new(&out));
-    Some(())
+    format!(in alloc; "{}", BStr::new(&out)).ok()
 }
 
 /// The id and the view of 20 or 32 bytes, by the calls that ask for so many, the id of the view, its bytes by both calls that
 /// lend them, and the id and the view of the bytes as an array, by value and lent.
-pub fn made(page: &mut Page, fields: &[Vec<u8>]) -> Option<()> {
+pub fn made(alloc: Global, fields: &[Vec<u8>]) -> Option<String> {
     let [bytes] = fields else {
         return None;
     };
@@ -78,13 +66,7 @@ pub fn made(page: &mut Page, fields: &[Vec<u8>]) -> Option<()> {
     let shown = ObjectId::from(view);
     let whole = id.as_slice() == bytes.as_slice() && id.as_bytes() == view.as_bytes();
     let (array, lent) = of_array(bytes)?;
-    page.put(id);
-    page.value(view);
-    page.value(shown);
-    page.value(whole);
-    page.value(array);
-    page.value(lent);
-    Some(())
+    format!(in alloc; "{id} {view} {shown} {whole} {array} {lent}").ok()
 }
 
 // The id of the bytes as an array, and the view of that array.

@@ -1,36 +1,24 @@
-//! Answers cases of trees, of objects and of stores of them, a line each: a family, an operation of it, and bytes in hexadecimal digits.
+//! Answers cases of `gix_object_tree`, a line each: an operation, a hash function and bytes in hexadecimal digits.
 #![tactic(auto)]
 
-mod editor;
+mod borrowed;
+mod data;
 mod entries;
-mod face;
-mod find;
-mod object;
+mod operations;
+mod owned;
+mod parts;
 
-use crate::entries::Entries;
-use crate::face::Printed;
-use crate::find::Lookups;
-use crate::object::Objects;
-use std::alloc::{AllocError, Global};
-use std::io;
-
-// What the line's operation gives: its family stands first.
-fn answer(alloc: Global, line: &str) -> Result<String, AllocError> {
-    let (family, case) = line.split_once(' ').unwrap_or((line, ""));
-    match family {
-        "entries" => case_ids::answer::<Entries>(alloc, case),
-        "object" => case_ids::answer::<Objects>(alloc, case),
-        "find" => case_ids::answer::<Lookups>(alloc, case),
-        "editor" => editor::answer(alloc, case),
-        "face" => case_ids::answer::<Printed>(alloc, case),
-        _ => format!(in alloc; "no case"),
-    }
-}
+use crate::operations::Objects;
+use case_ids::answer;
+use std::io::{self, BufRead, BufReader, BufWriter, Write};
 
 fn main(rt: HostRuntime) -> io::Result<()> {
-    for line in rt.lines(rt.alloc()) {
-        let text = answer(rt.alloc(), line?.as_str())?;
-        println!(rt; "{text}")?;
+    let reader = BufReader::new(rt.alloc(), rt.reader())?;
+    let mut writer = BufWriter::new(rt.alloc(), io::writer(&rt))?;
+    for line in reader.lines(rt.alloc()) {
+        let text = answer::<Objects>(rt.alloc(), line?.as_str())?;
+        writer.write_all(text.as_bytes())?;
+        writer.write_all(b"\n")?;
     }
-    Ok(())
+    writer.flush()
 }

@@ -401,12 +401,6 @@ for asked, answer in list(rows):
     if operation == "all":
         rows.append(("force_refresh_packed_buffer " + rest, "packed broken" if answer == "packed broken" else "opened"))
 
-# how many references a bench's reading gives: all of 200, or the tags that begin so
-for kind in ["loose", "packed"]:
-    for reading in ["listing", "prefix", "lookups", "words"]:
-        count = sum(str(number).startswith("1") for number in range(1, 200, 2)) if reading == "prefix" else 200
-        rows.append((f"bench {reading} {kind} 200", f"{count} references"))
-
 here = os.path.dirname(os.path.abspath(__file__))
 with open(os.path.join(here, "../stdin"), "w") as file:
     file.writelines(asked + "\n" for asked, _ in rows)

@@ -1,7 +1,6 @@
-//! Answers cases of stores of references, a line each, as the README's table has them; lines of `bench` time listings and lookups.
+//! Answers cases of stores of references, a line each: an operation, a worktree's folder, what is asked for, and the files.
 #![tactic(auto)]
 
-mod bench;
 mod cases;
 mod ends;
 mod files;
@@ -16,11 +15,7 @@ use std::io;
 
 fn main(rt: HostRuntime) -> io::Result<()> {
     for line in rt.lines(rt.alloc()) {
-        let line = line?;
-        let text = match line.as_str().strip_prefix("bench ") {
-            Some(case) => bench::answer(&rt, case)?,
-            None => cases::answer(rt.alloc(), line.as_str())?,
-        };
+        let text = cases::answer(rt.alloc(), line?.as_str())?;
         println!(rt; "{text}")?;
     }
     Ok(())

@@ -1,6 +1,6 @@
 """Writes ../stdin and ../stdout: transactions of files `packed-refs`, whole, refused and stopped.
 
-The files and what edits make of them are those that git writes (`gix_ref_cases` asks it in the same way). What a stop or a failed call
+The files and what edits make of them are those that git writes (`gix_ref_packed_cases` asks it in the same way). What a stop or a failed call
 leaves comes from the order of the calls, which the documents of the crate tell: the lock is made (call 1), the file is read (2), the text is
 written into the lock (3), the lock is renamed (4), and a call that fails is followed by the lock's removal. None comes from the program.
 """

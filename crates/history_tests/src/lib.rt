@@ -1,10 +1,8 @@
-//! Tests of `history` and `history_store` that no line of a case can say: memory that is ample or refused, and writers that fail.
+//! Tests of `history` that no line of a case can say: memory that is ample, and writers that fail.
 #![tactic(auto)]
 
 #[cfg(test)]
 mod common;
-#[cfg(test)]
-mod growth;
 #[cfg(test)]
 mod memory;
 #[cfg(test)]

@@ -1,8 +1,0 @@
-//! Cases of `gix_object_message`.
-
-mod bodies;
-mod cases;
-mod messages;
-mod trailers;
-
-pub use cases::answer;

@@ -1,0 +1,23 @@
+//! Answers cases of `gix_object_entries`, a line each: an operation, a hash function and bytes in hexadecimal digits.
+#![tactic(auto)]
+
+mod entries;
+mod modes;
+mod operations;
+mod orders;
+mod trees;
+
+use crate::operations::Entries;
+use case_ids::answer;
+use std::io::{self, BufRead, BufReader, BufWriter, Write};
+
+fn main(rt: HostRuntime) -> io::Result<()> {
+    let reader = BufReader::new(rt.alloc(), rt.reader())?;
+    let mut writer = BufWriter::new(rt.alloc(), io::writer(&rt))?;
+    for line in reader.lines(rt.alloc()) {
+        let text = answer::<Entries>(rt.alloc(), line?.as_str())?;
+        writer.write_all(text.as_bytes())?;
+        writer.write_all(b"\n")?;
+    }
+    writer.flush()
+}

@@ -1,0 +1,42 @@
+-- What is known of a real folder: which one it is, and how many changes of it have failed; nothing of what it holds.
+use Rattle.std.specs.Prelude.{ℕ, Bool, not, ◌||◌, List, [], ◌++◌, ◌∷◌, ◌≡◌, Option, IfSome, String, bytes_eq, codes, length, take, string_bytes}
+use Rattle.std.specs.FinMap.{empty}
+use Rattle.gix_ref_file.specs.History.{History}
+use Rattle.std.specs.declared.alloc.Global.{Global}
+use Rattle.gix_ref_folder.specs.declared.folder.Folder.{Folder}
+use Rattle.gix_ref_folder.specs.declared.part.Part.{Part}
+use Rattle.gix_ref_folder.specs.declared.part.Part.TheVariants.{Objects, Names}
+
+-- ---- the two parts (gitrepository-layout(5))
+
+-- `objects`, or what lies below it
+abbrev pub is_object_path : List ℕ → Bool
+is_object_path path =
+    bytes_eq path (codes "objects") || bytes_eq (take 8 path) (codes "objects/")
+
+-- whether what stands at a path belongs to the part
+abbrev pub has : Part → List ℕ → Bool
+has Objects path = is_object_path path
+has Names path = not (is_object_path path)
+
+-- ---- a real folder
+
+-- No call tells what a real folder holds, so no clause on trees speaks of one.
+abbrev pub IsKnown : Type 0
+IsKnown = ⊥
+
+abbrev pub unknown : History
+unknown = record { past = []; tree = empty }
+
+abbrev pub failures_of : {R File Dir : Type 0} → Folder R File Dir → ℕ
+failures_of folder = folder.failures
+
+abbrev pub root_of : {R File Dir : Type 0} → Folder R File Dir → String Global
+root_of folder = folder.root
+
+abbrev pub part_of : {R File Dir : Type 0} → Folder R File Dir → Part
+part_of folder = folder.part
+
+-- the system's path of what stands at a path of the folder
+abbrev pub IsPlaceIn : List ℕ → List ℕ → Option (String Global) → Type 0
+IsPlaceIn root path place = IfSome place (λ it. string_bytes it ≡ root ++ 47 ∷ path)

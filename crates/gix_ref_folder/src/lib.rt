@@ -1,0 +1,9 @@
+//! One part of a real folder, as files.
+#![tactic(auto)]
+
+mod faults;
+mod folder;
+mod part;
+
+pub use folder::Folder;
+pub use part::Part;

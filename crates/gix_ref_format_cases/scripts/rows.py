@@ -1,0 +1,216 @@
+"""Writes ../stdin and ../stdout. Each answer comes from git itself, asked in a repository made for it, or from a table of
+Git's documents; none from the program.
+
+`git pack-refs` writes the packed files, `git for-each-ref` tells their records; a loose text is put into a file of the
+repository, and `git symbolic-ref` or `git rev-parse` tells what it points to; `git rev-parse` looks words up.
+"""
+import os
+import re
+import shutil
+import subprocess
+import tempfile
+
+rows = []
+folder = tempfile.mkdtemp()
+quiet = {"stdout": subprocess.PIPE, "stderr": subprocess.DEVNULL}
+people = dict(os.environ, GIT_AUTHOR_NAME="a", GIT_AUTHOR_EMAIL="a@b", GIT_COMMITTER_NAME="a", GIT_COMMITTER_EMAIL="a@b",
+              GIT_AUTHOR_DATE="1000000000 +0000", GIT_COMMITTER_DATE="1000000000 +0000", GIT_CONFIG_GLOBAL="/dev/null", GIT_CONFIG_SYSTEM="/dev/null")
+
+
+def git(*words, fails=False):
+    done = subprocess.run(["git", *words], cwd=folder, env=people, **quiet)
+    if done.returncode != 0:
+        assert fails, words
+        return None
+    return done.stdout.decode("latin-1").rstrip("\n")
+
+
+def add(case, answer):
+    rows.append((case, answer))
+
+
+def place(name):
+    return os.path.join(folder, ".git", *name.split("/"))
+
+
+def write(name, data):
+    os.makedirs(os.path.dirname(place(name)), exist_ok=True)
+    with open(place(name), "wb") as f:
+        f.write(data)
+
+
+def records():
+    """What git tells of all references: target, name, and the object behind a tag."""
+    told = git("for-each-ref", "--format=%(objectname) %(refname)")
+    lines = [line.split(" ") for line in told.split("\n")] if told else []
+    return [(target, name, git("rev-parse", "--verify", "-q", name + "^{}")) for target, name in lines]
+
+
+def completed(word):
+    """The record that git finds for a word: it tells the id, and of the names of gitrevisions the first that stands has it."""
+    id = git("rev-parse", "--verify", "-q", word, fails=True)
+    names = [word] if word.startswith("refs/") else [f"refs/{word}", f"refs/tags/{word}", f"refs/heads/{word}", f"refs/remotes/{word}", f"refs/remotes/{word}/HEAD"]
+    hits = [r for name in names for r in told if r[1] == name]
+    assert (hits[0][0] if hits else None) == id, word
+    return hits[0] if hits else None
+
+
+git("init", "-q", "-b", "main")
+one = git("commit-tree", "-m", "one", git("write-tree"))
+two = git("commit-tree", "-m", "two", "-p", one, git("write-tree"))
+three = git("commit-tree", "-m", "three", "-p", two, git("write-tree"))
+names = {"refs/heads/main": two, "refs/heads/a": one, "refs/heads/a.b": two, "refs/heads/ab": three, "refs/heads/b/c": one, "refs/heads/HEAD": two,
+         "refs/tags/light": one, "refs/remotes/origin/main": two, "refs/remotes/origin/HEAD": three, "refs/remotes/up": one, "refs/notes/x": one,
+         "refs/tags/main": three, "refs/remotes/a": three, "refs/x": two, "refs/heads/z": three, "refs/heads/a-b": one, "refs/heads/a0": two}
+for name, id in names.items():
+    git("update-ref", name, id)
+git("tag", "-a", "-m", "m", "v1", one)
+git("tag", "-a", "-m", "m", "v2", "v1")
+git("tag", "-a", "-m", "m", "a", two)
+git("pack-refs", "--all", "--prune")
+with open(place("packed-refs"), "rb") as f:
+    packed = f.read()
+told = records()
+shown = "".join(f"{t} {n} {o}; " for t, n, o in told)
+
+# ---- packed files that git wrote, and the same by hand: without a header, with other headers, out of order
+
+lines = packed.split(b"\n")[:-1]
+assert lines[0].startswith(b"#")
+body = lines[1:]
+blocks = []
+for line in body:
+    if line.startswith(b"^"):
+        blocks[-1].append(line)
+    else:
+        blocks.append([line])
+
+
+def text(parts):
+    return b"".join(line + b"\n" for block in parts for line in block)
+
+
+backwards = text(reversed(blocks))
+shown_backwards = "".join(f"{t} {n} {o}; " for t, n, o in reversed(told))
+bare = text(blocks)
+for data, answer in [(packed, shown), (bare, shown), (backwards, shown_backwards), (b"# pack-refs with: peeled\n" + backwards, shown_backwards),
+                     (b"", ""), (b"# pack-refs with: \n", ""), (b"# pack-refs with:\n" + bare, shown), (packed.replace(b"\n", b"\r\n"), shown)]:
+    add("items " + data.hex() if data else "items ", answer)
+    add("open " + data.hex() if data else "open ", "opened")
+    add("bytes " + data.hex() if data else "bytes ", data.hex())
+for data in [packed, bare, backwards, b"# pack-refs with: peeled fully-peeled \n" + backwards]:
+    # git itself reads the file that was put together by hand
+    write("packed-refs", data)
+    assert sorted(records()) == sorted(told), "git reads another file"
+    words = ["main", "a", "ab", "a.b", "b/c", "c", "b", "v1", "v2", "light", "origin", "origin/main", "up", "x", "notes/x", "heads/main", "tags/a", "remotes/a",
+             "remotes/origin", "z", "zz", "a-b", "a0", "heads/a0", "refs/heads/a", "refs/heads/ab", "refs/heads/abc", "refs/heads/", "refs/x", "refs/a",
+             "refs/tags/v1", "refs/tags/v3", "nosuch", "heads", "refs/heads/z", "refs/heads/A", "refs/remotes/origin/HEAD", "refs/notes/x"]
+    for word in words:
+        if word.endswith("/"):
+            add(f"find {word} {data.hex()}", "no name")
+            continue
+        hit = completed(word)
+        answer = "{} {} {}".format(*hit) if hit else "none"
+        add(f"find {word} {data.hex()}", answer)
+        add(f"must {word} {data.hex()}", answer if hit else "not found")
+        if word.startswith("refs/"):
+            add(f"whole {word} {data.hex()}", answer)
+    # in git's order, whatever order the file has
+    add("all " + data.hex(), shown)
+    for front in ["refs/", "refs/heads/", "refs/heads/a", "refs/heads/a/", "refs/heads/a.", "refs/tags/v", "refs/z", "x", "refs/heads/b/c", "refs/remotes/origin/"]:
+        add(f"begin {front} {data.hex()}", "".join(f"{t} {n} {o}; " for t, n, o in told if n.startswith(front)))
+
+# ---- names of which a worktree has its own, though a record be there (gitrepository-layout, git-worktree)
+
+own = text([[f"{one} {name}".encode()] for name in ["HEAD", "refs/bisect/bad", "refs/heads/w", "refs/rewritten/x", "refs/worktree/y"]])
+for name in ["HEAD", "refs/bisect/bad", "refs/rewritten/x", "refs/worktree/y", "main-worktree/HEAD", "main-worktree/refs/bisect/bad", "worktrees/w/HEAD",
+             "worktrees/w/refs/worktree/y", "bisect/bad"]:
+    add(f"find {name} {own.hex()}", "none")
+for name in ["refs/heads/w", "main-worktree/refs/heads/w", "worktrees/w/refs/heads/w", "w"]:
+    add(f"find {name} {own.hex()}", f"{one} refs/heads/w {one}")
+
+# gitrevisions: names directly below the folder of git and those below refs/ are taken as they stand, and so are those of another
+# worktree; git-worktree: the names that each worktree has of its own, and the fronts behind which another worktree's are.
+def shared(name):
+    """The name by which a record may stand for it."""
+    rest = re.sub(rb"^main-worktree/|^worktrees/[^/]*/", b"", name)
+    if is_private(rest):
+        return b"none"
+    return rest if rest.startswith(b"refs/") else name
+
+
+def is_private(name):
+    return re.fullmatch(rb"[A-Z_]*|refs/(bisect|rewritten|worktree)/.*", name, re.S) is not None
+
+
+for name in [b"HEAD", b"FETCH_HEAD", b"head", b"main", b"refs/heads/main", b"refs/bisect/bad", b"refs/bisect", b"refs/bisecting/x", b"refs/rewritten/x", b"refs/worktree/y",
+             b"refs/worktrees/y", b"main-worktree/HEAD", b"main-worktree/refs/heads/a", b"main-worktree/refs/bisect/bad", b"main-worktree/x", b"worktrees/w/HEAD", b"worktrees/w/refs/heads/a",
+             b"worktrees/w/refs/rewritten/x", b"worktrees/w/x", b"worktrees/HEAD", b"worktrees/w", b"a/worktrees/w/HEAD", b"refs", b"refs/x", b"heads/main", b"a/b/c", b"tags/", b"refsx/a"]:
+    whole = name.startswith((b"refs/", b"main-worktree/", b"worktrees/")) or re.fullmatch(rb"[A-Z_]*", name) is not None
+    behind = name.partition(b"/")[2] if b"/" in name else b"none"
+    add("lookup " + name.hex(), f"{str(whole).lower()} {str(is_private(name)).lower()} {shared(name).decode()} {behind.decode()}")
+
+# ---- bad lines: git refuses the whole file
+
+bads = {b"x\n": 1, bare[:-1]: len(body), one.encode() + b"  refs/heads/x\n": 1, one.encode() + b" refs/heads/x y\n": 1, one[:39].encode() + b" refs/heads/x\n": 1,
+        b"^" + one.encode() + b"\n": 1, one.encode() + b"0 refs/heads/x\n": 1, one.encode() + b" refs/heads/x\n\n": 2, b"g" + one[1:].encode() + b" refs/heads/x\n": 1,
+        b"# pack-refs with: \nx\n": 2, one.encode() + b" refs/heads/x\n^" + two.encode() + b"\n^" + two.encode() + b"\n": 3,
+        one.encode() + b"\trefs/heads/x\n": 1, bare + b"^" + one[:20].encode() + b"\n": len(body) + 1, one.encode() + b"\n": 1, b"\n": 1}
+for data, number in bads.items():
+    add("open " + data.hex(), f"bad {number}")
+for data in [b"#\n", b"# pack-refs\n", b"# pack-refs with:", b"#x\n" + bare]:
+    add("open " + data.hex(), "no header")
+    add("items " + data.hex(), "no header")
+good = one.encode() + b" refs/heads/x\n"
+add("items " + (b"x\n" + good + b"^\n" + good).hex(), f"bad 1; {one} refs/heads/x {one}; bad 3; {one} refs/heads/x {one}; ")
+add("items " + (good + b"^" + two.encode() + b"\n^" + two.encode() + b"\n" + good).hex(), f"{one} refs/heads/x {two}; bad 3; {one} refs/heads/x {one}; ")
+add("items " + (good + b"^" + two.encode()).hex(), f"{one} refs/heads/x {one}; bad 2; ")
+# of two records of one name the first counts, as a search line by line has it
+twice = f"{one} refs/heads/x\n{two} refs/heads/x\n{three} refs/heads/a\n".encode()
+add("find x " + twice.hex(), f"{one} refs/heads/x {one}")
+upper = b"D53C4B0F91F1B29769C9430F2D1C0BCAB1170C75 refs/heads/uppercase\n^E9CDC958E7CE2290E2D7958CDB5AA9323EF35D37\n"
+add("items " + upper.hex(), "d53c4b0f91f1b29769c9430f2d1c0bcab1170c75 refs/heads/uppercase e9cdc958e7ce2290e2d7958cdb5aa9323ef35d37; ")
+
+# ---- headers (git-pack-refs; the words that git itself tests)
+
+for line, answer in {b"# pack-refs with: \n": "unspecified false", b"# pack-refs with: peeled fully-peeled sorted \n": "fully true", b"# pack-refs with: peeled \n": "partial false",
+                     b"# pack-refs with: sorted\n": "unspecified true", b"# pack-refs with: fully-peeled peeled\n": "fully false", b"# pack-refs with: xsorted sortedx \n": "unspecified false",
+                     b"# pack-refs with: sorted": "none", b"# pack-refs: sorted\n": "none", b"x\n": "none", b"# pack-refs with: sorted\r\n": "unspecified true"}.items():
+    add("header " + line.hex(), answer)
+assert lines[0].split() == [b"#", b"pack-refs", b"with:", b"peeled", b"fully-peeled", b"sorted"]
+add("header " + (lines[0] + b"\n").hex(), "fully true")
+
+# ---- loose texts: git reads them where the program should
+
+git("pack-refs", "--all", "--prune")
+ids = [one.encode() + b"\n", one.encode(), one.upper().encode() + b"\n", one.encode() + b"\r\n", one.encode() + b" x\n", one.encode() + b"\t\tbranch 'main' of /x\n",
+       one.encode() + b"\n\n", one[:39].encode() + b"\n", one.encode() + b"0\n", b"g" + one[1:].encode() + b"\n", b"", b"\n", b" " + one.encode() + b"\n", one.encode() + b"x\n"]
+for data in ids:
+    write("refs/heads/t", data)
+    id = git("rev-parse", "--verify", "-q", "refs/heads/t", fails=True)
+    add("loose " + data.hex() if data else "loose ", id or "parse")
+    add("again " + data.hex() if data else "again ", (id + "\n").encode().hex() if id else "parse")
+    add("path " + data.hex() if data else "path ", "refs/heads/main Object" if id else "parse")
+texts = [b"ref: refs/heads/main\n", b"ref: refs/heads/main", b"ref:   refs/heads/main\n", b"ref: refs/heads/main\r\n", b"ref: refs/heads/no.such\n", b"ref: refs/heads/a\xc3\xa9\n"]
+for data in texts:
+    write("refs/heads/t", data)
+    name = git("symbolic-ref", "--no-recurse", "refs/heads/t")
+    add("loose " + data.hex(), "ref: " + name.encode("latin-1").decode())
+    add("again " + data.hex(), b"ref: ".hex() + name.encode("latin-1").hex() + "0a")
+    add("path " + data.hex(), "refs/heads/main Symbolic")
+for data in [b"ref: refs/heads/a..b\n", b"ref: \n", b"ref: refs/heads/x.lock\n", b"ref: refs/heads/a b\n", b"ref: refs/heads/a\nrefs/heads/b\n", b"ref: ", b"ref: refs//heads\n"]:
+    write("refs/heads/t", data)
+    assert git("rev-parse", "--verify", "-q", "refs/heads/t", fails=True) is None
+    add("loose " + data.hex(), "name")
+for data in [b"reff: hello\n", b"refs/heads/main\n", b"re", b"foobar"]:
+    write("refs/heads/t", data)
+    assert git("rev-parse", "--verify", "-q", "refs/heads/t", fails=True) is None
+    add("loose " + data.hex(), "parse")
+
+here = os.path.dirname(os.path.dirname(os.path.abspath(__file__)))
+with open(os.path.join(here, "stdin"), "w") as f:
+    f.writelines(case + "\n" for case, _ in rows)
+with open(os.path.join(here, "stdout"), "w") as f:
+    f.writelines(answer + "\n" for _, answer in rows)
+shutil.rmtree(folder)
+print(len(rows), "rows")

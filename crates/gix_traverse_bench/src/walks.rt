@@ -1,0 +1,140 @@
+//! The walks that are timed.
+
+use crate::ladder::Ladder;
+use crate::store::Store;
+use gix_hash::ObjectId;
+use gix_traverse::commit::simple::{CommitTimeOrder, Sorting};
+use gix_traverse::commit::topo::{self, Builder};
+use gix_traverse::commit::{All, Graph, Info, Parents, Simple, Topo};
+use std::alloc::Global;
+
+/// How a walk goes.
+#[derive(Clone, Copy)]
+pub enum Way {
+    /// By `Simple`, in this order and along these parents.
+    Simple(Sorting, Parents),
+    /// The same in breadth order, past all that the commit hides that stands half way.
+    Hiding,
+    /// By `Topo`, in this order.
+    Topo(topo::Sorting),
+}
+
+/// Each way with its name.
+pub const WAYS: [(&str, Way); 7] = [
+    ("breadth", Way::Simple(Sorting::BreadthFirst, Parents::All)),
+    ("first", Way::Simple(Sorting::BreadthFirst, Parents::First)),
+    (
+        "newest",
+        Way::Simple(
+            Sorting::ByCommitTime(CommitTimeOrder::NewestFirst),
+            Parents::All,
+        ),
+    ),
+    (
+        "oldest",
+        Way::Simple(
+            Sorting::ByCommitTime(CommitTimeOrder::OldestFirst),
+            Parents::All,
+        ),
+    ),
+    ("hiding", Way::Hiding),
+    ("date", Way::Topo(topo::Sorting::DateOrder)),
+    ("topological", Way::Topo(topo::Sorting::TopoOrder)),
+];
+
+/// How many commits a walk gave, and how many objects it asked for.
+#[derive(Clone, Copy, PartialEq, Eq)]
+pub struct Counts {
+    /// The commits.
+    pub commits: usize,
+    /// The objects.
+    pub lookups: usize,
+}
+
+/// Walks the ladder from its last commit. `None` where it ends with an error or no memory is left.
+pub fn walk(alloc: Global, ladder: &Ladder, rows: Option<Graph>, way: Way) -> Option<Counts> {
+    let tip = *ladder.ids.last()?;
+    match way {
+        Way::Simple(sorting, parents) => {
+            by_simple(
+                made(alloc, ladder, rows, tip)?
+                    .parents(parents)
+                    .sorting(sorting)
+                    .ok()?,
+            )
+        }
+        Way::Hiding => {
+            let middle = *ladder.ids.get(ladder.ids.len() / 2)?;
+            by_simple(
+                made(alloc, ladder, rows, tip)?
+                    .hide(one(alloc, middle)?)
+                    .ok()?,
+            )
+        }
+        Way::Topo(sorting) => {
+            let builder = Builder::from_iters(alloc, &ladder.objects, &[tip], None).ok()?;
+            let walk = builder.with_commit_graph(rows).sorting(sorting).build();
+            by_topo(walk.ok()?)
+        }
+    }
+}
+
+fn one(alloc: Global, id: ObjectId) -> Option<Vec<ObjectId>> {
+    let mut ids = Vec::new(alloc);
+    ids.push(id).ok()?;
+    Some(ids)
+}
+
+fn made(
+    alloc: Global,
+    ladder: &Ladder,
+    rows: Option<Graph>,
+    tip: ObjectId,
+) -> Option<Simple<&Store, All>> {
+    let walk = Simple::new(one(alloc, tip)?, &ladder.objects).ok()?;
+    Some(walk.commit_graph(rows))
+}
+
+// Whether a commit came: `None` at the end.
+fn step<E: Drop>(item: Option<Result<Info, E>>) -> Option<bool> {
+    match item? {
+        Ok(_) => Some(true),
+        Err(_) => Some(false),
+    }
+}
+
+fn step_simple(walk: &mut Simple<&Store, All>) -> Option<bool> {
+    step(walk.next())
+}
+
+fn step_topo(walk: &mut Topo<All>) -> Option<bool> {
+    step(walk.next())
+}
+
+fn by_simple(mut walk: Simple<&Store, All>) -> Option<Counts> {
+    for commits in 0..usize::MAX {
+        match step_simple(&mut walk) {
+            Some(true) => {}
+            Some(false) => return None,
+            None => {
+                let lookups = walk.lookups();
+                return Some(Counts { commits, lookups });
+            }
+        }
+    }
+    None
+}
+
+fn by_topo(mut walk: Topo<All>) -> Option<Counts> {
+    for commits in 0..usize::MAX {
+        match step_topo(&mut walk) {
+            Some(true) => {}
+            Some(false) => return None,
+            None => {
+                let lookups = walk.lookups();
+                return Some(Counts { commits, lookups });
+            }
+        }
+    }
+    None
+}

@@ -1,8 +1,0 @@
-//! Cases of `gix_traverse_tree`.
-
-mod copies;
-mod operations;
-mod stopping;
-mod store;
-
-pub use operations::Walks;

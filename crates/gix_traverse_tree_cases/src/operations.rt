@@ -1,0 +1,129 @@
+//! One line to one answer.
+
+use crate::copies::copy;
+use crate::stopping::Stopping;
+use crate::store::read;
+use case_ids::{Case, Operations};
+use case_page::Page;
+use case_store::Store;
+use gix_hash::ObjectId;
+use gix_object_entries::TreeRefIter;
+use gix_object_find::FindExt;
+use gix_traverse_tree::recorder::{Entry, Location, Recorder};
+use gix_traverse_tree::{Visit, breadthfirst, depthfirst};
+use std::alloc::Global;
+
+/// The two orders.
+#[derive(Clone, Copy)]
+pub enum Order {
+    /// By levels.
+    Breadth,
+    /// Each tree's entries behind it.
+    Depth,
+}
+
+/// Adds the entries, one after another, each as its mode, its path and its id.
+pub fn records(page: &mut Page, entries: &[Entry]) {
+    for entry in entries {
+        page.put_between(" ", entry.mode.as_str(), " ");
+        page.escaped(entry.filepath.as_bytes());
+        page.put_between(" ", entry.oid, "");
+    }
+}
+
+// A walk from the root in this order, and how it ended.
+fn walk<V: Visit>(
+    alloc: Global,
+    order: Order,
+    root: &ObjectId,
+    store: &Store,
+    delegate: &mut V,
+    page: &mut Page,
+) {
+    let mut content = Vec::new(alloc);
+    let ended = match order {
+        Order::Depth => {
+            let mut state = depthfirst::State::new(alloc);
+            depthfirst::depthfirst(*root, &mut state, store, delegate)
+        }
+        Order::Breadth => match store.find_tree_iter(root.as_oid(), &mut content) {
+            Ok(entries) => from_entries(alloc, entries, store, delegate),
+            Err(error) => return page.refused(error),
+        },
+    };
+    match ended {
+        Ok(()) => page.text("whole"),
+        Err(error) => page.refused(error),
+    }
+}
+
+fn from_entries<V: Visit>(
+    alloc: Global,
+    entries: TreeRefIter<'_>,
+    store: &Store,
+    delegate: &mut V,
+) -> Result<(), breadthfirst::Error> {
+    let mut state = breadthfirst::State::new(alloc);
+    breadthfirst::breadthfirst(entries, &mut state, store, delegate)
+}
+
+// What a recorder that tracks so much has after a walk.
+fn record(
+    alloc: Global,
+    order: Order,
+    location: Option<Location>,
+    root: &ObjectId,
+    store: &Store,
+    page: &mut Page,
+) {
+    let mut recorder = Recorder::new(alloc).track_location(location);
+    walk(alloc, order, root, store, &mut recorder, page);
+    records(page, recorder.records.as_slice());
+}
+
+// What copies have after a walk.
+fn copies(alloc: Global, order: Order, root: &ObjectId, store: &Store, page: &mut Page) {
+    if copy(alloc, order, root, store, page).is_none() {
+        page.text("no walk");
+    }
+}
+
+// What a delegate has that ends the walk at its third entry.
+fn stop(alloc: Global, order: Order, root: &ObjectId, store: &Store, page: &mut Page) {
+    let mut delegate = Stopping {
+        recorder: Recorder::new(alloc),
+        left: 2,
+    };
+    walk(alloc, order, root, store, &mut delegate, page);
+    records(page, delegate.recorder.records.as_slice());
+}
+
+/// The operations of these cases.
+pub struct Walks;
+
+impl Operations for Walks {
+    fn write_answer(alloc: Global, operation: &str, case: &Case, page: &mut Page) {
+        let trees = case.behind(1);
+        let Some(store) = read(alloc, case.kind.len_in_bytes(), trees) else {
+            return page.text("no trees");
+        };
+        let Ok(root) = ObjectId::try_from(case.text(0)) else {
+            return page.text("no root");
+        };
+        let whole = Some(Location::Path);
+        let name = Some(Location::FileName);
+        match operation {
+            "breadth" => record(alloc, Order::Breadth, whole, &root, &store, page),
+            "depth" => record(alloc, Order::Depth, whole, &root, &store, page),
+            "breadth-names" => record(alloc, Order::Breadth, name, &root, &store, page),
+            "depth-names" => record(alloc, Order::Depth, name, &root, &store, page),
+            "breadth-untracked" => record(alloc, Order::Breadth, None, &root, &store, page),
+            "depth-untracked" => record(alloc, Order::Depth, None, &root, &store, page),
+            "breadth-stopped" => stop(alloc, Order::Breadth, &root, &store, page),
+            "depth-stopped" => stop(alloc, Order::Depth, &root, &store, page),
+            "breadth-copied" => copies(alloc, Order::Breadth, &root, &store, page),
+            "depth-copied" => copies(alloc, Order::Depth, &root, &store, page),
+            _ => page.text("no operation"),
+        }
+    }
+}
