@@ -73,9 +73,9 @@ pub fn texts(page: &mut Page, fields: &[Vec<u8>]) -> Option<()> {
     let mut buffer = Kind::hex_buf();
     let text = change.hex_to_buf(&mut buffer);
     page.put(reverse);
-    page.value(plain);
-    page.value(whole);
-    page.value(text);
+    page.put_between(" ", plain, " ");
+    page.put(whole);
+    page.put_between(" ", text, "");
     Some(())
 }
 

@@ -46,9 +46,9 @@ pub fn texts(page: &mut Page, fields: &[Vec<u8>]) -> Option<()> {
     let mut buffer = Kind::hex_buf();
     let text = id.hex_to_buf(&mut buffer);
     page.put(short);
-    page.value(whole);
-    page.value(text);
-    page.value(owned);
+    page.put_between(" ", whole, " ");
+    page.put(text);
+    page.put_between(" ", owned, "");
     Some(())
 }
 
