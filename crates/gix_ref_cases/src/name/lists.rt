@@ -171,12 +171,16 @@ pub fn copied(alloc: Global, word: &[u8], name: &[u8]) -> Result<String, AllocEr
     let (Some(word), Some(name)) = (text_of(word), text_of(name)) else {
         return format!(in alloc; "refused");
     };
-    let (Some(edit), Some(other)) = (
-        read_edit(alloc, word, name),
-        read_edit(alloc, "move", "HEAD"),
-    ) else {
+    let Some(edit) = read_edit(alloc, word, name) else {
         return format!(in alloc; "refused");
     };
+    match read_edit(alloc, "move", "HEAD") {
+        Some(other) => compared(alloc, &edit, &other),
+        None => format!(in alloc; "refused"),
+    }
+}
+
+fn compared(alloc: Global, edit: &RefEdit, other: &RefEdit) -> Result<String, AllocError> {
     let copy = edit.try_clone()?;
-    format!(in alloc; "{} {}", copy == edit, copy == other)
+    format!(in alloc; "{} {}", copy == *edit, copy == *other)
 }

@@ -53,7 +53,7 @@ pub fn walk(alloc: Global, ladder: &Ladder, rows: Option<Graph>, way: Way) -> Op
     match way {
         Way::Simple(sorting, parents) => {
             by_simple(
-                made(alloc, ladder, rows, tip)?
+                &mut made(alloc, ladder, rows, tip)?
                     .parents(parents)
                     .sorting(sorting)
                     .ok()?,
@@ -62,7 +62,7 @@ pub fn walk(alloc: Global, ladder: &Ladder, rows: Option<Graph>, way: Way) -> Op
         Way::Hiding => {
             let middle = *ladder.ids.get(ladder.ids.len() / 2)?;
             by_simple(
-                made(alloc, ladder, rows, tip)?
+                &mut made(alloc, ladder, rows, tip)?
                     .hide(one(alloc, middle)?)
                     .ok()?,
             )
@@ -70,7 +70,7 @@ pub fn walk(alloc: Global, ladder: &Ladder, rows: Option<Graph>, way: Way) -> Op
         Way::Topo(sorting) => {
             let builder = Builder::from_iters(alloc, &ladder.objects, &[tip], None).ok()?;
             let walk = builder.with_commit_graph(rows).sorting(sorting).build();
-            by_topo(walk.ok()?)
+            by_topo(&mut walk.ok()?)
         }
     }
 }
@@ -107,9 +107,9 @@ fn step_topo(walk: &mut Topo<All>) -> Option<bool> {
     step(walk.next())
 }
 
-fn by_simple(mut walk: Simple<&Store, All>) -> Option<Counts> {
+fn by_simple(walk: &mut Simple<&Store, All>) -> Option<Counts> {
     for commits in 0..usize::MAX {
-        match step_simple(&mut walk) {
+        match step_simple(walk) {
             Some(true) => {}
             Some(false) => return None,
             None => {
@@ -121,9 +121,9 @@ fn by_simple(mut walk: Simple<&Store, All>) -> Option<Counts> {
     None
 }
 
-fn by_topo(mut walk: Topo<All>) -> Option<Counts> {
+fn by_topo(walk: &mut Topo<All>) -> Option<Counts> {
     for commits in 0..usize::MAX {
-        match step_topo(&mut walk) {
+        match step_topo(walk) {
             Some(true) => {}
             Some(false) => return None,
             None => {

@@ -25,7 +25,7 @@ pub fn given(alloc: Global, graph: &Graph, asked: Asked) -> Option<Vec<Info>> {
     } else {
         Simple::new(asked.tips, Never)
     };
-    let walk = made
+    let mut walk = made
         .ok()?
         .commit_graph(Some(graph))
         .parents(asked.parents)
@@ -33,7 +33,9 @@ pub fn given(alloc: Global, graph: &Graph, asked: Asked) -> Option<Vec<Info>> {
         .ok()?
         .sorting(asked.sorting)
         .ok()?;
-    collect(alloc, walk)
+    let mut infos = Vec::new(alloc);
+    collect(&mut walk, &mut infos)?;
+    Some(infos)
 }
 
 // The next commit.
@@ -41,14 +43,13 @@ fn step(walk: &mut Simple<Never, All>) -> Option<Result<Info, Error>> {
     walk.next()
 }
 
-// Copies of the commits that come, up to the end or the first error.
-fn collect(alloc: Global, mut walk: Simple<Never, All>) -> Option<Vec<Info>> {
-    let mut infos = Vec::new(alloc);
+// Adds copies of the commits that come, up to the end. `None` at an error.
+fn collect(walk: &mut Simple<Never, All>, infos: &mut Vec<Info>) -> Option<()> {
     for _ in 0..100_000u32 {
-        match step(&mut walk) {
+        match step(walk) {
             Some(Ok(info)) => infos.push(info.try_clone().ok()?).ok()?,
             Some(Err(_)) => return None,
-            None => return Some(infos),
+            None => return Some(()),
         }
     }
     None

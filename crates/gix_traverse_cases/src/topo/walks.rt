@@ -34,7 +34,11 @@ pub enum End {
 /// What the walk gives. `None` where there is another error than a commit that isn't found.
 pub fn given(alloc: Global, graph: &Graph, asked: Asked) -> Option<Walked> {
     match built(alloc, graph, asked)? {
-        Ok(walk) => collect(alloc, walk),
+        Ok(mut walk) => {
+            let mut ids = Vec::new(alloc);
+            let end = collect(&mut walk, &mut ids)?;
+            Some(Walked { ids, end })
+        }
         Err(Error::Find(_)) => Some(Walked {
             ids: Vec::new(alloc),
             end: End::NotFound,
@@ -68,25 +72,14 @@ fn step(walk: &mut Topo<All>) -> Option<Result<Info, Error>> {
     walk.next()
 }
 
-// The commits that come, up to the end or the first that isn't found.
-fn collect(alloc: Global, mut walk: Topo<All>) -> Option<Walked> {
-    let mut ids = Vec::new(alloc);
+// Adds the commits that come, up to the end or the first that isn't found.
+fn collect(walk: &mut Topo<All>, ids: &mut Vec<ObjectId>) -> Option<End> {
     for _ in 0..100_000u32 {
-        match step(&mut walk) {
+        match step(walk) {
             Some(Ok(info)) => ids.push(info.id).ok()?,
-            Some(Err(Error::Find(_))) => {
-                return Some(Walked {
-                    ids,
-                    end: End::NotFound,
-                });
-            }
+            Some(Err(Error::Find(_))) => return Some(End::NotFound),
             Some(Err(_)) => return None,
-            None => {
-                return Some(Walked {
-                    ids,
-                    end: End::All(walk.lookups()),
-                });
-            }
+            None => return Some(End::All(walk.lookups())),
         }
     }
     None
