@@ -10,6 +10,7 @@ from pathlib import Path
 sys.path.insert(0, str(Path(__file__).resolve().parents[3] / "scripts"))
 sys.path.insert(0, str(Path(__file__).resolve().parent))
 import by_git
+import reads
 from git_moves import Moved
 from case_words import word, write
 from plain import Plain, Reader
@@ -594,6 +595,42 @@ def renames():
     answer(PUT_HELLO + b"rename refs/heads/main refs/heads/y", "Truncated", end="Refused")
 
 
+def renamed_tags():
+    """Names that hold a tag and are renamed, there and back: the new name holds the tag itself, its log is one line with the tag's id, and what
+    other commands tell of it then; each refusal."""
+    main, x, v, w, new = b"refs/heads/main", b"refs/heads/x", b"refs/tags/v1", b"refs/tags/w", b"refs/tags/new"
+    made = (branch(main + b" new", 1) + branch(x + b" new", 2, b"parent main\n") + branch(main + b" any", 3)
+            + branch(w + b" new", 4, b"parent x\n") + tag(v + b" new main", 5))
+    for name in (new, b"refs/tags/a/b/c", b"refs/tags/v1.0", b"refs/v1", b"refs/remotes/o/v1", b"refs/tags/-v1", b"refs/tags/\xc3\xa4"):
+        runs((made,), (b"rename %s %s\n" % (v, name),), (b"names\n",), (b"past %s\n" % name,), (b"past %s\n" % v, "NoSuchName"),
+             (b"show %s\n" % name,), (b"log breadth all +%s -x\n" % name,), by_git_alone=False)
+        for kind in KINDS:
+            as_git_renames(kind, made, v, name)
+    away = b"rename %s %s\n" % (v, new)
+    for command, *causes in [
+            (branch(new + b" any", 6), "HoldsTag"), (branch(b"refs/heads/y new", 6, b"parent new\n"),), (move(new + b" at main x"),),
+            (move(new + b" any new"),), (b"delete %s at main\n" % new,), (b"delete %s at x\n" % new, "NotExpected"),
+            (tag(new + b" at new x"),), (tag(v + b" new new", 5),), (tag(new + b" any main", 5),),
+            (b"rename %s %s\n" % (new, v),), (b"rename %s %s\n" % (v, new), "NoSuchName"), (b"show v1\n", "UnknownWord")]:
+        runs((made,), (away,), (command, *causes), (b"names\n",), by_git_alone=False)
+    runs((made,), (away,), (b"rename %s %s\n" % (new, v),), (b"past v1\n",), (b"names\n",), by_git_alone=False)
+    for old, name, cause in [(v, v + b"/a", "Collides"), (v, b"refs/tags", "Collides"), (v, x + b"/v1", "Collides"), (x, v + b"/x", "Collides"),
+                             (v, w, "Taken"), (x, v, "Taken"), (w, v, "Taken"), (new, v, "NoSuchName")]:
+        runs((made,), (b"rename %s %s\n" % (old, name), cause), (b"names\n",), (b"past v1\n",), by_git_alone=False)
+        for kind in KINDS:
+            as_git_renames(kind, made, old, name)
+    runs((made,), (b"rename %s %s\n" % (v, v), "NameTwice"), (b"names\n",), by_git_alone=False)
+    # Git lets no branch hold a tag. Here a renamed name holds what the old one did, wherever it stands.
+    y = b"refs/heads/y"
+    runs((made,), (b"rename %s %s\n" % (v, y),), (b"names\n",), (b"past y\n",), (branch(y + b" any", 6), "HoldsTag"), (b"switch %s\n" % y,),
+         (branch(b"HEAD any", 6), "HoldsTag"), (b"show HEAD\n",), (b"past HEAD\n",), (move(y + b" any y"),), (branch(b"HEAD at y", 6),),
+         (b"names\n",), by_git_alone=False)
+    for kind in KINDS:
+        plain = Plain(kind)
+        plain.run(made)
+        assert not Moved(plain).rename(v, y, plain.names[v])
+
+
 def rename_stops():
     """A run of a commit and a rename of HEAD's branch that is stopped at each call, or of which each call fails: the old name stands
     alone, or both do, and then the old one without its log, or the new one alone. A log without its name is none's."""
@@ -614,6 +651,29 @@ def rename_stops():
             states = [ends[0] + left(first, 0, False), ends[0] + left(first, 3, False), *([ends[0] + left(first)] if made else [])]
             states += [ends[1] + left(first), ends[1] + left(both), ends[1] + left(unlogged), *([ends[1] + left(plain)] if made else [])]
             each(80, kind, f"create names:{how}:#:{kept} open run:{word(stream)} left", [closed, *states, whole])
+
+
+def tag_rename_stops():
+    """The same of a name that holds a tag, which the commit that the tag is of stands for all the while."""
+    tagging, renaming = tag(b"refs/tags/v1 new main"), b"rename refs/tags/v1 refs/tags/first\n"
+    stream, fault = PUT_HELLO + tagging + renaming, b"fault File\n"
+    for kind in KINDS:
+        plain, first, tagged, both, unlogged = (Plain(kind) for _ in range(5))
+        _, replies = plain.run(stream)
+        first.run(PUT_HELLO)
+        for state in (tagged, both, unlogged):
+            state.run(PUT_HELLO + tagging)
+        for state in (both, unlogged):
+            state.names, state.logs = {**tagged.names, **plain.names}, {**tagged.logs, **plain.logs}
+        del unlogged.logs[b"refs/tags/v1"]
+        ends = [f"created opened Fault:{word(b''.join(reply for reply, _ in replies[:count]) + fault)} " for count in range(3)]
+        closed, whole = f"created File closed {left(plain, 0, False)}", f"created opened {told('Input', replies)} {left(plain)}"
+        for how, kept in [*(("stop", kept) for kept in ["-", 0, 3, 20, 50, 1000]), ("fail", "-")]:
+            made = kept != "-"
+            states = [ends[0] + left(plain, 0, False), ends[0] + left(plain, 3, False), *([ends[0] + left(first)] if made else [])]
+            states += [ends[1] + left_with(plain, first, 3), ends[1] + left_with(plain, first, 4), *([ends[1] + left(tagged)] if made else [])]
+            states += [ends[2] + left(tagged), ends[2] + left(both), ends[2] + left(unlogged), *([ends[2] + left(plain)] if made else [])]
+            each(120, kind, f"create names:{how}:#:{kept} open run:{word(stream)} left", [closed, *states, whole])
 
 
 def as_git_lists(made):
@@ -689,9 +749,9 @@ def indexes():
                      + " ".join(["none"] * len(new))))
         log = [b"log %s +%s\n" % (order, ids[-1]) for order in (b"breadth all", b"newest all", b"oldest all", b"date all", b"topological all")]
         for line in log:
-            for before, count in [(made + index, 1), (made + index + branch(b"refs/heads/x new", 12), 1)]:
-                ROWS.append((f"{kind} reads:{word(before)}:{word(line)}", f"reads:{count}"))
-        # Each word that is a name asks for the object that it holds, which may be a tag; the rest is what the walk asks for.
+            for before in (made + index, made + index + branch(b"refs/heads/x new", 12)):
+                reading(kind, before, line, 1)
+        # Each word asks for the object that it reads as, which may be a tag; the rest is what the walk asks for.
         for before, line, count in [(made, b"log breadth all +j\n", 1 + 8), (made, b"log topological all +j\n", 1 + 8),
                                     (made, b"log newest all +j\n", 1 + 8),
                                     (made + index, b"log breadth all +j\n", 1), (made + index, b"log topological all +j -s\n", 2),
@@ -699,7 +759,13 @@ def indexes():
                                     (made + index + later, b"log breadth all +j\n", 1 + 1),
                                     (made + index + later, b"log newest all +j +m\n", 2 + 2),
                                     (made + index + later, b"log date all +j -m\n", 2 + 2)]:
-            ROWS.append((f"{kind} reads:{word(before)}:{word(line)}", f"reads:{count}"))
+            reading(kind, before, line, count)
+
+
+def reading(kind, before, command, count):
+    """How many objects a command reads behind these: as many as it must, told in scripts/reads.py."""
+    assert len(reads.behind(kind, before, command)) == count, (command, count)
+    ROWS.append((f"{kind} reads:{word(before)}:{word(command)}", f"reads:{count}"))
 
 
 def index_faults():
@@ -721,6 +787,18 @@ def index_faults():
                 answers.append(ended(rest[:at] + [fault] + rest[at + 1:]))
             answers.append(ended(rest))
             each(90, kind, f"create {part}:fail:#:- open run:{word(stream)} failed", answers)
+
+
+def asking(kind, made, commands):
+    """Which of these commands ask for an object, and which for a name."""
+    plain, rows_, objects, names = Plain(kind), (), [], []
+    plain.run(made)
+    for at, text in enumerate(commands):
+        command = Reader(text).command()
+        objects += [at] if reads.objects(plain, rows_, command) else []
+        names += [at] if reads.names(command) else []
+        rows_ = set(plain.commits) if command == ("index",) else rows_
+    return objects, names
 
 
 def log_at(words, path):
@@ -958,7 +1036,7 @@ def readings():
     for kind in KINDS:
         for commit in (FEW, MANY):
             for command, count in asked:
-                ROWS.append((f"{kind} reads:{word(commit + ONE)}:{word(command)}", f"reads:{count}"))
+                reading(kind, commit + ONE, command, count)
 
 
 def readers():
@@ -1180,8 +1258,9 @@ def by_chance(chance, kind):
 
 
 if __name__ == "__main__":
-    for part in (rows, first_causes, two_branches, of_names, moves, renames, deletions, switches, tags, indexes, logs, path_logs, short_ids, removals, nested,
-                 limits, opening, readings, readers, faults, index_faults, log_faults, move_stops, rename_stops, delete_stops, switch_stops, tag_stops, stops):
+    for part in (rows, first_causes, two_branches, of_names, moves, renames, deletions, switches, tags, renamed_tags, indexes, logs, path_logs,
+                 short_ids, removals, nested, limits, opening, readings, readers, faults, index_faults, log_faults, move_stops, rename_stops,
+                 delete_stops, switch_stops, tag_stops, tag_rename_stops, stops):
         part()
     for kind in KINDS:
         recoveries(kind)

@@ -1,0 +1,65 @@
+"""Which objects a command must ask for, told over the plain repository's whole file maps: the counts of readings in cases.py are held
+against this.
+
+Each word asks once for the object that its name holds, or whose id it begins, since that may be a commit, a tag or neither. Besides, a
+command asks once for each commit, tree and content that its answer is made of, but for a commit that has a row."""
+
+from plain import Plain, Reader
+
+
+def of_word(plain, word):
+    """The object of a word: none, where none of its names stands and it isn't one stored object's id."""
+    name = plain.branch if word == b"HEAD" else plain.candidate(word)
+    found = plain.begun(word) if name is None else [plain.names[name]] if name in plain.names else []
+    return found if len(found) == 1 else []
+
+
+def of_folders(plain, files, path=None):
+    """The trees of these files, or those in which the names of a path are looked up."""
+    above = {it[:at].rstrip(b"/") for it in files for at in range(len(it)) if at == 0 or it[at - 1:at] == b"/"}
+    met = [it for it in above | {b""} if path is None or it == b"" or path.startswith(it + b"/")]
+    scratch, fronts = Plain(plain.kind), [it + b"/" if it else it for it in met]
+    return [scratch.tree({it[len(front):]: file for it, file in files.items() if it.startswith(front)}) for front in fronts]
+
+
+def of_walk(plain, rows, commits):
+    """The commits that these reach, themselves too, but for those that have rows: a row tells its parents, which have rows too."""
+    found, left = [], list(commits)
+    while left:
+        at = left.pop()
+        if at not in rows and at not in found:
+            found.append(at)
+            left += plain.commits[at]["parents"]
+    return found
+
+
+def objects(plain, rows, command):
+    """The objects that a command asks for, as often as it does."""
+    name, *parts = command
+    if name == "index":
+        return list(plain.objects)
+    words = [target for _, target in parts[3]] if name == "log" else [parts[0]]
+    held = [it for word in words for it in of_word(plain, word)]
+    if name == "log":
+        assert parts[4] is None
+        return held + of_walk(plain, rows, map(plain.peeled, held))
+    commit = plain.peeled(held[0])
+    files, path = plain.commits[commit]["files"], parts[1] if name == "show" else None
+    content = [files[path][1]] if path in files else []
+    return [*held, commit, *(of_folders(plain, files, path) if name == "files" or path else []), *content]
+
+
+def names(command):
+    """The words of a command, each of which asks for names."""
+    name, *parts = command
+    return [] if name == "index" else [target for _, target in parts[3]] if name == "log" else [parts[0]]
+
+
+def behind(kind, before, command):
+    """The objects that a command asks for behind these."""
+    plain, rows, reader = Plain(kind), (), Reader(before)
+    while reader.at < len(before):
+        start, (name, *_) = reader.at, reader.command()
+        plain.run(before[start:reader.at])
+        rows = set(plain.commits) if name == "index" else rows
+    return objects(plain, rows, Reader(command).command())
