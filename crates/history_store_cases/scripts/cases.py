@@ -5,6 +5,7 @@ by hand."""
 
 import hashlib
 import random
+import re
 import sys
 from pathlib import Path
 
@@ -315,6 +316,13 @@ def commits():
     row("sha256", (f"parse-commit:{word(f'tree {empty}{chr(10)}{signed}{chr(10)}one'.encode())}", "none"))
 
 
+def first_line(kind, text):
+    """The id on a tag's first line, by the format: `object`, a space, as many digits as an id of this kind has, and a line feed. Git reads the
+    digits in either letter case (seen by `git rev-parse TAG^{commit}` of git 2.39)."""
+    found = re.match(rb"object ([0-9a-fA-F]{%d})\n" % len(null(kind)), text)
+    return found[1].lower().decode() if found else None
+
+
 def tags():
     # git hash-object -t tag of two tags of the first commit that stands in commits().
     by_git = {
@@ -339,6 +347,7 @@ def tags():
         for text, told in [(front, commit), (front.upper().replace(b"OBJECT", b"object"), commit), (front[:-12], commit), (front[:-13], None),
                            (front.replace(b"object ", b"object  "), None), (front.replace(b"object", b"tree"), None), (b"\n" + front, None),
                            (front[:20] + front[21:], None), (b"", None), (b"tag " + front, None)]:
+            assert told == first_line(kind, text), text
             row(kind, (f"tag-target:{word(text)}", f"target:{told}" if told else "none"))
     row("sha256", (f"tag-target:{word(b'object %s' % by_git['sha1'][0].encode() + bytes([10]))}", "none"))
 
