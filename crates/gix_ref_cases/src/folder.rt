@@ -8,7 +8,8 @@ fn part<'a>(rt: &'a HostRuntime, root: &str, part: Part) -> io::Result<Folder<&'
     Ok(Folder::new(rt, String::from_str(rt.alloc(), root)?, part))
 }
 
-/// What the words of a line answer, over a folder that is made for the line of this number in the one that the program runs in.
+/// What the words of a line answer, over a folder that is made for the line of this number in the one that the program runs in, and
+/// that goes with all that it holds once the line is answered.
 pub fn answer(rt: &HostRuntime, number: u64, line: &str) -> io::Result<String> {
     let alloc = rt.alloc();
     let root = format!(in alloc; "case-{number}")?;
@@ -26,5 +27,6 @@ pub fn answer(rt: &HostRuntime, number: u64, line: &str) -> io::Result<String> {
             page.word("unread");
         }
     }
+    fs::remove_dir_all(rt, root.as_str())?;
     Ok(page.finish()?)
 }
