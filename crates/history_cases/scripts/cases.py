@@ -440,6 +440,9 @@ def words_of_tags(made):
         whole = [b"v1", b"tags/v1", v, held, held[:9], held.upper()]
         runs((made,), *((b"show %s\n" % it,) for it in whole), *((b"log breadth all +x -%s\n" % it,) for it in whole), (b"past v1\n",),
              (b"past %s\n" % held, "BadName"), by_git_alone=False, kinds=[kind])
+        # A tag that no name holds any more stands for its commit by its id.
+        runs((made,), (b"delete %s any\n" % v,), *((b"show %s\n" % it,) for it in whole[3:]), (b"show v1\n", "UnknownWord"),
+             (tag(v + b" new %s" % held[:9], 5),), (b"names refs/tags\n",), by_git_alone=False, kinds=[kind])
         accepted = [
             branch(y + b" new", 6, b"parent v1\n"), branch(main + b" at v1", 6), branch(main + b" at " + held, 6, b"parent x\n"),
             b"delete %s at main\n" % v, b"delete %s at v1\n" % v, b"delete %s at %s\n" % (v, held[:12]), b"delete %s any\n" % v,
