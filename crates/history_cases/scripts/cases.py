@@ -1040,6 +1040,14 @@ def readings():
         for commit in (FEW, MANY):
             for command, count in asked:
                 reading(kind, commit + ONE, command, count)
+        # A tag is read, and then its commit, of which a row may tell.
+        tagged = PUT_HELLO + tag(b"refs/tags/v new main")
+        held = Plain(kind)
+        held.run(tagged)
+        for command, count in [(b"show v\n", 2), (b"files v\n", 3), (b"show %s\n" % held.names[b"refs/tags/v"][:9], 2),
+                               (b"log breadth all +v\n", 2)]:
+            reading(kind, tagged, command, count)
+        reading(kind, tagged + b"index\n", b"log breadth all +v\n", 1)
 
 
 def readers():
