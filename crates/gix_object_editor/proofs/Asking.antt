@@ -1,6 +1,6 @@
 -- Counting the trees that an edit asks for.
 use Rattle.std.proofs.Common.{ℕ, zero, suc, ◌≡◌, ◌≢◌, ◌<◌, ◌+◌, ◌&&◌, ◌⊎◌, inl, inr, Bool, true, false, List, [], ◌∷◌, ◌++◌, Option, Some, None, refl, sym, ap, subst, ◌∙◌, arith, length, drop, get_or, add-one, if◌then◌else◌}
-use Rattle.std.specs.Prelude.{not, Result, Ok, Err, IfOk, IfErr, OnOk}
+use Rattle.std.specs.Prelude.{not, Result, Ok, Err, IfOk, IfErr, OnOk, ⊤}
 use Rattle.std.specs.List.{All, Contains}
 use Rattle.std.specs.Borrow.{Bor}
 use Rattle.std.proofs.lemmas.List.{append_assoc, append-nil, length-append, get_or-map}
@@ -11,7 +11,7 @@ use Rattle.gix_object_entries.specs.Entry.{Item}
 use Rattle.gix_object_entries.specs.Mode.{is_tree_value}
 use Rattle.gix_object_find.specs.Table.{Table}
 use Rattle.gix_object_editor.specs.declared.tree.editor.error.Error.{Error}
-use Rattle.gix_object_editor.specs.declared.tree.editor.error.Error.TheVariants.{EmptyPathComponent, FindExistingObject, CannotRemoveNonLeaf, MalformedTree, Memory}
+use Rattle.gix_object_editor.specs.declared.tree.editor.error.Error.TheVariants.{EmptyPathComponent, FindExistingObject, CannotRemoveNonLeaf, MalformedTree, EmptyTree, Memory}
 use Rattle.gix_object_editor.specs.declared.tree.editor.node.NodeId.{NodeId}
 use Rattle.gix_object_editor.specs.declared.tree.editor.node.Slot.{Slot}
 use Rattle.gix_object_editor.specs.Files.{Bytes, Path, Leaf, Trees, HasStored, is_null, leads_on, leaf_of, named, through}
@@ -88,20 +88,40 @@ some_then table ids left was mid now a b = record {
   counted = subst (CountsUp was now) (sym (length-append a.front b.front)) (counts_then was mid now (length a.front) (length b.front) a.counted b.counted);
 }
 
+-- the cause isn't one of those that are told before a tree is asked for
+abbrev pub IsLate : Error → Type 0
+IsLate EmptyPathComponent = ⊥
+IsLate (FindExistingObject error) = ⊤
+IsLate (CannotRemoveNonLeaf filename) = ⊤
+IsLate (MalformedTree oid) = ⊤
+IsLate EmptyTree = ⊥
+IsLate Memory = ⊤
+
 -- where a cause stops an edit behind others
-pub stops_then : (honest may_fail : Type 0) (table : Table) (ids left : List Id) (was mid now : ℕ) (e : Error) → e ≢ EmptyPathComponent → AsksUpTo table ids left was mid → StopsAt honest may_fail table left mid now e
+pub stops_then : (honest may_fail : Type 0) (table : Table) (ids left : List Id) (was mid now : ℕ) (e : Error) → IsLate e → AsksUpTo table ids left was mid → StopsAt honest may_fail table left mid now e
     → StopsAt honest may_fail table ids was now e
-stops_then honest may_fail table ids left was mid now EmptyPathComponent some a h = absurd (some refl)
-stops_then honest may_fail table ids left was mid now (FindExistingObject error) some a h = (h.0, for_then table ids left was mid now h.0 a h.1, h.2)
-stops_then honest may_fail table ids left was mid now (CannotRemoveNonLeaf filename) some a h = all_then table ids left was mid now a h
-stops_then honest may_fail table ids left was mid now (MalformedTree oid) some a h = (h.0, for_then table ids left was mid now h.0 a h.1, h.2)
-stops_then honest may_fail table ids left was mid now Memory some a h = some_then table ids left was mid now a h
+stops_then honest may_fail table ids left was mid now EmptyPathComponent late a h = absurd late
+stops_then honest may_fail table ids left was mid now (FindExistingObject error) late a h = (h.0, for_then table ids left was mid now h.0 a h.1, h.2)
+stops_then honest may_fail table ids left was mid now (CannotRemoveNonLeaf filename) late a h = all_then table ids left was mid now a h
+stops_then honest may_fail table ids left was mid now (MalformedTree oid) late a h = (h.0, for_then table ids left was mid now h.0 a h.1, h.2)
+stops_then honest may_fail table ids left was mid now EmptyTree late a h = absurd late
+stops_then honest may_fail table ids left was mid now Memory late a h = some_then table ids left was mid now a h
 
-pub no_empty_opening : (honest may_fail : Type 0) (table : Table) (id : Id) (e : Error) → OpeningFault honest may_fail table id e → e ≢ EmptyPathComponent
-no_empty_opening honest may_fail table id e h is = subst (OpeningFault honest may_fail table id) is h
+pub late_opening : (honest may_fail : Type 0) (table : Table) (id : Id) (e : Error) → OpeningFault honest may_fail table id e → IsLate e
+late_opening honest may_fail table id EmptyPathComponent h = h
+late_opening honest may_fail table id (FindExistingObject error) h = tt
+late_opening honest may_fail table id (CannotRemoveNonLeaf filename) h = tt
+late_opening honest may_fail table id (MalformedTree oid) h = tt
+late_opening honest may_fail table id EmptyTree h = h
+late_opening honest may_fail table id Memory h = tt
 
-pub no_empty_folder : (honest may_fail : Type 0) (table : Table) (slots : Slots) (at : ℕ) (name : Bytes) (e : Error) → FolderFault honest may_fail table slots at name e → e ≢ EmptyPathComponent
-no_empty_folder honest may_fail table slots at name e h is = subst (FolderFault honest may_fail table slots at name) is h
+pub late_folder : (honest may_fail : Type 0) (table : Table) (slots : Slots) (at : ℕ) (name : Bytes) (e : Error) → FolderFault honest may_fail table slots at name e → IsLate e
+late_folder honest may_fail table slots at name EmptyPathComponent h = h
+late_folder honest may_fail table slots at name (FindExistingObject error) h = tt
+late_folder honest may_fail table slots at name (CannotRemoveNonLeaf filename) h = tt
+late_folder honest may_fail table slots at name (MalformedTree oid) h = tt
+late_folder honest may_fail table slots at name EmptyTree h = h
+late_folder honest may_fail table slots at name Memory h = tt
 
 -- a tree that isn't opened, for this cause
 pub stops_opening : (honest may_fail : Type 0) (table : Table) (id : Id) (ids left : List Id) (was now : ℕ) (e : Error) → ids ≡ id ∷ left → CountsUp was now 1 → OpeningFault honest may_fail table id e
@@ -112,6 +132,7 @@ stops_opening honest may_fail table id ids left was now (FindExistingObject erro
 stops_opening honest may_fail table id ids left was now (CannotRemoveNonLeaf filename) split counted h = absurd h
 stops_opening honest may_fail table id ids left was now (MalformedTree oid) split counted h =
     (id, record { front = []; rest = left; split = sym split; good = λ k d lt. absurd (omega arith); counted = counted }, h)
+stops_opening honest may_fail table id ids left was now EmptyTree split counted h = absurd h
 stops_opening honest may_fail table id ids left was now Memory split counted h = record { front = id ∷ []; rest = left; split = sym split; counted = counted }
 
 -- ---- what a slot leads into
@@ -283,7 +304,7 @@ module _ (table : Table) (trees : Trees) (old new : Slots) (at : ℕ) (path : Li
       → ((rest : Path) → StopsAt honest may_fail table (unopened_into trees old at ((get_or path i d).now ∷ rest)) mid now e) → StopsAt honest may_fail table ids was now e
   walk_stops honest may_fail id e fault stops =
       let rest = front_of (names (drop (i + 1) path)) ++ more in
-      stops_then honest may_fail table ids (unopened_into trees old at ((get_or path i d).now ∷ rest)) was mid now e (no_empty_opening honest may_fail table id e fault) stepped (stops rest)
+      stops_then honest may_fail table ids (unopened_into trees old at ((get_or path i d).now ∷ rest)) was mid now e (late_opening honest may_fail table id e fault) stepped (stops rest)
 
 -- ---- what was asked for, in the end
 
@@ -350,11 +371,11 @@ module _ (table : Table) (trees : Trees) (old mid : Slots) (from at : ℕ) (path
         (subst (λ (k : ℕ). AsksAll table (unopened_into trees old from (front_of (names path) ++ end.0 ∷ [])) was k) (sym (same lt)) (all (end.0 ∷ []) lt))
   ]
 
-  pub into_stops : (honest may_fail : Type 0) (e : Error) → e ≢ EmptyPathComponent → (n : Bytes) → i + 1 ≡ length path → front_of (names path) ++ n ∷ [] ≡ names path
+  pub into_stops : (honest may_fail : Type 0) (e : Error) → IsLate e → (n : Bytes) → i + 1 ≡ length path → front_of (names path) ++ n ∷ [] ≡ names path
       → StopsAt honest may_fail table (unopened_into trees mid at (n ∷ [])) between now e → StopsAt honest may_fail table (unopened_into trees old from (names path)) was now e
-  into_stops honest may_fail e some n last whole stops =
+  into_stops honest may_fail e late n last whole stops =
       subst (λ (p : Path). StopsAt honest may_fail table (unopened_into trees old from p) was now e) whole
-      (stops_then honest may_fail table (unopened_into trees old from (front_of (names path) ++ n ∷ [])) (unopened_into trees mid at (n ∷ [])) was between now e some (asked (n ∷ []) last) stops)
+      (stops_then honest may_fail table (unopened_into trees old from (front_of (names path) ++ n ∷ [])) (unopened_into trees mid at (n ∷ [])) was between now e late (asked (n ∷ []) last) stops)
 
 module _ (honest may_fail : Type 0) (table : Table) (trees : Trees) (old : Slots) (from : ℕ) (path : List (Bor (List ℕ))) (was now : ℕ) (e : Error)
     (stops : (more : Path) → StopsAt honest may_fail table (unopened_into trees old from (front_of (names path) ++ more)) was now e) where

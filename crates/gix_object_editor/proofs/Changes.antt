@@ -153,8 +153,8 @@ module _ (mid new : Slots) (now fin : Marks) (b : ℕ) (marked : AreMarked mid n
 
 module _ (old mid new end : Slots) (was now put fin : Marks) (a b c : ℕ) (mid_ok : IsForest mid b) (new_ok : IsForest new c) (opened : AreMarksKept false old mid was now a b) (made : AreMarksKept true mid new now put b c)
     (at : ℕ) (name : Bytes) (others : (i : ℕ) (m : Bytes) → i < b → ((i ≡ at) → (m ≡ name) → ⊥) → new i m ≡ mid i m) (same : end ≡ new) (up : AreMarkedUp new put fin at c) where
-  pub graft_as_read : (trees : Trees) → AreAsRead trees mid now → AreAsRead trees end fin
-  graft_as_read trees read = subst (λ f. AreAsRead trees f fin) (sym same) (edited_as_read trees mid new now fin b c mid_ok up.marked still read
+  pub laid_as_read : (trees : Trees) → AreAsRead trees mid now → AreAsRead trees end fin
+  laid_as_read trees read = subst (λ f. AreAsRead trees f fin) (sym same) (edited_as_read trees mid new now fin b c mid_ok up.marked still read
       (λ k lt t. up.kept k (ap (λ (m : Mark). m.changed) (made.same k lt) ∙ t)) (λ k le lt. up.kept k (made.fresh k le lt)) new_ok made.links)
     where
       still : (i : ℕ) (m : Bytes) → i < b → (fin i).changed ≡ false → (new i m ≡ mid i m) ⊎ ((new i m ≡ None) × IsIdle now (mid i m))
@@ -164,9 +164,9 @@ module _ (old mid new end : Slots) (was now put fin : Marks) (a b c : ℕ) (mid_
       ]
 
   -- those that are changed now
-  pub graft_changed : (path : Path) → AreOnPath new path b c → (way rest : Path) → Way new way at → rest ≢ [] → onto way rest ≡ path → (tree : Path) (j : ℕ) → LeadsTo end tree j [] → (fin j).changed ≡ true
+  pub laid_changed : (path : Path) → AreOnPath new path b c → (way rest : Path) → Way new way at → rest ≢ [] → onto way rest ≡ path → (tree : Path) (j : ℕ) → LeadsTo end tree j [] → (fin j).changed ≡ true
       → ((k : ℕ) × LeadsTo old tree k [] × ((was k).changed ≡ true)) ⊎ ((more : Path) × (more ≢ []) × (tree ++ more ≡ path))
-  graft_changed path on_path way rest down some ends tree j to t =
+  laid_changed path on_path way rest down some ends tree j to t =
       edit_changed old mid was now a b mid_ok opened new put fin c new_ok made at path on_path up.only way rest down some ends tree j (subst (λ f. LeadsTo f tree j []) same to) t
 
 -- an edit that failed behind opened trees

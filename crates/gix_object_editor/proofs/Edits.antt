@@ -10,7 +10,7 @@ use Rattle.gix_hash_id.specs.Id.{Id, id_of}
 use Rattle.gix_object_editor.specs.declared.tree.editor.node.Slot.{Slot}
 use Rattle.gix_object_find.specs.Table.{Table}
 use Rattle.gix_object_editor.specs.declared.tree.editor.error.Error.{Error}
-use Rattle.gix_object_editor.specs.declared.tree.editor.error.Error.TheVariants.{EmptyPathComponent, FindExistingObject, CannotRemoveNonLeaf, MalformedTree, Memory}
+use Rattle.gix_object_editor.specs.declared.tree.editor.error.Error.TheVariants.{EmptyPathComponent, FindExistingObject, CannotRemoveNonLeaf, MalformedTree, EmptyTree, Memory}
 use Rattle.gix_object_editor.specs.Editor.{EditFault, LeafFault, IsFolder, IsTreeNamed, LeadsThrough, LeadsInto}
 use Rattle.gix_object_editor.specs.Refusals.{OpeningFault, FolderFault}
 use Rattle.gix_object_editor.specs.Files.{Bytes, Path, Leaf, FileMap, Trees, HasStored, HasNoneBelow, NamesAreFull, is_null, through, tree_under, unless_tree, files_of_entry, behind, removed, put, put_at}
@@ -153,6 +153,7 @@ edit_fault honest may_fail table path Through EmptyPathComponent id t h = absurd
 edit_fault honest may_fail table path Through (FindExistingObject error) id t h = (id, t, h)
 edit_fault honest may_fail table path Through (CannotRemoveNonLeaf filename) id t h = absurd h
 edit_fault honest may_fail table path Through (MalformedTree oid) id t h = (id, t, h)
+edit_fault honest may_fail table path Through EmptyTree id t h = absurd h
 edit_fault honest may_fail table path Through Memory id t h = tt
 
 pub leaf_fault : (honest may_fail : Type 0) (table : Table) (path : Path) (Into : Id → Type 0) (Folder : Type 0) (e : Error) → (id : Id) → Into id → OpeningFault honest may_fail table id e
@@ -161,6 +162,7 @@ leaf_fault honest may_fail table path Into Folder EmptyPathComponent id t h = ab
 leaf_fault honest may_fail table path Into Folder (FindExistingObject error) id t h = (id, t, h)
 leaf_fault honest may_fail table path Into Folder (CannotRemoveNonLeaf filename) id t h = absurd h
 leaf_fault honest may_fail table path Into Folder (MalformedTree oid) id t h = (id, t, h)
+leaf_fault honest may_fail table path Into Folder EmptyTree id t h = absurd h
 leaf_fault honest may_fail table path Into Folder Memory id t h = tt
 
 -- a refused folder at a path's end
@@ -178,6 +180,7 @@ folder_fault honest may_fail table slots names path at name Fit filled last lead
 )
 folder_fault honest may_fail table slots names path at name Fit filled last leads (MalformedTree oid) h =
     (id_of h.0.oid, end_tree slots path at name h.0 leads h.1 h.2, h.3)
+folder_fault honest may_fail table slots names path at name Fit filled last leads EmptyTree h = absurd h
 folder_fault honest may_fail table slots names path at name Fit filled last leads Memory h = tt
 
 -- a folder that isn't opened is refused for that
@@ -187,6 +190,7 @@ opened_fault honest may_fail table slots at name EmptyPathComponent h = absurd h
 opened_fault honest may_fail table slots at name (FindExistingObject error) h = h
 opened_fault honest may_fail table slots at name (CannotRemoveNonLeaf filename) h = absurd h.3
 opened_fault honest may_fail table slots at name (MalformedTree oid) h = h
+opened_fault honest may_fail table slots at name EmptyTree h = absurd h.3
 opened_fault honest may_fail table slots at name Memory h = tt
 
 -- the last name, and those before it

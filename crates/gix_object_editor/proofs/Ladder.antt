@@ -15,7 +15,7 @@ use Rattle.gix_object_editor.proofs.Opening.{same_through, linked_more, at_or_of
 use Rattle.gix_object_editor.proofs.Paths.{same_name, name_itself, by_test, onto-append}
 use Rattle.gix_object_editor.proofs.Slots.{none_past}
 use Rattle.gix_object_editor.proofs.Walked.{names, names_length}
-use Rattle.gix_object_editor.proofs.Ways.{child_files, child_no_file, grafts, way_kept, way_above}
+use Rattle.gix_object_editor.proofs.Ways.{child_files, child_no_file, lays, way_kept, way_above}
 use Rattle.gix_object_editor.proofs.Standing.{child_entry}
 use Rattle.gix_object_editor.proofs.Entered.{none_met, closed_entry, laid_entries}
 use Rattle.gix_hash_id.specs.Id.{id_of}
@@ -301,7 +301,7 @@ module _ (slots mid : Slots) (bound more : ℕ) (ok : IsForest slots bound) (nam
         → (q : Path) → files_of_node trees new 0 q ≡ put trees (onto way (name ∷ next ∷ rest)) (leaf_in s) (files_of_node trees slots 0) q
     linked_files next rest is plain trees way reached q =
         let root : 0 < bound = ok.rooted in
-        grafts trees mid new more ladder_forest at name way (way_kept slots mid kept_links way at reached) others bound (leaf_in s) next rest (ap child_of stands ∙ linked)
+        lays trees mid new more ladder_forest at name way (way_kept slots mid kept_links way at reached) others bound (leaf_in s) next rest (ap child_of stands ∙ linked)
         (λ m below_m. ladder_files trees new s closed names bound some (λ k lt. rung_stays k (rungs k lt)) m below_m ∙ ap (λ p. put_at trees (leaf_in s) (behind p (m ∷ below_m)) None) is)
         (λ m more_m. front_files trees slots mid bound ok front (name ∷ m ∷ more_m) at below ∙ plain trees m more_m) q
         ∙ ap (λ x. put_at trees (leaf_in s) (behind (onto way (name ∷ next ∷ rest)) q) (if is_some (behind q (onto way (name ∷ next ∷ rest))) then None else x))

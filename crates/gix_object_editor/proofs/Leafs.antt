@@ -5,7 +5,7 @@ use Rattle.gix_hash_id.specs.Id.{Id}
 use Rattle.gix_object_entries.specs.Mode.{is_tree_value}
 use Rattle.gix_object_find.specs.Table.{Table}
 use Rattle.gix_object_editor.specs.declared.tree.editor.error.Error.{Error}
-use Rattle.gix_object_editor.specs.declared.tree.editor.error.Error.TheVariants.{EmptyPathComponent, FindExistingObject, CannotRemoveNonLeaf, MalformedTree, Memory}
+use Rattle.gix_object_editor.specs.declared.tree.editor.error.Error.TheVariants.{EmptyPathComponent, FindExistingObject, CannotRemoveNonLeaf, MalformedTree, EmptyTree, Memory}
 use Rattle.gix_object_editor.specs.declared.tree.editor.state.Editor.{Editor}
 use Rattle.gix_object_editor.specs.Editor.{files_of, LeafFault, IsFilled, IsFolder, IsNonLeaf}
 use Rattle.gix_object_editor.specs.Nodes.{leaf_in}
@@ -30,4 +30,5 @@ leaf_fault_folder honest may_fail table names Into path editor (Err EmptyPathCom
 leaf_fault_folder honest may_fail table names Into path editor (Err (FindExistingObject error)) h = λ no. absurd no
 leaf_fault_folder honest may_fail table names Into path editor (Err (CannotRemoveNonLeaf filename)) h = λ _. h.1 no_trees (filled_without editor)
 leaf_fault_folder honest may_fail table names Into path editor (Err (MalformedTree oid)) h = λ no. absurd no
+leaf_fault_folder honest may_fail table names Into path editor (Err EmptyTree) h = λ no. absurd no
 leaf_fault_folder honest may_fail table names Into path editor (Err Memory) h = λ no. absurd no

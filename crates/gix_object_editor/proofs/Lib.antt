@@ -25,3 +25,4 @@ pub mod Gotten
 pub mod Standing
 pub mod Entered
 pub mod Raised
+pub mod Grafted

@@ -140,9 +140,9 @@ module _ (old new : Slots) (was now : Marks) (bound more : ℕ) (old_ok : IsFore
   }
 
   -- folders that were made below one
-  pub grafted_marked : (at : ℕ) (name : Bytes) → IsForest new more → ((i : ℕ) → bound ≤ i → i < more → (now i).changed ≡ true)
+  pub laid_marked : (at : ℕ) (name : Bytes) → IsForest new more → ((i : ℕ) → bound ≤ i → i < more → (now i).changed ≡ true)
       → ((i : ℕ) (m : Bytes) → i < bound → ((i ≡ at) → (m ≡ name) → ⊥) → new i m ≡ old i m) → AreMarkedBut at new now more
-  grafted_marked at name ok fresh others = record {
+  laid_marked at name ok fresh others = record {
     before = still_before;
     up = still_up;
     closed = λ i n c e t. elim (cases_lt c bound) [

@@ -168,9 +168,9 @@ walk_before a b at k up within (inl same) = omega (arith, within, same)
 walk_before a b at k up within (inr last) = absurd (omega (arith, up, within, last))
 
 -- links stay where folders are made at a free name
-pub graft_links : (old new : Slots) (bound at : ℕ) (name : Bytes) → ((i : ℕ) (m : Bytes) → bound ≤ i → old i m ≡ None) → old at name ≡ None → ((i : ℕ) (m : Bytes) → i < bound → ((i ≡ at) → (m ≡ name) → ⊥) → new i m ≡ old i m)
+pub laid_links : (old new : Slots) (bound at : ℕ) (name : Bytes) → ((i : ℕ) (m : Bytes) → bound ≤ i → old i m ≡ None) → old at name ≡ None → ((i : ℕ) (m : Bytes) → i < bound → ((i ≡ at) → (m ≡ name) → ⊥) → new i m ≡ old i m)
     → (i : ℕ) (m : Bytes) (c : ℕ) → child_of (old i m) ≡ Some c → child_of (new i m) ≡ Some c
-graft_links old new bound at name past free others i m c e = elim (cases_lt i bound) [
+laid_links old new bound at name past free others i m c e = elim (cases_lt i bound) [
   | inr late ↦ absurd (cc (sym (ap child_of (past i m late)) ∙ e))
   | inl early ↦ elim (at_or_off i at m name) [
     | inl x ↦ absurd (cc (sym (ap child_of (ap (λ k. old k m) x.0 ∙ ap (old at) x.1 ∙ free)) ∙ e))

@@ -184,11 +184,11 @@ module _ (trees : Trees) (slots new : Slots) (bound : ℕ) (ok : IsForest slots 
           here q rest e ∙ ap (λ o. through o (files_of_slot trees new rest)) stands ∙ entry rest ∙ sym (below_put (leaf_in s) [] q rest e)
 
   -- a tree that is put into the slot, with one entry alone at the end of its names, where no folder stood
-  pub grafts : (c : ℕ) (leaf : Leaf) (next : Bytes) (more : Path) → child_of (new j name) ≡ Some c
+  pub lays : (c : ℕ) (leaf : Leaf) (next : Bytes) (more : Path) → child_of (new j name) ≡ Some c
       → ((m : Bytes) (rest : Path) → files_of_node trees new c (m ∷ rest) ≡ put_at trees leaf (behind (next ∷ more) (m ∷ rest)) None)
       → ((m : Bytes) (rest : Path) → through (slots j name) (files_of_slot trees slots (m ∷ rest)) ≡ None)
       → (q : Path) → files_of_node trees new 0 q ≡ put trees (onto way (name ∷ next ∷ more)) leaf (files_of_node trees slots 0) q
-  grafts c leaf next more opened inside plain q = by_case (behind (onto way (name ∷ [])) q) refl
+  lays c leaf next more opened inside plain q = by_case (behind (onto way (name ∷ [])) q) refl
     where
       none_or_none : (b : Bool) → ◌≡◌ {A = Option Leaf} (if b then None else None) None
       none_or_none true = refl

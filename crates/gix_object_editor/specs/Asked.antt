@@ -8,7 +8,7 @@ use Rattle.gix_object_entries.specs.WellFormed.{IsWellFormed}
 use Rattle.gix_object_find.specs.Table.{Table}
 use Rattle.gix_object_find.specs.Existing.{Stands}
 use Rattle.gix_object_editor.specs.declared.tree.editor.error.Error.{Error}
-use Rattle.gix_object_editor.specs.declared.tree.editor.error.Error.TheVariants.{EmptyPathComponent, FindExistingObject, CannotRemoveNonLeaf, MalformedTree, Memory}
+use Rattle.gix_object_editor.specs.declared.tree.editor.error.Error.TheVariants.{EmptyPathComponent, FindExistingObject, CannotRemoveNonLeaf, MalformedTree, EmptyTree, Memory}
 use Rattle.gix_object_editor.specs.declared.tree.editor.node.NodeId.{NodeId}
 use Rattle.gix_object_editor.specs.declared.tree.editor.node.Slot.{Slot}
 use Rattle.gix_object_editor.specs.Files.{Path, Leaf, Trees, HasStored, leads_on, leaf_of, named, through}
@@ -96,6 +96,7 @@ StopsAt honest may_fail table ids was now (CannotRemoveNonLeaf filename) = AsksA
 StopsAt honest may_fail table ids was now (MalformedTree oid) =
     (id : Id) × AsksFor table ids was now id
     × OpeningFault honest may_fail table id (MalformedTree oid)
+StopsAt honest may_fail table ids was now EmptyTree = now ≡ was
 StopsAt honest may_fail table ids was now Memory = AsksSome ids was now
 
 -- over the stored trees all of these were asked for, or the edit stopped at one

@@ -10,8 +10,8 @@ use Rattle.gix_object_find.specs.Table.{Table}
 use Rattle.gix_object_editor.specs.declared.tree.editor.node.Slot.{Slot}
 use Rattle.gix_object_editor.specs.declared.tree.editor.state.Editor.{Editor}
 use Rattle.gix_object_editor.specs.declared.tree.editor.error.Error.{Error}
-use Rattle.gix_object_editor.specs.declared.tree.editor.error.Error.TheVariants.{EmptyPathComponent, FindExistingObject, CannotRemoveNonLeaf, MalformedTree, Memory}
-use Rattle.gix_object_editor.specs.Files.{Bytes, Path, Leaf, FileMap, Trees, HasStored, NamesAreFull, behind, leads_on, entry_into}
+use Rattle.gix_object_editor.specs.declared.tree.editor.error.Error.TheVariants.{EmptyPathComponent, FindExistingObject, CannotRemoveNonLeaf, MalformedTree, EmptyTree, Memory}
+use Rattle.gix_object_editor.specs.Files.{Bytes, Path, Leaf, FileMap, Trees, HasStored, NamesAreFull, IsEmptyTree, behind, leads_on, entry_into}
 use Rattle.gix_object_editor.specs.Nodes.{slots_of, slot_over, entry_from, files_of_node, LeadsTo, AreFilled}
 use Rattle.gix_object_editor.specs.Marks.{marks_of, IsMade, IsChangedIn, AreAsRead}
 use Rattle.gix_object_editor.specs.Entries.{Property, EachHas, made_leaf}
@@ -124,6 +124,7 @@ IsNonLeaf EmptyPathComponent = ⊥
 IsNonLeaf (FindExistingObject error) = ⊥
 IsNonLeaf (CannotRemoveNonLeaf filename) = ⊤
 IsNonLeaf (MalformedTree oid) = ⊥
+IsNonLeaf EmptyTree = ⊥
 IsNonLeaf Memory = ⊥
 
 -- what stands at the second path lies in the tree at the first
@@ -161,7 +162,14 @@ EditFault honest may_fail table path Through (FindExistingObject error) = (id : 
 EditFault honest may_fail table path Through (CannotRemoveNonLeaf filename) = ⊥
 EditFault honest may_fail table path Through (MalformedTree oid) = (id : Id) × Through id
     × OpeningFault honest may_fail table id (MalformedTree oid)
+EditFault honest may_fail table path Through EmptyTree = ⊥
 EditFault honest may_fail table path Through Memory = ⊤
+
+-- why nothing is grafted at a path: the id is the empty tree's, or an edit there is refused
+abbrev pub GraftFault : Type 0 → Type 0 → Table → Path → Id → (Id → Type 0) → Error → Type 0
+GraftFault honest may_fail table path id Through error =
+    ((error ≡ EmptyTree) × NamesAreFull path × IsEmptyTree id)
+    ⊎ EditFault honest may_fail table path Through error
 
 -- each entry of an editor that isn't null has a file: none names a tree without files
 abbrev pub IsFilled : {S : Type 0} → Trees → Editor S → Type 0
@@ -181,4 +189,5 @@ LeafFault honest may_fail table path Into Folder (CannotRemoveNonLeaf filename) 
     ((front : Path) × (path ≡ front ++ filename ∷ [])) × Folder
 LeafFault honest may_fail table path Into Folder (MalformedTree oid) = (id : Id) × Into id
     × OpeningFault honest may_fail table id (MalformedTree oid)
+LeafFault honest may_fail table path Into Folder EmptyTree = ⊥
 LeafFault honest may_fail table path Into Folder Memory = ⊤

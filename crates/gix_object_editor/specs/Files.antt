@@ -4,6 +4,7 @@
 use Rattle.std.specs.Prelude.{ℕ, ◌≡◌, ◌≢◌, ◌&&◌, not, Bool, List, [], ◌∷◌, ◌++◌, Option, Some, None, is_some, bytes_eq, if◌then◌else◌}
 use Rattle.std.specs.List.{All}
 use Rattle.gix_hash_id.specs.Id.{Id, null_id}
+use Rattle.gix_hash_id.specs.Hasher.{id_of_message, empty_tree_text}
 use Rattle.gix_hash_id.specs.Order.{id_eq}
 use Rattle.gix_object_lines.specs.declared.kind.Kind.TheVariants as kinds
 use Rattle.gix_object_entries.specs.Entry.{Item, SpellsTree}
@@ -45,6 +46,10 @@ HasStored table trees =
 
 abbrev pub is_null : Id → Bool
 is_null id = id_eq id (null_id id.kind)
+
+-- the id is that of the tree without entries
+abbrev pub IsEmptyTree : Id → Type 0
+IsEmptyTree id = id ≡ id_of_message id.kind empty_tree_text
 
 abbrev pub leaf_of : Item → Leaf
 leaf_of item = record { mode = item.mode; id = item.id }

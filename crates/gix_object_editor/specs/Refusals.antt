@@ -14,7 +14,7 @@ use Rattle.gix_object_editor.specs.Files.{Bytes, Path, Leaf, Trees}
 use Rattle.gix_object_editor.specs.Nodes.{Slots, files_of_node, AreFilled, IsUnopened}
 use Rattle.gix_object_editor.specs.declared.tree.editor.node.Slot.{Slot}
 use Rattle.gix_object_editor.specs.declared.tree.editor.error.Error.{Error}
-use Rattle.gix_object_editor.specs.declared.tree.editor.error.Error.TheVariants.{EmptyPathComponent, FindExistingObject, CannotRemoveNonLeaf, MalformedTree, Memory}
+use Rattle.gix_object_editor.specs.declared.tree.editor.error.Error.TheVariants.{EmptyPathComponent, FindExistingObject, CannotRemoveNonLeaf, MalformedTree, EmptyTree, Memory}
 
 -- the content under an id isn't read as a tree, for this cause, which the error tells with the id: where it spells one only for
 -- want of memory
@@ -45,6 +45,7 @@ OpeningFault honest may_fail table id
 OpeningFault honest may_fail table id (CannotRemoveNonLeaf filename) = ⊥
 OpeningFault honest may_fail table id (MalformedTree oid) = TreeIsMalformed honest table id
     (id_of oid)
+OpeningFault honest may_fail table id EmptyTree = ⊥
 OpeningFault honest may_fail table id Memory = ⊤
 
 -- why a name's folder is refused as a file: its tree isn't opened, or a file stands below it, where no entry names a tree without
@@ -61,4 +62,5 @@ FolderFault honest may_fail table slots at name (CannotRemoveNonLeaf filename) =
 FolderFault honest may_fail table slots at name (MalformedTree oid) =
     (s : Slot) × (slots at name ≡ Some s) × IsUnopened s
     × OpeningFault honest may_fail table (id_of s.oid) (MalformedTree oid)
+FolderFault honest may_fail table slots at name EmptyTree = ⊥
 FolderFault honest may_fail table slots at name Memory = ⊤

@@ -258,6 +258,81 @@ def failing_rows(git):
     row(git, root, [], [deep, "failing:3", "failing:1", "written"], ["ok", f"{edited} 3", "Out 1", "3"])
 
 
+def grafted(git, root, path, mode, oid):
+    """The tree that git writes once it has read one into the index at a folder, or a file: the paths on the way and below go first."""
+    git.run("read-tree", "--empty")
+    git.run("read-tree", root)
+    for _, _, q in git.listed(root):
+        names = tuple(q.split(b"/"))
+        if begins(path, names) or begins(names, path):
+            git.run("update-index", "-z", "--force-remove", "--stdin", data=q + b"\0")
+    where = b"/".join(path)
+    if mode == "40000":
+        git.run("read-tree", b"--prefix=" + where + b"/", oid)
+    else:
+        git.run("update-index", "-z", "--index-info", data=f"{mode} {oid}\t".encode() + where + b"\0")
+    made = git.id("write-tree")
+    if mode == "40000":
+        assert git.run("ls-tree", "-z", "-r", "-t", made + ":" + where.decode("utf-8", "surrogateescape")) == git.run("ls-tree", "-z", "-r", "-t", oid)
+    return made
+
+
+def graft(path, mode, oid):
+    return f"graft:{path_word(path)}:{KINDS[mode]}:{oid}"
+
+
+def random_graft_row(git, chance):
+    """Trees and files grafted one after another, from the root and from cursors."""
+    names = chance.sample(NAMES, chance.choice([2, 3, 5]))
+    root = made = git.tree(some_files(git, chance, names, 12))
+    edits, answers, more = [], [], []
+    for _ in range(chance.randrange(1, 6)):
+        path = some_path(chance, names)
+        mode, oid = chance.choice([("40000", git.tree(some_files(git, chance, names, 6)))] * 3 + [(chance.choice(list(KINDS)[:4]), chance.choice(git.blobs))])
+        way = chance.randrange(len(path)) if oid != git.empty else 0
+        edits.append(f"at:{path_word(path[:way])}:{graft(path[way:], mode, oid)}" if way else graft(path, mode, oid))
+        answers.append("EmptyTree" if oid == git.empty else "ok")
+        if oid != git.empty:
+            made = grafted(git, made, path, mode, oid)
+            more.extend([oid] if mode == "40000" else [])
+    row(git, root, more, edits + ["write"], answers + [f"{made} known+"])
+
+
+def graft_rows(git):
+    x, y = git.blobs[0], git.blobs[1]
+    a, b, c, d, e, f, g, m, n = (name.encode() for name in "abcdefgmn")
+    nested = git.tree({(a, b, e): ("100644", x), (a, f): ("100644", y), (g,): ("100755", x)})
+    deep = git.tree({(m, n, e): ("120000", y), (n,): ("100644", x)})
+    get = lambda *path: "get:" + path_word(path)
+    at = lambda *path: "at:" + path_word(path)
+    known = lambda path, mode, oid: f"{grafted(git, nested, path, mode, oid)} known+"
+    # no tree but those on the way is asked for, and the grafted one only by a later edit that leads into it
+    for path, asked in [((d,), 0), ((a,), 0), ((a, c), 1), ((a, b), 1), ((a, b, c), 2), ((a, b, c, d), 2), ((a, f, d), 1), ((g, d, e), 0)]:
+        row(git, nested, [deep], [graft(path, "40000", deep), "lookups", get(*path), "write"], ["ok", f"{asked} asked {asked}", f"40000 {deep}", known(path, "40000", deep)])
+        into = git.tree({tuple(q.split(b"/")): (mode, oid) for mode, oid, q in git.listed(grafted(git, nested, path, "40000", deep)) if mode != "040000"} | {path + (m, c): ("100644", x)})
+        row(git, nested, [deep], [graft(path, "40000", deep), upsert(path + (m, c), "100644", x), "lookups", "write"], ["ok", "ok", f"{asked + 2} asked {asked + 2}", f"{into} known+"])
+        for mode, oid in [("100644", y), ("100755", x), ("120000", y)]:
+            row(git, nested, [], [graft(path, mode, oid), "lookups", get(*path), "write"], ["ok", f"{asked} asked {asked}", f"{mode} {oid}", known(path, mode, oid)])
+    # nothing is asked of the id, so it needn't stand
+    made = grafted(git, nested, (a, c), "40000", deep)
+    row(git, nested, [], [graft((a, c), "40000", deep), "lookups", "write"], ["ok", "1 asked 1", f"{made} known-"])
+    # the empty tree, whatever the kind; a path that isn't full comes first; nothing is asked
+    for mode in KINDS:
+        row(git, nested, [], [graft((a, b, c), mode, git.empty), "lookups", "written", "write"], ["EmptyTree", "0 asked 0", "1", f"{nested} known+"])
+        row(git, nested, [], [graft((), mode, git.empty), graft((a, b""), mode, git.empty), graft((), mode, x), "lookups", "write"], ["EmptyPathComponent"] * 3 + ["0 asked 0", f"{nested} known+"])
+        row(git, nested, [], [f"{at(a)}:{graft((b, c), mode, git.empty)}", f"{at(a)}:{graft((), mode, git.empty)}", "lookups", "written", "write"], ["EmptyTree", "EmptyPathComponent", "1 asked 1", "1", f"{nested} known+"])
+    # a tree on the way that isn't stored
+    rows.append((f"{git.kind} {git.content(nested).hex()} - {graft((a, c), '40000', deep)} {graft((a, c), '40000', git.empty)} lookups write", f"FindExistingObject EmptyTree 1 asked 1 {nested} known-"))
+    # what stands already, and the null id
+    same = graft((a, b), "40000", git.entry(nested, (a, b)).split()[1])
+    row(git, nested, [], [same, "lookups", "written", "write"], ["ok", "1 asked 1", "1", f"{nested} known+"])
+    left = git.tree({(a, f): ("100644", y), (g,): ("100755", x)})
+    row(git, nested, [], [graft((a, b), "40000", git.null), get(a, b), "write"], ["ok", "none", f"{left} known+"])
+    # a folder into itself, and one folder at two places
+    row(git, nested, [nested], [graft((a, b), "40000", nested), graft((d,), "40000", nested), "lookups", "written", "write"], ["ok", "ok", "1 asked 1", "2", f"{grafted(git, grafted(git, nested, (a, b), '40000', nested), (d,), '40000', nested)} known+"])
+    row(git, git.empty, [deep], [graft((a,), "40000", deep), graft((b, c), "40000", deep), "lookups", "write"], ["ok", "ok", "0 asked 0", f"{grafted(git, grafted(git, git.empty, (a,), '40000', deep), (b, c), '40000', deep)} known+"])
+
+
 def odd_rows(git, content, refusal):
     """Edits through a folder `d` whose content is no well-formed tree, each in an editor of its own."""
     x = git.blobs[0]
@@ -307,5 +382,8 @@ for kind in git_repository.LENGTH:
     failing_rows(git)
     for _ in range(40):
         root_row(git, chance)
+    graft_rows(git)
+    for _ in range(80):
+        random_graft_row(git, chance)
 
 write(__file__, rows)

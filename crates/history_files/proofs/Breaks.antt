@@ -95,6 +95,7 @@ module _ (honest may_fail : Type 0) (table : Table) (path : Path) where
   edit_broken Through (refused.FindExistingObject error) (id, through_it, h) = unread_broken honest may_fail table id error h
   edit_broken Through (refused.CannotRemoveNonLeaf filename) h = tt
   edit_broken Through (refused.MalformedTree oid) (id, through_it, h) = malformed_broken honest may_fail table id oid h
+  edit_broken Through refused.EmptyTree h = tt
   edit_broken Through refused.Memory h = tt
 
   pub leaf_broken : (Into : Id → Type 0) (Folder : Type 0) (error : editor.Error) → LeafFault honest may_fail table path Into Folder error → TellsBroken honest table (as_edited error)
@@ -102,6 +103,7 @@ module _ (honest may_fail : Type 0) (table : Table) (path : Path) where
   leaf_broken Into Folder (refused.FindExistingObject error) (id, into_it, h) = unread_broken honest may_fail table id error h
   leaf_broken Into Folder (refused.CannotRemoveNonLeaf filename) h = tt
   leaf_broken Into Folder (refused.MalformedTree oid) (id, into_it, h) = malformed_broken honest may_fail table id oid h
+  leaf_broken Into Folder refused.EmptyTree h = tt
   leaf_broken Into Folder refused.Memory h = tt
 
 -- ---- walks that end early

@@ -230,6 +230,7 @@ module _ (kind : Kind) (table : Table) (folders : List FileMap) (inner : (g : Fi
     edit_fault path Through full leads (refused.FindExistingObject error) (id, through_it, h) = unread_fault id (folder_stands id (leads id through_it)) error h
     edit_fault path Through full leads (refused.CannotRemoveNonLeaf filename) h = absurd h
     edit_fault path Through full leads (refused.MalformedTree oid) (id, through_it, h) = absurd (malformed_fault id (folder_stands id (leads id through_it)) (id_of oid) h)
+    edit_fault path Through full leads refused.EmptyTree h = absurd h
     edit_fault path Through full leads refused.Memory h = tt
 
     pub leaf_fault : (path : Path) (Into : Id → Type 0) (Folder : Type 0) → NamesAreFull path → ((id : Id) → Into id → (g : FileMap) × In g folders × (id ≡ folder_id kind g)) → (Folder → some_refused files made ≡ true)
@@ -238,6 +239,7 @@ module _ (kind : Kind) (table : Table) (folders : List FileMap) (inner : (g : Fi
     leaf_fault path Into Folder full leads folder (refused.FindExistingObject error) (id, into_it, h) = unread_fault id (folder_stands id (leads id into_it)) error h
     leaf_fault path Into Folder full leads folder (refused.CannotRemoveNonLeaf filename) h = folder h.1
     leaf_fault path Into Folder full leads folder (refused.MalformedTree oid) (id, into_it, h) = absurd (malformed_fault id (folder_stands id (leads id into_it)) (id_of oid) h)
+    leaf_fault path Into Folder full leads folder refused.EmptyTree h = absurd h
     leaf_fault path Into Folder full leads folder refused.Memory h = tt
 
 -- ---- paths

@@ -21,7 +21,7 @@ use Rattle.history_files.specs.declared.edits.Change.{Change}
 use Rattle.history_files.specs.declared.edits.Change.TheVariants.{Put, Remove, RemoveFile}
 use Rattle.history_files.specs.declared.edits.Edit.{Edit}
 use Rattle.history_files.specs.declared.edits.EditError.{EditError}
-use Rattle.history_files.specs.declared.edits.EditError.TheVariants.{BadPath, IsFolder, Failed, Broken, Memory}
+use Rattle.history_files.specs.declared.edits.EditError.TheVariants.{BadPath, IsFolder, NullId, Failed, Broken, Memory}
 use Rattle.history_files.specs.declared.error.ReadError as reading
 use Rattle.history_files.specs.declared.error.ReadError.TheVariants as unopened
 
@@ -83,6 +83,7 @@ as_edited refused.EmptyPathComponent = BadPath
 as_edited (refused.FindExistingObject error) = as_unread error
 as_edited (refused.CannotRemoveNonLeaf filename) = IsFolder
 as_edited (refused.MalformedTree oid) = Broken oid
+as_edited refused.EmptyTree = NullId
 as_edited refused.Memory = Memory
 
 abbrev pub as_opened : reading.ReadError → EditError

@@ -88,6 +88,8 @@ impl From<editor::Error> for EditError {
             editor::Error::FindExistingObject(error) => unread(error),
             editor::Error::CannotRemoveNonLeaf { .. } => EditError::IsFolder,
             editor::Error::MalformedTree { oid } => EditError::Broken { oid },
+            // No edit here grafts a tree.
+            editor::Error::EmptyTree => EditError::NullId,
             editor::Error::Memory => EditError::Memory,
         }
     }

@@ -1,14 +1,15 @@
 //! Edits of a tree and the trees below it.
 
-ghost use Rattle.std.specs.Prelude.{◌≡◌, ◌≤◌, ◌+◌, ◌⊎◌, length, map, option_map, IfOk, IfErr, OnOk, OnErr, IsFalse, IsTrue, Some, None, true, false};
+ghost use Rattle.std.specs.Prelude.{◌≡◌, ◌≤◌, ◌+◌, ◌++◌, ◌⊎◌, List, length, map, option_map, IfOk, IfErr, OnOk, OnErr, Err, IsFalse, IsTrue, Some, None, true, false};
 ghost use Rattle.std.specs.Borrow.{sem};
 ghost use Rattle.gix_hash_id.specs.Id.{id_of};
 ghost use Rattle.gix_object_entries.specs.Entry.{Item, item_of, own_item};
-ghost use Rattle.gix_object_editor.specs.Files.{Path, Leaf, Trees, is_null, leaf_of, HasStored, SameFiles, NamesAreFull, HasNoneBelow, HasSomeBelow, no_trees, removed, put, files_of_tree, entry_of_tree};
+ghost use Rattle.gix_object_entries.specs.Mode.{is_tree_value, kind_value};
+ghost use Rattle.gix_object_editor.specs.Files.{Path, Leaf, Trees, IsEmptyTree, is_null, leaf_of, HasStored, SameFiles, NamesAreFull, HasNoneBelow, HasSomeBelow, no_trees, removed, put, files_of_tree, entry_of_tree};
 ghost use Rattle.gix_object_editor.specs.Nodes.{slots_of, entry_at};
-ghost use Rattle.gix_object_editor.specs.Editor.{files_of, names_of, leaf_of_kind, LeadsThrough, LeadsInto, EditFault, LeafFault, IsFilled, IsFolder, IsChanged, ChangesNone, entry_over, entry_met, IsMadeAt, KeepsEntries, PutsEntry, MakesFoldersAbove, ClearsEntries, IsAsRead, IsAbove, IsOpenedAt, EachEntryHas, IsNonLeaf, asked_by, ErrOverStored, OkOverStored, OverStored};
+ghost use Rattle.gix_object_editor.specs.Editor.{files_of, names_of, leaf_of_kind, LeadsThrough, LeadsInto, EditFault, GraftFault, LeafFault, IsFilled, IsFolder, IsChanged, ChangesNone, entry_over, entry_met, IsMadeAt, KeepsEntries, PutsEntry, MakesFoldersAbove, ClearsEntries, IsAsRead, IsAbove, IsOpenedAt, EachEntryHas, IsNonLeaf, asked_by, ErrOverStored, OkOverStored, OverStored};
 ghost use Rattle.gix_object_editor.specs.Asked.{front_of, Asks};
-ghost use Rattle.gix_object_editor.specs.declared.tree.editor.error.Error.TheVariants.{EmptyPathComponent};
+ghost use Rattle.gix_object_editor.specs.declared.tree.editor.error.Error.TheVariants.{EmptyPathComponent, EmptyTree};
 ghost use Rattle.gix_object_editor.specs.Entries.{Property, PassesDown, MayStand, ItemsHave};
 ghost use Rattle.gix_object_entries.specs.WellFormed.{IsWellFormed};
 
@@ -18,7 +19,7 @@ mod entry;
 mod error;
 mod filled;
 mod forest;
-mod graft;
+mod lay;
 mod load;
 mod marks;
 mod node;
@@ -26,6 +27,7 @@ mod root;
 mod state;
 pub mod write;
 
+use crate::tree::editor::edits::check_graft;
 use crate::tree::editor::entry::entry_from;
 use crate::tree::editor::node::NodeId;
 use crate::tree::editor::root::opened_root;
@@ -287,5 +289,88 @@ impl<S: Find> Editor<S> {
         ensures store { self.new.store ≡ self.old.store }
     {
         self.upsert_from(alloc, NodeId(0), path, kind, id)
+    }
+
+    /// Grafts what is stored under this id: a file of this kind at the path, or the folder with the files that the tree has, in
+    /// folders that are made for it. All that stands at or below the path goes, and each file above it, and no other tree is asked
+    /// for than by an upsert: none at or below the id. With the null id it only takes out, as an upsert does.
+    ///
+    /// It is refused as `upsert` is, and `EmptyTree` where the id is the empty tree's, whatever the kind: no file lies in that tree,
+    /// and nothing else is stored under its id. Of the two causes that are told before a tree is asked for, the path's comes first.
+    pub fn graft(
+        &mut self,
+        alloc: Global,
+        path: &[&[u8]],
+        kind: EntryKind,
+        id: ObjectId,
+    ) -> Result<(), Error>
+        ensures put { OkOverStored (S.is_honest self.old.store) (S.table self.old.store) result
+            (λ trees. SameFiles (files_of trees self.new)
+            (put trees (names_of path.now) (leaf_of_kind kind id) (files_of trees self.old))) }
+        ensures folder { OkOverStored (S.is_honest self.old.store) (S.table self.old.store) result
+            (λ trees. is_tree_value (kind_value kind) ≡ true → is_null (id_of id) ≡ false
+            → (items : List Item) → trees (id_of id) ≡ Some items
+            → SameFiles (λ rest. files_of trees self.new (names_of path.now ++ rest))
+            (files_of_tree trees items)) }
+        ensures file { OkOverStored (S.is_honest self.old.store) (S.table self.old.store) result
+            (λ trees. is_tree_value (kind_value kind) ≡ false → is_null (id_of id) ≡ false
+            → files_of trees self.new (names_of path.now) ≡ Some (leaf_of_kind kind id)) }
+        ensures unchanged { ErrOverStored (S.is_honest self.old.store)
+            (S.table self.old.store) result
+            (λ trees. SameFiles (files_of trees self.new) (files_of trees self.old)) }
+        ensures entries { OkOverStored (S.is_honest self.old.store) (S.table self.old.store) result
+            (λ trees. KeepsEntries trees (names_of path.now) self.old self.new) }
+        ensures entry { OkOverStored (S.is_honest self.old.store) (S.table self.old.store) result
+            (λ trees. is_null (id_of id) ≡ false
+            → PutsEntry trees (names_of path.now) (leaf_of_kind kind id) self.new) }
+        ensures folders { OkOverStored (S.is_honest self.old.store) (S.table self.old.store) result
+            (λ trees. is_null (id_of id) ≡ false
+            → MakesFoldersAbove trees (id_of id).kind (names_of path.now) self.old self.new) }
+        ensures gone { OkOverStored (S.is_honest self.old.store) (S.table self.old.store) result
+            (λ trees. is_null (id_of id) ≡ true
+            → ClearsEntries trees (names_of path.now) self.old self.new) }
+        ensures same_entries { ErrOverStored (S.is_honest self.old.store)
+            (S.table self.old.store) result
+            (λ trees. SameFiles (entry_over trees self.new) (entry_over trees self.old)) }
+        ensures named { OnOk result (NamesAreFull (names_of path.now)) }
+        ensures refused { IfErr result (GraftFault (S.is_honest self.old.store)
+            (S.may_fail self.old.store) (S.table self.old.store) (names_of path.now) (id_of id)
+            (LeadsThrough (λ trees. files_of trees self.new) (names_of path.now))) }
+        ensures empty { NamesAreFull (names_of path.now) → IsEmptyTree (id_of id)
+            → result ≡ Err EmptyTree }
+        ensures untouched { result ≡ Err EmptyTree → self.new ≡ self.old }
+        ensures each { S.is_honest self.old.store → (has : Property)
+            → PassesDown (S.table self.old.store) has
+            → ((IsEmptyTree (id_of id) → ⊥)
+            → MayStand has (names_of path.now) (leaf_of_kind kind id))
+            → EachEntryHas has self.old → EachEntryHas has self.new }
+        ensures as_read { OverStored (S.is_honest self.old.store) (S.table self.old.store)
+            (λ trees. IsAsRead trees self.old → IsAsRead trees self.new) }
+        ensures changed { (tree : Path) → IsChanged self.new tree → IsChanged self.old tree
+            ⊎ IsAbove tree (names_of path.now) }
+        ensures nothing { OverStored (S.is_honest self.old.store) (S.table self.old.store)
+            (λ trees. is_null (id_of id) ≡ true
+            → entry_met trees self.old (names_of path.now) ≡ None
+            → OnOk result (ChangesNone self.old self.new)) }
+        ensures made { is_null (id_of id) ≡ true → IsMadeAt self.old (names_of path.now)
+            → OnOk result (ChangesNone self.old self.new) }
+        ensures already { OverStored (S.is_honest self.old.store) (S.table self.old.store)
+            (λ trees. is_null (id_of id) ≡ false
+            → entry_over trees self.old (names_of path.now) ≡ Some (leaf_of_kind kind id)
+            → (IsOpenedAt self.old (names_of path.now) → ⊥)
+            → OnOk result (ChangesNone self.old self.new)) }
+        ensures still { OnErr result ((tree : Path) → IsChanged self.new tree
+            → IsChanged self.old tree) }
+        ensures full { IfErr result (λ error. (error ≡ EmptyPathComponent)
+            ⊎ NamesAreFull (names_of path.now)) }
+        ensures counted { self.new.lookups ≤ self.old.lookups + length path.now }
+        ensures asked { Asks (S.is_honest self.old.store) (S.may_fail self.old.store)
+            (S.table self.old.store)
+            (asked_by self.old
+            (front_of (names_of path.now))) self.old.lookups self.new.lookups result }
+        ensures store { self.new.store ≡ self.old.store }
+    {
+        check_graft(path, id)?;
+        self.upsert(alloc, path, kind, id)
     }
 }

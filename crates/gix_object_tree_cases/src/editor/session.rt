@@ -104,6 +104,11 @@ fn at_path(alloc: Global, editor: &mut Editor<Trees>, word: &str, page: &mut Pag
             let id = read_id(parts.next()?)?;
             show_done(editor.upsert(alloc, path, kind, id), page);
         }
+        "graft" => {
+            let kind = read_entry_kind(parts.next()?)?;
+            let id = read_id(parts.next()?)?;
+            show_done(editor.graft(alloc, path, kind, id), page);
+        }
         _ => return None,
     }
     Some(())
@@ -140,6 +145,11 @@ fn at_cursor(
             let entry_kind = read_entry_kind(parts.next()?)?;
             let id = read_id(parts.next()?)?;
             show_done(cursor.upsert(alloc, path, entry_kind, id), page);
+        }
+        "graft" => {
+            let entry_kind = read_entry_kind(parts.next()?)?;
+            let id = read_id(parts.next()?)?;
+            show_done(cursor.graft(alloc, path, entry_kind, id), page);
         }
         "write" => show_written(alloc, kind, &cursor, page)?,
         _ => return None,
@@ -251,6 +261,7 @@ fn show_done(done: Result<(), Error>, page: &mut Page) {
             page.put(oid);
             page.text(")");
         }
+        Err(Error::EmptyTree) => page.word("EmptyTree"),
         Err(Error::Memory) => page.word("Memory"),
     }
 }

@@ -1,18 +1,20 @@
 //! Edits below a folder.
 
-ghost use Rattle.std.specs.Prelude.{◌≡◌, ◌≢◌, ◌≤◌, ◌+◌, ◌++◌, ◌⊎◌, [], length, option_map, IfOk, IfErr, OnOk, OnErr, Some, None, true, false};
+ghost use Rattle.std.specs.Prelude.{◌≡◌, ◌≢◌, ◌≤◌, ◌+◌, ◌++◌, ◌⊎◌, List, [], length, option_map, IfOk, IfErr, OnOk, OnErr, Err, Some, None, true, false};
 ghost use Rattle.std.specs.Borrow.{sem};
 ghost use Rattle.gix_hash_id.specs.Id.{id_of};
 ghost use Rattle.gix_object_entries.specs.Entry.{Item, item_of};
-ghost use Rattle.gix_object_editor.specs.Files.{Path, Leaf, Trees, is_null, leaf_of, HasStored, SameFiles, Begins, NamesAreFull, HasNoneBelow, HasSomeBelow, no_trees, removed, put, cleared};
+ghost use Rattle.gix_object_entries.specs.Mode.{is_tree_value, kind_value};
+ghost use Rattle.gix_object_editor.specs.Files.{Path, Leaf, Trees, IsEmptyTree, is_null, leaf_of, HasStored, SameFiles, Begins, NamesAreFull, HasNoneBelow, HasSomeBelow, no_trees, removed, put, cleared, files_of_tree};
 ghost use Rattle.gix_object_editor.specs.Nodes.{slots_of, entry_at};
-ghost use Rattle.gix_object_editor.specs.Editor.{files_of, names_of, leaf_of_kind, LeadsThrough, LeadsInto, EditFault, LeafFault, IsFilled, IsFolder, IsChanged, ChangesNone, entry_over, entry_met, IsMadeAt, KeepsEntries, KeepsFolders, PutsEntry, MakesFolders, MakesFoldersAbove, ClearsEntries, HasFolderAt, IsAsRead, IsAbove, IsOpenedAt, EachEntryHas, IsNonLeaf, asked_by, ErrOverStored, OkOverStored, OverStored};
+ghost use Rattle.gix_object_editor.specs.Editor.{files_of, names_of, leaf_of_kind, LeadsThrough, LeadsInto, EditFault, GraftFault, LeafFault, IsFilled, IsFolder, IsChanged, ChangesNone, entry_over, entry_met, IsMadeAt, KeepsEntries, KeepsFolders, PutsEntry, MakesFolders, MakesFoldersAbove, ClearsEntries, HasFolderAt, IsAsRead, IsAbove, IsOpenedAt, EachEntryHas, IsNonLeaf, asked_by, ErrOverStored, OkOverStored, OverStored};
 ghost use Rattle.gix_object_editor.specs.Asked.{front_of, Asks, AsksAll};
-ghost use Rattle.gix_object_editor.specs.declared.tree.editor.error.Error.TheVariants.{EmptyPathComponent};
+ghost use Rattle.gix_object_editor.specs.declared.tree.editor.error.Error.TheVariants.{EmptyPathComponent, EmptyTree};
 ghost use Rattle.gix_object_editor.specs.Entries.{Property, PassesDown, MayStand, MayStandMade};
 ghost use Rattle.gix_object_editor.specs.Written.{WriteFault, Writes};
 ghost use Rattle.gix_object_editor.specs.Cursor.{StandsAt, IsLeft, LendsOrLeaves};
 
+use crate::tree::editor::edits::check_graft;
 use crate::tree::editor::entry::entry_from;
 use crate::tree::editor::node::NodeId;
 use crate::tree::editor::{Cursor, Editor, Error, write};
@@ -340,6 +342,120 @@ impl<'c, S: Find> Cursor<'c, S> {
         ensures lent { self.new.editor.ghost_name ≡ self.old.editor.ghost_name }
     {
         self.editor.upsert_from(alloc, self.at, path, kind, id)
+    }
+
+    /// Grafts what is stored under this id at the path, which begins at the cursor, as `Editor::graft` does.
+    pub fn graft(
+        &mut self,
+        alloc: Global,
+        path: &[&[u8]],
+        kind: EntryKind,
+        id: ObjectId,
+    ) -> Result<(), Error>
+        ensures put { (base : Path) → StandsAt self.old base
+            → OkOverStored (S.is_honest self.old.editor.now.store)
+            (S.table self.old.editor.now.store) result
+            (λ trees. SameFiles (files_of trees self.new.editor.now)
+            (put trees (base ++ names_of path.now) (leaf_of_kind kind id)
+            (files_of trees self.old.editor.now))) }
+        ensures folder { (base : Path) → StandsAt self.old base
+            → OkOverStored (S.is_honest self.old.editor.now.store)
+            (S.table self.old.editor.now.store) result
+            (λ trees. is_tree_value (kind_value kind) ≡ true → is_null (id_of id) ≡ false
+            → (items : List Item) → trees (id_of id) ≡ Some items
+            → SameFiles (λ rest. files_of trees self.new.editor.now
+            ((base ++ names_of path.now) ++ rest)) (files_of_tree trees items)) }
+        ensures file { (base : Path) → StandsAt self.old base
+            → OkOverStored (S.is_honest self.old.editor.now.store)
+            (S.table self.old.editor.now.store) result
+            (λ trees. is_tree_value (kind_value kind) ≡ false → is_null (id_of id) ≡ false
+            → files_of trees self.new.editor.now (base ++ names_of path.now)
+            ≡ Some (leaf_of_kind kind id)) }
+        ensures unchanged { ErrOverStored (S.is_honest self.old.editor.now.store)
+            (S.table self.old.editor.now.store) result
+            (λ trees. SameFiles (files_of trees self.new.editor.now)
+            (files_of trees self.old.editor.now)) }
+        ensures stands { (base : Path) → StandsAt self.old base → StandsAt self.new base }
+        ensures entries { (base : Path) → StandsAt self.old base
+            → OkOverStored (S.is_honest self.old.editor.now.store)
+            (S.table self.old.editor.now.store) result
+            (λ trees. KeepsEntries trees (base ++ names_of path.now) self.old.editor.now
+            self.new.editor.now) }
+        ensures entry { (base : Path) → StandsAt self.old base
+            → OkOverStored (S.is_honest self.old.editor.now.store)
+            (S.table self.old.editor.now.store) result
+            (λ trees. is_null (id_of id) ≡ false
+            → PutsEntry trees (base ++ names_of path.now) (leaf_of_kind kind id)
+            self.new.editor.now) }
+        ensures folders { (base : Path) → StandsAt self.old base
+            → OkOverStored (S.is_honest self.old.editor.now.store)
+            (S.table self.old.editor.now.store) result
+            (λ trees. is_null (id_of id) ≡ false
+            → MakesFoldersAbove trees (id_of id).kind (base ++ names_of path.now)
+            self.old.editor.now self.new.editor.now) }
+        ensures gone { (base : Path) → StandsAt self.old base
+            → OkOverStored (S.is_honest self.old.editor.now.store)
+            (S.table self.old.editor.now.store) result
+            (λ trees. is_null (id_of id) ≡ true
+            → ClearsEntries trees (base ++ names_of path.now) self.old.editor.now
+            self.new.editor.now) }
+        ensures same_entries { ErrOverStored (S.is_honest self.old.editor.now.store)
+            (S.table self.old.editor.now.store) result
+            (λ trees. SameFiles (entry_over trees self.new.editor.now)
+            (entry_over trees self.old.editor.now)) }
+        ensures named { OnOk result (NamesAreFull (names_of path.now)) }
+        ensures refused { (base : Path) → StandsAt self.old base
+            → IfErr result (GraftFault (S.is_honest self.old.editor.now.store)
+            (S.may_fail self.old.editor.now.store) (S.table self.old.editor.now.store)
+            (names_of path.now) (id_of id)
+            (LeadsThrough (λ trees. files_of trees self.new.editor.now)
+            (base ++ names_of path.now))) }
+        ensures empty { NamesAreFull (names_of path.now) → IsEmptyTree (id_of id)
+            → result ≡ Err EmptyTree }
+        ensures untouched { (base : Path) → StandsAt self.old base → result ≡ Err EmptyTree
+            → self.new.editor.now ≡ self.old.editor.now }
+        ensures each { S.is_honest self.old.editor.now.store → (has : Property)
+            → PassesDown (S.table self.old.editor.now.store) has
+            → ((IsEmptyTree (id_of id) → ⊥)
+            → MayStand has (names_of path.now) (leaf_of_kind kind id))
+            → EachEntryHas has self.old.editor.now → EachEntryHas has self.new.editor.now }
+        ensures as_read { OverStored (S.is_honest self.old.editor.now.store)
+            (S.table self.old.editor.now.store)
+            (λ trees. IsAsRead trees self.old.editor.now → IsAsRead trees self.new.editor.now) }
+        ensures changed { (base : Path) → StandsAt self.old base → (tree : Path)
+            → IsChanged self.new.editor.now tree
+            → IsChanged self.old.editor.now tree ⊎ IsAbove tree (base ++ names_of path.now) }
+        ensures nothing { (base : Path) → StandsAt self.old base
+            → OverStored (S.is_honest self.old.editor.now.store) (S.table self.old.editor.now.store)
+            (λ trees. is_null (id_of id) ≡ true
+            → entry_met trees self.old.editor.now (base ++ names_of path.now) ≡ None
+            → OnOk result (ChangesNone self.old.editor.now self.new.editor.now)) }
+        ensures made { (base : Path) → StandsAt self.old base
+            → is_null (id_of id) ≡ true → IsMadeAt self.old.editor.now (base ++ names_of path.now)
+            → OnOk result (ChangesNone self.old.editor.now self.new.editor.now) }
+        ensures already { (base : Path) → StandsAt self.old base
+            → OverStored (S.is_honest self.old.editor.now.store) (S.table self.old.editor.now.store)
+            (λ trees. is_null (id_of id) ≡ false
+            → entry_over trees self.old.editor.now (base ++ names_of path.now)
+            ≡ Some (leaf_of_kind kind id)
+            → (IsOpenedAt self.old.editor.now (base ++ names_of path.now) → ⊥)
+            → OnOk result (ChangesNone self.old.editor.now self.new.editor.now)) }
+        ensures still { OnErr result ((tree : Path) → IsChanged self.new.editor.now tree
+            → IsChanged self.old.editor.now tree) }
+        ensures full { IfErr result (λ error. (error ≡ EmptyPathComponent)
+            ⊎ NamesAreFull (names_of path.now)) }
+        ensures counted { self.new.editor.now.lookups
+            ≤ self.old.editor.now.lookups + length path.now }
+        ensures asked { (base : Path) → StandsAt self.old base
+            → Asks (S.is_honest self.old.editor.now.store)
+            (S.may_fail self.old.editor.now.store) (S.table self.old.editor.now.store)
+            (asked_by self.old.editor.now (base ++ front_of
+            (names_of path.now))) self.old.editor.now.lookups self.new.editor.now.lookups result }
+        ensures store { self.new.editor.now.store ≡ self.old.editor.now.store }
+        ensures lent { self.new.editor.ghost_name ≡ self.old.editor.ghost_name }
+    {
+        check_graft(path, id)?;
+        self.upsert(alloc, path, kind, id)
     }
 
     /// Hands out the trees from the cursor's folder down as `Editor::write` does from the root, that folder's last, and answers its

@@ -2,17 +2,17 @@
 
 ghost use Rattle.std.specs.Prelude.{◌≡◌, ◌<◌, ◌≤◌, ◌+◌, ◌⊎◌, length, IfErr, OnOk, OnErr, IfOk, Some, None, true, false, []};
 ghost use Rattle.gix_hash_id.specs.Id.{id_of};
-ghost use Rattle.gix_object_editor.specs.Files.{Path, Trees, is_null, HasStored, SameFiles, Begins, NamesAreFull, HasNoneBelow, removed, put, cleared};
+ghost use Rattle.gix_object_editor.specs.Files.{Path, Trees, IsEmptyTree, is_null, HasStored, SameFiles, Begins, NamesAreFull, HasNoneBelow, removed, put, cleared};
 ghost use Rattle.gix_object_editor.specs.Nodes.{slots_of, Way, onto, LeadsTo};
 ghost use Rattle.gix_object_editor.specs.Editor.{files_of, names_of, leaf_of_kind, LeadsThrough, LeadsInto, EditFault, LeafFault, IsFilled, IsFolder, IsChanged, ChangesNone, entry_over, entry_met, IsMadeAt, KeepsEntries, KeepsFolders, PutsEntry, MakesFolders, MakesFoldersAbove, ClearsEntries, HasFolderAt, IsOpenedAt, IsAsRead, IsAbove, EachEntryHas, ErrOverStored, OkOverStored, OverStored};
 ghost use Rattle.gix_object_editor.specs.Asked.{front_of, unopened_into, Asks};
 ghost use Rattle.gix_object_editor.specs.Entries.{Property, PassesDown, MayStand, MayStandMade};
-ghost use Rattle.gix_object_editor.specs.declared.tree.editor.error.Error.TheVariants.{EmptyPathComponent};
+ghost use Rattle.gix_object_editor.specs.declared.tree.editor.error.Error.TheVariants.{EmptyPathComponent, EmptyTree};
 
 use crate::tree::editor::entry::stands_already;
 use crate::tree::editor::filled::refuse_folder;
 use crate::tree::editor::forest::{folder_below, walk};
-use crate::tree::editor::graft::{graft, make_folders};
+use crate::tree::editor::lay::{lay_entry, make_folders};
 use crate::tree::editor::marks::{cut, mark_changed, mark_where};
 use crate::tree::editor::node::{NodeId, Slot, slot_at};
 use crate::tree::editor::{Editor, Error};
@@ -277,7 +277,7 @@ impl<S: Find> Editor<S> {
         if stands_already(self.nodes.as_slice(), at, &path[depth..], slot) {
             return Ok(());
         }
-        graft(&mut self.nodes, alloc, at, &path[depth..], slot, true)?;
+        lay_entry(&mut self.nodes, alloc, at, &path[depth..], slot, true)?;
         mark_changed(self.nodes.as_mut_slice(), at);
         Ok(())
     }
@@ -362,6 +362,21 @@ impl<S: Find> Editor<S> {
             }
         }
     }
+}
+
+/// Refuses a path without a name, or with an empty one, and then the empty tree's id.
+pub(crate) fn check_graft(path: &[&[u8]], id: ObjectId) -> Result<(), Error>
+    ensures ok { OnOk result (NamesAreFull (names_of path.now)
+        × (IsEmptyTree (id_of id) → ⊥)) }
+    ensures refused { IfErr result (λ error.
+        ((error ≡ EmptyPathComponent) × (NamesAreFull (names_of path.now) → ⊥))
+        ⊎ ((error ≡ EmptyTree) × NamesAreFull (names_of path.now) × IsEmptyTree (id_of id))) }
+{
+    check_names(path)?;
+    if id.is_empty_tree() {
+        return Err(Error::EmptyTree);
+    }
+    Ok(())
 }
 
 // Refuses a path without a name, or with an empty one.

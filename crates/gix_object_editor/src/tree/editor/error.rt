@@ -29,6 +29,9 @@ pub enum Error {
         /// The tree's id.
         oid: ObjectId,
     },
+    /// The id of what is grafted is the empty tree's.
+    #[error("a tree without entries isn't grafted")]
+    EmptyTree,
     /// No memory is left.
     #[error("out of memory")]
     Memory,

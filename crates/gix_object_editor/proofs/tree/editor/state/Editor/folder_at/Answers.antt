@@ -12,13 +12,13 @@ use Rattle.gix_object_editor.specs.Marks.{Mark, marks_of, AreMarked, AreMarkedBu
 use Rattle.gix_object_editor.proofs.Slots.{back, none_past}
 use Rattle.gix_object_editor.proofs.Paths.{onto-append, by_test}
 use Rattle.gix_object_editor.proofs.Cuts.{made_as_read, made_hollow, same_marks, both_longer, none_of, more_names}
-use Rattle.gix_object_editor.proofs.Standing.{graft_links, nothing_there, name_left}
+use Rattle.gix_object_editor.proofs.Standing.{laid_links, nothing_there, name_left}
 use Rattle.gix_object_editor.proofs.Entered.{none_met, made_keeps, no_folder_at_end, rest_dropped}
 use Rattle.gix_object_editor.proofs.Raised.{made_folders, stood_folders}
 use Rattle.gix_object_editor.specs.Laid.{made_at}
 use Rattle.gix_object_editor.proofs.Ways.{way_above}
-use Rattle.gix_object_editor.proofs.Marked.{opened_marked, grafted_marked, read_same, marks_then}
-use Rattle.gix_object_editor.proofs.Changes.{opened_changed, failed_changed, graft_as_read, graft_changed, opened_same_changed, SameChanged, one_more_left, begins}
+use Rattle.gix_object_editor.proofs.Marked.{opened_marked, laid_marked, read_same, marks_then}
+use Rattle.gix_object_editor.proofs.Changes.{opened_changed, failed_changed, laid_as_read, laid_changed, opened_same_changed, SameChanged, one_more_left, begins}
 use Rattle.gix_object_editor.proofs.Opening.{opened_then, as_function}
 use Rattle.gix_object_editor.proofs.Edits.{rest_is, first_left, stopped_tree, end_tree, leads_into, edit_fault}
 use Rattle.gix_object_editor.proofs.Walked.{names, names_length, leads_kept, folder_found}
@@ -28,7 +28,7 @@ use Rattle.std.specs.Borrow.{Bor}
 use Rattle.gix_object_editor.specs.Entries.{EachHas, MayStandMade}
 use Rattle.gix_object_editor.proofs.Kept.{made_drop, full_rest}
 use Rattle.gix_object_editor.specs.Asked.{front_of}
-use Rattle.gix_object_editor.proofs.Asking.{into_asked, into_stops, walk_into_stops, some_names, no_empty_opening, last_whole, some_all}
+use Rattle.gix_object_editor.proofs.Asking.{into_asked, into_stops, walk_into_stops, some_names, late_opening, last_whole, some_all}
 use Rattle.gix_object_editor.proofs.tree.editor.state.Editor.folder_at.Goals as goal
 
 pub returns-in_err-at-clause-refused : goal.returns-in_err-at-clause-refused
@@ -247,7 +247,7 @@ returns-in_err-found-clause-asked g c =
     let name : get_or (names (take (length path - i) (drop i path))) 0 [] ≡ get_or (names path) i [] = ap (λ p. get_or (names p) 0 []) cut ∙ first_left path i c.in_ok-at.ensures.within.1 in
     rw (p.1, p.2) (λ honest trees has. into_stops (g.S.Lookup.table c.args.self.now.store) trees (slots_of c.args.self.now.nodes.items) (slots_of c.walk.new.nodes.items) 0 c.in_ok-at.at.0 c.args.path.now c.in_ok-at.depth c.args.self.now.lookups c.walk.new.lookups c.folder_below.new.lookups c.in_ok-at.ensures.within.1 (c.in_ok-at.ensures.asked honest trees has) (c.in_ok-at.ensures.asked_all honest trees has)
     (g.S.Lookup.is_honest c.args.self.now.store) (g.S.Lookup.may_fail c.args.self.now.store) c.in_err-found.field-0.0
-    (no_empty_opening (g.S.Lookup.is_honest c.args.self.now.store) (g.S.Lookup.may_fail c.args.self.now.store) (g.S.Lookup.table c.args.self.now.store) (id_of c.in_err-found.ensures.refused.0.oid) c.in_err-found.field-0.0 c.in_err-found.ensures.refused.3)
+    (late_opening (g.S.Lookup.is_honest c.args.self.now.store) (g.S.Lookup.may_fail c.args.self.now.store) (g.S.Lookup.table c.args.self.now.store) (id_of c.in_err-found.ensures.refused.0.oid) c.in_err-found.field-0.0 c.in_err-found.ensures.refused.3)
     (get_or (names (take (length path - i) (drop i path))) 0 []) last (ap (λ n. front_of (names path) ++ n ∷ []) name ∙ last_whole path i last) (c.in_err-found.ensures.stops honest trees has))
 
 pub returns-in-Some-clause-asked : goal.returns-in-Some-clause-asked
@@ -336,7 +336,7 @@ mark_where-requires-clause-marked g c = λ stood.
     let marked = opened_marked (slots_of old) (slots_of new) (marks_of old) (marks_of new) (length old) (length new) c.args.self.now.forest c.args.self.now.marked false both c.in_ok-found.ensures.opened.forest both.fresh in
     let made = subst (λ b. AreMarksKept b (slots_of new) (slots_of mk) (marks_of new) (marks_of mk) (length new) (length mk)) stood c.make_folders.ensures.marks in
     subst (λ (ns : List Node). AreMarkedBut c.in_ok-at.at.0 (slots_of ns) (marks_of ns) (length ns)) (sym c.as_mut_slice.ensures.value)
-    (grafted_marked (slots_of new) (slots_of mk) (marks_of new) (marks_of mk) (length new) (length mk) c.in_ok-found.ensures.opened.forest marked true made c.in_ok-at.at.0 _ c.make_folders.ensures.forest
+    (laid_marked (slots_of new) (slots_of mk) (marks_of new) (marks_of mk) (length new) (length mk) c.in_ok-found.ensures.opened.forest marked true made c.in_ok-at.at.0 _ c.make_folders.ensures.forest
     made.fresh c.make_folders.ensures.others)
 
 pub invariant_of-self-in-None : goal.invariant_of-self-in-None
@@ -393,7 +393,7 @@ returns-in_ok-made-in-None-clause-as_read g c = λ honest trees has read.
       | inl stood ↦
           let made = subst (λ b. AreMarksKept b (slots_of new) (slots_of mk) (marks_of new) (marks_of mk) (length new) (length mk)) stood c.make_folders.ensures.marks in
           let up = subst (λ (ns : List Node). AreMarkedUp (slots_of ns) (marks_of ns) (marks_of fin) at (length ns)) before (c.mark_where.ensures.marked stood) in
-          graft_as_read (slots_of old) (slots_of new) (slots_of mk) (slots_of fin) (marks_of old) (marks_of new) (marks_of mk) (marks_of fin) (length old) (length new) (length mk)
+          laid_as_read (slots_of old) (slots_of new) (slots_of mk) (slots_of fin) (marks_of old) (marks_of new) (marks_of mk) (marks_of fin) (length old) (length new) (length mk)
           c.in_ok-found.ensures.opened.forest c.make_folders.ensures.forest both made at _ c.make_folders.ensures.others same_slots up trees start
       | inr free ↦
           let first = get_or left 0 [] in
@@ -448,7 +448,7 @@ returns-in_ok-made-in-None-clause-changed g c = λ tree.
       | inl stood ↦
           let made = subst (λ b. AreMarksKept b (slots_of new) (slots_of mk) (marks_of new) (marks_of mk) (length new) (length mk)) stood c.make_folders.ensures.marks in
           let up = subst (λ (ns : List Node). AreMarkedUp (slots_of ns) (marks_of ns) (marks_of fin) at (length ns)) before (c.mark_where.ensures.marked stood) in
-          elim (graft_changed (slots_of old) (slots_of new) (slots_of mk) (slots_of fin) (marks_of old) (marks_of new) (marks_of mk) (marks_of fin) (length old) (length new) (length mk)
+          elim (laid_changed (slots_of old) (slots_of new) (slots_of mk) (slots_of fin) (marks_of old) (marks_of new) (marks_of mk) (marks_of fin) (length old) (length new) (length mk)
           c.in_ok-found.ensures.opened.forest c.make_folders.ensures.forest both made at _ c.make_folders.ensures.others same_slots up
           (names path ++ [] ∷ []) on_path leads.0 (left ++ [] ∷ []) down (one_more_left left []) (onto-append leads.0 left ([] ∷ []) ∙ ap (λ p. p ++ [] ∷ []) leads.2) tree is.0 is.1 is.2) [
             | inl was ↦ inl was
@@ -498,7 +498,7 @@ returns-in_ok-made-in-None-clause-nothing g c = λ honest trees has none tree.
     let all = marks_then false (slots_of old) (slots_of new) (slots_of mk) (marks_of old) (marks_of new) (marks_of mk) (length old) (length new) (length mk)
     (both_longer (length old) (length mid) (length new) c.in_ok-at.ensures.opened.longer c.in_ok-found.ensures.opened.longer) c.make_folders.ensures.longer both made in
     let links : (k : ℕ) (m : List ℕ) (d : ℕ) → child_of (slots_of new k m) ≡ Some d → child_of (slots_of mk k m) ≡ Some d =
-    λ k m d e. graft_links (slots_of new) (slots_of mk) (length new) at _ (λ j x le. none_past new j x le) (ap (slots_of new at) (ap (λ p. get_or (names p) 0 []) (rest_is path i) ∙ first_left path i lt) ∙ nothing) c.make_folders.ensures.others k m d e in
+    λ k m d e. laid_links (slots_of new) (slots_of mk) (length new) at _ (λ j x le. none_past new j x le) (ap (slots_of new at) (ap (λ p. get_or (names p) 0 []) (rest_is path i) ∙ first_left path i lt) ∙ nothing) c.make_folders.ensures.others k m d e in
     let same : marks_of fin ≡ marks_of mk = same_marks (marks_of fin) (marks_of mk) (λ k. c.mark_where.ensures.same free k ∙ ap (λ (ns : List Node). marks_of ns k) before) in
     subst (λ (ns : List Node). (IsChangedIn ns tree → IsChanged c.args.self.now tree) × (IsChanged c.args.self.now tree → IsChangedIn ns tree)) (sym (back c.make_folders.new.nodes.len fin _ n))
     (subst (λ f. SameChanged (slots_of old) (marks_of old) f (marks_of fin)) (sym same_slots) (subst (SameChanged (slots_of old) (marks_of old) (slots_of mk)) (sym same)

@@ -20,7 +20,7 @@ use Rattle.gix_object_editor.proofs.Walked.{names, last_name, leads_kept}
 use Rattle.gix_object_editor.proofs.Ways.{way_kept}
 use Rattle.gix_object_editor.proofs.Folders.{still_way}
 use Rattle.gix_object_editor.specs.Asked.{unopened_into, AsksAll}
-use Rattle.gix_object_editor.proofs.Asking.{into_asked, into_stops, walk_into_stops, some_names, no_empty_folder, front_whole}
+use Rattle.gix_object_editor.proofs.Asking.{into_asked, into_stops, walk_into_stops, some_names, late_folder, front_whole}
 use Rattle.gix_object_editor.proofs.tree.editor.state.Editor.remove_leaf_from.Goals.{then-depth-path+in_ok-refuse_folder, else-depth-path}
 use Rattle.gix_object_editor.proofs.tree.editor.state.Editor.remove_leaf_from.Goals as goal
 
@@ -256,7 +256,7 @@ returns-in_err-refuse_folder-clause-asked g c =
     let none : Bor (List ℕ) = record { ref_ptr = (0, 0); now = [] } in
     rw (p.1, p.2) (λ honest trees has. into_stops (g.S.Lookup.table c.args.self.now.store) trees (slots_of c.args.self.now.nodes.items) (slots_of c.walk.new.nodes.items) c.args.from.0 c.in_ok-at.at.0 c.args.path.now c.in_ok-at.depth c.args.self.now.lookups c.walk.new.lookups c.refuse_folder.new.lookups c.in_ok-at.ensures.within.1 (c.in_ok-at.ensures.asked honest trees has) (c.in_ok-at.ensures.asked_all honest trees has)
     (g.S.Lookup.is_honest c.args.self.now.store) (g.S.Lookup.may_fail c.args.self.now.store) c.in_err-refuse_folder.field-0.0
-    (no_empty_folder (g.S.Lookup.is_honest c.args.self.now.store) (g.S.Lookup.may_fail c.args.self.now.store) (g.S.Lookup.table c.args.self.now.store) (slots_of c.refuse_folder.new.nodes.items) c.in_ok-at.at.0 (get_or c.args.path.now c.in_ok-at.depth none).now c.in_err-refuse_folder.field-0.0 c.in_err-refuse_folder.ensures.refused)
+    (late_folder (g.S.Lookup.is_honest c.args.self.now.store) (g.S.Lookup.may_fail c.args.self.now.store) (g.S.Lookup.table c.args.self.now.store) (slots_of c.refuse_folder.new.nodes.items) c.in_ok-at.at.0 (get_or c.args.path.now c.in_ok-at.depth none).now c.in_err-refuse_folder.field-0.0 c.in_err-refuse_folder.ensures.refused)
     (get_or c.args.path.now c.in_ok-at.depth none).now c.if-depth-path.true (front_whole c.args.path.now c.in_ok-at.depth none c.if-depth-path.true) (c.in_err-refuse_folder.ensures.asked honest trees has))
 
 pub returns-clause-asked : goal.returns-clause-asked

@@ -11,8 +11,8 @@ use Rattle.std.specs.Borrow.{Bor}
 use Rattle.gix_object_editor.specs.Entries.{EachHas, MayStand}
 use Rattle.gix_object_editor.proofs.Kept.{may_drop, cut_each}
 use Rattle.gix_object_editor.proofs.Slots.{back}
-use Rattle.gix_object_editor.proofs.Marked.{opened_marked, grafted_marked, read_same}
-use Rattle.gix_object_editor.proofs.Changes.{opened_changed, failed_changed, graft_as_read, graft_changed, some_left, cut_as_read, cut_changed_on, cut_unmarked, opened_same_changed}
+use Rattle.gix_object_editor.proofs.Marked.{opened_marked, laid_marked, read_same}
+use Rattle.gix_object_editor.proofs.Changes.{opened_changed, failed_changed, laid_as_read, laid_changed, some_left, cut_as_read, cut_changed_on, cut_unmarked, opened_same_changed}
 use Rattle.gix_object_editor.proofs.Standing.{nothing_idle, made_there, already_there, name_left, last_left}
 use Rattle.gix_object_editor.proofs.Entered.{none_met, cut_entries, cut_keeps, laid_keeps, rest_dropped}
 use Rattle.gix_object_editor.proofs.Raised.{laid_stands, already_stands, cut_gone, cut_way, laid_folders, none_above, none_after}
@@ -39,8 +39,8 @@ returns-in_err-at-clause-refused g c =
     (LeadsThrough (λ trees. files_of_node trees (slots_of c.walk.new.nodes.items) 0) (onto way (names_of c.args.path.now))) c.in_err-at.field-0.0 told.0
     (stopped_tree (slots_of c.walk.new.nodes.items) (onto way (names_of c.args.path.now)) told.0 (told.1 way w)) told.2)
 
-pub graft-requires-clause-plain : goal.graft-requires-clause-plain
-graft-requires-clause-plain g c = λ more.
+pub lay_entry-requires-clause-plain : goal.lay_entry-requires-clause-plain
+lay_entry-requires-clause-plain g c = λ more.
     let path = c.args.path.now in
     let i = c.in_ok-at.depth in
     let cut : take (length path - i) (drop i path) ≡ drop i path = rest_is path i in
@@ -50,10 +50,10 @@ graft-requires-clause-plain g c = λ more.
 
 pub returns-clause-put : goal.returns-clause-put
 returns-clause-put g c = λ way w honest trees has q.
-    let gr = c.graft.new.nodes.items in
+    let gr = c.lay_entry.new.nodes.items in
     let fin = c.mark_changed.new.nodes in
-    let n : c.graft.new.nodes.len ≡ length fin = omega (arith, c.mark_changed.auto.nodes, c.as_mut_slice-2.ensures.len) in
-    let whole = back c.graft.new.nodes.len fin _ n in
+    let n : c.lay_entry.new.nodes.len ≡ length fin = omega (arith, c.mark_changed.auto.nodes, c.as_mut_slice-2.ensures.len) in
+    let whole = back c.lay_entry.new.nodes.len fin _ n in
     let same_slots : slots_of fin ≡ slots_of gr = as_function (slots_of fin) (slots_of gr) (λ i m. c.mark_changed.ensures.slots i m ∙ ap (λ (ns : List Node). slots_of ns i m) c.as_mut_slice-2.ensures.value) in
     let path = c.args.path.now in
     let i = c.in_ok-at.depth in
@@ -67,43 +67,43 @@ returns-clause-put g c = λ way w honest trees has q.
     ap (λ (ns : List Node). files_of_node trees (slots_of ns) 0 q) whole
     ∙ ap (λ f. files_of_node trees f 0 q) same_slots
     ∙ upserts_at _ _ (slots_of c.args.self.now.nodes.items) (slots_of mid) (length c.args.self.now.nodes.items) (length mid) c.args.self.now.forest c.in_ok-at.ensures.opened (onto way (names path)) c.in_ok-at.at.0
-    (slots_of c.graft.new.nodes.items) leaf (names (take (length path - i) (drop i path))) leads c.in_ok-graft.ensures.put honest trees has q
+    (slots_of c.lay_entry.new.nodes.items) leaf (names (take (length path - i) (drop i path))) leads c.in_ok-lay_entry.ensures.put honest trees has q
     ∙ ap (λ l. put trees (onto way (names path)) l (files_of_node trees (slots_of c.args.self.now.nodes.items) 0) q) same
 
 pub returns-in_err-at-clause-kept : goal.returns-in_err-at-clause-kept
 returns-in_err-at-clause-kept g c = λ way w. way_kept (slots_of c.args.self.now.nodes.items) (slots_of c.walk.new.nodes.items) c.in_err-at.ensures.opened.links way c.args.from.0 w
 
-pub returns-in_err-graft-clause-kept : goal.returns-in_err-graft-clause-kept
-returns-in_err-graft-clause-kept g c = λ way w.
-    way_kept (slots_of c.args.self.now.nodes.items) (slots_of c.graft.new.nodes.items)
-    (λ i m k e. ap child_of (c.in_err-graft.ensures.err i m) ∙ c.in_ok-at.ensures.opened.links i m k e) way c.args.from.0 w
+pub returns-in_err-lay_entry-clause-kept : goal.returns-in_err-lay_entry-clause-kept
+returns-in_err-lay_entry-clause-kept g c = λ way w.
+    way_kept (slots_of c.args.self.now.nodes.items) (slots_of c.lay_entry.new.nodes.items)
+    (λ i m k e. ap child_of (c.in_err-lay_entry.ensures.err i m) ∙ c.in_ok-at.ensures.opened.links i m k e) way c.args.from.0 w
 
 pub returns-clause-kept : goal.returns-clause-kept
 returns-clause-kept g c = λ way w.
     let old = c.args.self.now.nodes.items in
     let mid = c.walk.new.nodes.items in
-    let gr = c.graft.new.nodes.items in
+    let gr = c.lay_entry.new.nodes.items in
     let fin = c.mark_changed.new.nodes in
-    let n : c.graft.new.nodes.len ≡ length fin = omega (arith, c.mark_changed.auto.nodes, c.as_mut_slice-2.ensures.len) in
-    let whole = back c.graft.new.nodes.len fin _ n in
+    let n : c.lay_entry.new.nodes.len ≡ length fin = omega (arith, c.mark_changed.auto.nodes, c.as_mut_slice-2.ensures.len) in
+    let whole = back c.lay_entry.new.nodes.len fin _ n in
     let same_slots : slots_of fin ≡ slots_of gr = as_function (slots_of fin) (slots_of gr) (λ i m. c.mark_changed.ensures.slots i m ∙ ap (λ (ns : List Node). slots_of ns i m) c.as_mut_slice-2.ensures.value) in
     subst (λ (ns : List Node). Way (slots_of ns) way c.args.from.0) (sym whole)
     (subst (λ f. Way f way c.args.from.0) (sym same_slots)
     (still_way (slots_of old) (slots_of mid) (slots_of gr) (length mid) c.args.from.0 c.in_ok-at.at.0 c.in_ok-at.ensures.opened.forest c.in_ok-at.ensures.opened.links c.in_ok-at.ensures.below
-    (λ i m lt. let less : i < length mid = omega (arith, lt, c.in_ok-at.ensures.within.0) in c.in_ok-graft.ensures.others i m less (λ e _. absurd (omega (arith, lt, e)))) way w))
+    (λ i m lt. let less : i < length mid = omega (arith, lt, c.in_ok-at.ensures.within.0) in c.in_ok-lay_entry.ensures.others i m less (λ e _. absurd (omega (arith, lt, e)))) way w))
 
 pub mark_changed-requires-clause-forest : goal.mark_changed-requires-clause-forest
-mark_changed-requires-clause-forest g c = subst (λ (ns : List Node). IsForest (slots_of ns) (length ns)) (sym c.as_mut_slice-2.ensures.value) c.graft.ensures.forest
+mark_changed-requires-clause-forest g c = subst (λ (ns : List Node). IsForest (slots_of ns) (length ns)) (sym c.as_mut_slice-2.ensures.value) c.lay_entry.ensures.forest
 
 pub mark_changed-requires-clause-marked : goal.mark_changed-requires-clause-marked
 mark_changed-requires-clause-marked g c =
     let old = c.args.self.now.nodes.items in
     let mid = c.walk.new.nodes.items in
-    let gr = c.graft.new.nodes.items in
+    let gr = c.lay_entry.new.nodes.items in
     let marked = opened_marked (slots_of old) (slots_of mid) (marks_of old) (marks_of mid) (length old) (length mid) c.args.self.now.forest c.args.self.now.marked false c.in_ok-at.ensures.marks c.in_ok-at.ensures.opened.forest c.in_ok-at.ensures.marks.fresh in
     subst (λ (ns : List Node). AreMarkedBut c.in_ok-at.at.0 (slots_of ns) (marks_of ns) (length ns)) (sym c.as_mut_slice-2.ensures.value)
-    (grafted_marked (slots_of mid) (slots_of gr) (marks_of mid) (marks_of gr) (length mid) (length gr) c.in_ok-at.ensures.opened.forest marked true c.graft.ensures.marks c.in_ok-at.at.0 _ c.graft.ensures.forest
-    c.graft.ensures.marks.fresh c.in_ok-graft.ensures.others)
+    (laid_marked (slots_of mid) (slots_of gr) (marks_of mid) (marks_of gr) (length mid) (length gr) c.in_ok-at.ensures.opened.forest marked true c.lay_entry.ensures.marks c.in_ok-at.at.0 _ c.lay_entry.ensures.forest
+    c.lay_entry.ensures.marks.fresh c.in_ok-lay_entry.ensures.others)
 
 pub invariant_of-self : goal.invariant_of-self
 invariant_of-self g c =
@@ -116,15 +116,15 @@ invariant_of-self g c =
 
 pub invariant_of-self-2 : goal.invariant_of-self-2
 invariant_of-self-2 g c =
-    let gr = c.graft.new.nodes.items in
+    let gr = c.lay_entry.new.nodes.items in
     let fin = c.mark_changed.new.nodes in
-    let n : c.graft.new.nodes.len ≡ length fin = omega (arith, c.mark_changed.auto.nodes, c.as_mut_slice-2.ensures.len) in
-    let whole = back c.graft.new.nodes.len fin _ n in
+    let n : c.lay_entry.new.nodes.len ≡ length fin = omega (arith, c.mark_changed.auto.nodes, c.as_mut_slice-2.ensures.len) in
+    let whole = back c.lay_entry.new.nodes.len fin _ n in
     let same_slots : slots_of fin ≡ slots_of gr = as_function (slots_of fin) (slots_of gr) (λ i m. c.mark_changed.ensures.slots i m ∙ ap (λ (ns : List Node). slots_of ns i m) c.as_mut_slice-2.ensures.value) in
     let len : length gr ≡ length fin = omega (arith, c.mark_changed.auto.nodes, ap length c.as_mut_slice-2.ensures.value) in
     let up = subst (λ (ns : List Node). AreMarkedUp (slots_of ns) (marks_of ns) (marks_of fin) c.in_ok-at.at.0 (length ns)) c.as_mut_slice-2.ensures.value c.mark_changed.ensures.marked in
     record {
-      forest = subst (λ (ns : List Node). IsForest (slots_of ns) (length ns)) (sym whole) (subst (λ f. IsForest f (length fin)) (sym same_slots) (subst (IsForest (slots_of gr)) len c.graft.ensures.forest));
+      forest = subst (λ (ns : List Node). IsForest (slots_of ns) (length ns)) (sym whole) (subst (λ f. IsForest f (length fin)) (sym same_slots) (subst (IsForest (slots_of gr)) len c.lay_entry.ensures.forest));
       marked = subst (λ (ns : List Node). AreMarked (slots_of ns) (marks_of ns) (length ns)) (sym whole) (subst (λ f. AreMarked f (marks_of fin) (length fin)) (sym same_slots) (subst (AreMarked (slots_of gr) (marks_of fin)) len up.marked));
     }
 
@@ -138,44 +138,44 @@ returns-in_err-at-clause-still g c =
     rw p.1 (λ tree is. opened_changed (slots_of c.args.self.now.nodes.items) (slots_of c.walk.new.nodes.items) (marks_of c.args.self.now.nodes.items) (marks_of c.walk.new.nodes.items)
     (length c.args.self.now.nodes.items) (length c.walk.new.nodes.items) c.in_err-at.ensures.opened.forest c.in_err-at.ensures.marks tree is.0 is.1 is.2)
 
-pub returns-in_err-graft-clause-changed : goal.returns-in_err-graft-clause-changed
-returns-in_err-graft-clause-changed g c = λ way w tree is.
+pub returns-in_err-lay_entry-clause-changed : goal.returns-in_err-lay_entry-clause-changed
+returns-in_err-lay_entry-clause-changed g c = λ way w tree is.
     let old = c.args.self.now.nodes.items in
     let mid = c.walk.new.nodes.items in
-    let gr = c.graft.new.nodes.items in
-    inl (failed_changed (slots_of old) (slots_of mid) (slots_of gr) (marks_of old) (marks_of mid) (marks_of gr) (length old) (length mid) (length gr) c.in_ok-at.ensures.opened.forest c.in_ok-at.ensures.marks c.graft.ensures.marks
-    (as_function (slots_of gr) (slots_of mid) c.in_err-graft.ensures.err) tree is.0 is.1 is.2)
+    let gr = c.lay_entry.new.nodes.items in
+    inl (failed_changed (slots_of old) (slots_of mid) (slots_of gr) (marks_of old) (marks_of mid) (marks_of gr) (length old) (length mid) (length gr) c.in_ok-at.ensures.opened.forest c.in_ok-at.ensures.marks c.lay_entry.ensures.marks
+    (as_function (slots_of gr) (slots_of mid) c.in_err-lay_entry.ensures.err) tree is.0 is.1 is.2)
 
-pub returns-in_err-graft-clause-still : goal.returns-in_err-graft-clause-still
-returns-in_err-graft-clause-still g c =
-    let p = err_from_is_err_and c.from_residual-in_err-graft.result c.from_residual-in_err-graft.ensures.1 in
+pub returns-in_err-lay_entry-clause-still : goal.returns-in_err-lay_entry-clause-still
+returns-in_err-lay_entry-clause-still g c =
+    let p = err_from_is_err_and c.from_residual-in_err-lay_entry.result c.from_residual-in_err-lay_entry.ensures.1 in
     let old = c.args.self.now.nodes.items in
     let mid = c.walk.new.nodes.items in
-    let gr = c.graft.new.nodes.items in
+    let gr = c.lay_entry.new.nodes.items in
     rw p.1 (λ tree is.
-    failed_changed (slots_of old) (slots_of mid) (slots_of gr) (marks_of old) (marks_of mid) (marks_of gr) (length old) (length mid) (length gr) c.in_ok-at.ensures.opened.forest c.in_ok-at.ensures.marks c.graft.ensures.marks
-    (as_function (slots_of gr) (slots_of mid) c.in_err-graft.ensures.err) tree is.0 is.1 is.2)
+    failed_changed (slots_of old) (slots_of mid) (slots_of gr) (marks_of old) (marks_of mid) (marks_of gr) (length old) (length mid) (length gr) c.in_ok-at.ensures.opened.forest c.in_ok-at.ensures.marks c.lay_entry.ensures.marks
+    (as_function (slots_of gr) (slots_of mid) c.in_err-lay_entry.ensures.err) tree is.0 is.1 is.2)
 
-pub returns-in_err-graft-clause-as_read : goal.returns-in_err-graft-clause-as_read
-returns-in_err-graft-clause-as_read g c = λ honest trees has read.
+pub returns-in_err-lay_entry-clause-as_read : goal.returns-in_err-lay_entry-clause-as_read
+returns-in_err-lay_entry-clause-as_read g c = λ honest trees has read.
     let mid = c.walk.new.nodes.items in
-    let gr = c.graft.new.nodes.items in
-    read_same trees (slots_of mid) (slots_of gr) (marks_of mid) (marks_of gr) (length mid) c.in_ok-at.ensures.opened.forest (as_function (slots_of gr) (slots_of mid) c.in_err-graft.ensures.err) c.graft.ensures.marks.same
+    let gr = c.lay_entry.new.nodes.items in
+    read_same trees (slots_of mid) (slots_of gr) (marks_of mid) (marks_of gr) (length mid) c.in_ok-at.ensures.opened.forest (as_function (slots_of gr) (slots_of mid) c.in_err-lay_entry.ensures.err) c.lay_entry.ensures.marks.same
     (c.in_ok-at.ensures.as_read honest trees has read)
 
 pub returns-clause-as_read : goal.returns-clause-as_read
 returns-clause-as_read g c = λ honest trees has read.
     let old = c.args.self.now.nodes.items in
     let mid = c.walk.new.nodes.items in
-    let gr = c.graft.new.nodes.items in
+    let gr = c.lay_entry.new.nodes.items in
     let fin = c.mark_changed.new.nodes in
-    let n : c.graft.new.nodes.len ≡ length fin = omega (arith, c.mark_changed.auto.nodes, c.as_mut_slice-2.ensures.len) in
-    let whole = back c.graft.new.nodes.len fin _ n in
+    let n : c.lay_entry.new.nodes.len ≡ length fin = omega (arith, c.mark_changed.auto.nodes, c.as_mut_slice-2.ensures.len) in
+    let whole = back c.lay_entry.new.nodes.len fin _ n in
     let same_slots : slots_of fin ≡ slots_of gr = as_function (slots_of fin) (slots_of gr) (λ i m. c.mark_changed.ensures.slots i m ∙ ap (λ (ns : List Node). slots_of ns i m) c.as_mut_slice-2.ensures.value) in
     let up = subst (λ (ns : List Node). AreMarkedUp (slots_of ns) (marks_of ns) (marks_of fin) c.in_ok-at.at.0 (length ns)) c.as_mut_slice-2.ensures.value c.mark_changed.ensures.marked in
     subst (λ (ns : List Node). AreAsRead trees (slots_of ns) (marks_of ns)) (sym whole)
-    (graft_as_read (slots_of old) (slots_of mid) (slots_of gr) (slots_of fin) (marks_of old) (marks_of mid) (marks_of gr) (marks_of fin) (length old) (length mid) (length gr)
-    c.in_ok-at.ensures.opened.forest c.graft.ensures.forest c.in_ok-at.ensures.marks c.graft.ensures.marks c.in_ok-at.at.0 _ c.in_ok-graft.ensures.others same_slots up trees (c.in_ok-at.ensures.as_read honest trees has read))
+    (laid_as_read (slots_of old) (slots_of mid) (slots_of gr) (slots_of fin) (marks_of old) (marks_of mid) (marks_of gr) (marks_of fin) (length old) (length mid) (length gr)
+    c.in_ok-at.ensures.opened.forest c.lay_entry.ensures.forest c.in_ok-at.ensures.marks c.lay_entry.ensures.marks c.in_ok-at.at.0 _ c.in_ok-lay_entry.ensures.others same_slots up trees (c.in_ok-at.ensures.as_read honest trees has read))
 
 pub returns-clause-changed : goal.returns-clause-changed
 returns-clause-changed g c = λ way w tree.
@@ -188,33 +188,33 @@ returns-clause-changed g c = λ way w tree.
     let cut : left ≡ drop i path = rest_is path i in
     let some : 0 < length left = omega (arith, ap length cut, length-drop i path, c.in_ok-at.ensures.within.1) in
     let leads = subst (LeadsTo (slots_of mid) (onto way (names path)) at) (sym (ap names cut)) (c.in_ok-at.ensures.leads way w) in
-    let gr = c.graft.new.nodes.items in
+    let gr = c.lay_entry.new.nodes.items in
     let fin = c.mark_changed.new.nodes in
-    let n : c.graft.new.nodes.len ≡ length fin = omega (arith, c.mark_changed.auto.nodes, c.as_mut_slice-2.ensures.len) in
-    let whole = back c.graft.new.nodes.len fin _ n in
+    let n : c.lay_entry.new.nodes.len ≡ length fin = omega (arith, c.mark_changed.auto.nodes, c.as_mut_slice-2.ensures.len) in
+    let whole = back c.lay_entry.new.nodes.len fin _ n in
     let same_slots : slots_of fin ≡ slots_of gr = as_function (slots_of fin) (slots_of gr) (λ i m. c.mark_changed.ensures.slots i m ∙ ap (λ (ns : List Node). slots_of ns i m) c.as_mut_slice-2.ensures.value) in
     let up = subst (λ (ns : List Node). AreMarkedUp (slots_of ns) (marks_of ns) (marks_of fin) c.in_ok-at.at.0 (length ns)) c.as_mut_slice-2.ensures.value c.mark_changed.ensures.marked in
     let same : (k : ℕ) (m : List ℕ) → k < at → slots_of gr k m ≡ slots_of mid k m = λ k m lt.
-    let less : k < length mid = omega (arith, lt, c.in_ok-at.ensures.within.0) in c.in_ok-graft.ensures.others k m less (λ e _. absurd (omega (arith, lt, e))) in
+    let less : k < length mid = omega (arith, lt, c.in_ok-at.ensures.within.0) in c.in_ok-lay_entry.ensures.others k m less (λ e _. absurd (omega (arith, lt, e))) in
     let down : Way (slots_of gr) leads.0 at = way_above (slots_of mid) (slots_of gr) (length mid) at c.in_ok-at.ensures.opened.forest same leads.0 at (omega arith) leads.1 in
-    let made = subst (λ p. AreOnPath (slots_of gr) p (length mid) (length gr)) leads.2 (c.in_ok-graft.ensures.made leads.0 leads.1) in
+    let made = subst (λ p. AreOnPath (slots_of gr) p (length mid) (length gr)) leads.2 (c.in_ok-lay_entry.ensures.made leads.0 leads.1) in
     subst (λ (ns : List Node). ((j : ℕ) × LeadsTo (slots_of ns) tree j [] × ((marks_of ns j).changed ≡ true)) → IsChanged c.args.self.now tree ⊎ IsAbove tree (onto way (names_of path))) (sym whole)
-    (λ is. graft_changed (slots_of old) (slots_of mid) (slots_of gr) (slots_of fin) (marks_of old) (marks_of mid) (marks_of gr) (marks_of fin) (length old) (length mid) (length gr)
-    c.in_ok-at.ensures.opened.forest c.graft.ensures.forest c.in_ok-at.ensures.marks c.graft.ensures.marks at _ c.in_ok-graft.ensures.others same_slots up
+    (λ is. laid_changed (slots_of old) (slots_of mid) (slots_of gr) (slots_of fin) (marks_of old) (marks_of mid) (marks_of gr) (marks_of fin) (length old) (length mid) (length gr)
+    c.in_ok-at.ensures.opened.forest c.lay_entry.ensures.forest c.in_ok-at.ensures.marks c.lay_entry.ensures.marks at _ c.in_ok-lay_entry.ensures.others same_slots up
     (onto way (names path)) made leads.0 (names left) down (some_left left some) leads.2 tree is.0 is.1 is.2)
 
-pub returns-in_err-graft-clause-each : goal.returns-in_err-graft-clause-each
-returns-in_err-graft-clause-each g c = λ honest has down fit each i m s is. c.in_ok-at.ensures.each honest has down each i m s (sym (c.in_err-graft.ensures.err i m) ∙ is)
+pub returns-in_err-lay_entry-clause-each : goal.returns-in_err-lay_entry-clause-each
+returns-in_err-lay_entry-clause-each g c = λ honest has down fit each i m s is. c.in_ok-at.ensures.each honest has down each i m s (sym (c.in_err-lay_entry.ensures.err i m) ∙ is)
 
 pub returns-clause-each : goal.returns-clause-each
 returns-clause-each g c = λ honest has down fit each.
     let path = c.args.path.now in
     let i = c.in_ok-at.depth in
     let cut : take (length path - i) (drop i path) ≡ drop i path = rest_is path i in
-    let gr = c.graft.new.nodes.items in
+    let gr = c.lay_entry.new.nodes.items in
     let fin = c.mark_changed.new.nodes in
-    let n : c.graft.new.nodes.len ≡ length fin = omega (arith, c.mark_changed.auto.nodes, c.as_mut_slice-2.ensures.len) in
-    let whole = back c.graft.new.nodes.len fin _ n in
+    let n : c.lay_entry.new.nodes.len ≡ length fin = omega (arith, c.mark_changed.auto.nodes, c.as_mut_slice-2.ensures.len) in
+    let whole = back c.lay_entry.new.nodes.len fin _ n in
     let same_slots : slots_of fin ≡ slots_of gr = as_function (slots_of fin) (slots_of gr) (λ i m. c.mark_changed.ensures.slots i m ∙ ap (λ (ns : List Node). slots_of ns i m) c.as_mut_slice-2.ensures.value) in
     let leaf : Leaf = record { mode = mode_of c.from.result; id = id_of c.args.id } in
     let same : leaf ≡ leaf_of_kind c.args.kind c.args.id =
@@ -222,7 +222,7 @@ returns-clause-each g c = λ honest has down fit each.
     ∙ ap (λ (b : Bool). let l : Leaf = record { mode = record { value = kind_value c.args.kind; padded = b }; id = id_of c.args.id } in l) c.from.ensures.1 in
     let left : MayStand has (names (take (length path - i) (drop i path))) leaf = subst (λ (xs : List (Bor (List ℕ))). MayStand has (names xs) leaf) (sym cut) (subst (MayStand has (names (drop i path))) (sym same) (may_drop has path i (leaf_of_kind c.args.kind c.args.id) fit)) in
     subst (λ (ns : List Node). EachHas has (slots_of ns)) (sym whole)
-    (subst (EachHas has) (sym same_slots) (c.graft.ensures.each has left (c.in_ok-at.ensures.each honest has down each)))
+    (subst (EachHas has) (sym same_slots) (c.lay_entry.ensures.each has left (c.in_ok-at.ensures.each honest has down each)))
 
 pub returns-in_err-at-clause-each : goal.returns-in_err-at-clause-each
 returns-in_err-at-clause-each g c = λ honest has down fit each. c.in_err-at.ensures.each honest has down each
@@ -270,21 +270,21 @@ returns-in_err-at-clause-asked g c =
     let p = err_from_is_err_and c.from_residual-in_err-at.result c.from_residual-in_err-at.ensures.1 in
     rw (p.1, p.2) (λ honest trees has. through_stops (g.S.Lookup.is_honest c.args.self.now.store) (g.S.Lookup.may_fail c.args.self.now.store) (g.S.Lookup.table c.args.self.now.store) trees (slots_of c.args.self.now.nodes.items) c.args.from.0 c.args.path.now c.args.self.now.lookups c.walk.new.lookups c.in_err-at.field-0.0 (c.in_err-at.ensures.stops honest trees has))
 
-pub returns-in_err-graft-clause-asked : goal.returns-in_err-graft-clause-asked
-returns-in_err-graft-clause-asked g c =
-    let p = err_from_is_err_and c.from_residual-in_err-graft.result c.from_residual-in_err-graft.ensures.1 in
+pub returns-in_err-lay_entry-clause-asked : goal.returns-in_err-lay_entry-clause-asked
+returns-in_err-lay_entry-clause-asked g c =
+    let p = err_from_is_err_and c.from_residual-in_err-lay_entry.result c.from_residual-in_err-lay_entry.ensures.1 in
     rw (p.1, p.2) (λ honest trees has. some_all (g.S.Lookup.table c.args.self.now.store) _ c.args.self.now.lookups c.walk.new.lookups (through_asked (g.S.Lookup.table c.args.self.now.store) trees (slots_of c.args.self.now.nodes.items) (slots_of c.walk.new.nodes.items) c.args.from.0 c.in_ok-at.at.0 c.args.path.now c.in_ok-at.depth c.args.self.now.lookups c.walk.new.lookups c.walk.new.lookups c.in_ok-at.ensures.within.1 (c.in_ok-at.ensures.asked honest trees has) (c.in_ok-at.ensures.asked_all honest trees has)))
 
 pub returns-clause-asked : goal.returns-clause-asked
 returns-clause-asked g c = λ honest trees has. through_asked (g.S.Lookup.table c.args.self.now.store) trees (slots_of c.args.self.now.nodes.items) (slots_of c.walk.new.nodes.items) c.args.from.0 c.in_ok-at.at.0 c.args.path.now c.in_ok-at.depth c.args.self.now.lookups c.walk.new.lookups c.walk.new.lookups c.in_ok-at.ensures.within.1 (c.in_ok-at.ensures.asked honest trees has) (c.in_ok-at.ensures.asked_all honest trees has)
 
-pub returns-in_err-graft-clause-unchanged : goal.returns-in_err-graft-clause-unchanged
-returns-in_err-graft-clause-unchanged g c = λ honest.
-    let p = err_from_is_err_and c.from_residual-in_err-graft.result c.from_residual-in_err-graft.ensures.1 in
+pub returns-in_err-lay_entry-clause-unchanged : goal.returns-in_err-lay_entry-clause-unchanged
+returns-in_err-lay_entry-clause-unchanged g c = λ honest.
+    let p = err_from_is_err_and c.from_residual-in_err-lay_entry.result c.from_residual-in_err-lay_entry.ensures.1 in
     let mid = c.walk.new.nodes.items in
-    let gr = c.graft.new.nodes.items in
+    let gr = c.lay_entry.new.nodes.items in
     rw p.1 (λ trees has q.
-    ap (λ f. files_of_node trees f 0 q) (as_function (slots_of gr) (slots_of mid) c.in_err-graft.ensures.err)
+    ap (λ f. files_of_node trees f 0 q) (as_function (slots_of gr) (slots_of mid) c.in_err-lay_entry.ensures.err)
     ∙ c.in_ok-at.ensures.opened.files honest trees has q 0 c.args.self.now.forest.rooted)
 
 -- ---- an entry with the null id
@@ -483,13 +483,13 @@ returns-in_err-at-clause-same_entries g c = λ honest.
     let p = err_from_is_err_and c.from_residual-in_err-at.result c.from_residual-in_err-at.ensures.1 in
     rw p.1 (λ trees has q. c.in_err-at.ensures.opened.entries honest trees has none_met q 0 c.args.self.now.forest.rooted)
 
-pub returns-in_err-graft-clause-same_entries : goal.returns-in_err-graft-clause-same_entries
-returns-in_err-graft-clause-same_entries g c = λ honest.
-    let p = err_from_is_err_and c.from_residual-in_err-graft.result c.from_residual-in_err-graft.ensures.1 in
+pub returns-in_err-lay_entry-clause-same_entries : goal.returns-in_err-lay_entry-clause-same_entries
+returns-in_err-lay_entry-clause-same_entries g c = λ honest.
+    let p = err_from_is_err_and c.from_residual-in_err-lay_entry.result c.from_residual-in_err-lay_entry.ensures.1 in
     let mid = c.walk.new.nodes.items in
-    let gr = c.graft.new.nodes.items in
+    let gr = c.lay_entry.new.nodes.items in
     rw p.1 (λ trees has q.
-    ap (λ f. entry_from none_met trees f 0 q) (as_function (slots_of gr) (slots_of mid) c.in_err-graft.ensures.err)
+    ap (λ f. entry_from none_met trees f 0 q) (as_function (slots_of gr) (slots_of mid) c.in_err-lay_entry.ensures.err)
     ∙ c.in_ok-at.ensures.opened.entries honest trees has none_met q 0 c.args.self.now.forest.rooted)
 
 pub returns-then-is_null-clause-entries : goal.returns-then-is_null-clause-entries
@@ -523,10 +523,10 @@ returns-clause-entries g c = λ way w honest trees has q apart free.
     let at = c.in_ok-at.at.0 in
     let old = c.args.self.now.nodes.items in
     let mid = c.walk.new.nodes.items in
-    let gr = c.graft.new.nodes.items in
+    let gr = c.lay_entry.new.nodes.items in
     let fin = c.mark_changed.new.nodes in
-    let n : c.graft.new.nodes.len ≡ length fin = omega (arith, c.mark_changed.auto.nodes, c.as_mut_slice-2.ensures.len) in
-    let whole = back c.graft.new.nodes.len fin _ n in
+    let n : c.lay_entry.new.nodes.len ≡ length fin = omega (arith, c.mark_changed.auto.nodes, c.as_mut_slice-2.ensures.len) in
+    let whole = back c.lay_entry.new.nodes.len fin _ n in
     let same_slots : slots_of fin ≡ slots_of gr = as_function (slots_of fin) (slots_of gr) (λ j m. c.mark_changed.ensures.slots j m ∙ ap (λ (ns : List Node). slots_of ns j m) c.as_mut_slice-2.ensures.value) in
     let lt : i < length path = c.in_ok-at.ensures.within.1 in
     let left = take (length path - i) (drop i path) in
@@ -536,7 +536,7 @@ returns-clause-entries g c = λ way w honest trees has q apart free.
     let first : get_or (names left) 0 [] ≡ get_or (names path) i [] = ap (λ p. get_or (names p) 0 []) cut ∙ first_left path i lt in
     let later : names (drop 1 left) ≡ names (drop (i + 1) path) = ap (λ p. names (drop 1 p)) cut ∙ rest_dropped path i in
     let stood = entry_from none_met trees (slots_of mid) 0 q in
-    let puts = c.in_ok-graft.ensures.entries trees leads.0 leads.1 q
+    let puts = c.in_ok-lay_entry.ensures.entries trees leads.0 leads.1 q
     ∙ ap (λ m. laid_at trees leaf (names (drop 1 left)) (behind (onto leads.0 (m ∷ [])) q) stood) first
     ∙ ap (λ p. laid_at trees leaf p (behind (onto leads.0 (get_or (names path) i [] ∷ [])) q) stood) later in
     ap (λ (ns : List Node). entry_from none_met trees (slots_of ns) 0 q) whole
@@ -633,10 +633,10 @@ returns-clause-entry g c = λ way w honest trees has some r.
     let at = c.in_ok-at.at.0 in
     let old = c.args.self.now.nodes.items in
     let mid = c.walk.new.nodes.items in
-    let gr = c.graft.new.nodes.items in
+    let gr = c.lay_entry.new.nodes.items in
     let fin = c.mark_changed.new.nodes in
-    let n : c.graft.new.nodes.len ≡ length fin = omega (arith, c.mark_changed.auto.nodes, c.as_mut_slice-2.ensures.len) in
-    let whole = back c.graft.new.nodes.len fin _ n in
+    let n : c.lay_entry.new.nodes.len ≡ length fin = omega (arith, c.mark_changed.auto.nodes, c.as_mut_slice-2.ensures.len) in
+    let whole = back c.lay_entry.new.nodes.len fin _ n in
     let same_slots : slots_of fin ≡ slots_of gr = as_function (slots_of fin) (slots_of gr) (λ j m. c.mark_changed.ensures.slots j m ∙ ap (λ (ns : List Node). slots_of ns j m) c.as_mut_slice-2.ensures.value) in
     let lt : i < length path = c.in_ok-at.ensures.within.1 in
     let left = take (length path - i) (drop i path) in
@@ -646,7 +646,7 @@ returns-clause-entry g c = λ way w honest trees has some r.
     let first : get_or (names left) 0 [] ≡ get_or (names path) i [] = ap (λ p. get_or (names p) 0 []) cut ∙ first_left path i lt in
     let later : names (drop 1 left) ≡ names (drop (i + 1) path) = ap (λ p. names (drop 1 p)) cut ∙ rest_dropped path i in
     let puts : (q : Path) → entry_from none_met trees (slots_of gr) 0 q ≡ laid_at trees leaf (names (drop (i + 1) path)) (behind (onto leads.0 (get_or (names path) i [] ∷ [])) q) (entry_from none_met trees (slots_of mid) 0 q) =
-    λ q. c.in_ok-graft.ensures.entries trees leads.0 leads.1 q
+    λ q. c.in_ok-lay_entry.ensures.entries trees leads.0 leads.1 q
     ∙ ap (λ m. laid_at trees leaf (names (drop 1 left)) (behind (onto leads.0 (m ∷ [])) q) (entry_from none_met trees (slots_of mid) 0 q)) first
     ∙ ap (λ p. laid_at trees leaf p (behind (onto leads.0 (get_or (names path) i [] ∷ [])) q) (entry_from none_met trees (slots_of mid) 0 q)) later in
     let same : leaf ≡ leaf_of_kind c.args.kind c.args.id =
@@ -665,10 +665,10 @@ returns-clause-folders g c = λ way w honest trees has some q m t on apart.
     let at = c.in_ok-at.at.0 in
     let old = c.args.self.now.nodes.items in
     let mid = c.walk.new.nodes.items in
-    let gr = c.graft.new.nodes.items in
+    let gr = c.lay_entry.new.nodes.items in
     let fin = c.mark_changed.new.nodes in
-    let n : c.graft.new.nodes.len ≡ length fin = omega (arith, c.mark_changed.auto.nodes, c.as_mut_slice-2.ensures.len) in
-    let whole = back c.graft.new.nodes.len fin _ n in
+    let n : c.lay_entry.new.nodes.len ≡ length fin = omega (arith, c.mark_changed.auto.nodes, c.as_mut_slice-2.ensures.len) in
+    let whole = back c.lay_entry.new.nodes.len fin _ n in
     let same_slots : slots_of fin ≡ slots_of gr = as_function (slots_of fin) (slots_of gr) (λ j m. c.mark_changed.ensures.slots j m ∙ ap (λ (ns : List Node). slots_of ns j m) c.as_mut_slice-2.ensures.value) in
     let lt : i < length path = c.in_ok-at.ensures.within.1 in
     let left = take (length path - i) (drop i path) in
@@ -678,7 +678,7 @@ returns-clause-folders g c = λ way w honest trees has some q m t on apart.
     let first : get_or (names left) 0 [] ≡ get_or (names path) i [] = ap (λ p. get_or (names p) 0 []) cut ∙ first_left path i lt in
     let later : names (drop 1 left) ≡ names (drop (i + 1) path) = ap (λ p. names (drop 1 p)) cut ∙ rest_dropped path i in
     let puts : (q : Path) → entry_from none_met trees (slots_of gr) 0 q ≡ laid_at trees leaf (names (drop (i + 1) path)) (behind (onto leads.0 (get_or (names path) i [] ∷ [])) q) (entry_from none_met trees (slots_of mid) 0 q) =
-    λ q. c.in_ok-graft.ensures.entries trees leads.0 leads.1 q
+    λ q. c.in_ok-lay_entry.ensures.entries trees leads.0 leads.1 q
     ∙ ap (λ m. laid_at trees leaf (names (drop 1 left)) (behind (onto leads.0 (m ∷ [])) q) (entry_from none_met trees (slots_of mid) 0 q)) first
     ∙ ap (λ p. laid_at trees leaf p (behind (onto leads.0 (get_or (names path) i [] ∷ [])) q) (entry_from none_met trees (slots_of mid) 0 q)) later in
     ap (λ (ns : List Node). entry_from none_met trees (slots_of ns) 0 q) whole

@@ -18,7 +18,7 @@ use std::alloc::{AllocError, Global};
 
 /// Puts an entry at the end of the names below an opened tree, in folders that are made for it, and answers the tree in which it
 /// stands. What stood at the first name is cut off. The folders are marked so. Without memory nothing changes.
-pub(crate) fn graft(
+pub(crate) fn lay_entry(
     nodes: &mut Vec<Node>,
     alloc: Global,
     at: NodeId,
@@ -141,7 +141,7 @@ pub(crate) fn make_folders(
         oid: ObjectId::null(hash),
         child: None,
     };
-    let end = graft(nodes, alloc, at, path.as_slice(), slot, changed)?;
+    let end = lay_entry(nodes, alloc, at, path.as_slice(), slot, changed)?;
     take_at(nodes.as_mut_slice(), end, no_name);
     Ok(end)
 }

@@ -7,7 +7,7 @@ use Rattle.gix_hash_id.specs.Id.{id_of}
 use Rattle.gix_object_editor.specs.declared.tree.editor.node.Slot.{Slot}
 use Rattle.gix_object_editor.specs.Entries.{made_leaf}
 use Rattle.gix_object_editor.specs.Marks.{marks_of, mark_below, rung_parent}
-use Rattle.gix_object_editor.proofs.tree.editor.graft.push_ladder.Given as goal
+use Rattle.gix_object_editor.proofs.tree.editor.lay.push_ladder.Given as goal
 
 -- the names so far have a node each
 abbrev pub invariant-loop-i : goal.invariant-loop-i

@@ -15,8 +15,8 @@ use Rattle.gix_object_editor.proofs.Marked.{marks_front, mark_end}
 use Rattle.gix_object_editor.proofs.Slots.{at_end, front_kept, length_push, none_past}
 use Rattle.gix_object_editor.proofs.Walked.{names, names_length}
 use Rattle.gix_object_editor.proofs.Ladder.{one_rung_more}
-use Rattle.gix_object_editor.proofs.tree.editor.graft.push_ladder.Goals.{then-i-names, else-i-names}
-use Rattle.gix_object_editor.proofs.tree.editor.graft.push_ladder.Goals as goal
+use Rattle.gix_object_editor.proofs.tree.editor.lay.push_ladder.Goals.{then-i-names, else-i-names}
+use Rattle.gix_object_editor.proofs.tree.editor.lay.push_ladder.Goals as goal
 
 pub loop-i-preserved : goal.loop-i-preserved
 loop-i-preserved c =

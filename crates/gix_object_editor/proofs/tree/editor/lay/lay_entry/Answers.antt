@@ -16,7 +16,7 @@ use Rattle.gix_object_editor.specs.Entries.{EachHas}
 use Rattle.gix_object_editor.proofs.Walked.{names_length}
 use Rattle.gix_object_editor.proofs.Kept.{first_fits, put_each}
 use Rattle.gix_object_editor.proofs.Marked.{marks_same, marks_taken}
-use Rattle.gix_object_editor.proofs.tree.editor.graft.graft.Goals as goal
+use Rattle.gix_object_editor.proofs.tree.editor.lay.lay_entry.Goals as goal
 
 pub returns-in_err-put_at-clause-forest : goal.returns-in_err-put_at-clause-forest
 returns-in_err-put_at-clause-forest c =

@@ -17,7 +17,7 @@ use Rattle.gix_object_editor.specs.Asked.{front_of}
 use Rattle.gix_object_editor.proofs.Asking.{front_has}
 use Rattle.gix_object_editor.proofs.Cuts.{hung_null}
 use Rattle.gix_object_editor.proofs.Kept.{hung_each, hung_names, in_tail, in_front}
-use Rattle.gix_object_editor.proofs.tree.editor.graft.hang.Goals as goal
+use Rattle.gix_object_editor.proofs.tree.editor.lay.hang.Goals as goal
 
 pub returns-clause-forest : goal.returns-clause-forest
 returns-clause-forest c =
