@@ -50,5 +50,5 @@ pub mod tree {
         pub use gix_traverse_tree::visit::{Action, Error};
     }
 
-    pub use gix_traverse_tree::{Recorder, Visit};
+    pub use gix_traverse_tree::{EntriesState, Recorder, Visit, entries_at};
 }

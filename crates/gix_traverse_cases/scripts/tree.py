@@ -80,6 +80,30 @@ def add_walks(git, root):
         add(order + "-untracked", git, root, trees, "whole" + told(entries, lambda path: b""))
 
 
+def names(path):
+    return tuple(path.split(b"/"))
+
+
+def add_paths(git, root, paths):
+    """The entry at each path, and how many trees are asked for: those that something longer among the paths begins with."""
+    there = {names(path): f" {MODES[mode]} {oid}" for mode, oid, path in git.depth(root)}
+    folders = {()} | {names(path) for mode, oid, path in git.depth(root) if mode == "040000"}
+    fronts = {names(path)[:k] for path in paths for k in range(len(names(path)))} & folders
+    answer = f"{len(fronts)} of {len(fronts)}" + "".join(there.get(names(path), " none") for path in paths)
+    words = b"".join(path + b"\0" for path in paths).hex() or "-"
+    rows.append((" ".join(["paths", git.kind, root, words, *git.trees(root)]), answer + " again " + answer))
+
+
+def any_paths(git, root, chance):
+    """Paths that stand, what begins them, and such as don't stand, in any order, some of them twice."""
+    stand = [path for _, _, path in git.depth(root)]
+    some = [chance.choice(stand) for _ in range(chance.randint(0, 6))] if stand else []
+    some += [chance.choice(stand) + chance.choice([b"/a", b"/lib/a", b"a", b"/", b"//b"]) for _ in range(2 if stand else 0)]
+    some += [chance.choice([b"a", b"a/b", b"nope", b"", b"/", b"a//b", b"lib/src/a", b"z/z/z"]) for _ in range(chance.randint(0, 3))]
+    chance.shuffle(some)
+    return some
+
+
 def any_tree(git, blobs, chance, depth):
     names = [b"a", b"b", b"a.b", b"a0", b"a-b", b"z", b"\xc3\xa4", b"with space", b"A", b"lib", b"src"]
     entries = {}
@@ -103,6 +127,13 @@ def main():
             add_walks(git, git.tree(entries))
         for _ in range(40):
             add_walks(git, git.tree(any_tree(git, blobs, chance, 4)))
+        # what stands at several paths
+        for paths in ([], [b""], [b"a"], [b"a", b"b"], [b"a/x", b"a", b"a/y", b"a/x"], [b"a/x/q", b"b/q", b"c/q"]):
+            add_paths(git, git.tree(nested), paths)
+            add_paths(git, git.tree({}), paths)
+        for _ in range(60):
+            root = git.tree(any_tree(git, blobs, chance, 4))
+            add_paths(git, root, any_paths(git, root, chance))
         # the walk ends at the third entry, and doesn't go below `shut`
         shut = {b"a": {b"shut": {b"x": file}, b"y": file, b"z": file}, b"b": file}
         root = git.tree(shut)
@@ -118,6 +149,8 @@ def main():
         missing = f"refused Find(NotFound {{ oid: {'Sha1' if kind == 'sha1' else 'Sha256'}({git.depth(root)[0][1]}) }})"
         add("depth", git, root, whole[:1], missing + told(git.depth(root)[:1], lambda path: path))
         add("breadth", git, root, whole[:1], missing + told([it for it in git.breadth(root)][:2], lambda path: path))
+        again = missing.replace("refused", "2 of 2 refused")
+        rows.append((" ".join(["paths", kind, root, b"b\0a/x\0a/y\0".hex(), whole[0]]), again + " again " + again))
         # a tree under itself, which no digest has: the content of one tree stands under the id that it names
         inner = git.depth(root)[0][1]
         content = git.run("cat-file", "tree", root).hex()
@@ -127,6 +160,8 @@ def main():
         # an entry cut short
         cut = git.trees(git.tree({b"a": file, b"b": file}))[0]
         first = [("100644", blobs[1], b"a")]
+        end = "1 of 1 refused ObjectDecode(HexDigits)"
+        rows.append((" ".join(["paths", kind, cut[: 2 * (20 if kind == "sha1" else 32)], b"a\0".hex(), cut[:-2]]), end + " again " + end))
         add("depth", git, cut[: 2 * (20 if kind == "sha1" else 32)], [cut[:-2]], "refused ObjectDecode(HexDigits)" + told(first, lambda path: path))
     write(__file__, rows)
 

@@ -1,5 +1,6 @@
 //! Cases of `gix_traverse_tree`.
 
+mod at_paths;
 mod copies;
 mod operations;
 mod stopping;

@@ -1,10 +1,9 @@
 -- Calls joined.
-use Rattle.std.proofs.Common.{◌≡◌, subst, List, [], ◌∷◌, ◌++◌, refl, ap, Result, Ok, Err, inl, inr}
+use Rattle.std.proofs.Common.{subst, List, [], ◌∷◌, ◌++◌, Result, Ok, Err, inl, inr}
 use Rattle.std.specs.Prelude.{OnOk, IfErr}
 use Rattle.gix_traverse_tree.specs.Calls.{Call, Runs}
 use Rattle.gix_traverse_tree.specs.Nodes.{MemoryOr}
 use Rattle.gix_traverse_tree.specs.declared.error.Error.{Error}
-use Rattle.std.proofs.lemmas.List.{append-nil}
 
 pub runs_more : {S : Type 0} (G : S → Call → S → Type 0) (xs ys : List Call) (a m b : S) → Runs G a xs m → Runs G m ys b → Runs G a (xs ++ ys) b
 runs_more G [] ys a m b e h = let P : _ → Type 0 = λ s. Runs G s ys b in subst P e h

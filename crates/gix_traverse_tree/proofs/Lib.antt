@@ -9,3 +9,8 @@ pub mod Paths
 pub mod Recording
 pub mod RecordingInDepth
 pub mod RecordingInBreadth
+pub mod Numbering
+pub mod Telling
+pub mod Leading
+pub mod Stepping
+pub mod Answering

@@ -6,3 +6,6 @@ pub mod Nodes
 pub mod Opened
 pub mod Recorder
 pub mod Orders
+pub mod AtPaths
+pub mod Folders
+pub mod Known

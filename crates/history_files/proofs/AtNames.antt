@@ -184,15 +184,15 @@ one_name kind m map name plain = elim (named_in kind tree_of name (tree_entries 
         ap (λ id. Some (codes "40000", id)) (made.id ∙ ap (λ n. folder_id kind (inside n m)) same)
         ∙ sym (ap (λ b. cond b (Some (codes "40000", folder_id kind (inside name m))) (option_map (λ (content : Content). (mode_of content.kind, blob_id kind content.bytes)) (get m name))) there)
 
-no_leaf : {A : Type 0} (k : FileKind) → mode_of k ≡ codes "40000" → A
+pub no_leaf : {A : Type 0} (k : FileKind) → mode_of k ≡ codes "40000" → A
 no_leaf PlainFile e = texts_differ _ _ refl e
 no_leaf Exec e = texts_differ _ _ refl e
 no_leaf Link e = texts_differ _ _ refl e
 
-first_same : (a b : Bytes × Id) → Some a ≡ Some b → a.0 ≡ b.0
+pub first_same : (a b : Bytes × Id) → Some a ≡ Some b → a.0 ≡ b.0
 first_same a b e = ap (λ (p : Bytes × Id). p.0) (same_Some a b e)
 
-second_same : (a b : Bytes × Id) → Some a ≡ Some b → a.1 ≡ b.1
+pub second_same : (a b : Bytes × Id) → Some a ≡ Some b → a.1 ≡ b.1
 second_same a b e = ap (λ (p : Bytes × Id). p.1) (same_Some a b e)
 
 -- ---- from name to name
@@ -211,13 +211,13 @@ module _ (table : Table) (kind : Kind) where
   pub from_root : (root : Id) (files : FileMap) → IsRootOf table kind files root → (id : ObjectId) → id_of id ≡ root → (path : Bytes) → Leads (Folder id) (components path) (entry_at kind files path)
   from_root root files is id same path = (files, is.map, has_all (IsInTable table kind) files is.trees, same ∙ is.id, sym (at_path kind files path))
 
-  by_case : (m : FileMap) (name : Bytes) → (has_below m name ≡ true) ⊎ (has_below m name ≡ false)
+  pub by_case : (m : FileMap) (name : Bytes) → (has_below m name ≡ true) ⊎ (has_below m name ≡ false)
   by_case m name = either (has_below m name)
 
-  folder_entry : (m : FileMap) (name : Bytes) → has_below m name ≡ true → entry_at kind m name ≡ Some (codes "40000", folder_id kind (inside name m))
+  pub folder_entry : (m : FileMap) (name : Bytes) → has_below m name ≡ true → entry_at kind m name ≡ Some (codes "40000", folder_id kind (inside name m))
   folder_entry m name h = ap (λ b. cond b (Some (codes "40000", folder_id kind (inside name m))) (option_map (λ (content : Content). (mode_of content.kind, blob_id kind content.bytes)) (get m name))) h
 
-  file_entry : (m : FileMap) (name : Bytes) → has_below m name ≡ false → entry_at kind m name ≡ option_map (λ (content : Content). (mode_of content.kind, blob_id kind content.bytes)) (get m name)
+  pub file_entry : (m : FileMap) (name : Bytes) → has_below m name ≡ false → entry_at kind m name ≡ option_map (λ (content : Content). (mode_of content.kind, blob_id kind content.bytes)) (get m name)
   file_entry m name h = ap (λ b. cond b (Some (codes "40000", folder_id kind (inside name m))) (option_map (λ (content : Content). (mode_of content.kind, blob_id kind content.bytes)) (get m name))) h
 
   pub step_none : (found : Found) (name : Bytes) (rest : List Bytes) (answer : Option (Bytes × Id)) → has_byte 47 name ≡ false → Leads found (name ∷ rest) answer → StepsBelow table found name None → answer ≡ None

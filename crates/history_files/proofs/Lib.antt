@@ -27,3 +27,4 @@ pub mod Leftover
 pub mod Counting
 pub mod Unopened
 pub mod Breaks
+pub mod SeveralPaths

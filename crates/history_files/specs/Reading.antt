@@ -23,6 +23,7 @@ use Rattle.history_model.specs.Bytes.{Bytes}
 use Rattle.history_model.specs.FileMap.{FileMap, Content, IsFileMap}
 use Rattle.history_model.specs.Objects.{mode_of, folder_id, blob_id}
 use Rattle.history_model.specs.Replies.{FileLine}
+use Rattle.gix_traverse_tree.specs.AtPaths.{Answer, EntriesFault}
 use Rattle.gix_traverse_tree.specs.Calls.{Call}
 use Rattle.gix_traverse_tree.specs.Depth.{InDepth, before}
 use Rattle.gix_traverse_tree.specs.Recorder.{Recorded}
@@ -109,6 +110,11 @@ named_as entries.Commit id = None
 abbrev pub named_by : Item → Option (Bytes × Id)
 named_by item = named_as (kind_of item.mode.value) item.id
 
+-- what is told of an answered entry
+abbrev pub told_entry : Option Answer → Option (Bytes × Id)
+told_entry answer =
+    option_and_then (λ (a : Answer). named_as (kind_of a.0.value) (id_of a.1)) answer
+
 -- from what was found to what stands under a name in it: nothing in a file, and in a folder what its tree's entry names
 abbrev pub StepsBelow : Table → Found → Bytes → Option Found → Type 0
 StepsBelow table (File kind id) name next = next ≡ None
@@ -147,6 +153,14 @@ abbrev pub StopsBelow : Type 0 → Type 0 → Table → ObjectId → ReadError �
 StopsBelow honest may_fail table root error = (error ≡ Memory)
     ⊎ ((calls : List Call) × (cause : walking.Error) × (error ≡ as_walked root cause)
     × InDepth honest may_fail table [] (before (id_of root)) calls (failed cause))
+
+-- Why it isn't told what stands at some paths: a tree to which what begins them leads isn't found, or has an entry that can't be
+-- read; or no memory was left.
+abbrev pub StopsAtPaths : Type 0 → Type 0 → Table → ObjectId → List (List Bytes) → ReadError
+    → Type 0
+StopsAtPaths honest may_fail table root paths error = (error ≡ Memory)
+    ⊎ ((cause : walking.Error) × (error ≡ as_walked root cause)
+    × EntriesFault honest may_fail table (id_of root) paths cause)
 
 -- no tree stands under the id that can be read and is well-formed
 abbrev pub HasNoGoodTree : Table → Id → Type 0

@@ -4,18 +4,19 @@ ghost use Rattle.std.specs.Prelude.{◌≡◌, map, List, IfOk, IfErr, IsErrOf, 
 ghost use Rattle.gix_hash_id.specs.Id.{Id, id_of};
 ghost use Rattle.gix_object_lines.specs.declared.kind.Kind.TheVariants as objects;
 ghost use Rattle.gix_object_entries.specs.Entry.{Item, item_of};
+ghost use Rattle.gix_object_entries.specs.Mode.{kind_of};
 ghost use Rattle.gix_object_tree.specs.Object.{Tree};
 ghost use Rattle.gix_object_find.specs.Existing.{StandsAs};
 ghost use Rattle.gix_object_editor.specs.Files.{named};
 ghost use Rattle.history_model.specs.Objects as model;
-ghost use Rattle.history_files.specs.Reading.{entry_of, named_by, TreeFault, OfFiles, OwnFault, StepsBelow, TellsUnread, unless_memory};
+ghost use Rattle.history_files.specs.Reading.{entry_of, named_as, named_by, TreeFault, OfFiles, OwnFault, StepsBelow, TellsUnread, unless_memory};
 ghost use Rattle.history_files.specs.declared.error.ReadError.TheVariants.{Failed, Broken};
 ghost use Rattle.history_files.specs.declared.found.Found.TheVariants.{File, Folder};
 
 use crate::error::ReadError;
 use crate::names::names_of;
 use gix_hash::ObjectId;
-use gix_object_entries::tree::{EntryKind, EntryRef};
+use gix_object_entries::tree::{EntryKind, EntryMode, EntryRef};
 use gix_object_find::{Find, FindExt};
 use gix_object_lines::decode;
 use history_model::FileKind;
@@ -153,8 +154,14 @@ fn named_among(entries: &[EntryRef<'_>], name: &[u8]) -> Option<Found>
 fn found_by(entry: &EntryRef<'_>) -> Option<Found>
     ensures { option_map entry_of result ≡ named_by (item_of entry.now) }
 {
-    let id = ObjectId::from(entry.oid);
-    match entry.mode.kind() {
+    found_of(entry.mode, ObjectId::from(entry.oid))
+}
+
+/// What an entry of this mode names.
+pub(crate) fn found_of(mode: EntryMode, id: ObjectId) -> Option<Found>
+    ensures { option_map entry_of result ≡ named_as (kind_of mode.value) (id_of id) }
+{
+    match mode.kind() {
         EntryKind::Tree => Some(Found::Folder { id }),
         EntryKind::Blob => Some(file(FileKind::File, id)),
         EntryKind::BlobExecutable => Some(file(FileKind::Exec, id)),

@@ -69,8 +69,8 @@ fn recorded<S: Find>(alloc: Global, store: &S, root: &ObjectId) -> Result<Record
     }
 }
 
-// Why the walk from this root ended early.
-fn read_error(error: depthfirst::Error, root: ObjectId) -> ReadError
+/// Why a walk from this root ended early.
+pub(crate) fn read_error(error: depthfirst::Error, root: ObjectId) -> ReadError
     ensures { result ≡ as_walked root error }
 {
     match error {

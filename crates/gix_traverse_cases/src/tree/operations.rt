@@ -1,8 +1,9 @@
 //! One line to one answer.
 
+use crate::tree::at_paths::at_paths;
 use crate::tree::copies::copy;
 use crate::tree::stopping::Stopping;
-use crate::tree::store::read;
+use crate::tree::store::{read, read_counting};
 use case_ids::{Case, Operations};
 use case_page::Page;
 use case_store::Store;
@@ -98,17 +99,33 @@ fn stop(alloc: Global, order: Order, root: &ObjectId, store: &Store, page: &mut 
     records(page, delegate.recorder.records.as_slice());
 }
 
+// What stands at the paths of a line, in a store that counts.
+fn entries(alloc: Global, root: &ObjectId, case: &Case, page: &mut Page) {
+    let trees = case.behind(2);
+    match read_counting(alloc, case.kind.len_in_bytes(), trees) {
+        Some(store) => {
+            if at_paths(alloc, root, case.text(1), &store, page).is_none() {
+                page.text("no memory");
+            }
+        }
+        None => page.text("no trees"),
+    }
+}
+
 /// The operations of these cases.
 pub struct Walks;
 
 impl Operations for Walks {
     fn write_answer(alloc: Global, operation: &str, case: &Case, page: &mut Page) {
+        let Ok(root) = ObjectId::try_from(case.text(0)) else {
+            return page.text("no root");
+        };
+        if operation == "paths" {
+            return entries(alloc, &root, case, page);
+        }
         let trees = case.behind(1);
         let Some(store) = read(alloc, case.kind.len_in_bytes(), trees) else {
             return page.text("no trees");
-        };
-        let Ok(root) = ObjectId::try_from(case.text(0)) else {
-            return page.text("no root");
         };
         let whole = Some(Location::Path);
         let name = Some(Location::FileName);
