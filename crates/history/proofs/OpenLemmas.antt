@@ -3,14 +3,16 @@ use Rattle.std.proofs.Common.{◌≡◌, sym, ap, subst, ◌∙◌, List, Option
 use Rattle.std.specs.FinMap.{contains_key}
 use Rattle.gix_hash_id.specs.declared.kind.Kind.{Kind}
 use Rattle.gix_ref_file.specs.History.{History}
+use Rattle.gix_ref_file.specs.Tree.{Tree}
 use Rattle.gix_traverse_commit.specs.Told.{rows_of}
 use Rattle.gix_traverse_commit.specs.declared.rows.Row.{Row}
-use Rattle.history_model.specs.Places.{Pair}
+use Rattle.history_model.specs.Places.{Pair, packed_place}
 use Rattle.history_model.specs.Repository as plain
 use Rattle.history_model.specs.StandsFor.{StandsWhole}
 use Rattle.history_opening.specs.Opened.{IsOpenedAs, trees_of}
 use Rattle.history_opening.specs.declared.folder.OpenedFolder.{OpenedFolder}
 use Rattle.history_steps.specs.Offered.{IsOfStage}
+use Rattle.history_store.specs.Creation.{IsNew}
 use Rattle.history_store.specs.Face.{files_of_names, files_of_objects, ids_of_objects, kind_of_names, kind_of_objects}
 use Rattle.history_store.specs.declared.objects.Objects.{Objects}
 use Rattle.history.specs.declared.repository.Repository.{Repository}
@@ -51,3 +53,7 @@ module _ {F : Type 0} (IsHonest : F → Type 0) (history : F → History) (opene
     where
       of_kind : r.kind ≡ kind
       of_kind = (is.stands).stands.of_kind
+
+-- a new repository is one of this stage
+pub opened_of_stage : (objects names : Tree) → IsNew objects names → IsOfStage (record { objects = objects; names = names })
+opened_of_stage objects names new = record { unpacked = new.no_other packed_place (λ e. cc) }

@@ -32,6 +32,9 @@ use Rattle.history_store.specs.Written.{AreWritten, IsWrittenEntry, IsWrittenMod
 use Rattle.history_survey.specs.Opened.{store_of}
 use Rattle.history_survey.proofs.Empties.{entries-empty}
 
+pub same_files : (a b : FileMap) → StoredFolder a ≡ StoredFolder b → a ≡ b
+same_files a b e = cc
+
 -- ---- what an entry is
 
 -- a file's entry, or that of a folder with a file in it
@@ -111,10 +114,10 @@ module _ (kind : Kind) (stored : Values) (whole : IsWholeStore (store_of kind st
   no_empty : (item : Item) → IsItem kind files item → item.id ≢ empty_tree_id kind
   no_empty item (of_file content i same plain) e =
       let none = whole.empty_tree (StoredBytes content.bytes) (ap (get stored) (sym e ∙ same) ∙ bytes_stored item.name content i) in
-      absurd cc
+      absurd (cc none)
   no_empty item (of_folder rest content i same tree) e =
       let none : StoredFolder (inside item.name files) ≡ StoredFolder empty = whole.empty_tree (StoredFolder (inside item.name files)) (ap (get stored) (sym e ∙ same) ∙ folder_stored item.name rest content i) in
-      let none_inside : inside item.name files ≡ empty = cc in
+      let none_inside = same_files (inside item.name files) empty none in
       subst (In (rest, content)) (ap entries none_inside ∙ entries-empty) (in_inside item.name files rest content i)
 
   module _ (fits : IsFileMap files) where

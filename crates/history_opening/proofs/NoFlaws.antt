@@ -37,13 +37,14 @@ use Rattle.history_survey.specs.Opened.{IsSoundStore, store_of}
 use Rattle.history_survey.specs.declared.flaw.ObjectsFlaw.{ObjectsFlaw}
 use Rattle.history_survey.specs.declared.flaw.ObjectsFlaw.TheVariants as flaws
 use Rattle.history_survey.proofs.Empties.{root-empty}
-use Rattle.history_opening.proofs.Items.{IsItem, are_written, bytes_stored, folder_stored, item_is, of_file, of_folder}
+use Rattle.history_opening.proofs.Items.{IsItem, are_written, bytes_stored, folder_stored, item_is, of_file, of_folder, same_files}
 use Rattle.history_opening.proofs.Named.{IsNamed, named_value}
 use Rattle.std.proofs.lemmas.Bool.{and_parts, or_cases}
 use Rattle.std.proofs.lemmas.Option.{same_Some}
 
-same_files : (a b : FileMap) → StoredFolder a ≡ StoredFolder b → a ≡ b
-same_files a b e = cc
+-- a call of the files failed, or memory was refused
+abbrev pub IsFlawFault : ObjectsFlaw → Type 0
+IsFlawFault flaw = (flaw ≡ flaws.File) ⊎ (flaw ≡ flaws.Memory)
 
 module _ (kind : Kind) (tree : Tree) (stored : Values) (holds : HoldsValues kind tree stored) (sound : IsSoundStore kind stored) where
   abbrev r : Repository
@@ -101,7 +102,7 @@ module _ (kind : Kind) (tree : Tree) (stored : Values) (holds : HoldsValues kind
   no_missing : (id by : Id) → HasMissing kind tree id by → ⊥
   no_missing id by (as_kind, n, none) =
       let named = (names_value by id as_kind n).2 in
-      none_is_some _ (sym none ∙ text_at id (formed id named.value named.at) ∙ ap (option_map (value_text kind)) named.at)
+      none_is_some (value_text kind named.value) (sym none ∙ text_at id (formed id named.value named.at) ∙ ap (option_map (value_text kind)) named.at)
     where
       formed : (id : Id) (v : Value) → get stored id ≡ Some v → is_id kind id ≡ true
       formed id v at = ap (is_id kind) ((sound.whole).own_ids id v at) ∙ digest_is_id kind (value_text kind v)
@@ -163,7 +164,7 @@ module _ (kind : Kind) (tree : Tree) (stored : Values) (holds : HoldsValues kind
       go files at (of_file content i same plain) inner =
           let bytes = ap (get stored) same ∙ bytes_stored kind stored sound.whole files (has_stored r sound.whole id files at) item.name content i in
           let clashes : StoredFolder inner.files ≡ StoredBytes content.bytes = same_Some (StoredFolder inner.files) (StoredBytes content.bytes) (sym inner.at ∙ bytes) in
-          absurd cc
+          absurd (cc clashes)
       go files at (of_folder other content i same is) inner =
           let folder = ap (get stored) same ∙ folder_stored kind stored sound.whole files (has_stored r sound.whole id files at) item.name other content i in
           let one = same_files inner.files (inside item.name files) (same_Some (StoredFolder inner.files) (StoredFolder (inside item.name files)) (sym inner.at ∙ folder)) in
@@ -243,9 +244,6 @@ module _ (kind : Kind) (tree : Tree) (stored : Values) (holds : HoldsValues kind
       place_differs own.0 (sym own.2)
 
   -- ---- all
-
-  abbrev pub IsFlawFault : ObjectsFlaw → Type 0
-  IsFlawFault flaw = (flaw ≡ flaws.File) ⊎ (flaw ≡ flaws.Memory)
 
   pub fault_alone : (MayFail : Type 0) (flaw : ObjectsFlaw) → IsObjectsFlaw MayFail kind tree flaw → IsFlawFault flaw
   fault_alone MayFail (flaws.Stray path) h = absurd (no_stray path.items h)
