@@ -7,6 +7,7 @@ use Rattle.std.proofs.lemmas.Option.{same_Some}
 use Rattle.gix_hash_id.specs.Id.{Id, id_of}
 use Rattle.gix_hash_id.specs.declared.kind.Kind.{Kind}
 use Rattle.gix_object_find.specs.Table.{Object}
+use Rattle.gix_ref_file.specs.History.{History}
 use Rattle.gix_ref_file.specs.Tree.{Tree}
 use Rattle.history_model.specs.Bytes.{Bytes}
 use Rattle.history_model.specs.Forms.{IsWrittenValue, is_id}
@@ -24,16 +25,15 @@ use Rattle.history_store.specs.KnownObjects.{object_at}
 use Rattle.history_store.specs.ObjectTexts.{object_in}
 use Rattle.history_store.proofs.TextObjects.{object_in-text}
 use Rattle.history_survey.specs.Flaws.{IsObjectsFlaw}
-use Rattle.history_survey.specs.Opened.{IsOpened, IsSoundStore}
+use Rattle.history_survey.specs.Opened.{IsOpened, IsSoundStore, store_of}
 use Rattle.history_survey.specs.declared.flaw.ObjectsFlaw.{ObjectsFlaw}
 use Rattle.history_survey.proofs.Joins.{whole_on}
 use Rattle.history_names_survey.specs.Causes.{HasCause, IsFault}
-use Rattle.history_names_survey.specs.Joined.{StandsOver, StandsStore}
+use Rattle.history_names_survey.specs.Joined.{StandsStore}
 use Rattle.history_names_survey.specs.Parts.{IsNamesPart, StandsNames}
 use Rattle.history_names_survey.specs.Stored.{AreKindsOf, Kinds, is_of_wrong_kind}
 use Rattle.history_names_survey.specs.declared.error.NamesError.{NamesError}
 use Rattle.history_names_survey.specs.declared.error.NamesError.TheVariants.{NoHead, BadHead, Stray, NotYet, Unfinished, BadName, PrivateName, Symbolic, Missing, WrongKind, BadLog, LongLogLine, LogWithoutName, File, Memory}
-use Rattle.history_names_survey.proofs.Joining.{parts_join}
 use Rattle.history_opening.specs.Causes.{IsNamesCause, IsObjectsCause, IsOpenCause, IsOpenFault, cause_of_flaw, cause_of_names, kinds_of}
 use Rattle.history_opening.specs.Opened.{IsOpenedAs}
 use Rattle.history_opening.specs.declared.folder.OpenedFolder.{OpenedFolder}
@@ -87,7 +87,7 @@ module _ (kind : Kind) (tree : Tree) (values : Values) (holds : HoldsValues kind
 -- ---- the halves of a pair that stands for a repository
 
 module _ (kind : Kind) (pair : Pair) (r : Repository) (stands : StandsWhole kind pair r) where
-  of_kind : r.kind ≡ kind
+  pub of_kind : r.kind ≡ kind
   of_kind = ((halves_stand kind pair r).0 stands.stands).0
 
   holds_values : HoldsValues kind pair.objects r.objects
@@ -96,7 +96,7 @@ module _ (kind : Kind) (pair : Pair) (r : Repository) (stands : StandsWhole kind
   is_sound : IsSoundStore kind r.objects
   is_sound = subst (λ k. IsSoundStore k r.objects) of_kind (record { whole = whole_on r empty first_branch (stands.whole).store; written = (stands.written).values })
 
-  stands_names : IsOfStage pair → StandsNames pair.names r
+  pub stands_names : IsOfStage pair → StandsNames pair.names r
   stands_names stage = record {
     holds = ((halves_stand kind pair r).0 stands.stands).2;
     whole = (stands.whole).names;
@@ -110,6 +110,17 @@ module _ (kind : Kind) (pair : Pair) (r : Repository) (stands : StandsWhole kind
   fault_of_objects MayFail flaw h = elim (fault_alone kind pair.objects r.objects holds_values is_sound MayFail flaw h) [ inl e ↦ inl (ap cause_of_flaw e) | inr e ↦ inr (ap cause_of_flaw e) ]
 
 -- ---- an opened store, and the names part over it
+
+-- what was found of the names part, by its files and their kind
+pub part_of : {F : Type 0} (history : F → History) (kinds : Kinds) (branch : Bytes) (known own : F) (k kind : Kind) → known ≡ own → k ≡ kind
+    → IsNamesPart k kinds (history known).tree branch → IsNamesPart kind kinds (history own).tree branch
+part_of history kinds branch known own k kind e f h =
+    subst (λ files. IsNamesPart kind kinds (history files).tree branch) e (subst (λ (q : Kind). IsNamesPart q kinds (history known).tree branch) f h)
+
+pub cause_of : {F : Type 0} (history : F → History) (MayFail : Type 0) (kinds : Kinds) (error : NamesError) (known own : F) (k kind : Kind) → known ≡ own → k ≡ kind
+    → HasCause MayFail k kinds (history known).tree error → HasCause MayFail kind kinds (history own).tree error
+cause_of history MayFail kinds error known own k kind e f h =
+    subst (λ files. HasCause MayFail kind kinds (history files).tree error) e (subst (λ (q : Kind). HasCause MayFail q kinds (history known).tree error) f h)
 
 -- the kinds that a store tells of the ids that it knows
 abbrev pub told_kinds : Tree → IdSet → Kinds
@@ -134,27 +145,34 @@ module _ (kind : Kind) (pair : Pair) (ids : IdSet) (whole : IsOpened kind pair.o
   kinds_as r stands = kinds_told kind pair.objects r.objects (holds_values kind pair r stands) (is_sound kind pair r stands) ids (known_as r stands)
 
   module _ {F : Type 0} (opened : OpenedFolder F) (own : ids_of_objects opened.objects ≡ ids) (part : IsNamesPart kind kinds pair.names opened.branch.items) where
-    over : StandsOver kind pair whole.values opened.branch.items
-    over = parts_join kind pair kinds whole.values opened.branch.items store own_kinds part
+    abbrev one : Repository
+    one = record { kind = kind; names = part.names; branch = opened.branch.items; objects = whole.values }
+
+    names_stand : StandsNames pair.names one
+    names_stand = part.stands whole.values own_kinds
 
     unpacked : IsOfStage pair
-    unpacked = record { unpacked = (part.stands whole.values own_kinds).unpacked }
+    unpacked = record { unpacked = names_stand.unpacked }
+
+    one_stands : StandsWhole kind pair one
+    one_stands = record {
+      stands = (halves_stand kind pair one).1 (refl, whole.holds, names_stand.holds);
+      written = record { branch = names_stand.branch; names = names_stand.names; values = (whole.sound).written };
+      whole = record { store = whole_on (store_of kind whole.values) part.names opened.branch.items (whole.sound).whole; names = names_stand.whole };
+    }
 
     -- whichever repository the pair stands for
     pub opened_as : (r : Repository) → StandsWhole kind pair r → IsOpenedAs kind pair opened r
     opened_as r stands = record {
       stands = stands;
       stage = unpacked;
-      branch = same_branch opened.branch.items r.branch (same_Some (head_text opened.branch.items) (head_text r.branch) (sym head ∙ (stands.stands).head));
+      branch = same_branch opened.branch.items r.branch (same_Some (head_text opened.branch.items) (head_text r.branch) (sym (names_stand.holds).head ∙ (stands.stands).head));
       known = λ id. ap (λ (set : IdSet). contains_key set id) own ∙ known_as r stands id;
     }
-      where
-        head : file_at pair.names head_place ≡ Some (head_text opened.branch.items)
-        head = ((part.stands whole.values own_kinds).holds).head
 
     -- and it stands for one
     pub opened_as_one : (r : Repository) × IsOpenedAs kind pair opened r
-    opened_as_one = (over.r, opened_as over.r over.stands)
+    opened_as_one = (one, opened_as one one_stands)
 
   -- ---- causes
 
@@ -181,12 +199,12 @@ module _ (kind : Kind) (pair : Pair) (ids : IdSet) (whole : IsOpened kind pair.o
     store = store;
     cause = error;
     told = refl;
-    holds = carried (M ⊎ M) M one kinds (kinds_of whole.values) own_kinds pair.names error h;
+    holds = carried (M ⊎ M) M either kinds (kinds_of whole.values) own_kinds pair.names error h;
   })
     where
-      one : M ⊎ M → M
-      one (inl m) = m
-      one (inr m) = m
+      either : M ⊎ M → M
+      either (inl m) = m
+      either (inr m) = m
 
 pub objects_cause : (M : Type 0) (kind : Kind) (pair : Pair) (flaw : ObjectsFlaw) → IsObjectsFlaw M kind pair.objects flaw → IsOpenCause M kind pair (cause_of_flaw flaw)
 objects_cause M kind pair flaw h = inl (record { flaw = flaw; told = refl; holds = h })

@@ -4,6 +4,7 @@ use Rattle.std.specs.FinMap.{get}
 use Rattle.gix_hash_id.specs.Id.{Id}
 use Rattle.gix_hash_id.specs.Kind.{hex_len}
 use Rattle.gix_hash_id.specs.declared.kind.Kind.{Kind}
+use Rattle.gix_object_commit_lines.specs.Commit.{SpellsCommit, commit_text}
 use Rattle.gix_object_commit_lines.proofs.Once.{spells_once}
 use Rattle.gix_object_entries.proofs.TreeLaws.{one_tree}
 use Rattle.gix_object_lines.specs.declared.kind.Kind.{Kind as ObjectKind}
@@ -20,8 +21,7 @@ use Rattle.history_model.proofs.WholeGrowth.{has_stored, holds_value}
 use Rattle.history_model.proofs.WholeLists.{In, all_in, of_map}
 use Rattle.history_model.proofs.WholeRoots.{HasAll}
 use Rattle.history_store.specs.Written.{AreCommitParts, NamesByCommit, NamesByParts, NamesByTag, NamesByTree, NamesObjects, Naming, commit_parts, named_by_item}
-use Rattle.history_store.proofs.CommitNames.{spelled_so}
-use Rattle.history_store.proofs.CommitTexts.{ids_tell, value_forms, value_parts, value_spelled}
+use Rattle.history_store.proofs.CommitTexts.{ids_tell, plain_spelled, value_forms, value_parts, value_spelled}
 use Rattle.history_survey.specs.Opened.{store_of}
 use Rattle.history_opening.proofs.Items.{entry_value, item_is}
 
@@ -46,9 +46,14 @@ module _ (kind : Kind) (stored : Values) (whole : IsWholeStore (store_of kind st
       are : AreCommitParts kind names.parts parts.tree parts.value
       are = parts.parts_are
 
+      spelled : SpellsCommit (hex_len kind) (commit_content kind commit) (commit_parts parts.tree parts.value)
+      spelled =
+          let forms = value_forms kind parts.value are.form in
+          subst (λ text. SpellsCommit (hex_len kind) text (commit_parts parts.tree parts.value)) (sym (names.text ∙ ap commit_text are.told))
+          (plain_spelled kind parts.tree (parts.value).parents (parts.value).author (parts.value).committer (parts.value).message are.tree_is forms.parents forms.author forms.committer)
+
       same : commit_parts parts.tree parts.value ≡ value_parts kind commit
-      same = sym are.told ∙ spells_once (hex_len kind) (commit_content kind commit) names.parts (value_parts kind commit)
-          (spelled_so kind (commit_content kind commit) named names) (value_spelled kind commit (commit_content kind commit) form refl)
+      same = spells_once (hex_len kind) (commit_content kind commit) (commit_parts parts.tree parts.value) (value_parts kind commit) spelled (value_spelled kind commit (commit_content kind commit) form refl)
 
       same_tree : parts.tree ≡ folder_id kind commit.files
       same_tree = hex_tells kind parts.tree (folder_id kind commit.files) are.tree_is (digest_is_id kind (tree_text (root kind commit.files))) (ap (λ p. p.tree) same)
