@@ -1,17 +1,15 @@
 -- The entries of a stored folder's tree: what each names, and that they are in written form.
-use Rattle.std.proofs.Common.{◌≡◌, ◌≢◌, Bool, true, false, cond, List, [], ◌∷◌, ◌++◌, map, refl, sym, ◌∙◌, ap, subst, inl, inr, Some, None, length, drop}
+use Rattle.std.proofs.Common.{◌≡◌, ◌≢◌, true, false, cond, ◌∷◌, ◌++◌, map, refl, sym, ◌∙◌, ap, subst, Some}
 use Rattle.std.specs.List.{flat_map}
 use Rattle.std.specs.Fmt.{digits}
 use Rattle.std.specs.FinMap.{entries, empty, get, keys, values}
-use Rattle.gix_hash_id.specs.Id.{Id}
 use Rattle.gix_hash_id.specs.declared.kind.Kind.{Kind}
 use Rattle.gix_object_entries.specs.Entry.{Item, SpellsTree}
 use Rattle.gix_object_entries.specs.Mode.{kind_of, kind_value, kind_word}
-use Rattle.gix_object_entries.specs.ModeText.{Mode, mode_text}
+use Rattle.gix_object_entries.specs.ModeText.{mode_text}
 use Rattle.gix_object_entries.specs.Order.{is_tree}
 use Rattle.gix_object_entries.specs.declared.tree.mode.EntryKind.TheVariants as modes
 use Rattle.gix_object_editor.specs.Writing.{folder_mode}
-use Rattle.gix_object_lines.specs.declared.kind.Kind.{Kind as ObjectKind}
 use Rattle.gix_object_lines.specs.declared.kind.Kind.TheVariants as kinds
 use Rattle.history_files.specs.Unfolding.{entry_kind as mode_kind}
 use Rattle.history_files.proofs.InOrder.{root_well_formed}
@@ -28,7 +26,7 @@ use Rattle.history_model.proofs.WholeItems.{Entry, leaf_in}
 use Rattle.history_model.proofs.WholeLists.{In, in_flat, in_left, in_map, in_right, of_map}
 use Rattle.history_model.proofs.WholePaths.{is_beginning}
 use Rattle.history_model.proofs.WholeRoots.{HasAll, in_inside}
-use Rattle.history_store.specs.Written.{AreWritten, IsWrittenEntry, IsWrittenMode, IsWrittenTree, entry_kind}
+use Rattle.history_store.specs.Written.{IsWrittenEntry, IsWrittenMode, IsWrittenTree, entry_kind}
 use Rattle.history_survey.specs.Opened.{store_of}
 use Rattle.history_survey.proofs.Empties.{entries-empty}
 

@@ -1,5 +1,5 @@
 -- The two parts that were surveyed, as one repository.
-use Rattle.std.proofs.Common.{◌≡◌, ◌⊎◌, ◌<◌, ◌^◌, Bool, true, false, cond, [], ◌∷◌, ◌++◌, length, refl, sym, ◌∙◌, ap, subst, arith, inl, inr, codes, Option, Some, None, is_some, option_map}
+use Rattle.std.proofs.Common.{◌≡◌, ◌⊎◌, ◌<◌, ◌^◌, true, cond, [], ◌∷◌, ◌++◌, length, refl, sym, ◌∙◌, ap, subst, arith, inl, inr, codes, Option, Some, None, is_some, option_map}
 use Rattle.std.specs.Prelude.{option_and_then}
 use Rattle.std.specs.FinMap.{contains_key, empty, get}
 use Rattle.std.proofs.lemmas.List.{append_cancel_left, append_cancel_right}
@@ -10,14 +10,14 @@ use Rattle.gix_object_find.specs.Table.{Object}
 use Rattle.gix_ref_file.specs.History.{History}
 use Rattle.gix_ref_file.specs.Tree.{Tree}
 use Rattle.history_model.specs.Bytes.{Bytes}
-use Rattle.history_model.specs.Forms.{IsWrittenValue, is_id}
+use Rattle.history_model.specs.Forms.{is_id}
 use Rattle.history_model.specs.Objects.{Value, content_of, object_kind, value_text}
-use Rattle.history_model.specs.Places.{Pair, file_at, head_place, object_place}
+use Rattle.history_model.specs.Places.{Pair, object_place}
 use Rattle.history_model.specs.Repository.{HaveOwnIds, Repository, Values, first_branch}
 use Rattle.history_model.specs.StandsFor.{StandsWhole, head_text}
 use Rattle.history_model.proofs.PlaceLemmas.{file_at_id, values_have_ids}
 use Rattle.history_steps.specs.Offered.{IsOfStage}
-use Rattle.history_steps.specs.TreeHalves.{HoldsNames, HoldsValues}
+use Rattle.history_steps.specs.TreeHalves.{HoldsValues}
 use Rattle.history_steps.proofs.TreePuts.{halves_stand}
 use Rattle.history_store.specs.Face.{ids_of_objects}
 use Rattle.history_store.specs.Ids.{IdSet}
@@ -34,10 +34,10 @@ use Rattle.history_names_survey.specs.Parts.{IsNamesPart, StandsNames}
 use Rattle.history_names_survey.specs.Stored.{AreKindsOf, Kinds, is_of_wrong_kind}
 use Rattle.history_names_survey.specs.declared.error.NamesError.{NamesError}
 use Rattle.history_names_survey.specs.declared.error.NamesError.TheVariants.{NoHead, BadHead, Stray, NotYet, Unfinished, BadName, PrivateName, Symbolic, Missing, WrongKind, BadLog, LongLogLine, LogWithoutName, File, Memory}
-use Rattle.history_opening.specs.Causes.{IsNamesCause, IsObjectsCause, IsOpenCause, IsOpenFault, cause_of_flaw, cause_of_names, kinds_of}
+use Rattle.history_opening.specs.Causes.{IsOpenCause, IsOpenFault, cause_of_flaw, cause_of_names, kinds_of}
 use Rattle.history_opening.specs.Opened.{IsOpenedAs}
 use Rattle.history_opening.specs.declared.folder.OpenedFolder.{OpenedFolder}
-use Rattle.history_opening.proofs.NoFlaws.{IsFlawFault, fault_alone}
+use Rattle.history_opening.proofs.NoFlaws.{fault_alone}
 
 -- ---- HEAD's text tells the branch
 

@@ -7,7 +7,6 @@ use Rattle.gix_hash_id.specs.declared.kind.Kind.{Kind}
 use Rattle.gix_object_commit_lines.specs.Commit.{SpellsCommit, commit_text}
 use Rattle.gix_object_commit_lines.proofs.Once.{spells_once}
 use Rattle.gix_object_entries.proofs.TreeLaws.{one_tree}
-use Rattle.gix_object_lines.specs.declared.kind.Kind.{Kind as ObjectKind}
 use Rattle.gix_object_lines.specs.declared.kind.Kind.TheVariants as kinds
 use Rattle.history_files.proofs.Items.{items, items_spelled}
 use Rattle.history_files.proofs.Unfolded.{plain_map}

@@ -1,6 +1,5 @@
 -- A part that holds the values of a whole store, each in written form, has no flaw.
-use Rattle.std.proofs.Common.{◌≡◌, ◌≢◌, ◌≤◌, ◌<◌, ◌⊎◌, Bool, true, false, not, ◌&&◌, ◌||◌, [], ◌∷◌, ◌++◌, List, map, length, refl, sym, ◌∙◌, ap, subst, arith, inl, inr, Option, Some, None, is_some, option_map, append_assoc, append-nil, length-append}
-use Rattle.std.specs.Prelude.{IsTrue, Contains, ⊤}
+use Rattle.std.proofs.Common.{◌≡◌, ◌⊎◌, true, not, ◌&&◌, [], ◌∷◌, ◌++◌, map, refl, sym, ◌∙◌, ap, subst, arith, inl, inr, Option, Some, None, is_some, option_map, append_assoc, append-nil, length-append}
 use Rattle.std.specs.FinMap.{contains_key, empty, get}
 use Rattle.gix_hash_id.specs.Id.{Id, id_of, null_id}
 use Rattle.gix_hash_id.specs.Order.{id_eq}
@@ -14,9 +13,9 @@ use Rattle.history_files.proofs.Items.{items, items_spelled}
 use Rattle.history_files.proofs.Unfolded.{get_inside, plain_map}
 use Rattle.history_model.specs.Bytes.{Bytes}
 use Rattle.history_model.specs.FileMap.{FileMap, inside}
-use Rattle.history_model.specs.Forms.{HasForm, IsWrittenFiles, is_id, max_content, max_path}
-use Rattle.history_model.specs.Objects.{StoredBytes, StoredCommit, StoredFolder, StoredTag, TagValue, CommitValue, Value, content_of, digest, empty_tree_id, folder_id, object_kind, object_text, root, tree_text, value_text}
-use Rattle.history_model.specs.Places.{file_at, is_object_folder, object_place, unfinished_place}
+use Rattle.history_model.specs.Forms.{HasForm, is_id}
+use Rattle.history_model.specs.Objects.{StoredBytes, StoredCommit, StoredFolder, StoredTag, Value, content_of, digest, empty_tree_id, folder_id, object_kind, object_text, root, tree_text, value_text}
+use Rattle.history_model.specs.Places.{file_at, object_place, unfinished_place}
 use Rattle.history_model.specs.Repository.{HaveOwnIds, Reaches, Repository, Values, named_ids}
 use Rattle.history_model.specs.Repository as repository
 use Rattle.history_model.proofs.IdLemmas.{digest_is_id, has_kind, id_itself, one_id}
@@ -29,9 +28,9 @@ use Rattle.history_model.proofs.WholeStores.{in_get}
 use Rattle.history_model.proofs.WholeTexts.{object_same}
 use Rattle.history_steps.specs.TreeHalves.{HoldsValues}
 use Rattle.history_steps.specs.TreeReads.{HasObject}
-use Rattle.history_store.specs.ObjectTexts.{is_empty_tree, is_reserved, object_id}
-use Rattle.history_store.specs.Written.{IsMalformed, NamesByCommit, NamesObjects, Naming, named_by_commit, named_by_item}
-use Rattle.history_store.proofs.CommitTexts.{content_of_parts, value_forms, value_parts}
+use Rattle.history_store.specs.ObjectTexts.{is_empty_tree}
+use Rattle.history_store.specs.Written.{IsMalformed, NamesObjects, named_by_commit, named_by_item}
+use Rattle.history_store.proofs.CommitTexts.{content_of_parts, value_parts}
 use Rattle.history_survey.specs.Flaws.{HasEntry, HasFile, HasMissing, HasPath, HasReserved, HasText, HasWrongKind, IsBadText, IsBadTree, IsObjectsFlaw, IsOther, IsStray, IsTooLong, Leads, Names, by_way_of, deep, deeper, entry, malformed, names, no_commit, no_object, no_tag, stray_file, stray_folder}
 use Rattle.history_survey.specs.Opened.{IsSoundStore, store_of}
 use Rattle.history_survey.specs.declared.flaw.ObjectsFlaw.{ObjectsFlaw}
@@ -96,7 +95,7 @@ module _ (kind : Kind) (tree : Tree) (stored : Values) (holds : HoldsValues kind
   names_value by id as_kind n =
       let found = object_value by n.object n.content n.stands in
       let same : NamesObjects kind (object_kind found.value) (content_of kind found.value) n.named =
-          subst (λ o. NamesObjects kind o (content_of kind found.value) n.named) (sym found.of_kind) (subst (λ c. NamesObjects kind n.object c n.named) (sym found.of_content) n.names) in
+      subst (λ o. NamesObjects kind o (content_of kind found.value) n.named) (sym found.of_kind) (subst (λ c. NamesObjects kind n.object c n.named) (sym found.of_content) n.names) in
       (found.value, found.at, named_value kind stored sound.whole found.value (written by found.value found.at) by found.at n.named same (id, as_kind) (contains_in n.named (id, as_kind) n.among))
 
   no_missing : (id by : Id) → HasMissing kind tree id by → ⊥

@@ -1,4 +1,4 @@
-use Rattle.std.proofs.Common.{◌≡◌, ◌⊎◌, ◌∙◌, ap, subst, sym}
+use Rattle.std.proofs.Common.{◌⊎◌, ◌∙◌, subst, sym}
 use Rattle.history_names_survey.specs.Parts.{StandsNames}
 use Rattle.history_store.specs.Face.{ids_of_objects}
 use Rattle.history_opening.specs.Causes.{IsOpenCause, IsOpenFault}
@@ -14,7 +14,7 @@ returns-in-Ok-clause-stands g c = λ objects names.
     let pair = trees_of history c.args.objects.files c.args.names in
     let honest = subst g.F.Files.is_honest (sym c.new-names.ensures.files) names in
     let part = part_of history (told_kinds pair.objects ids) c.in-Ok.branch.items c.new-names.result.files c.args.names c.new-names.result.kind kind c.new-names.ensures.files (c.new-names.ensures.kind ∙ c.kind.ensures)
-        (c.in-Ok.ensures.stands (c.requires.holds objects) honest) in
+    (c.in-Ok.ensures.stands (c.requires.holds objects) honest) in
     opened_as_one kind pair ids (c.requires.whole objects) (record { objects = c.args.objects; names = c.new-names.result; branch = c.in-Ok.branch }) (λ i. ids) part
 
 pub returns-in-Ok-clause-same : goal.returns-in-Ok-clause-same
@@ -25,7 +25,7 @@ returns-in-Ok-clause-same g c = λ r objects names stands.
     let pair = trees_of history c.args.objects.files c.args.names in
     let honest = subst g.F.Files.is_honest (sym c.new-names.ensures.files) names in
     let part = part_of history (told_kinds pair.objects ids) c.in-Ok.branch.items c.new-names.result.files c.args.names c.new-names.result.kind kind c.new-names.ensures.files (c.new-names.ensures.kind ∙ c.kind.ensures)
-        (c.in-Ok.ensures.stands (c.requires.holds objects) honest) in
+    (c.in-Ok.ensures.stands (c.requires.holds objects) honest) in
     opened_as kind pair ids (c.requires.whole objects) (record { objects = c.args.objects; names = c.new-names.result; branch = c.in-Ok.branch }) (λ i. ids) part r stands
 
 pub returns-in-Err-clause-refused : goal.returns-in-Err-clause-refused
@@ -37,7 +37,7 @@ returns-in-Err-clause-refused g c = λ objects names.
     let fail = g.F.Files.reading_may_fail in
     let honest = subst g.F.Files.is_honest (sym c.new-names.ensures.files) names in
     let held = cause_of history (fail ⊎ fail) (told_kinds pair.objects ids) c.in-Err.cause c.new-names.result.files c.args.names c.new-names.result.kind kind c.new-names.ensures.files (c.new-names.ensures.kind ∙ c.kind.ensures)
-        (c.in-Err.ensures.wrong (c.requires.holds objects) honest) in
+    (c.in-Err.ensures.wrong (c.requires.holds objects) honest) in
     subst (IsOpenCause fail kind pair) (sym c.into.ensures) (names_cause kind pair ids (c.requires.whole objects) fail c.in-Err.cause held)
 
 pub returns-in-Err-clause-accepted : goal.returns-in-Err-clause-accepted
