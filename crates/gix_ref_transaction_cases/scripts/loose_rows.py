@@ -124,7 +124,7 @@ def rows():
             lines, accepted, after = update_ref(repository, edits)
             assert not accepted and after == before, edits
             found.append(row("loose", "", before, lines, f"{told}; {shown(before)}"))
-    found += symbolic() + locked() + packing() + private() + tags() + stopped()
+    found += symbolic() + locked() + packing() + private() + tags() + alone()
     return found
 
 
@@ -213,13 +213,8 @@ def tags():
     return found
 
 
-def stopped():
-    """A stop or a failed call on the way of a branch's own file to a record: it reads as before or as afterwards.
-
-    The calls are told by the documents of the crates. Of those that change files the prepared transaction has the lock of the
-    packed references (1), its text (2) and the branch's lock (3); the commit has the log's line, the new packed references, the removal of
-    the branch's own file, and of its lock.
-    """
+def alone():
+    """One branch of several is packed; the others keep their own files. The text of `packed-refs` is that of its format."""
     found = []
     repository = Repository(False)
     before, objects = repository.files(), objects_of(repository.room)
