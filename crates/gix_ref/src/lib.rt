@@ -162,7 +162,7 @@ pub mod store {
     pub use gix_ref_store::WriteReflog;
 }
 
-/// Edits of references, and transactions of their own files.
+/// Edits of references, and transactions of their own files and of packed records.
 pub mod transaction {
     /// Preparing a transaction.
     pub mod prepare {
@@ -178,6 +178,7 @@ pub mod transaction {
         Change, FindTarget, FindTargetError, LogChange, PreProcessError, PreviousValue, RefEdit,
         RefEditsExt, RefLog, SplitError, TwiceError,
     };
+    pub use gix_ref_loose_transaction::PackedRefs;
     pub use gix_ref_loose_transaction::transaction::{Transaction, prepare as prepare_edits};
 }
 

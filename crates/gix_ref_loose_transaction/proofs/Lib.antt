@@ -1,4 +1,11 @@
 mod PathEnds
 mod Alikes
 mod Twice
+mod RecordLines
+mod LineLemmas
+mod PathKeys
+mod KeyLines
+mod Readings
+mod ReadingWays
 mod Plannings
+mod Faults

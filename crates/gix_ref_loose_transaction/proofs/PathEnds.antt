@@ -18,7 +18,7 @@ clash e = absurd (go e)
     go : true ≡ false → ⊥
     go e = cc
 
-taken_apart : (n : ℕ) (text : Bytes) → text ≡ take n text ++ drop n text
+pub taken_apart : (n : ℕ) (text : Bytes) → text ≡ take n text ++ drop n text
 taken_apart zero text = refl
 taken_apart (suc n) [] = refl
 taken_apart (suc n) (b ∷ text) = ap (λ t. b ∷ t) (taken_apart n text)

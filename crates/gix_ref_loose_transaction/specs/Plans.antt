@@ -1,14 +1,16 @@
 -- What a transaction makes of each edit before it changes anything: the reference passes the edit's test, and its lock has the new text.
-use Rattle.std.specs.Prelude.{ℕ, ◌≡◌, List, Option, Some, None, Ok, option_map}
+use Rattle.std.specs.Prelude.{ℕ, ◌≡◌, ◌&&◌, Bool, true, false, is_some, List, Option, Some, None, Ok, option_map, IsTrue}
 use Rattle.std.specs.List.{AllByRecursion, AllZip}
+use Rattle.gix_object_lines.specs.NameTest.{is_full_name}
 use Rattle.gix_ref_file.specs.Tree.{Tree}
-use Rattle.gix_ref_name.specs.Targets.{target_view}
+use Rattle.gix_ref_name.specs.Targets.{Points, ToObject, ToName, target_view}
 use Rattle.gix_ref_edit.specs.declared.change.Change.{Change}
 use Rattle.gix_ref_edit.specs.declared.change.Change.TheVariants.{Update, Delete}
 use Rattle.gix_ref_edit.specs.declared.change.RefEdit.{RefEdit}
 use Rattle.gix_ref_edit.specs.declared.log.RefLog.{RefLog}
 use Rattle.gix_ref_edit.specs.declared.log.RefLog.TheVariants.{AndReference, Only}
 use Rattle.gix_ref_edit.specs.Splits.{Splits}
+use Rattle.gix_ref_format.specs.Lookup.{packed_key}
 use Rattle.gix_ref_format.specs.Loose.{loose_text}
 use Rattle.gix_ref_store.specs.Finds.{TellsState}
 use Rattle.gix_ref_store.specs.Places.{Base, place, log_place}
@@ -31,14 +33,24 @@ IsFoundSo edit state found =
 abbrev pub IsTested : RefEdit → RefState → Type 0
 IsTested edit state = (found : Option Reference) × IsFoundSo edit state found
 
--- an update puts the lock in its place or tells the log alone, a deletion removes the reference or its log alone
-abbrev pub IsUpdateBy : RefLog → Act → Type 0
-IsUpdateBy AndReference (acts.Put line) = Unit {0}
-IsUpdateBy Only (acts.Note line) = Unit {0}
-IsUpdateBy AndReference (acts.Note line) = ⊥
-IsUpdateBy Only (acts.Put line) = ⊥
-IsUpdateBy mode acts.Remove = ⊥
-IsUpdateBy mode acts.Forget = ⊥
+-- whether a record alone tells what an update makes the name point to: an object, where own files go that are packed; names of which each
+-- worktree has its own have no record
+abbrev pub is_packed_alone : Bool → Bytes → Points → Bool
+is_packed_alone removes name (ToObject id) = removes && is_some (packed_key name)
+is_packed_alone removes name (ToName other) = false
+
+-- an update puts the lock in its place, leaves it to a record, or tells the log alone
+abbrev pub IsUpdateBy : RefLog → Bool → Act → Type 0
+IsUpdateBy AndReference alone (acts.Put line) = alone ≡ false
+IsUpdateBy AndReference alone (acts.Pack line) = alone ≡ true
+IsUpdateBy AndReference alone (acts.Note line) = ⊥
+IsUpdateBy Only alone (acts.Note line) = Unit {0}
+IsUpdateBy Only alone (acts.Put line) = ⊥
+IsUpdateBy Only alone (acts.Pack line) = ⊥
+IsUpdateBy mode alone acts.Remove = ⊥
+IsUpdateBy mode alone acts.Forget = ⊥
+
+-- a deletion removes the reference or its log alone
 
 abbrev pub IsDeletionBy : RefLog → Act → Type 0
 IsDeletionBy AndReference acts.Remove = Unit {0}
@@ -47,22 +59,32 @@ IsDeletionBy AndReference acts.Forget = ⊥
 IsDeletionBy Only acts.Remove = ⊥
 IsDeletionBy mode (acts.Put line) = ⊥
 IsDeletionBy mode (acts.Note line) = ⊥
+IsDeletionBy mode (acts.Pack line) = ⊥
 
-abbrev pub IsActOf : Change → Act → Type 0
-IsActOf (Update log expected new) act = IsUpdateBy log.mode act
-IsActOf (Delete expected mode) act = IsDeletionBy mode act
+abbrev pub IsActOf : Bool → Bytes → Change → Act → Type 0
+IsActOf removes name (Update log expected new) act =
+    IsUpdateBy log.mode (is_packed_alone removes name (target_view new)) act
+IsActOf removes name (Delete expected mode) act = IsDeletionBy mode act
 
 -- The move is of the files of the edit's name.
-pub record IsPlanOf (b : Base) (edit : RefEdit) (made : Move) : Type 0 where
+pub record IsPlanOf (b : Base) (removes : Bool) (edit : RefEdit) (made : Move) : Type 0 where
+  pub full : IsTrue (is_full_name edit.name)
   pub file : place_of made ≡ place b edit.name
   pub log : log_path_of made ≡ log_place b edit.name
-  pub act : IsActOf edit.change made.act
+  pub act : IsActOf removes edit.name edit.change made.act
 
--- the lock of an update of the reference itself has the text of the new target
-abbrev pub HoldsText : Change → Bytes → Tree → Type 0
-HoldsText (Update log expected new) lock tree =
-    log.mode ≡ AndReference → file_at tree lock ≡ Some (loose_text (target_view new))
-HoldsText (Delete expected mode) lock tree = Unit {0}
+abbrev pub IsPut : Act → Type 0
+IsPut (acts.Put line) = Unit {0}
+IsPut (acts.Note line) = ⊥
+IsPut (acts.Pack line) = ⊥
+IsPut acts.Remove = ⊥
+IsPut acts.Forget = ⊥
+
+-- the lock that is put in the place of a reference's own file has the text of the new target
+abbrev pub HoldsText : Change → Act → Bytes → Tree → Type 0
+HoldsText (Update log expected new) act lock tree =
+    IsPut act → file_at tree lock ≡ Some (loose_text (target_view new))
+HoldsText (Delete expected mode) act lock tree = Unit {0}
 
 -- each file that stood is as before
 abbrev pub KeepsFiles : Tree → Tree → Type 0
@@ -78,13 +100,13 @@ AreSplit read asked edits = (places : List ℕ) × Splits (λ name. points_at (r
 abbrev pub AllTested : (List ℕ → RefState) → List RefEdit → Type 0
 AllTested read edits = AllByRecursion (λ edit. IsTested edit (read edit.name)) edits
 
-abbrev pub AllPlanned : Base → List RefEdit → List Move → Type 0
-AllPlanned b edits moves = AllZip (IsPlanOf b) edits moves
+abbrev pub AllPlanned : Base → Bool → List RefEdit → List Move → Type 0
+AllPlanned b removes edits moves = AllZip (IsPlanOf b removes) edits moves
 
 -- the locks of updates have the texts of their targets
 abbrev pub AllHold : Tree → List RefEdit → List Move → Type 0
 AllHold tree edits moves =
-    AllZip (λ edit made. HoldsText edit.change (lock_path_of made) tree) edits moves
+    AllZip (λ edit made. HoldsText edit.change made.act (lock_path_of made) tree) edits moves
 
 -- no lock of these stands
 abbrev pub LocksGone : List Move → Tree → Type 0

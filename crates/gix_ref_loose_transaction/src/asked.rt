@@ -1,10 +1,12 @@
 //! What an edit asks of its reference.
 
-ghost use Rattle.std.specs.Prelude.{◌≡◌, ◌≢◌, ◌⊎◌, None, Some, MatchResult, option_map};
+ghost use Rattle.std.specs.Prelude.{◌≡◌, ◌≢◌, ◌⊎◌, None, Some, IfErr, MatchResult, option_map};
 ghost use Rattle.std.specs.Bool.{Decides};
 ghost use Rattle.gix_hash_id.specs.Id.{id_of};
 ghost use Rattle.gix_ref_name.specs.Targets.{target_view};
 ghost use Rattle.gix_ref_loose_transaction.specs.Asked.{Meets, MeetsOf, points_of};
+ghost use Rattle.gix_ref_loose_transaction.specs.Causes.{refused, refused_deletion, refused_update};
+ghost use Rattle.gix_ref_loose_transaction.specs.declared.asked.Refusal.TheVariants.{MustExist, ReferenceOutOfDate};
 
 use gix_hash::ObjectId;
 use gix_ref_edit::{Change, PreviousValue};
@@ -34,8 +36,10 @@ pub enum Refusal {
 
 // Tests what is asked of a reference that was found so.
 pub(crate) fn test(change: &Change, found: &Option<Reference>) -> Result<(), Refusal>
-    ensures { MatchResult result (λ _. MeetsOf change.now (option_map points_of found.now))
+    ensures met { MatchResult result (λ _. MeetsOf change.now (option_map points_of found.now))
         (λ _. ¬ MeetsOf change.now (option_map points_of found.now)) }
+    ensures why { IfErr result (λ why.
+        why ≡ refused change.now (option_map points_of found.now)) }
 {
     match change {
         Change::Update { expected, new, .. } => test_update(expected, new, found),
@@ -48,9 +52,11 @@ fn test_update(
     new: &Target,
     found: &Option<Reference>,
 ) -> Result<(), Refusal>
-    ensures { let new = Some (target_view new.now) in
+    ensures met { let new = Some (target_view new.now) in
         MatchResult result (λ _. Meets expected.now new (option_map points_of found.now))
         (λ _. ¬ Meets expected.now new (option_map points_of found.now)) }
+    ensures why { IfErr result (λ why.
+        why ≡ refused_update expected.now (option_map points_of found.now)) }
 {
     match found {
         Some(found) => test_standing(expected, new, &found.target),
@@ -59,8 +65,9 @@ fn test_update(
 }
 
 fn test_missing(expected: &PreviousValue, new: &Target) -> Result<(), Refusal>
-    ensures { MatchResult result (λ _. Meets expected.now (Some (target_view new.now)) None)
+    ensures met { MatchResult result (λ _. Meets expected.now (Some (target_view new.now)) None)
         (λ _. ¬ Meets expected.now (Some (target_view new.now)) None) }
+    ensures why { IfErr result (λ why. why ≡ MustExist) }
 {
     let _new = new;
     match expected {
@@ -73,9 +80,11 @@ fn test_missing(expected: &PreviousValue, new: &Target) -> Result<(), Refusal>
 }
 
 fn test_standing(expected: &PreviousValue, new: &Target, found: &Target) -> Result<(), Refusal>
-    ensures { let new = Some (target_view new.now) in let found = Some (target_view found.now) in
+    ensures met { let new = Some (target_view new.now) in let found = Some (target_view found.now) in
         MatchResult result (λ _. Meets expected.now new found)
         (λ _. ¬ Meets expected.now new found) }
+    ensures why { IfErr result (λ why.
+        why ≡ refused_update expected.now (Some (target_view found.now))) }
 {
     match expected {
         PreviousValue::Any => Ok(()),
@@ -87,8 +96,10 @@ fn test_standing(expected: &PreviousValue, new: &Target, found: &Target) -> Resu
 }
 
 fn test_deletion(expected: &PreviousValue, found: &Option<Reference>) -> Result<(), Refusal>
-    ensures { MatchResult result (λ _. Meets expected.now None (option_map points_of found.now))
+    ensures met { MatchResult result (λ _. Meets expected.now None (option_map points_of found.now))
         (λ _. ¬ Meets expected.now None (option_map points_of found.now)) }
+    ensures why { IfErr result (λ why.
+        why ≡ refused_deletion expected.now (option_map points_of found.now)) }
 {
     match found {
         Some(found) => test_removed(expected, &found.target),
@@ -97,8 +108,10 @@ fn test_deletion(expected: &PreviousValue, found: &Option<Reference>) -> Result<
 }
 
 fn test_removed(expected: &PreviousValue, found: &Target) -> Result<(), Refusal>
-    ensures { MatchResult result (λ _. Meets expected.now None (Some (target_view found.now)))
+    ensures met { MatchResult result (λ _. Meets expected.now None (Some (target_view found.now)))
         (λ _. ¬ Meets expected.now None (Some (target_view found.now))) }
+    ensures why { IfErr result (λ why.
+        why ≡ refused_deletion expected.now (Some (target_view found.now))) }
 {
     match expected {
         PreviousValue::Any => Ok(()),
@@ -114,8 +127,9 @@ fn test_removed(expected: &PreviousValue, found: &Target) -> Result<(), Refusal>
 }
 
 fn test_gone(expected: &PreviousValue) -> Result<(), Refusal>
-    ensures { MatchResult result (λ _. Meets expected.now None None)
+    ensures met { MatchResult result (λ _. Meets expected.now None None)
         (λ _. ¬ Meets expected.now None None) }
+    ensures why { IfErr result (λ why. why ≡ refused_deletion expected.now None) }
 {
     match expected {
         PreviousValue::Any => Ok(()),
@@ -128,8 +142,9 @@ fn test_gone(expected: &PreviousValue) -> Result<(), Refusal>
 
 // Tests that the two are one.
 fn same(found: &Target, wanted: &Target, why: Refusal) -> Result<(), Refusal>
-    ensures { MatchResult result (λ _. target_view found.now ≡ target_view wanted.now)
+    ensures met { MatchResult result (λ _. target_view found.now ≡ target_view wanted.now)
         (λ _. target_view found.now ≢ target_view wanted.now) }
+    ensures why { IfErr result (λ told. told ≡ why) }
 {
     if is_one(found, wanted) {
         Ok(())
@@ -140,10 +155,11 @@ fn same(found: &Target, wanted: &Target, why: Refusal) -> Result<(), Refusal>
 
 // Tests that it is one of the two.
 fn either(found: &Target, stated: &Target, new: &Target) -> Result<(), Refusal>
-    ensures { MatchResult result (λ _. (target_view found.now ≡ target_view stated.now)
+    ensures met { MatchResult result (λ _. (target_view found.now ≡ target_view stated.now)
         ⊎ (target_view found.now ≡ target_view new.now))
         (λ _. ¬ ((target_view found.now ≡ target_view stated.now)
         ⊎ (target_view found.now ≡ target_view new.now))) }
+    ensures why { IfErr result (λ why. why ≡ ReferenceOutOfDate) }
 {
     if is_one(found, stated) {
         return Ok(());

@@ -7,7 +7,7 @@ use crate::asked::Refusal;
 use gix_ref_edit::PreProcessError;
 use gix_ref_format::packed::buffer;
 use gix_ref_moves::LogError;
-use gix_ref_store::store::file::find;
+use gix_ref_store::store::file::{find, peel};
 use gix_ref_transaction::packed;
 use std::alloc::{AllocError, AllocFailed};
 use thiserror::Error;
@@ -45,6 +45,9 @@ pub enum PrepareError {
     /// A line for a log can't be made.
     #[error(transparent)]
     CreateOrUpdateRefLog(LogError),
+    /// The object that a reference is to stand for isn't found, whose id its record would tell.
+    #[error(transparent)]
+    Resolve(peel::Error),
     /// No memory is left.
     #[error("no memory is left")]
     Memory,
@@ -87,6 +90,14 @@ impl From<find::Error> for PrepareError {
 
     fn from(error: find::Error) -> Self {
         PrepareError::ReferenceDecode(error)
+    }
+}
+
+impl From<peel::Error> for PrepareError {
+    ghost from_gives = { λ error e. e ≡ fault.Resolve error };
+
+    fn from(error: peel::Error) -> Self {
+        PrepareError::Resolve(error)
     }
 }
 

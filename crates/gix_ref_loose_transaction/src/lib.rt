@@ -1,4 +1,4 @@
-//! Transactions of references' own files: edits of several references that are tested, locked and made together.
+//! Transactions of references: edits of several references that are tested, locked and made together, in their own files and in packed records.
 #![tactic(auto)]
 
 mod asked;
@@ -6,9 +6,11 @@ mod error;
 mod finder;
 mod lines;
 mod once;
+mod packed_refs;
 mod plan;
 mod records;
 pub mod transaction;
 
 pub use crate::asked::Refusal;
 pub use crate::error::PrepareError;
+pub use crate::packed_refs::PackedRefs;

@@ -3,7 +3,9 @@
 ghost use Rattle.std.specs.Prelude.{◌≡◌, ◌++◌, IfOk, OnOk, map};
 ghost use Rattle.gix_ref_moves.specs.Committing.{commit_paths, packed_paths};
 ghost use Rattle.gix_ref_moves.specs.Moves.{all_paths};
+ghost use Rattle.gix_ref_loose_transaction.specs.Paths as spec;
 ghost use Rattle.gix_ref_loose_transaction.specs.Paths.{bytes_of, has_twice};
+ghost use Rattle.gix_ref_store.specs.Stores.{base_of};
 
 use gix_ref_edit::RefEdit;
 use gix_ref_file::Files;
@@ -18,12 +20,27 @@ pub(crate) fn share_place<F: Files>(
     alloc: Global,
     store: &Store<F>,
     edits: &[RefEdit],
-) -> Result<bool, AllocError> {
+) -> Result<bool, AllocError>
+    ensures { IfOk result (λ twice. twice ≡ has_twice (spec.places_of (base_of store.now) edits.now)) }
+{
+    let places = places_of(alloc, store, edits)?;
+    have_twice(alloc, &places)
+}
+
+// Where the files of the edits' names stand.
+fn places_of<F: Files>(
+    alloc: Global,
+    store: &Store<F>,
+    edits: &[RefEdit],
+) -> Result<Vec<Vec<u8>>, AllocError>
+    ensures { IfOk result (λ places. map bytes_of places.items
+        ≡ spec.places_of (base_of store.now) edits.now) }
+{
     let mut places = Vec::new(alloc);
     for edit in edits {
         places.push(store.reference_path(alloc, edit.name.as_ref())?)?;
     }
-    have_twice(alloc, &places)
+    Ok(places)
 }
 
 // Whether two of the paths that a commit concerns are one.

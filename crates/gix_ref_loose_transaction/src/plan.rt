@@ -1,6 +1,7 @@
 //! What becomes of one reference: its lock is made, what it is is tested, and its new text is written into the lock.
 
-ghost use Rattle.std.specs.Prelude.{◌≡◌, None, Some, Ok, IfOk, OnOk};
+ghost use Rattle.std.specs.Prelude.{◌≡◌, ◌⊎◌, None, Some, Ok, IfErr, IfOk, IsTrue, OnOk};
+ghost use Rattle.gix_object_lines.specs.NameTest.{is_full_name};
 ghost use Rattle.gix_ref_file.specs.Calls.{Achieves, Passes};
 ghost use Rattle.gix_ref_file.specs.Tree.{file, node_at};
 ghost use Rattle.gix_ref_name.specs.Targets.{target_view};
@@ -11,14 +12,21 @@ ghost use Rattle.gix_ref_transaction.specs.Locks.{lock_of, OthersStay};
 ghost use Rattle.gix_ref_way.specs.Ways.{file_at};
 ghost use Rattle.gix_ref_moves.specs.Contents.{lock_path_of};
 ghost use Rattle.gix_ref_moves.specs.Moments.{SameButLocks};
-ghost use Rattle.gix_ref_loose_transaction.specs.Plans.{HoldsText, IsActOf, IsFoundSo, IsPlanOf, IsTested, KeepsFiles};
+ghost use Rattle.gix_ref_loose_transaction.specs.Causes.{EditFault, TestFault};
+ghost use Rattle.gix_ref_loose_transaction.specs.LogLines.{IsLineOf, has_log, line_in, logging};
+ghost use Rattle.gix_ref_loose_transaction.specs.Modes.{removes};
+ghost use Rattle.gix_ref_loose_transaction.specs.Plans as spec;
+ghost use Rattle.gix_ref_loose_transaction.specs.Plans.{HoldsText, IsActOf, IsFoundSo, IsPlanOf, IsPut, IsTested, IsUpdateBy, KeepsFiles};
+ghost use Rattle.gix_ref_loose_transaction.specs.declared.error.PrepareError.TheVariants.{Io, LockAcquire, Memory};
 
 use crate::asked::test;
 use crate::error::PrepareError;
 use crate::lines::line_of;
+use crate::packed_refs::PackedRefs;
 use gix_object_lines::lines::ActorRef;
 use gix_ref_edit::{Change, RefEdit, RefLog};
 use gix_ref_file::{FileError, Files};
+use gix_ref_format::lookup::key_of;
 use gix_ref_format::loose;
 use gix_ref_format::packed::Buffer;
 use gix_ref_moves::{Act, Move};
@@ -30,28 +38,39 @@ use gix_ref_way::make_way;
 use std::alloc::Global;
 
 // Locks a reference, tests it, and tells what becomes of its files. After an error its lock has gone, as far as that succeeds.
-pub(crate) fn plan<F: Files>(
+pub(crate) fn plan<F: Files, O>(
     alloc: Global,
     store: &mut Store<F>,
     edit: &RefEdit,
     packed: Option<&Buffer>,
     committer: Option<ActorRef<'_>>,
+    packed_refs: &PackedRefs<'_, O>,
 ) -> Result<Move, PrepareError>
     ensures honest { F.is_honest store.old.files → F.is_honest store.new.files }
     ensures base { base_of store.new ≡ base_of store.old }
+    ensures options { store.new.options ≡ store.old.options }
+    ensures full { IsTrue (is_full_name edit.now.name) }
     ensures moments { Passes F.is_honest F.history store.old.files store.new.files SameButLocks }
     ensures tested { F.is_honest store.old.files → IfOk result (λ _. IsTested edit.now
         (reads_with store.old (F.history store.old.files).tree packed.entry edit.now.name)) }
-    ensures planned { IfOk result (IsPlanOf (base_of store.old) edit.now) }
+    ensures planned { IfOk result (IsPlanOf (base_of store.old) (removes packed_refs.now) edit.now) }
     ensures text { F.is_honest store.old.files → IfOk result (λ made. HoldsText edit.now.change
-        (lock_path_of made) (F.history store.new.files).tree) }
+        made.act (lock_path_of made) (F.history store.new.files).tree) }
+    ensures line { F.is_honest store.old.files → let tree = (F.history store.old.files).tree in
+        let l = logging store.old.options (reads_with store.old tree packed.entry) committer.entry in
+        let name = edit.now.name in IfOk result (λ made.
+        IsLineOf l (has_log (base_of store.old) tree name) name edit.now.change (line_in made.act)) }
+    ensures failed { F.is_honest store.old.files → let tree = (F.history store.old.files).tree in
+        let l = logging store.old.options (reads_with store.old tree packed.entry) committer.entry in
+        IfErr result (EditFault l (has_log (base_of store.old) tree edit.now.name)
+        F.reading_may_fail edit.now) }
     ensures keeps { Achieves F.is_honest F.history store.old.files store.new.files result
         KeepsFiles }
 {
     let place = store.reference_path(alloc, edit.name.as_ref())?;
     let log = store.reflog_path(alloc, edit.name.as_ref())?;
     let lock = take(alloc, &mut store.files, &place)?;
-    match act_of(alloc, store, edit, packed, committer, &lock) {
+    match act_of(alloc, store, edit, packed, committer, packed_refs, &lock) {
         Ok(act) => Ok(Move { lock, log, act }),
         Err(error) => {
             let _ = lock.give_back(alloc, &mut store.files);
@@ -68,6 +87,7 @@ fn take<F: Files>(alloc: Global, files: &mut F, place: &[u8]) -> Result<Lock, Pr
     ensures free { F.is_honest files.old → OnOk result
         (file_at (F.history files.old).tree (lock_of place.now) ≡ None) }
     ensures keeps { Achieves F.is_honest F.history files.old files.new result KeepsFiles }
+    ensures failed { IfErr result (λ error. (error ≡ LockAcquire) ⊎ (error ≡ Memory)) }
 {
     told(make_way(alloc, files, place), PrepareError::LockAcquire)?;
     held(acquire(alloc, files, place))
@@ -75,7 +95,8 @@ fn take<F: Files>(alloc: Global, files: &mut F, place: &[u8]) -> Result<Lock, Pr
 
 // What a call of the files told, as this error where it failed.
 fn told(outcome: Result<(), FileError>, why: PrepareError) -> Result<(), PrepareError>
-    ensures { OnOk result (outcome ≡ Ok tt) }
+    ensures ok { OnOk result (outcome ≡ Ok tt) }
+    ensures failed { IfErr result (λ error. (error ≡ why) ⊎ (error ≡ Memory)) }
 {
     match outcome {
         Ok(()) => Ok(()),
@@ -86,7 +107,8 @@ fn told(outcome: Result<(), FileError>, why: PrepareError) -> Result<(), Prepare
 
 // The lock that was made, where none stood.
 fn held(made: Result<Option<Lock>, FileError>) -> Result<Lock, PrepareError>
-    ensures { IfOk result (λ lock. made ≡ Ok (Some lock)) }
+    ensures ok { IfOk result (λ lock. made ≡ Ok (Some lock)) }
+    ensures failed { IfErr result (λ error. (error ≡ LockAcquire) ⊎ (error ≡ Memory)) }
 {
     match made {
         Ok(Some(lock)) => Ok(lock),
@@ -97,12 +119,13 @@ fn held(made: Result<Option<Lock>, FileError>) -> Result<Lock, PrepareError>
 }
 
 // Tests a reference whose lock is held, and writes its new text into the lock.
-fn act_of<F: Files>(
+fn act_of<F: Files, O>(
     alloc: Global,
     store: &mut Store<F>,
     edit: &RefEdit,
     packed: Option<&Buffer>,
     committer: Option<ActorRef<'_>>,
+    packed_refs: &PackedRefs<'_, O>,
     lock: &Lock,
 ) -> Result<Act, PrepareError>
     ensures honest { F.is_honest store.old.files → F.is_honest store.new.files }
@@ -111,26 +134,80 @@ fn act_of<F: Files>(
         (OthersStay lock.now.path.items) }
     ensures tested { F.is_honest store.old.files → IfOk result (λ _. IsTested edit.now
         (reads_with store.old (F.history store.old.files).tree packed.entry edit.now.name)) }
-    ensures act { IfOk result (IsActOf edit.now.change) }
-    ensures text { F.is_honest store.old.files → IfOk result (λ _. HoldsText edit.now.change
+    ensures act { IfOk result (IsActOf (removes packed_refs.now) edit.now.name edit.now.change) }
+    ensures text { F.is_honest store.old.files → IfOk result (λ act. HoldsText edit.now.change act
         lock.now.path.items (F.history store.new.files).tree) }
+    ensures options { store.new.options ≡ store.old.options }
+    ensures line { F.is_honest store.old.files → let tree = (F.history store.old.files).tree in
+        let l = logging store.old.options (reads_with store.old tree packed.entry) committer.entry in
+        let name = edit.now.name in IfOk result (λ act.
+        IsLineOf l (has_log (base_of store.old) tree name) name edit.now.change (line_in act)) }
+    ensures failed { F.is_honest store.old.files → let tree = (F.history store.old.files).tree in
+        let l = logging store.old.options (reads_with store.old tree packed.entry) committer.entry in
+        IfErr result (EditFault l (has_log (base_of store.old) tree edit.now.name)
+        F.reading_may_fail edit.now) }
 {
     let found = tested(alloc, &*store, edit, packed)?;
+    let line = line_of(alloc, &*store, edit, &found, packed, committer)?;
     match &edit.change {
         Change::Update { log, new, .. } => {
-            let line = line_of(alloc, &*store, edit, &found, packed, committer)?;
-            match log.mode {
-                RefLog::AndReference => {
-                    fill(alloc, &mut store.files, lock, new)?;
-                    Ok(Act::Put(line))
-                }
-                RefLog::Only => Ok(Act::Note(line)),
-            }
+            let is_packed_alone = is_packed_alone(packed_refs.removes(), edit.name.to_path(), new);
+            update_by(
+                alloc,
+                &mut store.files,
+                log.mode,
+                is_packed_alone,
+                new,
+                lock,
+                line,
+            )
         }
         Change::Delete { log, .. } => match log {
             RefLog::AndReference => Ok(Act::Remove),
             RefLog::Only => Ok(Act::Forget),
         },
+    }
+}
+
+// Whether a record alone tells what the name points to.
+fn is_packed_alone(removes: bool, name: &[u8], new: &Target) -> bool
+    ensures { result ≡ spec.is_packed_alone removes name.now (target_view new.now) }
+{
+    match new {
+        Target::Object(_) => removes && key_of(name).is_some(),
+        Target::Symbolic(_) => false,
+    }
+}
+
+// The update that is made so, with its text in the lock where that is put in the file's place.
+fn update_by<F: Files>(
+    alloc: Global,
+    files: &mut F,
+    log: RefLog,
+    is_packed_alone: bool,
+    new: &Target,
+    lock: &Lock,
+    line: Option<Vec<u8>>,
+) -> Result<Act, PrepareError>
+    ensures honest { F.is_honest files.old → F.is_honest files.new }
+    ensures moments { Passes F.is_honest F.history files.old files.new
+        (OthersStay lock.now.path.items) }
+    ensures act { IfOk result (IsUpdateBy log is_packed_alone) }
+    ensures line { IfOk result (λ act. line_in act ≡ line) }
+    ensures text { F.is_honest files.old → IfOk result (λ act. IsPut act
+        → node_at (F.history files.new).tree lock.now.path.items
+        ≡ Some (file (loose_text (target_view new.now)))) }
+    ensures failed { IfErr result (λ error. (error ≡ Io) ⊎ (error ≡ Memory)) }
+{
+    match log {
+        RefLog::AndReference => {
+            if is_packed_alone {
+                return Ok(Act::Pack(line));
+            }
+            fill(alloc, files, lock, new)?;
+            Ok(Act::Put(line))
+        }
+        RefLog::Only => Ok(Act::Note(line)),
     }
 }
 
@@ -141,8 +218,11 @@ fn tested<F: Files>(
     edit: &RefEdit,
     packed: Option<&Buffer>,
 ) -> Result<Option<Reference>, PrepareError>
-    ensures { F.is_honest store.now.files → let tree = (F.history store.now.files).tree in
+    ensures found { F.is_honest store.now.files → let tree = (F.history store.now.files).tree in
         IfOk result (IsFoundSo edit.now (reads_with store.now tree packed.entry edit.now.name)) }
+    ensures failed { F.is_honest store.now.files → let tree = (F.history store.now.files).tree in
+        IfErr result (TestFault F.reading_may_fail edit.now
+        (reads_with store.now tree packed.entry edit.now.name)) }
 {
     let name = edit.name.try_clone()?;
     let found = store.try_read(alloc, name, packed)?;
@@ -163,6 +243,7 @@ fn fill<F: Files>(
     ensures filled { F.is_honest files.old → OnOk result
         (node_at (F.history files.new).tree lock.now.path.items
         ≡ Some (file (loose_text (target_view target.now)))) }
+    ensures failed { IfErr result (λ error. (error ≡ Io) ⊎ (error ≡ Memory)) }
 {
     let mut text = Vec::new(alloc);
     loose::write(target.to_ref(), &mut text)?;

@@ -1,60 +1,266 @@
-//! The packed records of references that are removed.
+//! The packed records of references that are removed, and of those that are packed.
 
+ghost use Rattle.std.specs.Prelude.{◌≡◌, ◌≢◌, ◌||◌, ◌++◌, [], is_some, map, option_map, IfErr, IfOk, IfSome, OnOk, Some};
+ghost use Rattle.std.specs.List.{list_any};
+ghost use Rattle.std.specs.Option.{option_to_list};
+ghost use Rattle.gix_hash_id.specs.Id.{id_of};
 ghost use Rattle.gix_ref_file.specs.Calls.{Passes};
 ghost use Rattle.gix_ref_moves.specs.Moments.{SameButLocks};
+ghost use Rattle.gix_ref_store.specs.RefStates.{packed_text_in};
+ghost use Rattle.gix_ref_store.specs.Stores.{base_of};
+ghost use Rattle.gix_ref_name.specs.Targets.{target_view};
+ghost use Rattle.gix_ref_transaction.specs.RecordEdits as record_edits;
+ghost use Rattle.gix_ref_loose_transaction.specs.Causes.{RepackFault};
+ghost use Rattle.gix_ref_loose_transaction.specs.Modes.{objects_in};
+ghost use Rattle.gix_ref_loose_transaction.specs.Repacking as spec;
+ghost use Rattle.gix_ref_loose_transaction.specs.Repacking.{AddsSaid, AreRepacked, HoldsRecords, SaysOfRecord, SayOfRecords, TellsPeeled, UpdatesRecord, removal_line};
 
 use crate::error::PrepareError;
-use gix_hash::Kind;
-use gix_ref_edit::{Change, RefEdit, RefLog};
+use crate::packed_refs::PackedRefs;
+use gix_hash::{Kind, ObjectId};
+use gix_object_find::Find;
+use gix_ref_edit::{Change, LogChange, RefEdit, RefLog};
 use gix_ref_file::Files;
 use gix_ref_format::lookup::key_of;
-use gix_ref_name::FullName;
+use gix_ref_format::packed::Buffer;
+use gix_ref_name::{FullName, Target};
+use gix_ref_store::Reference;
+use gix_ref_store::store::file::{ReferenceExt, Store};
 use gix_ref_transaction::packed::{RecordEdit, Transaction};
 use std::alloc::Global;
 
-// Begins a transaction of the packed references at this place and prepares it, where records may go.
-pub(crate) fn remove_records<F: Files>(
+// Begins a transaction of the packed references and prepares it, where the edits change records.
+pub(crate) fn repack<F: Files, O: Find>(
+    alloc: Global,
+    store: &mut Store<F>,
+    packed: Option<&Buffer>,
+    edits: &[RefEdit],
+    packed_refs: &PackedRefs<'_, O>,
+) -> Result<Option<Transaction>, PrepareError>
+    ensures honest { F.is_honest store.old.files → F.is_honest store.new.files }
+    ensures base { base_of store.new ≡ base_of store.old }
+    ensures options { store.new.options ≡ store.old.options }
+    ensures moments { Passes F.is_honest F.history store.old.files store.new.files SameButLocks }
+    ensures repacked { F.is_honest store.old.files → IfSome (objects_in packed_refs.now) O.is_honest
+        → let old = (F.history store.old.files).tree in let b = base_of store.old in
+        is_some packed.entry ≡ is_some (packed_text_in b old)
+        → IfOk result (AreRepacked b (option_map O.table (objects_in packed_refs.now)) old
+        (F.history store.new.files).tree edits.now) }
+    ensures failed { IfErr result RepackFault }
+{
+    let lines = record_edits(alloc, &*store, edits, packed_refs)?;
+    if !change_records(packed.is_some(), &lines) {
+        return Ok(None);
+    }
+    let place = store.packed_refs_path(alloc)?;
+    let kind = store.options().object_hash;
+    let held = written(alloc, &mut store.files, &place, kind, lines)?;
+    Ok(Some(held))
+}
+
+// Begins a transaction of the packed references at this place, and prepares it with these edits.
+fn written<F: Files>(
     alloc: Global,
     files: &mut F,
     place: &[u8],
     kind: Kind,
-    edits: &[RefEdit],
-) -> Result<Option<Transaction>, PrepareError>
+    lines: Vec<RecordEdit>,
+) -> Result<Transaction, PrepareError>
     ensures honest { F.is_honest files.old → F.is_honest files.new }
     ensures moments { Passes F.is_honest F.history files.old files.new SameButLocks }
+    ensures held { F.is_honest files.old → lines.items ≢ []
+        → IfOk result (HoldsRecords kind place.now (F.history files.old).tree
+        (F.history files.new).tree (map record_edits.line_in lines.items)) }
+    ensures failed { IfErr result RepackFault }
 {
-    let removed = removed_records(alloc, edits)?;
-    if removed.is_empty() {
+    let begun = Transaction::new(alloc, files, place, kind)?;
+    let prepared = begun.prepare(alloc, files, lines)?;
+    Ok(prepared)
+}
+
+// Whether one of the edits changes records, given whether a file of them stands.
+fn change_records(stands: bool, lines: &[RecordEdit]) -> bool
+    ensures { result ≡ list_any (λ line. stands || is_some (record_edits.line_in line).says) lines.now }
+{
+    lines.iter().any(|line| changes_records(stands, line))
+}
+
+fn changes_records(stands: bool, line: &RecordEdit) -> bool
+    ensures { result ≡ (stands || is_some (record_edits.line_in line.now).says) }
+{
+    match line {
+        RecordEdit::Write { .. } => true,
+        RecordEdit::Remove { .. } => stands,
+    }
+}
+
+// What the edits make of packed records.
+fn record_edits<F: Files, O: Find>(
+    alloc: Global,
+    store: &Store<F>,
+    edits: &[RefEdit],
+    packed_refs: &PackedRefs<'_, O>,
+) -> Result<Vec<RecordEdit>, PrepareError>
+    ensures say { F.is_honest store.now.files → IfSome (objects_in packed_refs.now) O.is_honest
+        → let packs = option_map O.table (objects_in packed_refs.now) in
+        IfOk result (λ lines. SayOfRecords packs edits.now (map record_edits.line_in lines.items)) }
+    ensures failed { IfErr result RepackFault }
+{
+    let mut lines = Vec::new(alloc);
+    let mut rest = edits;
+    'edits: while let Some((edit, others)) = rest.split_first() {
+        add_record_edit(alloc, store, edit, packed_refs, &mut lines)?;
+        rest = others;
+    }
+    Ok(lines)
+}
+
+// Adds what an edit makes of the record that may stand for its name.
+fn add_record_edit<F: Files, O: Find>(
+    alloc: Global,
+    store: &Store<F>,
+    edit: &RefEdit,
+    packed_refs: &PackedRefs<'_, O>,
+    lines: &mut Vec<RecordEdit>,
+) -> Result<(), PrepareError>
+    ensures says { F.is_honest store.now.files → IfSome (objects_in packed_refs.now) O.is_honest
+        → let packs = option_map O.table (objects_in packed_refs.now) in
+        OnOk result (AddsSaid packs edit.now (map record_edits.line_in lines.old.items)
+        (map record_edits.line_in lines.new.items)) }
+    ensures failed { IfErr result RepackFault }
+{
+    let own = record_edit(alloc, store, edit, packed_refs)?;
+    push_some(lines, own)?;
+    Ok(())
+}
+
+// Adds it, where there is one.
+fn push_some(lines: &mut Vec<RecordEdit>, own: Option<RecordEdit>) -> Result<(), PrepareError>
+    ensures added { OnOk result (map record_edits.line_in lines.new.items
+        ≡ map record_edits.line_in lines.old.items
+        ++ option_to_list (option_map record_edits.line_in own)) }
+    ensures failed { IfErr result RepackFault }
+{
+    if let Some(line) = own {
+        lines.push(line)?;
+    }
+    Ok(())
+}
+
+// What an edit makes of the record that may stand for its name.
+fn record_edit<F: Files, O: Find>(
+    alloc: Global,
+    store: &Store<F>,
+    edit: &RefEdit,
+    packed_refs: &PackedRefs<'_, O>,
+) -> Result<Option<RecordEdit>, PrepareError>
+    ensures says { F.is_honest store.now.files → IfSome (objects_in packed_refs.now) O.is_honest
+        → let packs = option_map O.table (objects_in packed_refs.now) in
+        IfOk result (λ own. SaysOfRecord packs edit.now (option_map record_edits.line_in own)) }
+    ensures failed { IfErr result RepackFault }
+{
+    let Some(key) = key_of(edit.name.to_path()) else {
+        return Ok(None);
+    };
+    match &edit.change {
+        Change::Update { log, new, .. } => update_of(alloc, store, key, log, new, packed_refs),
+        Change::Delete { log, .. } => removal_of(alloc, key, *log),
+    }
+}
+
+// The record goes with the reference.
+fn removal_of(alloc: Global, key: &[u8], log: RefLog) -> Result<Option<RecordEdit>, PrepareError>
+    ensures says { IfOk result (λ own. option_map record_edits.line_in own ≡ removal_line log key.now) }
+    ensures failed { IfErr result RepackFault }
+{
+    match log {
+        RefLog::AndReference => Ok(Some(RecordEdit::Remove {
+            name: key_name(alloc, key)?,
+        })),
+        RefLog::Only => Ok(None),
+    }
+}
+
+// An update to an object is packed where updates are.
+fn update_of<F: Files, O: Find>(
+    alloc: Global,
+    store: &Store<F>,
+    key: &[u8],
+    log: &LogChange,
+    new: &Target,
+    packed_refs: &PackedRefs<'_, O>,
+) -> Result<Option<RecordEdit>, PrepareError>
+    ensures says { F.is_honest store.now.files → IfSome (objects_in packed_refs.now) O.is_honest
+        → let packs = option_map O.table (objects_in packed_refs.now) in
+        IfOk result (λ own. UpdatesRecord packs log.now.mode (target_view new.now) key.now
+        (option_map record_edits.line_in own)) }
+    ensures failed { IfErr result RepackFault }
+{
+    let Some(objects) = packed_refs.objects() else {
+        return Ok(None);
+    };
+    let Target::Object(id) = new else {
+        return Ok(None);
+    };
+    match log.mode {
+        RefLog::AndReference => {
+            let record = record_of(alloc, store, key, *id, objects)?;
+            Ok(Some(record))
+        }
+        RefLog::Only => Ok(None),
+    }
+}
+
+// The record of an id under this name, with the id of the object that it stands for, where that is another.
+fn record_of<F: Files, O: Find>(
+    alloc: Global,
+    store: &Store<F>,
+    key: &[u8],
+    id: ObjectId,
+    objects: &O,
+) -> Result<RecordEdit, PrepareError>
+    ensures says { F.is_honest store.now.files → O.is_honest objects.now
+        → IfOk result (λ own. spec.WritesRecord (O.table objects.now)
+        (id_of id) key.now (Some (record_edits.line_in own))) }
+    ensures failed { IfErr result RepackFault }
+{
+    let name = key_name(alloc, key)?;
+    let object = peeled(alloc, store, key_name(alloc, key)?, id, objects)?;
+    Ok(RecordEdit::Write {
+        name,
+        target: id,
+        object,
+    })
+}
+
+// The id of the object that an id stands for, where that is another.
+fn peeled<F: Files, O: Find>(
+    alloc: Global,
+    store: &Store<F>,
+    name: FullName,
+    id: ObjectId,
+    objects: &O,
+) -> Result<Option<ObjectId>, PrepareError>
+    ensures told { F.is_honest store.now.files → O.is_honest objects.now → IfOk result (λ peeled.
+        TellsPeeled (O.table objects.now) (id_of id) (option_map id_of peeled)) }
+    ensures failed { IfErr result RepackFault }
+{
+    let found = Reference {
+        name,
+        target: Target::Object(id),
+        peeled: None,
+    };
+    let end = found.peel_to_id_packed(alloc, store, objects, None)?;
+    if end == id {
         return Ok(None);
     }
-    let begun = Transaction::new(alloc, files, place, kind)?;
-    let prepared = begun.prepare(alloc, files, removed)?;
-    Ok(Some(prepared))
+    Ok(Some(end))
 }
 
-// The names that records may have of the references that are removed.
-fn removed_records(alloc: Global, edits: &[RefEdit]) -> Result<Vec<RecordEdit>, PrepareError> {
-    let mut removed = Vec::new(alloc);
-    for edit in edits {
-        if is_removed(&edit.change) {
-            if let Some(key) = key_of(edit.name.to_path()) {
-                removed.push(RecordEdit::Remove {
-                    name: key_name(alloc, key)?,
-                })?;
-            }
-        }
-    }
-    Ok(removed)
-}
-
-fn is_removed(change: &Change) -> bool {
-    match change {
-        Change::Delete { log, .. } => *log == RefLog::AndReference,
-        Change::Update { .. } => false,
-    }
-}
-
-fn key_name(alloc: Global, key: &[u8]) -> Result<FullName, PrepareError> {
+fn key_name(alloc: Global, key: &[u8]) -> Result<FullName, PrepareError>
+    ensures name { IfOk result (λ name. name ≡ key.now) }
+    ensures failed { IfErr result RepackFault }
+{
     match FullName::from_bytes(alloc, key) {
         Ok(name) => Ok(name),
         Err(_) => Err(PrepareError::Memory),

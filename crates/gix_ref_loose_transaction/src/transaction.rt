@@ -1,22 +1,34 @@
 //! Transactions: prepared, and then committed or rolled back.
 
-ghost use Rattle.std.specs.Prelude.{◌≡◌, [], false, Ok, IfOk, OnOk};
+ghost use Rattle.std.specs.Prelude.{◌≡◌, ◌⊎◌, [], Bool, true, false, is_some, Option, option_map, Ok, IfErr, IfOk, IfSome, OnOk};
+ghost use Rattle.gix_object_find.specs.Table.{Table};
+ghost use Rattle.gix_ref_file.specs.History.{Adds};
+ghost use Rattle.gix_ref_file.specs.Tree.{Tree};
 ghost use Rattle.gix_ref_file.specs.Calls.{Achieves, Passes};
 ghost use Rattle.gix_ref_edit.specs.Names.{AllOnce, names_of};
 ghost use Rattle.gix_ref_store.specs.Lookups.{reads_with};
-ghost use Rattle.gix_ref_store.specs.RefStates.{ref_state};
+ghost use Rattle.gix_ref_store.specs.Places.{Base};
+ghost use Rattle.gix_ref_store.specs.RefStates.{packed_text_in, ref_state};
 ghost use Rattle.gix_ref_store.specs.Stores.{base_of};
 ghost use Rattle.gix_ref_moves.specs.Moments.{SameButLocks};
 ghost use Rattle.gix_ref_moves.specs.Committing.{IsCommitted, OnTheWay, commit_paths};
 ghost use Rattle.gix_ref_loose_transaction.specs.Alike.{ReadsAlike};
+ghost use Rattle.gix_ref_loose_transaction.specs.Causes.{LockFault, PrepareFault, ReadyFault, SomeEditFault};
+ghost use Rattle.gix_ref_loose_transaction.specs.LogLines.{AllLined, logging};
+ghost use Rattle.gix_ref_loose_transaction.specs.Modes.{objects_in, removes};
 ghost use Rattle.gix_ref_loose_transaction.specs.Paths.{has_twice};
-ghost use Rattle.gix_ref_loose_transaction.specs.Plans.{AllHold, AllPlanned, AllTested, AreSplit, LocksGone};
+ghost use Rattle.gix_ref_loose_transaction.specs.Plans.{AllHold, AllPlanned, AllTested, AreSplit, KeepsFiles, LocksGone};
+ghost use Rattle.gix_ref_loose_transaction.specs.Reads.{IsAsPrepared, ReadsEdited, ReadsOnWay};
+ghost use Rattle.gix_ref_loose_transaction.specs.Repacking.{AreRepacked};
+ghost use Rattle.gix_ref_loose_transaction.specs.declared.error.PrepareError.TheVariants.{Memory, SamePlace};
 
 use crate::error::PrepareError;
 use crate::finder::Names;
 use crate::once::{share_place, stand_twice};
+use crate::packed_refs::PackedRefs;
 use crate::plan::plan;
-use crate::records::remove_records;
+use crate::records::repack;
+use gix_object_find::Find;
 use gix_object_lines::lines::ActorRef;
 use gix_ref_edit::{RefEdit, RefEditsExt};
 use gix_ref_file::{FileError, Files};
@@ -44,11 +56,12 @@ pub struct Transaction {
 /// can't be read, `CreateOrUpdateRefLog` where a line for its log can't be made, `Packed`, `PackedTransactionAcquire` and
 /// `PackedTransactionPrepare` where packed references can't be opened, locked or written, and `Io` where a lock can't be written. At each
 /// moment each file but locks is as before, and after an error the locks have gone, as far as that succeeds.
-pub fn prepare<F: Files>(
+pub fn prepare<F: Files, O: Find>(
     alloc: Global,
     store: &mut Store<F>,
     edits: Vec<RefEdit>,
     committer: Option<ActorRef<'_>>,
+    packed_refs: PackedRefs<'_, O>,
 ) -> Result<Transaction, PrepareError>
     ensures honest { F.is_honest store.old.files → F.is_honest store.new.files }
     ensures base { base_of store.new ≡ base_of store.old }
@@ -60,20 +73,33 @@ pub fn prepare<F: Files>(
     ensures once { IfOk result (λ t. AllOnce (names_of t.edits.items)) }
     ensures tested { F.is_honest store.old.files → let tree = (F.history store.old.files).tree in
         IfOk result (λ t. AllTested (ref_state (base_of store.old) tree) t.edits.items) }
-    ensures planned { IfOk result (λ t. AllPlanned (base_of store.old) t.edits.items
-        t.moves.items) }
+    ensures planned { IfOk result (λ t. AllPlanned (base_of store.old) (removes packed_refs.entry)
+        t.edits.items t.moves.items) }
     ensures texts { F.is_honest store.old.files → let tree = (F.history store.new.files).tree in
         IfOk result (λ t. AllHold tree t.edits.items t.moves.items) }
+    ensures lines { F.is_honest store.old.files → let tree = (F.history store.old.files).tree in
+        let b = base_of store.old in
+        let l = logging store.old.options (ref_state b tree) committer.entry in
+        IfOk result (λ t. AllLined l b tree t.edits.items t.moves.items) }
+    ensures repacked { F.is_honest store.old.files → IfSome (objects_in packed_refs.entry) O.is_honest
+        → IfOk result (λ t. AreRepacked (base_of store.old)
+        (option_map O.table (objects_in packed_refs.entry)) (F.history store.old.files).tree
+        (F.history store.new.files).tree t.edits.items t.packed) }
+    ensures causes { F.is_honest store.old.files → let tree = (F.history store.old.files).tree in
+        let b = base_of store.old in
+        let l = logging store.old.options (ref_state b tree) committer.entry in
+        IfErr result (PrepareFault l b tree F.reading_may_fail edits.items) }
 {
-    prepared(alloc, store, edits, committer)
+    prepared(alloc, store, edits, committer, &packed_refs)
 }
 
 // The same, told by the files alone.
-fn prepared<F: Files>(
+fn prepared<F: Files, O: Find>(
     alloc: Global,
     store: &mut Store<F>,
     edits: Vec<RefEdit>,
     committer: Option<ActorRef<'_>>,
+    packed_refs: &PackedRefs<'_, O>,
 ) -> Result<Transaction, PrepareError>
     ensures honest { F.is_honest store.old.files → F.is_honest store.new.files }
     ensures base { base_of store.new ≡ base_of store.old }
@@ -83,15 +109,34 @@ fn prepared<F: Files>(
     ensures once { IfOk result (λ t. AllOnce (names_of t.edits.items)) }
     ensures tested { F.is_honest store.old.files → let tree = (F.history store.old.files).tree in
         IfOk result (λ t. AllTested (ref_state (base_of store.old) tree) t.edits.items) }
-    ensures planned { IfOk result (λ t. AllPlanned (base_of store.old) t.edits.items
-        t.moves.items) }
+    ensures planned { IfOk result (λ t. AllPlanned (base_of store.old) (removes packed_refs.now)
+        t.edits.items t.moves.items) }
     ensures texts { F.is_honest store.old.files → let tree = (F.history store.new.files).tree in
         IfOk result (λ t. AllHold tree t.edits.items t.moves.items) }
+    ensures lines { F.is_honest store.old.files → let tree = (F.history store.old.files).tree in
+        let b = base_of store.old in
+        let l = logging store.old.options (ref_state b tree) committer.entry in
+        IfOk result (λ t. AllLined l b tree t.edits.items t.moves.items) }
+    ensures repacked { F.is_honest store.old.files → IfSome (objects_in packed_refs.now) O.is_honest
+        → IfOk result (λ t. AreRepacked (base_of store.old)
+        (option_map O.table (objects_in packed_refs.now)) (F.history store.old.files).tree
+        (F.history store.new.files).tree t.edits.items t.packed) }
+    ensures causes { F.is_honest store.old.files → let tree = (F.history store.old.files).tree in
+        let b = base_of store.old in
+        let l = logging store.old.options (ref_state b tree) committer.entry in
+        IfErr result (PrepareFault l b tree F.reading_may_fail edits.items) }
 {
     let mut edits = edits;
     let records = store.open_packed_buffer(alloc)?;
     ready(alloc, &*store, records.as_ref(), &mut edits)?;
-    locked(alloc, store, edits, records.as_ref(), committer)
+    locked(
+        alloc,
+        store,
+        edits,
+        records.as_ref(),
+        committer,
+        packed_refs,
+    )
 }
 
 // Splits the edits of symbolic references, and tests that no two are of one place.
@@ -105,6 +150,9 @@ fn ready<F: Files>(
         OnOk result (AreSplit (reads_with store.now tree packed.entry) edits.old.items
         edits.new.items) }
     ensures once { OnOk result (AllOnce (names_of edits.new.items)) }
+    ensures failed { F.is_honest store.now.files → let tree = (F.history store.now.files).tree in
+        IfErr result (ReadyFault (reads_with store.now tree packed.entry) (base_of store.now)
+        F.reading_may_fail edits.old.items) }
 {
     edits.pre_process(alloc, &Names { store, packed })?;
     if share_place(alloc, store, edits.as_slice())? {
@@ -114,12 +162,13 @@ fn ready<F: Files>(
 }
 
 // Locks all that the edits concern, first the packed records.
-fn locked<F: Files>(
+fn locked<F: Files, O: Find>(
     alloc: Global,
     store: &mut Store<F>,
     edits: Vec<RefEdit>,
     packed: Option<&Buffer>,
     committer: Option<ActorRef<'_>>,
+    packed_refs: &PackedRefs<'_, O>,
 ) -> Result<Transaction, PrepareError>
     ensures honest { F.is_honest store.old.files → F.is_honest store.new.files }
     ensures base { base_of store.new ≡ base_of store.old }
@@ -127,14 +176,35 @@ fn locked<F: Files>(
     ensures edits { IfOk result (λ t. t.edits ≡ edits) }
     ensures tested { F.is_honest store.old.files → let tree = (F.history store.old.files).tree in
         IfOk result (λ t. AllTested (reads_with store.old tree packed.entry) t.edits.items) }
-    ensures planned { IfOk result (λ t. AllPlanned (base_of store.old) t.edits.items
-        t.moves.items) }
+    ensures planned { IfOk result (λ t. AllPlanned (base_of store.old) (removes packed_refs.now)
+        t.edits.items t.moves.items) }
     ensures texts { F.is_honest store.old.files → let tree = (F.history store.new.files).tree in
         IfOk result (λ t. AllHold tree t.edits.items t.moves.items) }
+    ensures lines { F.is_honest store.old.files → let tree = (F.history store.old.files).tree in
+        let b = base_of store.old in
+        let l = logging store.old.options (reads_with store.old tree packed.entry) committer.entry in
+        IfOk result (λ t. AllLined l b tree t.edits.items t.moves.items) }
+    ensures repacked { F.is_honest store.old.files → IfSome (objects_in packed_refs.now) O.is_honest
+        → let b = base_of store.old in let old = (F.history store.old.files).tree in
+        is_some packed.entry ≡ is_some (packed_text_in b old)
+        → IfOk result (λ t. AreRepacked b (option_map O.table (objects_in packed_refs.now)) old
+        (F.history store.new.files).tree t.edits.items t.packed) }
+    ensures causes { F.is_honest store.old.files → let tree = (F.history store.old.files).tree in
+        let b = base_of store.old in
+        let l = logging store.old.options (reads_with store.old tree packed.entry) committer.entry in
+        IfErr result (LockFault l b tree F.reading_may_fail edits.items) }
 {
-    let records = begun(alloc, store, packed, &edits)?;
+    let records = repack(alloc, store, packed, &edits, packed_refs)?;
     let mut moves = Vec::new(alloc);
-    match plan_all(alloc, store, &edits, packed, committer, &mut moves) {
+    match plan_all(
+        alloc,
+        store,
+        &edits,
+        packed,
+        committer,
+        packed_refs,
+        &mut moves,
+    ) {
         Ok(()) => finish(alloc, store, edits, moves, records),
         Err(error) => {
             drop_all(alloc, &mut store.files, &moves, records);
@@ -143,47 +213,40 @@ fn locked<F: Files>(
     }
 }
 
-// The transaction of the packed records, where any stand and may go.
-fn begun<F: Files>(
-    alloc: Global,
-    store: &mut Store<F>,
-    packed: Option<&Buffer>,
-    edits: &[RefEdit],
-) -> Result<Option<packed::Transaction>, PrepareError>
-    ensures honest { F.is_honest store.old.files → F.is_honest store.new.files }
-    ensures base { base_of store.new ≡ base_of store.old }
-    ensures moments { Passes F.is_honest F.history store.old.files store.new.files SameButLocks }
-{
-    let place = store.packed_refs_path(alloc)?;
-    let kind = store.options().object_hash;
-    match packed {
-        Some(_) => remove_records(alloc, &mut store.files, &place, kind, edits),
-        None => Ok(None),
-    }
-}
-
 // Plans the edits, one after another.
-fn plan_all<F: Files>(
+fn plan_all<F: Files, O>(
     alloc: Global,
     store: &mut Store<F>,
     edits: &[RefEdit],
     packed: Option<&Buffer>,
     committer: Option<ActorRef<'_>>,
+    packed_refs: &PackedRefs<'_, O>,
     moves: &mut Vec<Move>,
 ) -> Result<(), PrepareError>
     ensures honest { F.is_honest store.old.files → F.is_honest store.new.files }
     ensures base { base_of store.new ≡ base_of store.old }
+    ensures options { store.new.options ≡ store.old.options }
+    ensures keeps { Achieves F.is_honest F.history store.old.files store.new.files result
+        KeepsFiles }
+    ensures lines { F.is_honest store.old.files → let tree = (F.history store.old.files).tree in
+        let b = base_of store.old in
+        let l = logging store.old.options (reads_with store.old tree packed.entry) committer.entry in
+        moves.old.items ≡ [] → OnOk result (AllLined l b tree edits.now moves.new.items) }
+    ensures failed { F.is_honest store.old.files → let tree = (F.history store.old.files).tree in
+        let b = base_of store.old in
+        let l = logging store.old.options (reads_with store.old tree packed.entry) committer.entry in
+        IfErr result (SomeEditFault l b tree F.reading_may_fail edits.now) }
     ensures moments { Passes F.is_honest F.history store.old.files store.new.files SameButLocks }
     ensures tested { F.is_honest store.old.files → let tree = (F.history store.old.files).tree in
         OnOk result (AllTested (reads_with store.old tree packed.entry) edits.now) }
-    ensures planned { moves.old.items ≡ [] → OnOk result
-        (AllPlanned (base_of store.old) edits.now moves.new.items) }
+    ensures planned { moves.old.items ≡ [] → OnOk result (AllPlanned (base_of store.old)
+        (removes packed_refs.now) edits.now moves.new.items) }
     ensures texts { F.is_honest store.old.files → moves.old.items ≡ [] → OnOk result
         (AllHold (F.history store.new.files).tree edits.now moves.new.items) }
 {
     let mut rest = edits;
     'edits: while let Some((edit, others)) = rest.split_first() {
-        let planned = plan(alloc, store, edit, packed, committer)?;
+        let planned = plan(alloc, store, edit, packed, committer, packed_refs)?;
         moves.push(planned)?;
         rest = others;
     }
@@ -202,6 +265,9 @@ fn finish<F: Files>(
     ensures base { base_of store.new ≡ base_of store.old }
     ensures edits { IfOk result (λ t. t.edits ≡ edits) }
     ensures moves { IfOk result (λ t. t.moves ≡ moves) }
+    ensures packed { IfOk result (λ t. t.packed ≡ packed) }
+    ensures causes { IfErr result (λ error. (error ≡ Memory)
+        ⊎ ((error ≡ SamePlace) × (has_twice (commit_paths packed moves.items) ≡ true))) }
     ensures still { IfOk result (λ _. store.new ≡ store.old) }
     ensures moments { Passes F.is_honest F.history store.old.files store.new.files SameButLocks }
 {
@@ -266,6 +332,8 @@ fn given_back(outcome: Result<(), FileError>) -> Result<(), CommitError>
 }
 
 impl Transaction {
+    ghost use Rattle.gix_ref_loose_transaction.specs.Parts.{parts};
+
     /// The edits, those of symbolic references split.
     pub fn edits(&self) -> &[RefEdit]
         ensures { result.now ≡ self.now.edits.items }
@@ -285,6 +353,15 @@ impl Transaction {
             (OnTheWay self.packed self.moves.items) }
         ensures done { Achieves F.is_honest F.history files.old files.new result
             (IsCommitted self.packed self.moves.items) }
+        ensures on_way { (b : Base) (packs : Option Table) (removes : Bool) (before : Tree)
+            → F.is_honest files.old
+            → IsAsPrepared b packs removes before (F.history files.old).tree (parts self)
+            → Adds (ReadsOnWay b packs removes before (parts self)) (F.history files.old)
+            (F.history files.new) }
+        ensures read { (b : Base) (packs : Option Table) (removes : Bool) (before : Tree)
+            → F.is_honest files.old
+            → IsAsPrepared b packs removes before (F.history files.old).tree (parts self)
+            → OnOk result (ReadsEdited b packs removes before (parts self) (F.history files.new).tree) }
     {
         let Transaction {
             edits,

@@ -5,9 +5,9 @@ use Rattle.std.specs.declared.alloc.Global.{Global}
 use Rattle.gix_ref_file.specs.Tree.{Tree, file, node_at, bytes_of, bytes_at}
 use Rattle.gix_ref_transaction.specs.Locks.{OthersStay, MayBePut, IsPut}
 use Rattle.gix_ref_way.specs.Ways.{Bytes, file_at}
-use Rattle.gix_ref_moves.specs.Contents.{contents, noted, MayBeNoted, updated, forgotten, removed, place_of, lock_path_of, log_path_of}
-use Rattle.gix_ref_moves.specs.Moments.{MayNote, NotesLog, MayGo, IsGone, MayMove, Has, AreApart, IsUpdating, IsForgetting, IsRemoving}
-use Rattle.gix_ref_moves.specs.declared.act.Act.TheVariants.{Put, Note, Remove, Forget}
+use Rattle.gix_ref_moves.specs.Contents.{contents, noted, MayBeNoted, updated, forgotten, gone, removed, place_of, lock_path_of, log_path_of}
+use Rattle.gix_ref_moves.specs.Moments.{MayNote, NotesLog, MayGo, IsGone, MayMove, Has, AreApart, IsUpdating, IsForgetting, IsGoing, IsRemoving}
+use Rattle.gix_ref_moves.specs.declared.act.Act.TheVariants.{Put, Note, Pack, Remove, Forget}
 use Rattle.gix_ref_moves.specs.declared.act.Move.{Move}
 use Rattle.gix_ref_moves.proofs.StepEnds.{all_noted}
 
@@ -82,37 +82,60 @@ module _ (m : Move) (apart : AreApart m) where
           others = note_others;
         }
 
+  -- ---- what is packed gets its line
+  module _ (line : Option (Vec ℕ Global)) (is : m.act ≡ Pack line) (old x : Tree) where
+    pub noting_pack : MayNote line (log_path_of m) old x → MayMove IsUpdating m old x
+    noting_pack may = record {
+      here = subst (λ act. IsUpdating act (contents m old) (contents m x)) (sym is) (may.others (place_of m) apart.log, may.here);
+      others = λ path a b c. may.others path c;
+    }
+
+    pub is_pack : NotesLog line (log_path_of m) old x → Has updated m old x
+    is_pack has = record {
+      here = subst (λ act. contents m x ≡ updated act (contents m old)) (sym is)
+          (let file_is = has.others (place_of m) apart.log in let lock_is = has.others (lock_path_of m) apart.log_lock in let log = has.here in λ i. record { file = file_is i; log = log i; lock = lock_is i });
+      others = λ path a b c. has.others path c;
+    }
+
+    pub pack_goes : MayMove IsGoing m old x → MayMove IsRemoving m old x
+    pack_goes may = record { here = subst (λ act. IsRemoving act (contents m old) (contents m x)) (sym is) may.here; others = may.others }
+
+    pub pack_gone : Has gone m old x → Has removed m old x
+    pack_gone has = record { here = subst (λ act. contents m x ≡ removed act (contents m old)) (sym is) has.here; others = has.others }
+
   -- ---- removals
+  module _ (is : m.act ≡ Remove) (old x : Tree) where
+    pub file_goes : MayMove IsGoing m old x → MayMove IsRemoving m old x
+    file_goes may = record { here = subst (λ act. IsRemoving act (contents m old) (contents m x)) (sym is) may.here; others = may.others }
+
+    pub file_gone : Has gone m old x → Has removed m old x
+    file_gone has = record { here = subst (λ act. contents m x ≡ removed act (contents m old)) (sym is) has.here; others = has.others }
+
   module _ (old : Tree) where
-    module _ (is : m.act ≡ Remove) where
-      pub going_file : (x : Tree) → MayGo (place_of m) old x → MayMove IsRemoving m old x
-      going_file x may = record {
-        here = subst (λ act. IsRemoving act (contents m old) (contents m x)) (sym is) (may.file, may.others (log_path_of m) (turned apart.log));
-        others = λ path a b c. may.others path a;
+    pub going_file : (x : Tree) → MayGo (place_of m) old x → MayMove IsGoing m old x
+    going_file x may = record {
+      here = (may.file, may.others (log_path_of m) (turned apart.log));
+      others = λ path a b c. may.others path a;
+    }
+
+    module _ (mid : Tree) (went : IsGone (place_of m) old mid) (x : Tree) (stay : OthersStay (lock_path_of m) mid x) where
+      gone_file : file_at x (place_of m) ≡ None
+      gone_file = ap bytes_of (stay (place_of m) apart.lock) ∙ went.file
+
+      gone_log : file_at x (log_path_of m) ≡ file_at old (log_path_of m)
+      gone_log = ap bytes_of (stay (log_path_of m) (turned apart.log_lock)) ∙ went.others (log_path_of m) (turned apart.log)
+
+      gone_others : (path : Bytes) → path ≢ place_of m → path ≢ lock_path_of m → path ≢ log_path_of m → file_at x path ≡ file_at old path
+      gone_others path a b c = ap bytes_of (stay path b) ∙ went.others path a
+
+      pub giving_removed : MayMove IsGoing m old x
+      giving_removed = record { here = (inr gone_file, gone_log); others = gone_others }
+
+      pub is_removed : node_at x (lock_path_of m) ≡ None → Has gone m old x
+      is_removed none = record {
+        here = let file_is = gone_file in let lock_is = ap bytes_of none in let log = gone_log in λ i. record { file = file_is i; log = log i; lock = lock_is i };
+        others = gone_others;
       }
-
-      module _ (mid : Tree) (gone : IsGone (place_of m) old mid) (x : Tree) (stay : OthersStay (lock_path_of m) mid x) where
-        gone_file : file_at x (place_of m) ≡ None
-        gone_file = ap bytes_of (stay (place_of m) apart.lock) ∙ gone.file
-
-        gone_log : file_at x (log_path_of m) ≡ file_at old (log_path_of m)
-        gone_log = ap bytes_of (stay (log_path_of m) (turned apart.log_lock)) ∙ gone.others (log_path_of m) (turned apart.log)
-
-        gone_others : (path : Bytes) → path ≢ place_of m → path ≢ lock_path_of m → path ≢ log_path_of m → file_at x path ≡ file_at old path
-        gone_others path a b c = ap bytes_of (stay path b) ∙ gone.others path a
-
-        pub giving_removed : MayMove IsRemoving m old x
-        giving_removed = record {
-          here = subst (λ act. IsRemoving act (contents m old) (contents m x)) (sym is) (inr gone_file, gone_log);
-          others = gone_others;
-        }
-
-        pub is_removed : node_at x (lock_path_of m) ≡ None → Has removed m old x
-        is_removed none = record {
-          here = subst (λ act. contents m x ≡ removed act (contents m old)) (sym is)
-              (let file_is = gone_file in let lock_is = ap bytes_of none in let log = gone_log in λ i. record { file = file_is i; log = log i; lock = lock_is i });
-          others = gone_others;
-        }
 
     module _ (is : m.act ≡ Forget) (x : Tree) (stay : OthersStay (lock_path_of m) old x) where
       pub giving_forgotten : MayMove IsRemoving m old x

@@ -9,11 +9,11 @@ use Rattle.gix_ref_way.specs.Ways.{Bytes, file_at}
 use Rattle.gix_ref_moves.specs.Contents.{Contents, contents, updated, forgotten, removed, moved, IsBetween, place_of, lock_path_of, log_path_of}
 use Rattle.gix_ref_moves.specs.Moments.{IsUpdating, IsForgetting, IsRemoving}
 use Rattle.gix_ref_moves.specs.Moves.{all_paths, IsNone, Once, AllHave, AllMay}
-use Rattle.gix_ref_moves.specs.Committing.{packed_paths, commit_paths, packed_end, PackedStays, PackedIsNew, Shows, StaysYet, EachOf, UpdatesFirst, OnTheWay, IsCommitted, shown, LocksAlone, MayReplace, Replaces, KeepsPacked}
+use Rattle.gix_ref_moves.specs.Committing.{packed_paths, commit_paths, packed_end, PackedStays, PackedIsNew, Shows, StaysYet, FileStays, EachOf, UpdatesFirst, RecordsFirst, IsShowing, OnTheWay, IsCommitted, shown, LocksAlone, MayReplace, Replaces, KeepsPacked}
 use Rattle.gix_ref_moves.specs.declared.act.Act.{Act}
 use Rattle.gix_ref_moves.specs.declared.act.Move.{Move}
 use Rattle.gix_ref_moves.proofs.PathLists.{AllSame, all_both, all_of, all_weaker}
-use Rattle.gix_ref_moves.proofs.ActWays.{begin_between, begin_stays, up_between, up_stays, forget_between, forget_shows, shown_between, shown_shows, remove_between, remove_shows, still_between, still_shows, still_stays}
+use Rattle.gix_ref_moves.proofs.ActWays.{begin_between, begin_stays, begin_files, up_between, up_stays, up_files, forget_between, forget_shows, forget_files, shown_between, shown_shows, shown_files, remove_between, remove_shows, still_between, still_shows, still_stays, still_files}
 
 abbrev Related : Type 1
 Related = Act → Contents → Contents → Type 0
@@ -49,6 +49,7 @@ pub way_begins : (t : Option Transaction) (ms : List Move) (tree : Tree) → OnT
 way_begins t ms tree = record {
   each = all_of (λ m. IsBetween m.act (contents m tree) (contents m tree)) ms (λ m. begin_between m.act (contents m tree));
   order = inl (all_of (λ m. StaysYet m.act (contents m tree) (contents m tree)) ms (λ m. begin_stays m.act (contents m tree)), packed_begins t);
+  records = inl (all_of (λ m. FileStays m.act (contents m tree) (contents m tree)) ms (λ m. begin_files m.act (contents m tree)));
   packed = inl (packed_begins t);
   others = λ path none. refl;
 }
@@ -58,20 +59,28 @@ way_begins t ms tree = record {
     packed_begins (Some t) = refl
 
 -- ---- updates, and logs that go
-pub updating : (ms : List Move) (old x : Tree) → AllMay IsUpdating ms old x → OnTheWay None ms old x
+pub updating : (ms : List Move) (old x : Tree) → AllMay IsUpdating ms old x → IsShowing ms old x
 updating ms old x may = record {
-  each = each_weaker IsUpdating IsBetween ms old x up_between may.each;
-  order = inl (each_weaker IsUpdating StaysYet ms old x up_stays may.each, tt);
-  packed = inl tt;
-  others = may.others;
+  way = record {
+    each = each_weaker IsUpdating IsBetween ms old x up_between may.each;
+    order = inl (each_weaker IsUpdating StaysYet ms old x up_stays may.each, tt);
+    records = inr tt;
+    packed = inl tt;
+    others = may.others;
+  };
+  files = each_weaker IsUpdating FileStays ms old x up_files may.each;
 }
 
-pub forgetting : (ms : List Move) (old mid : Tree) → AllHave updated ms old mid → (x : Tree) → AllMay IsForgetting ms mid x → OnTheWay None ms old x
+pub forgetting : (ms : List Move) (old mid : Tree) → AllHave updated ms old mid → (x : Tree) → AllMay IsForgetting ms mid x → IsShowing ms old x
 forgetting ms old mid made x may = record {
-  each = each_after updated IsForgetting IsBetween ms old mid x forget_between made.each may.each;
-  order = inr (each_after updated IsForgetting Shows ms old mid x forget_shows made.each may.each);
-  packed = inl tt;
-  others = λ path none. may.others path none ∙ made.others path none;
+  way = record {
+    each = each_after updated IsForgetting IsBetween ms old mid x forget_between made.each may.each;
+    order = inr (each_after updated IsForgetting Shows ms old mid x forget_shows made.each may.each);
+    records = inr tt;
+    packed = inl tt;
+    others = λ path none. may.others path none ∙ made.others path none;
+  };
+  files = each_after updated IsForgetting FileStays ms old mid x forget_files made.each may.each;
 }
 
 pub is_shown : (ms : List Move) (old mid new : Tree) → AllHave updated ms old mid → AllHave forgotten ms mid new → AllHave shown ms old new
@@ -149,11 +158,16 @@ order_on : (t : Option Transaction) (ms : List Move) (old mid x : Tree) → Upda
 order_on t ms old mid x (inl (stays, packed)) locks second = inl (each_still StaysYet ms old mid x still_stays stays locks, stays_on t old mid x packed second)
 order_on t ms old mid x (inr shows) locks second = inr (each_still Shows ms old mid x still_shows shows locks)
 
+records_on : (t : Option Transaction) (ms : List Move) (old mid x : Tree) → RecordsFirst t ms old mid → EachOf LocksAlone ms mid x → PackedStays t mid x → RecordsFirst t ms old x
+records_on t ms old mid x (inl files) locks second = inl (each_still FileStays ms old mid x still_files files locks)
+records_on t ms old mid x (inr new) locks second = inr (new_on t old mid x new second)
+
 -- locks that go
 pub way_goes_on : (t : Option Transaction) (ms : List Move) (old mid x : Tree) → OnTheWay t ms old mid → EachOf LocksAlone ms mid x → PackedStays t mid x → ((path : Bytes) → IsNone path (commit_paths t ms) → file_at x path ≡ file_at mid path) → OnTheWay t ms old x
 way_goes_on t ms old mid x way locks second others = record {
   each = each_still IsBetween ms old mid x still_between way.each locks;
   order = order_on t ms old mid x way.order locks second;
+  records = records_on t ms old mid x way.records locks second;
   packed = either_on t old mid x way.packed second;
   others = λ path none. others path none ∙ way.others path none;
 }
@@ -167,16 +181,17 @@ way_dropped t ms old mid x once way keeps =
     way_goes_on t ms old mid x way (locks_same ms mid x (moves_same t ms mid x once keeps.others)) keeps.packed (λ path none. keeps.others path (none_of_packed t ms path none))
 
 -- with packed records whose files are no moves'
-pub wider : (t : Option Transaction) (ms : List Move) (old x : Tree) → Once (commit_paths t ms) → OnTheWay None ms old x → OnTheWay t ms old x
-wider t ms old x once way = record {
-  each = way.each;
-  order = by_order way.order;
+pub wider : (t : Option Transaction) (ms : List Move) (old x : Tree) → Once (commit_paths t ms) → IsShowing ms old x → OnTheWay t ms old x
+wider t ms old x once showing = record {
+  each = showing.way.each;
+  order = by_order showing.way.order;
+  records = inl showing.files;
   packed = inl packed_is;
-  others = λ path none. way.others path (none_of_moves t ms path none);
+  others = λ path none. showing.way.others path (none_of_moves t ms path none);
 }
   where
     packed_is : PackedStays t old x
-    packed_is = packed_same t ms old x once way.others
+    packed_is = packed_same t ms old x once showing.way.others
 
     by_order : UpdatesFirst None ms old x → UpdatesFirst t ms old x
     by_order (inl (stays, none)) = inl (stays, packed_is)
@@ -193,6 +208,8 @@ module _ (t : Option Transaction) (ms : List Move) (old mid : Tree) (once : Once
         (λ m is. subst (IsBetween m.act (contents m old)) (sym is) (shown_between m.act (contents m old))) (same_shown x same);
     order = inr (all_weaker (λ m. contents m x ≡ shown m.act (contents m old)) (λ m. Shows m.act (contents m old) (contents m x)) ms
         (λ m is. subst (Shows m.act (contents m old)) (sym is) (shown_shows m.act (contents m old))) (same_shown x same));
+    records = inl (all_weaker (λ m. contents m x ≡ shown m.act (contents m old)) (λ m. FileStays m.act (contents m old) (contents m x)) ms
+        (λ m is. subst (FileStays m.act (contents m old)) (sym is) (shown_files m.act (contents m old))) (same_shown x same));
     packed = by_case may.packed;
     others = λ path none. may.others path (none_of_packed t ms path none) ∙ made.others path (none_of_moves t ms path none);
   }
@@ -219,6 +236,7 @@ module _ (t : Option Transaction) (ms : List Move) (old mid : Tree) (once : Once
     removing x may = record {
       each = each_after shown IsRemoving IsBetween ms old then x remove_between then_shown may.each;
       order = inr (each_after shown IsRemoving Shows ms old then x remove_shows then_shown may.each);
+      records = inr (new_on t old then x then_new (packed_same t ms then x once may.others));
       packed = inr (new_on t old then x then_new (packed_same t ms then x once may.others));
       others = λ path none. may.others path (none_of_moves t ms path none) ∙ then_others path none;
     }

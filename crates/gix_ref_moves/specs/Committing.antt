@@ -8,7 +8,7 @@ use Rattle.gix_ref_transaction.specs.declared.packed.Transaction.{Transaction}
 use Rattle.gix_ref_moves.specs.Contents.{Contents, contents, updated, forgotten, moved, IsBetween, lock_path_of}
 use Rattle.gix_ref_moves.specs.Moves.{all_paths, IsNone, AllMay}
 use Rattle.gix_ref_moves.specs.declared.act.Act.{Act}
-use Rattle.gix_ref_moves.specs.declared.act.Act.TheVariants.{Put, Note, Remove, Forget}
+use Rattle.gix_ref_moves.specs.declared.act.Act.TheVariants.{Put, Note, Pack, Remove, Forget}
 use Rattle.gix_ref_moves.specs.declared.act.Move.{Move}
 
 -- where packed records stand, and their lock
@@ -37,11 +37,12 @@ abbrev pub PackedIsNew : Option Transaction → Tree → Tree → Type 0
 PackedIsNew None old tree = Unit {0}
 PackedIsNew (Some t) old tree = file_at tree (packed.place_of t) ≡ packed_end t old
 
--- the update shows, with its line in the log
+-- the update shows, with its line in the log; of what is packed the line is there
 abbrev pub Shows : Act → Contents → Contents → Type 0
 Shows (Put line) before now =
     (now.file ≡ (updated (Put line) before).file) × (now.log ≡ (updated (Put line) before).log)
 Shows (Note line) before now = now.log ≡ (updated (Note line) before).log
+Shows (Pack line) before now = now.log ≡ (updated (Pack line) before).log
 Shows Remove before now = Unit {0}
 Shows Forget before now = Unit {0}
 
@@ -49,8 +50,17 @@ Shows Forget before now = Unit {0}
 abbrev pub StaysYet : Act → Contents → Contents → Type 0
 StaysYet (Put line) before now = Unit {0}
 StaysYet (Note line) before now = Unit {0}
+StaysYet (Pack line) before now = now.file ≡ before.file
 StaysYet Remove before now = (now.file ≡ before.file) × (now.log ≡ before.log)
 StaysYet Forget before now = (now.file ≡ before.file) × (now.log ≡ before.log)
+
+-- the file that is to go is as before
+abbrev pub FileStays : Act → Contents → Contents → Type 0
+FileStays (Put line) before now = Unit {0}
+FileStays (Note line) before now = Unit {0}
+FileStays (Pack line) before now = now.file ≡ before.file
+FileStays Remove before now = now.file ≡ before.file
+FileStays Forget before now = now.file ≡ before.file
 
 abbrev pub EachOf : (Act → Contents → Contents → Type 0) → List Move → Tree → Tree → Type 0
 EachOf Rel moves old tree =
@@ -61,10 +71,15 @@ abbrev pub UpdatesFirst : Option Transaction → List Move → Tree → Tree →
 UpdatesFirst t moves old tree =
     (EachOf StaysYet moves old tree × PackedStays t old tree) ⊎ EachOf Shows moves old tree
 
+-- No file goes before packed records are as in the end: the record that it hides may tell what stood long ago.
+abbrev pub RecordsFirst : Option Transaction → List Move → Tree → Tree → Type 0
+RecordsFirst t moves old tree = EachOf FileStays moves old tree ⊎ PackedIsNew t old tree
+
 -- What stands at each moment of a commit.
 pub record OnTheWay (t : Option Transaction) (moves : List Move) (old tree : Tree) : Type 0 where
   pub each : EachOf IsBetween moves old tree
   pub order : UpdatesFirst t moves old tree
+  pub records : RecordsFirst t moves old tree
   pub packed : PackedStays t old tree ⊎ PackedIsNew t old tree
   pub others : (path : Bytes) → IsNone path (commit_paths t moves)
       → file_at tree path ≡ file_at old path
@@ -82,9 +97,10 @@ pub record IsCommitted (t : Option Transaction) (moves : List Move) (old new : T
 abbrev pub shown : Act → Contents → Contents
 shown act c = forgotten act (updated act c)
 
--- what stands until then
-abbrev pub IsShowing : List Move → Tree → Tree → Type 0
-IsShowing moves old tree = OnTheWay None moves old tree
+-- What stands until then: no file is gone.
+pub record IsShowing (moves : List Move) (old tree : Tree) : Type 0 where
+  pub way : OnTheWay None moves old tree
+  pub files : EachOf FileStays moves old tree
 
 -- the file and the log as before
 abbrev pub LocksAlone : Act → Contents → Contents → Type 0

@@ -4,7 +4,7 @@ use Rattle.std.specs.declared.alloc.Global.{Global}
 use Rattle.gix_ref_file.specs.Tree.{Tree}
 use Rattle.gix_ref_way.specs.Ways.{Bytes, file_at}
 use Rattle.gix_ref_moves.specs.declared.act.Act.{Act}
-use Rattle.gix_ref_moves.specs.declared.act.Act.TheVariants.{Put, Note, Remove, Forget}
+use Rattle.gix_ref_moves.specs.declared.act.Act.TheVariants.{Put, Note, Pack, Remove, Forget}
 use Rattle.gix_ref_moves.specs.declared.act.Move.{Move}
 
 -- the bytes of each; `None` where no file stands
@@ -46,6 +46,7 @@ updated (Put line) c = record {
   lock = None;
 }
 updated (Note line) c = record { file = c.file; log = noted line c.log; lock = None }
+updated (Pack line) c = record { file = c.file; log = noted line c.log; lock = c.lock }
 updated Remove c = c
 updated Forget c = c
 
@@ -53,14 +54,20 @@ updated Forget c = c
 abbrev pub forgotten : Act → Contents → Contents
 forgotten (Put line) c = c
 forgotten (Note line) c = c
+forgotten (Pack line) c = c
 forgotten Remove c = record { file = c.file; log = None; lock = c.lock }
 forgotten Forget c = record { file = c.file; log = None; lock = c.lock }
 
--- its file is gone too, and its lock
+-- the file and its lock are gone
+abbrev pub gone : Act → Contents → Contents
+gone act c = record { file = None; log = c.log; lock = None }
+
+-- so are those of what is removed, and of what is packed
 abbrev pub removed : Act → Contents → Contents
 removed (Put line) c = c
 removed (Note line) c = c
-removed Remove c = record { file = None; log = c.log; lock = None }
+removed (Pack line) c = gone (Pack line) c
+removed Remove c = gone Remove c
 removed Forget c = record { file = c.file; log = c.log; lock = None }
 
 -- the end of an act
@@ -78,6 +85,7 @@ MayBeNoted (Some line) before now = (now ≡ before)
 abbrev pub MayBeLogged : Act → Option Bytes → Option Bytes → Type 0
 MayBeLogged (Put line) before now = MayBeNoted line before now
 MayBeLogged (Note line) before now = MayBeNoted line before now
+MayBeLogged (Pack line) before now = MayBeNoted line before now
 MayBeLogged Remove before now = (now ≡ before) ⊎ (now ≡ None)
 MayBeLogged Forget before now = (now ≡ before) ⊎ (now ≡ None)
 

@@ -72,6 +72,8 @@ IsUpdating (acts.Put line) before now =
     ⊎ ((now.file ≡ Some (unwrap_or before.lock [])) × (now.log ≡ noted line before.log))
 IsUpdating (acts.Note line) before now =
     (now.file ≡ before.file) × MayBeNoted line before.log now.log
+IsUpdating (acts.Pack line) before now =
+    (now.file ≡ before.file) × MayBeNoted line before.log now.log
 IsUpdating acts.Remove before now = now ≡ before
 IsUpdating acts.Forget before now = now ≡ before
 
@@ -79,12 +81,17 @@ IsUpdating acts.Forget before now = now ≡ before
 abbrev pub IsForgetting : Act → Contents → Contents → Type 0
 IsForgetting act before now = (now ≡ before) ⊎ (now ≡ forgotten act before)
 
--- Its file may go, and then its lock.
+-- A file may go, and then its lock.
+abbrev pub IsGoing : Act → Contents → Contents → Type 0
+IsGoing act before now =
+    ((now.file ≡ before.file) ⊎ (now.file ≡ None)) × (now.log ≡ before.log)
+
+-- So may those of what is removed, and of what is packed.
 abbrev pub IsRemoving : Act → Contents → Contents → Type 0
 IsRemoving (acts.Put line) before now = now ≡ before
 IsRemoving (acts.Note line) before now = now ≡ before
-IsRemoving acts.Remove before now =
-    ((now.file ≡ before.file) ⊎ (now.file ≡ None)) × (now.log ≡ before.log)
+IsRemoving (acts.Pack line) before now = IsGoing (acts.Pack line) before now
+IsRemoving acts.Remove before now = IsGoing acts.Remove before now
 IsRemoving acts.Forget before now = (now.file ≡ before.file) × (now.log ≡ before.log)
 
 -- what a step makes of the files of a move

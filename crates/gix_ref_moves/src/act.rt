@@ -14,6 +14,8 @@ pub enum Act {
     Put(Option<Vec<u8>>),
     /// The log gets this line, where there is one, and then the lock is given back.
     Note(Option<Vec<u8>>),
+    /// The log gets this line, where there is one; and when packed records are replaced, which tell what the file told, the file goes.
+    Pack(Option<Vec<u8>>),
     /// The log goes, and then the file.
     Remove,
     /// The log goes.

@@ -1,8 +1,9 @@
-//! The steps in which moves are made: all updates first, then the logs go of what is removed, and at last its files.
+//! The steps in which moves are made: all updates first, then the logs go of what is removed, and at last its files, and those of what is
+//! packed.
 
 ghost use Rattle.gix_ref_file.specs.Calls.{Achieves, Passes};
-ghost use Rattle.gix_ref_moves.specs.Contents.{forgotten, removed, updated};
-ghost use Rattle.gix_ref_moves.specs.Moments.{AreApart, Has, IsForgetting, IsGone, IsMaking, IsRemoving, IsUpdating, MayGo, MayMove, made_by};
+ghost use Rattle.gix_ref_moves.specs.Contents.{forgotten, gone, removed, updated};
+ghost use Rattle.gix_ref_moves.specs.Moments.{AreApart, Has, IsForgetting, IsGoing, IsGone, IsMaking, IsRemoving, IsUpdating, MayGo, MayMove, made_by};
 ghost use Rattle.gix_ref_moves.specs.Moves.{AllHave, AllMay, Once, all_paths};
 
 use crate::act::{Act, CommitError, Move, told};
@@ -16,7 +17,7 @@ pub(crate) enum Step {
     Update,
     // The logs go of what is removed.
     Forget,
-    // Its files go, and its locks.
+    // Its files go, and those of what is packed, with their locks.
     Remove,
 }
 
@@ -72,6 +73,7 @@ fn update<F: Files>(alloc: Global, files: &mut F, made: &Move) -> Result<(), Com
             note(alloc, files, &made.log, line)?;
             told(made.lock.give_back(alloc, files), CommitError::LockCommit)
         }
+        Act::Pack(line) => note(alloc, files, &made.log, line),
         Act::Remove | Act::Forget => Ok(()),
     }
 }
@@ -84,7 +86,7 @@ fn forget<F: Files>(alloc: Global, files: &mut F, made: &Move) -> Result<(), Com
         → Achieves F.is_honest F.history files.old files.new result (Has forgotten made.now) }
 {
     match &made.act {
-        Act::Put(_) | Act::Note(_) => Ok(()),
+        Act::Put(_) | Act::Note(_) | Act::Pack(_) => Ok(()),
         Act::Remove | Act::Forget => {
             remove_file(alloc, files, &made.log, CommitError::DeleteReflog)
         }
@@ -100,12 +102,22 @@ fn remove<F: Files>(alloc: Global, files: &mut F, made: &Move) -> Result<(), Com
 {
     match &made.act {
         Act::Put(_) | Act::Note(_) => Ok(()),
-        Act::Remove => {
-            remove_file(alloc, files, &made.lock.place, CommitError::DeleteReference)?;
-            told(made.lock.give_back(alloc, files), CommitError::LockCommit)
-        }
+        Act::Pack(_) => remove_locked(alloc, files, made),
+        Act::Remove => remove_locked(alloc, files, made),
         Act::Forget => told(made.lock.give_back(alloc, files), CommitError::LockCommit),
     }
+}
+
+// Removes the file, where one stands, and then gives its lock back.
+fn remove_locked<F: Files>(alloc: Global, files: &mut F, made: &Move) -> Result<(), CommitError>
+    ensures honest { F.is_honest files.old → F.is_honest files.new }
+    ensures moments { AreApart made.now
+        → Passes F.is_honest F.history files.old files.new (MayMove IsGoing made.now) }
+    ensures made { AreApart made.now
+        → Achieves F.is_honest F.history files.old files.new result (Has gone made.now) }
+{
+    remove_file(alloc, files, &made.lock.place, CommitError::DeleteReference)?;
+    told(made.lock.give_back(alloc, files), CommitError::LockCommit)
 }
 
 // Removes a file, where one stands.

@@ -124,7 +124,106 @@ def rows():
             lines, accepted, after = update_ref(repository, edits)
             assert not accepted and after == before, edits
             found.append(row("loose", "", before, lines, f"{told}; {shown(before)}"))
-    found += symbolic() + locked()
+    found += symbolic() + locked() + packing() + private() + tags() + alone()
+    return found
+
+
+def objects_of(room):
+    """All objects of a repository, as lines of loose ones."""
+    _, listed = git(room, "cat-file", "--batch-all-objects", "--batch-check=%(objectname) %(objecttype)")
+    lines = []
+    for line in listed.splitlines():
+        name, kind = line.split()
+        content = subprocess.run(["git", "-C", room, "cat-file", kind, name], capture_output=True, check=True).stdout
+        lines.append((f"{kind} {len(content)}\0".encode() + content).hex())
+    return "".join(line + "\n" for line in lines)
+
+
+def packing_row(operation, fuse, files, objects, edits, answer):
+    lines = "".join(f"{path} {text.hex()}\n" for path, text in files.items())
+    fields = [fuse.encode(), lines.encode(), objects.encode(), edits.encode()]
+    return (" ".join([operation, *(field.hex() for field in fields)]), answer)
+
+
+def packed_files(edits, prune, start):
+    """The files before, the lines of the edits, and the files that git leaves once it has made them and packed all names."""
+    repository = start()
+    before = repository.files()
+    objects = objects_of(repository.room)
+    lines, accepted, _ = update_ref(repository, edits)
+    assert accepted, edits
+    git(repository.room, "pack-refs", "--all", *([] if prune else ["--no-prune"]))
+    return before, objects, lines, repository.files()
+
+
+def packing():
+    """Updates that are packed: all names of a repository, or some where the others are packed already."""
+    found = []
+    everything = [("update", "refs/heads/a", "two", "two"), ("update", "refs/heads/main", "one", "one"), ("update", "refs/tags/v", "one", "one")]
+    moved = [("update", "refs/heads/a", "three", "any"), ("update", "refs/heads/main", "two", "any"), ("update", "refs/tags/v", "two", "any")]
+    for operation, prune in [("keep", False), ("pack", True)]:
+        cases = [(everything, lambda: Repository(False)), (moved, lambda: Repository(False))]
+        # git writes no file of its own for a packed name that keeps its id; here it is written.
+        again = [everything] if prune else []
+        cases += [(edits, lambda: Repository(True)) for edits in LISTS + again + [moved]]
+        for edits, start in cases:
+            before, objects, lines, after = packed_files(edits, prune, start)
+            found.append(packing_row(operation, "", before, objects, lines, f"made {len(edits)}; {shown(after)}"))
+            found.append(packing_row(f"{operation}-rollback", "", before, objects, lines, f"rolled back {len(edits)}; {shown(before)}"))
+        for edits, told in REFUSED:
+            repository = Repository(True)
+            before, objects = repository.files(), objects_of(repository.room)
+            lines, accepted, after = update_ref(repository, edits)
+            assert not accepted and after == before, edits
+            found.append(packing_row(operation, "", before, objects, lines, f"{told}; {shown(before)}"))
+        files = Repository(True).files()
+        missing = "1" * 40
+        told = f"Resolve(NotFound {{ oid: Sha1({missing}) }})"
+        found.append(packing_row(operation, "", files, "", f"update refs/heads/a {missing} any\n", f"{told}; {shown(files)}"))
+        held = {**files, "packed-refs.lock": b""}
+        found.append(packing_row(operation, "", held, "", "delete refs/heads/a any\n", f"PackedTransactionAcquire(TransactionLock(Held)); {shown(held)}"))
+    return found
+
+
+def private():
+    """Names of which each worktree has its own are never packed, as git packs none of them."""
+    found = []
+    edits = [("update", "refs/bisect/bad", "two", "any"), ("update", "refs/rewritten/x", "one", "new"), ("update", "refs/heads/main", "two", "any")]
+    for operation, prune in [("keep", False), ("pack", True)]:
+        before, objects, lines, after = packed_files(edits, prune, lambda: Repository(True))
+        assert "refs/bisect/bad" in after and b"bisect" not in after["packed-refs"]
+        found.append(packing_row(operation, "", before, objects, lines, f"made {len(edits)}; {shown(after)}"))
+    return found
+
+
+def tags():
+    """A record of a tag tells the object that it leads to."""
+    found = []
+
+    def start():
+        repository = Repository(True)
+        content = f"object {repository.id('one')}\ntype commit\ntag v\ntagger a <b> 1 +0000\n\nx\n".encode()
+        _, repository.ids["tag"] = git(repository.room, "hash-object", "-w", "-t", "tag", "--stdin", text=content)
+        return repository
+
+    for operation, prune in [("keep", False), ("pack", True)]:
+        before, objects, lines, after = packed_files([("update", "refs/tags/w", "tag", "new")], prune, start)
+        assert b"^" in after["packed-refs"]
+        found.append(packing_row(operation, "", before, objects, lines, f"made 1; {shown(after)}"))
+    return found
+
+
+def alone():
+    """One branch of several is packed; the others keep their own files. The text of `packed-refs` is that of its format."""
+    found = []
+    repository = Repository(False)
+    before, objects = repository.files(), objects_of(repository.room)
+    target = repository.id("two")
+    text = f"# pack-refs with: peeled fully-peeled sorted \n{target} refs/heads/a\n".encode()
+    edit = f"update refs/heads/a {target} any\n"
+    without = {path: held for path, held in before.items() if path != "refs/heads/a"}
+    after = {**without, "packed-refs": text}
+    found.append(packing_row("pack", "", before, objects, edit, f"made 1; {shown(after)}"))
     return found
 
 

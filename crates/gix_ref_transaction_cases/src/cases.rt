@@ -25,6 +25,9 @@ pub fn answer(alloc: Global, line: &str) -> Result<String, AllocError> {
         [fuse, files, edits] if operation.starts_with("loose") => {
             loose::answer(alloc, operation, [fuse, files], edits)
         }
+        [fuse, files, objects, edits] => {
+            loose::answer_packing(alloc, operation, [fuse, files], objects, edits)
+        }
         [fuse, file, edits] => of_file(alloc, operation, [fuse, file], edits),
         _ => format!(in alloc; "no operation: {operation}"),
     }

@@ -4,6 +4,7 @@
 mod cases;
 mod edits;
 mod loose;
+mod objects;
 mod ref_edits;
 mod trees;
 

@@ -1,4 +1,4 @@
-use Rattle.std.proofs.Common.{◌∙◌, refl, ap, subst}
+use Rattle.std.proofs.Common.{◌≡◌, ◌∙◌, refl, ap, subst, true, ℕ, List}
 use Rattle.gix_ref_file.proofs.Histories.{adds_weaker}
 use Rattle.gix_ref_store.specs.Finds.{records_in}
 use Rattle.gix_ref_store.specs.RefStates.{RefState}
@@ -8,7 +8,9 @@ use Rattle.gix_ref_moves.specs.Moments.{SameButLocks}
 use Rattle.gix_ref_moves.proofs.FileMoves.{now_of}
 use Rattle.gix_ref_moves.proofs.LockPaths.{locks_joined, one_lock}
 use Rattle.gix_ref_loose_transaction.specs.Plans.{IsTested}
-use Rattle.gix_ref_loose_transaction.proofs.Plannings.{among_alike, keeps_but}
+use Rattle.gix_object_lines.specs.NameTest.{is_full_name}
+use Rattle.gix_ref_loose_transaction.specs.LogLines.{line_in}
+use Rattle.gix_ref_loose_transaction.proofs.Plannings.{among_alike, keeps_but, lined_alike, fault_alike}
 use Rattle.gix_ref_loose_transaction.proofs.plan.plan.Goals as goal
 
 pub returns-in-Ok-clause-moments : goal.returns-in-Ok-clause-moments
@@ -49,3 +51,23 @@ returns-clause-moments g c = λ honest.
     locks_joined old then new (locks_joined old mid then (c.take.ensures.moments honest)
     (adds_weaker mid then (c.act_of.ensures.moments first) (one_lock lock.place.items lock.path.items lock.beside mid.tree)))
     (adds_weaker then new (c.give_back.ensures.moments (c.act_of.ensures.honest first)) (one_lock lock.place.items lock.path.items lock.beside then.tree))
+
+pub returns-in-Ok-clause-line : goal.returns-in-Ok-clause-line
+returns-in-Ok-clause-line g c = λ honest.
+    let old = g.F.Files.history c.args.store.now.files in
+    let mid = g.F.Files.history c.take.new.files in
+    let b = base_of c.args.store.now in
+    let options = c.args.store.now.options in
+    let same = now_of (SameButLocks old.tree) old mid (λ path none. refl) (c.take.ensures.moments honest) in
+    let full = subst (λ (n : List ℕ). is_full_name n ≡ true) c.as_ref.ensures c.as_ref.result.full in
+    lined_alike options options b b old.tree mid.tree (records_in c.args.packed) c.args.committer c.args.edit.now (line_in c.in-Ok.act) same full refl refl (c.in-Ok.ensures.line (c.take.ensures.honest honest))
+
+pub returns-clause-failed : goal.returns-clause-failed
+returns-clause-failed g c = λ honest.
+    let old = g.F.Files.history c.args.store.now.files in
+    let mid = g.F.Files.history c.take.new.files in
+    let b = base_of c.args.store.now in
+    let options = c.args.store.now.options in
+    let same = now_of (SameButLocks old.tree) old mid (λ path none. refl) (c.take.ensures.moments honest) in
+    let full = subst (λ (n : List ℕ). is_full_name n ≡ true) c.as_ref.ensures c.as_ref.result.full in
+    fault_alike options options b b old.tree mid.tree (records_in c.args.packed) c.args.committer c.args.edit.now g.F.Files.reading_may_fail c.in-Err.error same full refl refl (c.in-Err.ensures.failed (c.take.ensures.honest honest))

@@ -25,13 +25,13 @@ returns-clause-moments g c = λ honest.
 
 pub returns-clause-place : goal.returns-clause-place
 returns-clause-place g c =
-    IfOk-weaker c.held.result _ _ (λ lock is. subst (λ r. IfOk r (λ found. IfSome found (λ lock. lock.place.items ≡ c.args.place.now))) is c.acquire.ensures.place) c.held.ensures
+    IfOk-weaker c.held.result _ _ (λ lock is. subst (λ r. IfOk r (λ found. IfSome found (λ lock. lock.place.items ≡ c.args.place.now))) is c.acquire.ensures.place) c.held.ensures.ok
 
 pub returns-clause-free : goal.returns-clause-free
 returns-clause-free g c = λ honest.
     let old = g.F.Files.history c.args.files.now in
     let mid = g.F.Files.history c.make_way.new.files in
-    on_held _ _ c.held.result c.acquire.result c.held.ensures
+    on_held _ _ c.held.result c.acquire.result c.held.ensures.ok
     (λ taken. sym (same_now old mid (c.make_way.ensures.moments honest) (lock_of c.args.place.now)) ∙ ap bytes_of taken.free)
     (c.acquire.ensures.taken (c.make_way.ensures.honest honest))
 
@@ -42,7 +42,7 @@ returns-clause-keeps g c = λ honest.
     let new = g.F.Files.history c.acquire.new.files in
     let lock = lock_of c.args.place.now in
     let stay = now_of (OthersStay lock mid.tree) mid new (λ path apart. refl) (c.acquire.ensures.moments (c.make_way.ensures.honest honest)) in
-    on_held _ _ c.held.result c.acquire.result c.held.ensures
+    on_held _ _ c.held.result c.acquire.result c.held.ensures.ok
     (λ taken. keeps_joined old.tree mid.tree new.tree (keeps_same old.tree mid.tree (same_now old mid (c.make_way.ensures.moments honest)))
     (keeps_others lock mid.tree new.tree (ap bytes_of taken.free) (files_stay lock mid.tree new.tree stay)))
     (c.acquire.ensures.taken (c.make_way.ensures.honest honest))

@@ -1,6 +1,7 @@
-use Rattle.std.proofs.Common.{◌∙◌, refl, sym, ap, subst, List, Vec, rules}
+use Rattle.std.proofs.Common.{◌∙◌, refl, sym, ap, subst, List, Option, option_map, Vec, rules}
 use Rattle.std.proofs.lemmas.Result.{IfOk-weaker}
 use Rattle.std.specs.declared.alloc.Global.{Global}
+use Rattle.gix_ref_file.specs.Tree.{Tree}
 use Rattle.gix_ref_edit.specs.declared.change.RefEdit.{RefEdit}
 use Rattle.gix_ref_store.specs.Finds.{records_in}
 use Rattle.gix_ref_store.specs.Lookups.{reads_with}
@@ -11,44 +12,93 @@ use Rattle.gix_ref_moves.specs.Moments.{SameButLocks}
 use Rattle.gix_ref_moves.specs.declared.act.Move.{Move}
 use Rattle.gix_ref_moves.proofs.FileMoves.{now_of}
 use Rattle.gix_ref_moves.proofs.LockPaths.{locks_joined}
+use Rattle.gix_ref_loose_transaction.specs.LogLines.{AllLined, logging}
+use Rattle.gix_ref_loose_transaction.specs.Causes.{SomeEditFault}
+use Rattle.gix_ref_loose_transaction.specs.Modes.{objects_in, removes}
+use Rattle.gix_ref_loose_transaction.specs.Repacking.{AreRepacked}
+use Rattle.gix_ref_transaction.specs.declared.packed.Transaction.{Transaction as Packed}
 use Rattle.gix_ref_loose_transaction.specs.Plans.{AllPlanned, AllTested}
-use Rattle.gix_ref_loose_transaction.proofs.Plannings.{among_alike, tested_alike, ok_three}
+use Rattle.gix_ref_loose_transaction.proofs.Faults.{by_edit}
+use Rattle.gix_ref_loose_transaction.proofs.RecordLines.{repacked_on}
+use Rattle.gix_ref_loose_transaction.proofs.Plannings.{among_alike, tested_alike, ok_three, ok_four, all_lined_alike, some_fault_alike}
 use Rattle.gix_ref_loose_transaction.proofs.transaction.locked.Goals as goal
 
 pub returns-in-Ok-clause-moments : goal.returns-in-Ok-clause-moments
 returns-in-Ok-clause-moments g c = λ honest.
     let old = g.F.Files.history c.args.store.now.files in
-    let mid = g.F.Files.history c.begun.new.store.files in
+    let mid = g.F.Files.history c.repack.new.store.files in
     let then = g.F.Files.history c.plan_all.new.store.files in
     let new = g.F.Files.history c.finish.new.store.files in
-    let first = c.begun.ensures.honest honest in
-    locks_joined old then new (locks_joined old mid then (c.begun.ensures.moments honest) (c.plan_all.ensures.moments first)) (c.finish.ensures.moments (c.plan_all.ensures.honest first))
+    let first = c.repack.ensures.honest honest in
+    locks_joined old then new (locks_joined old mid then (c.repack.ensures.moments honest) (c.plan_all.ensures.moments first)) (c.finish.ensures.moments (c.plan_all.ensures.honest first))
 
 pub returns-in-Err-clause-moments : goal.returns-in-Err-clause-moments
 returns-in-Err-clause-moments g c = λ honest.
     let old = g.F.Files.history c.args.store.now.files in
-    let mid = g.F.Files.history c.begun.new.store.files in
+    let mid = g.F.Files.history c.repack.new.store.files in
     let then = g.F.Files.history c.plan_all.new.store.files in
     let new = g.F.Files.history c.drop_all.new.files in
-    let first = c.begun.ensures.honest honest in
-    locks_joined old then new (locks_joined old mid then (c.begun.ensures.moments honest) (c.plan_all.ensures.moments first)) (c.drop_all.ensures.moments (c.plan_all.ensures.honest first))
+    let first = c.repack.ensures.honest honest in
+    locks_joined old then new (locks_joined old mid then (c.repack.ensures.moments honest) (c.plan_all.ensures.moments first)) (c.drop_all.ensures.moments (c.plan_all.ensures.honest first))
 
 pub returns-in-Ok-clause-tested : goal.returns-in-Ok-clause-tested
 returns-in-Ok-clause-tested g c = λ honest.
     let old = g.F.Files.history c.args.store.now.files in
-    let mid = g.F.Files.history c.begun.new.store.files in
+    let mid = g.F.Files.history c.repack.new.store.files in
     let b = base_of c.args.store.now in
     let records = records_in c.args.packed in
-    let same = now_of (SameButLocks old.tree) old mid (λ path none. refl) (c.begun.ensures.moments honest) in
-    let all = tested_alike (reads_with c.begun.new.store mid.tree c.args.packed) (reads_with c.args.store.now old.tree c.args.packed)
-    (λ name. ap (λ (base : Base). state_among base mid.tree records name) c.begun.ensures.base ∙ among_alike b old.tree mid.tree records same name)
-    c.deref-2.result.now (c.in-Ok.ensures.tested (c.begun.ensures.honest honest)) in
+    let same = now_of (SameButLocks old.tree) old mid (λ path none. refl) (c.repack.ensures.moments honest) in
+    let all = tested_alike (reads_with c.repack.new.store mid.tree c.args.packed) (reads_with c.args.store.now old.tree c.args.packed)
+    (λ name. ap (λ (base : Base). state_among base mid.tree records name) c.repack.ensures.base ∙ among_alike b old.tree mid.tree records same name)
+    c.deref-2.result.now (c.in-Ok.ensures.tested (c.repack.ensures.honest honest)) in
     let own = subst (λ (es : List RefEdit). AllTested (reads_with c.args.store.now old.tree c.args.packed) es) c.deref-2.ensures.value all in
     IfOk-weaker c.finish.result _ _ (λ t is. subst (λ (es : Vec RefEdit Global). AllTested (reads_with c.args.store.now old.tree c.args.packed) es.items) (sym is) own) c.finish.ensures.edits
 
 pub returns-in-Ok-clause-planned : goal.returns-in-Ok-clause-planned
 returns-in-Ok-clause-planned g c =
-    let planned = subst (λ (base : Base). AllPlanned base c.deref-2.result.now c.plan_all.new.moves.items) c.begun.ensures.base (c.in-Ok.ensures.planned (search rules)) in
-    let own = subst (λ (es : List RefEdit). AllPlanned (base_of c.args.store.now) es c.plan_all.new.moves.items) c.deref-2.ensures.value planned in
-    ok_three _ _ _ c.finish.result (λ t es ms. subst (λ (v : Vec RefEdit Global). AllPlanned (base_of c.args.store.now) v.items t.moves.items) (sym es)
-    (subst (λ (v : Vec Move Global). AllPlanned (base_of c.args.store.now) c.args.edits.items v.items) (sym ms) own)) c.finish.ensures.edits c.finish.ensures.moves
+    let gone = removes c.args.packed_refs.now in
+    let planned = subst (λ (base : Base). AllPlanned base gone c.deref-2.result.now c.plan_all.new.moves.items) c.repack.ensures.base (c.in-Ok.ensures.planned (search rules)) in
+    let own = subst (λ (es : List RefEdit). AllPlanned (base_of c.args.store.now) gone es c.plan_all.new.moves.items) c.deref-2.ensures.value planned in
+    ok_three _ _ _ c.finish.result (λ t es ms. subst (λ (v : Vec RefEdit Global). AllPlanned (base_of c.args.store.now) gone v.items t.moves.items) (sym es)
+    (subst (λ (v : Vec Move Global). AllPlanned (base_of c.args.store.now) gone c.args.edits.items v.items) (sym ms) own)) c.finish.ensures.edits c.finish.ensures.moves
+
+pub returns-in-Ok-clause-lines : goal.returns-in-Ok-clause-lines
+returns-in-Ok-clause-lines g c = λ honest.
+    let old = g.F.Files.history c.args.store.now.files in
+    let mid = g.F.Files.history c.repack.new.store.files in
+    let b = base_of c.args.store.now in
+    let options = c.args.store.now.options in
+    let l = logging options (reads_with c.args.store.now old.tree c.args.packed) c.args.committer in
+    let same = now_of (SameButLocks old.tree) old mid (λ path none. refl) (c.repack.ensures.moments honest) in
+    let all = all_lined_alike options c.repack.new.store.options b (base_of c.repack.new.store) old.tree mid.tree (records_in c.args.packed) c.args.committer same c.repack.ensures.options c.repack.ensures.base
+    (removes c.args.packed_refs.now) c.deref-2.result.now c.plan_all.new.moves.items (c.in-Ok.ensures.planned (search rules)) (c.in-Ok.ensures.lines (c.repack.ensures.honest honest) (search rules)) in
+    let own = subst (λ (es : List RefEdit). AllLined l b old.tree es c.plan_all.new.moves.items) c.deref-2.ensures.value all in
+    ok_three _ _ _ c.finish.result (λ t es ms. subst (λ (v : Vec RefEdit Global). AllLined l b old.tree v.items t.moves.items) (sym es)
+    (subst (λ (v : Vec Move Global). AllLined l b old.tree c.args.edits.items v.items) (sym ms) own)) c.finish.ensures.edits c.finish.ensures.moves
+
+pub returns-in-Ok-clause-repacked : goal.returns-in-Ok-clause-repacked
+returns-in-Ok-clause-repacked g c = λ honest told known.
+    let old = (g.F.Files.history c.args.store.now.files).tree in
+    let mid = (g.F.Files.history c.repack.new.store.files).tree in
+    let then = (g.F.Files.history c.plan_all.new.store.files).tree in
+    let b = base_of c.args.store.now in
+    let packs = option_map g.O.Lookup.table (objects_in c.args.packed_refs.now) in
+    let records = c.in_ok-records.records in
+    let first = subst (λ (es : List RefEdit). AreRepacked b packs old mid es records) c.deref.ensures.value (c.in_ok-records.ensures.repacked honest told known) in
+    let all = repacked_on b packs old mid then c.args.edits.items records (c.in-Ok.ensures.keeps (c.repack.ensures.honest honest)) first in
+    ok_four _ _ _ _ c.finish.result (λ t es ps still. subst (λ (v : Vec RefEdit Global). AreRepacked b packs old (g.F.Files.history c.finish.new.store.files).tree v.items t.packed) (sym es)
+    (subst (λ (p : Option Packed). AreRepacked b packs old (g.F.Files.history c.finish.new.store.files).tree c.args.edits.items p) (sym ps)
+    (subst (λ (x : Tree). AreRepacked b packs old x c.args.edits.items records) (sym (ap (λ s. (g.F.Files.history s.files).tree) still)) all))) c.finish.ensures.edits c.finish.ensures.packed c.finish.ensures.still
+
+pub returns-in-Err-clause-causes : goal.returns-in-Err-clause-causes
+returns-in-Err-clause-causes g c = λ honest.
+    let old = g.F.Files.history c.args.store.now.files in
+    let mid = g.F.Files.history c.repack.new.store.files in
+    let b = base_of c.args.store.now in
+    let options = c.args.store.now.options in
+    let l = logging options (reads_with c.args.store.now old.tree c.args.packed) c.args.committer in
+    let may = g.F.Files.reading_may_fail in
+    let same = now_of (SameButLocks old.tree) old mid (λ path none. refl) (c.repack.ensures.moments honest) in
+    let fault = some_fault_alike options c.repack.new.store.options b (base_of c.repack.new.store) old.tree mid.tree (records_in c.args.packed) c.args.committer same c.repack.ensures.options c.repack.ensures.base
+    may c.deref-2.result.now c.in-Err.error (c.in-Err.ensures.failed (c.repack.ensures.honest honest)) in
+    by_edit l b old.tree may c.args.edits.items c.in-Err.error (subst (λ (es : List RefEdit). SomeEditFault l b old.tree may es c.in-Err.error) c.deref-2.ensures.value fault)

@@ -1,4 +1,5 @@
 use Rattle.std.proofs.Common.{◌∙◌, refl, subst}
+use Rattle.std.proofs.lemmas.Result.{err_from_is_err_and}
 use Rattle.gix_ref_file.proofs.Histories.{adds_nothing}
 use Rattle.gix_ref_store.specs.Finds.{records_in}
 use Rattle.gix_ref_store.specs.Lookups.{reads_with}
@@ -8,8 +9,10 @@ use Rattle.gix_ref_store.specs.Stores.{base_of}
 use Rattle.gix_ref_moves.specs.Moments.{SameButLocks}
 use Rattle.gix_ref_moves.proofs.FileMoves.{now_of}
 use Rattle.gix_ref_moves.proofs.LockPaths.{locks_joined}
+use Rattle.gix_ref_loose_transaction.specs.LogLines.{line_in, logging}
+use Rattle.gix_ref_loose_transaction.specs.Modes.{removes}
 use Rattle.gix_ref_loose_transaction.specs.Plans.{IsTested, IsPlanOf}
-use Rattle.gix_ref_loose_transaction.proofs.Plannings.{among_alike, planning_begins, testing_begins, one_planned, one_tested, planning_ends, testing_ends, holding_ends}
+use Rattle.gix_ref_loose_transaction.proofs.Plannings.{LinedIn, among_alike, keeps_joined, zipping_begins, testing_begins, one_zipped, one_tested, zipping_ends, testing_ends, holding_ends, is_among, lined_alike, fault_alike}
 use Rattle.gix_ref_loose_transaction.proofs.transaction.plan_all.Goals as goal
 
 pub edits-init : goal.edits-init
@@ -17,7 +20,10 @@ edits-init g c = record {
   honest = λ honest. honest;
   base = refl;
   moments = λ honest. adds_nothing (g.F.Files.history c.args.store.now.files);
-  planned = planning_begins (base_of c.args.store.now) c.args.edits.now c.args.moves.now.items;
+  options = refl;
+  planned = zipping_begins (IsPlanOf (base_of c.args.store.now) (removes c.args.packed_refs.now)) c.args.edits.now c.args.moves.now.items;
+  keeps = λ honest path text stood. stood;
+  lined = λ honest. zipping_begins (LinedIn (logging c.args.store.now.options (reads_with c.args.store.now (g.F.Files.history c.args.store.now.files).tree c.args.packed) c.args.committer) (base_of c.args.store.now) (g.F.Files.history c.args.store.now.files).tree) c.args.edits.now c.args.moves.now.items;
   tested = λ honest. testing_begins (reads_with c.args.store.now (g.F.Files.history c.args.store.now.files).tree c.args.packed) c.args.edits.now c.args.moves.now.items (g.F.Files.history c.args.store.now.files).tree;
 }
 
@@ -37,12 +43,20 @@ edits-preserved g c =
     let others = c.in-Some.others.now in
     let made = c.in_ok-planned.planned in
     let records = records_in c.args.packed in
+    let gone = removes c.args.packed_refs.now in
     record {
       honest = λ honest. c.plan.ensures.honest (so_far.honest honest);
       base = c.plan.ensures.base ∙ so_far.base;
       moments = λ honest. locks_joined old mid new (so_far.moments honest) (c.plan.ensures.moments (so_far.honest honest));
-      planned = one_planned b c.args.edits.now c.edits.rest.now others edit c.args.moves.now.items c.edits.moves.items c.push.new.self.items made c.in-Some.ensures.cases.0 c.in_ok-push.ensures.items so_far.planned
-          (subst (λ (base : Base). IsPlanOf base edit made) so_far.base c.in_ok-planned.ensures.planned);
+      options = c.plan.ensures.options ∙ so_far.options;
+      planned = one_zipped (IsPlanOf b gone) c.args.edits.now c.edits.rest.now others edit c.args.moves.now.items c.edits.moves.items c.push.new.self.items made c.in-Some.ensures.cases.0 c.in_ok-push.ensures.items so_far.planned
+          (subst (λ (base : Base). IsPlanOf base gone edit made) so_far.base c.in_ok-planned.ensures.planned);
+      keeps = λ honest. keeps_joined old.tree mid.tree new.tree (so_far.keeps honest) (c.in_ok-planned.ensures.keeps (so_far.honest honest));
+      lined = λ honest.
+          let still = so_far.honest honest in
+          let same = now_of (SameButLocks old.tree) old mid (λ path none. refl) (so_far.moments honest) in
+          one_zipped (LinedIn (logging c.args.store.now.options (reads_with c.args.store.now old.tree c.args.packed) c.args.committer) b old.tree) c.args.edits.now c.edits.rest.now others edit c.args.moves.now.items c.edits.moves.items c.push.new.self.items made c.in-Some.ensures.cases.0 c.in_ok-push.ensures.items (so_far.lined honest)
+          (lined_alike c.args.store.now.options c.edits.store.options b (base_of c.edits.store) old.tree mid.tree records c.args.committer edit (line_in made.act) same c.plan.ensures.full so_far.options so_far.base (c.in_ok-planned.ensures.line still));
       tested = λ honest.
           let still = so_far.honest honest in
           let same = now_of (SameButLocks old.tree) old mid (λ path none. refl) (so_far.moments honest) in
@@ -60,7 +74,7 @@ returns-clause-tested g c = λ honest.
 
 pub returns-clause-planned : goal.returns-clause-planned
 returns-clause-planned g c =
-    planning_ends (base_of c.args.store.now) c.args.edits.now c.edits.rest.now c.args.moves.now.items c.edits.moves.items c.in_default.ensures.cases c.edits.invariant.planned
+    zipping_ends (IsPlanOf (base_of c.args.store.now) (removes c.args.packed_refs.now)) c.args.edits.now c.edits.rest.now c.args.moves.now.items c.edits.moves.items c.in_default.ensures.cases c.edits.invariant.planned
 
 pub returns-clause-texts : goal.returns-clause-texts
 returns-clause-texts g c = λ honest.
@@ -71,3 +85,31 @@ pub returns-in_err-push-clause-moments : goal.returns-in_err-push-clause-moments
 returns-in_err-push-clause-moments g c = λ honest.
     locks_joined (g.F.Files.history c.args.store.now.files) (g.F.Files.history c.edits.store.files) (g.F.Files.history c.plan.new.store.files)
     (c.edits.invariant.moments honest) (c.plan.ensures.moments (c.edits.invariant.honest honest))
+
+pub returns-clause-lines : goal.returns-clause-lines
+returns-clause-lines g c = λ honest.
+    let old = (g.F.Files.history c.args.store.now.files).tree in
+    let b = base_of c.args.store.now in
+    zipping_ends (LinedIn (logging c.args.store.now.options (reads_with c.args.store.now old c.args.packed) c.args.committer) b old) c.args.edits.now c.edits.rest.now c.args.moves.now.items c.edits.moves.items c.in_default.ensures.cases (c.edits.invariant.lined honest)
+
+pub returns-in_err-planned-clause-failed : goal.returns-in_err-planned-clause-failed
+returns-in_err-planned-clause-failed g c = λ honest.
+    let so_far = c.edits.invariant in
+    let old = g.F.Files.history c.args.store.now.files in
+    let mid = g.F.Files.history c.edits.store.files in
+    let b = base_of c.args.store.now in
+    let edit = c.in-Some.edit.now in
+    let same = now_of (SameButLocks old.tree) old mid (λ path none. refl) (so_far.moments honest) in
+    let among = is_among (IsPlanOf b (removes c.args.packed_refs.now)) c.args.edits.now c.edits.rest.now c.in-Some.others.now edit c.args.moves.now.items c.edits.moves.items c.in-Some.ensures.cases.0 so_far.planned in
+    let fault = fault_alike c.args.store.now.options c.edits.store.options b (base_of c.edits.store) old.tree mid.tree (records_in c.args.packed) c.args.committer edit g.F.Files.reading_may_fail c.in_err-planned.field-0.0 same c.plan.ensures.full so_far.options so_far.base (c.in_err-planned.ensures.failed (so_far.honest honest)) in
+    let p = err_from_is_err_and c.from_residual.result c.from_residual.ensures.1 in
+    rw (p.1, p.2) (edit, among, c.plan.ensures.full, fault)
+
+pub returns-in_err-push-clause-failed : goal.returns-in_err-push-clause-failed
+returns-in_err-push-clause-failed g c = λ honest.
+    let so_far = c.edits.invariant in
+    let b = base_of c.args.store.now in
+    let edit = c.in-Some.edit.now in
+    let among = is_among (IsPlanOf b (removes c.args.packed_refs.now)) c.args.edits.now c.edits.rest.now c.in-Some.others.now edit c.args.moves.now.items c.edits.moves.items c.in-Some.ensures.cases.0 so_far.planned in
+    let p = err_from_is_err_and c.from_residual-in_err-push.result c.from_residual-in_err-push.ensures.1 in
+    rw (p.1, p.2) (edit, among, c.plan.ensures.full, tt)

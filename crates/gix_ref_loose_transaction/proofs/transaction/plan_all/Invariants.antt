@@ -3,7 +3,10 @@ use Rattle.gix_ref_file.specs.History.{Adds}
 use Rattle.gix_ref_store.specs.Lookups.{reads_with}
 use Rattle.gix_ref_store.specs.Stores.{base_of}
 use Rattle.gix_ref_moves.specs.Moments.{SameButLocks}
-use Rattle.gix_ref_loose_transaction.proofs.Plannings.{PlannedSoFar, TestedSoFar}
+use Rattle.gix_ref_loose_transaction.specs.LogLines.{logging}
+use Rattle.gix_ref_loose_transaction.specs.Modes.{removes}
+use Rattle.gix_ref_loose_transaction.specs.Plans.{IsPlanOf, KeepsFiles}
+use Rattle.gix_ref_loose_transaction.proofs.Plannings.{ZippedSoFar, TestedSoFar, LinedIn}
 use Rattle.gix_ref_loose_transaction.proofs.transaction.plan_all.Given as goal
 
 -- locks alone came, of the edits that are planned
@@ -14,7 +17,10 @@ invariant-edits g l =
       honest : g.F.Files.is_honest l.fn.store.files → g.F.Files.is_honest l.store.files;
       base : base_of l.store ≡ base_of l.fn.store;
       moments : g.F.Files.is_honest l.fn.store.files → Adds (SameButLocks (history l.fn.store.files).tree) (history l.fn.store.files) (history l.store.files);
-      planned : PlannedSoFar (base_of l.fn.store) l.edits l.rest l.fn.moves.items l.moves.items;
+      options : l.store.options ≡ l.fn.store.options;
+      planned : ZippedSoFar (IsPlanOf (base_of l.fn.store) (removes l.packed_refs)) l.edits l.rest l.fn.moves.items l.moves.items;
+      keeps : g.F.Files.is_honest l.fn.store.files → KeepsFiles (history l.fn.store.files).tree (history l.store.files).tree;
+      lined : g.F.Files.is_honest l.fn.store.files → ZippedSoFar (LinedIn (logging l.fn.store.options (reads_with l.fn.store (history l.fn.store.files).tree l.packed) l.committer) (base_of l.fn.store) (history l.fn.store.files).tree) l.edits l.rest l.fn.moves.items l.moves.items;
       tested : g.F.Files.is_honest l.fn.store.files → TestedSoFar (reads_with l.fn.store (history l.fn.store.files).tree l.packed) l.edits l.rest l.fn.moves.items l.moves.items (history l.store.files).tree;
     }
 

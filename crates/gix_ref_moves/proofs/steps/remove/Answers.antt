@@ -1,48 +1,50 @@
-use Rattle.std.proofs.Common.{refl, subst, List, ℕ}
-use Rattle.gix_ref_file.specs.History.{Adds}
-use Rattle.gix_ref_file.proofs.Histories.{adds_weaker, adds_joined}
+use Rattle.std.proofs.Common.{refl}
+use Rattle.gix_ref_file.proofs.Histories.{adds_weaker}
 use Rattle.gix_ref_transaction.specs.Locks.{OthersStay}
 use Rattle.std.proofs.lemmas.Result.{on_ok_weaker}
 use Rattle.gix_ref_moves.specs.Contents.{lock_path_of}
-use Rattle.gix_ref_moves.specs.Moments.{MayGo, IsGone}
-use Rattle.gix_ref_moves.proofs.ActMoves.{going_file, giving_removed, is_removed, giving_forgotten, is_given}
+use Rattle.gix_ref_moves.proofs.ActMoves.{pack_goes, pack_gone, file_goes, file_gone, giving_forgotten, is_given}
 use Rattle.gix_ref_moves.proofs.FileMoves.{on_told, now_of}
 use Rattle.gix_ref_moves.proofs.steps.remove.Goals as goal
 
-pub returns-in_ok-remove_file-in-Remove-clause-moments : goal.returns-in_ok-remove_file-in-Remove-clause-moments
-returns-in_ok-remove_file-in-Remove-clause-moments g c = λ apart honest.
+pub returns-in-Pack-clause-moments : goal.returns-in-Pack-clause-moments
+returns-in-Pack-clause-moments g c = λ apart honest.
     let m = c.args.made.now in
     let old = g.F.Files.history c.args.files.now in
-    let mid = g.F.Files.history c.remove_file.new.files in
-    let new = g.F.Files.history c.give_back.new.files in
-    let first = subst (λ (p : List ℕ). Adds (MayGo p old.tree) old mid) c.deref.ensures.value (c.remove_file.ensures.moments honest) in
-    let gone = subst (λ (p : List ℕ). IsGone p old.tree mid.tree) c.deref.ensures.value (c.in_ok-remove_file-in-Remove.ensures.gone honest) in
-    adds_joined old mid new (adds_weaker old mid first (going_file m apart old.tree c.in-Remove.is))
-    (adds_weaker mid new (c.give_back.ensures.moments (c.remove_file.ensures.honest honest)) (giving_removed m apart old.tree c.in-Remove.is mid.tree gone))
+    adds_weaker old (g.F.Files.history c.remove_locked.new.files) (c.remove_locked.ensures.moments apart honest) (λ x may. pack_goes m apart c.in-Pack.field-0 c.in-Pack.is old.tree x may)
 
-pub returns-in_ok-remove_file-in-Remove-clause-made : goal.returns-in_ok-remove_file-in-Remove-clause-made
-returns-in_ok-remove_file-in-Remove-clause-made g c = λ apart honest.
+pub returns-in-Pack-clause-made : goal.returns-in-Pack-clause-made
+returns-in-Pack-clause-made g c = λ apart honest.
+    let m = c.args.made.now in
+    let old = (g.F.Files.history c.args.files.now).tree in
+    let new = (g.F.Files.history c.remove_locked.new.files).tree in
+    on_ok_weaker c.remove_locked.result (pack_gone m apart c.in-Pack.field-0 c.in-Pack.is old new) (c.remove_locked.ensures.made apart honest)
+
+pub returns-in-Remove-clause-moments : goal.returns-in-Remove-clause-moments
+returns-in-Remove-clause-moments g c = λ apart honest.
     let m = c.args.made.now in
     let old = g.F.Files.history c.args.files.now in
-    let mid = g.F.Files.history c.remove_file.new.files in
-    let new = g.F.Files.history c.give_back.new.files in
-    let gone = subst (λ (p : List ℕ). IsGone p old.tree mid.tree) c.deref.ensures.value (c.in_ok-remove_file-in-Remove.ensures.gone honest) in
-    let stay = now_of (OthersStay (lock_path_of m) mid.tree) mid new (λ path apart. refl) (c.give_back.ensures.moments (c.remove_file.ensures.honest honest)) in
-    on_told _ c.told.result c.give_back.result tt c.told.ensures
-    (on_ok_weaker c.give_back.result (is_removed m apart old.tree c.in-Remove.is mid.tree gone new.tree stay) (c.give_back.ensures.gone (c.remove_file.ensures.honest honest)))
+    adds_weaker old (g.F.Files.history c.remove_locked-in-Remove.new.files) (c.remove_locked-in-Remove.ensures.moments apart honest) (λ x may. file_goes m apart c.in-Remove.is old.tree x may)
+
+pub returns-in-Remove-clause-made : goal.returns-in-Remove-clause-made
+returns-in-Remove-clause-made g c = λ apart honest.
+    let m = c.args.made.now in
+    let old = (g.F.Files.history c.args.files.now).tree in
+    let new = (g.F.Files.history c.remove_locked-in-Remove.new.files).tree in
+    on_ok_weaker c.remove_locked-in-Remove.result (file_gone m apart c.in-Remove.is old new) (c.remove_locked-in-Remove.ensures.made apart honest)
 
 pub returns-in-Forget-clause-moments : goal.returns-in-Forget-clause-moments
 returns-in-Forget-clause-moments g c = λ apart honest.
     let m = c.args.made.now in
     let old = g.F.Files.history c.args.files.now in
-    let new = g.F.Files.history c.give_back-in-Forget.new.files in
-    adds_weaker old new (c.give_back-in-Forget.ensures.moments honest) (giving_forgotten m apart old.tree c.in-Forget.is)
+    let new = g.F.Files.history c.give_back.new.files in
+    adds_weaker old new (c.give_back.ensures.moments honest) (giving_forgotten m apart old.tree c.in-Forget.is)
 
 pub returns-in-Forget-clause-made : goal.returns-in-Forget-clause-made
 returns-in-Forget-clause-made g c = λ apart honest.
     let m = c.args.made.now in
     let old = g.F.Files.history c.args.files.now in
-    let new = g.F.Files.history c.give_back-in-Forget.new.files in
-    let stay = now_of (OthersStay (lock_path_of m) old.tree) old new (λ path apart. refl) (c.give_back-in-Forget.ensures.moments honest) in
-    on_told _ c.told-in-Forget.result c.give_back-in-Forget.result tt c.told-in-Forget.ensures
-    (on_ok_weaker c.give_back-in-Forget.result (is_given m apart old.tree c.in-Forget.is new.tree stay) (c.give_back-in-Forget.ensures.gone honest))
+    let new = g.F.Files.history c.give_back.new.files in
+    let stay = now_of (OthersStay (lock_path_of m) old.tree) old new (λ path apart. refl) (c.give_back.ensures.moments honest) in
+    on_told _ c.told.result c.give_back.result tt c.told.ensures
+    (on_ok_weaker c.give_back.result (is_given m apart old.tree c.in-Forget.is new.tree stay) (c.give_back.ensures.gone honest))

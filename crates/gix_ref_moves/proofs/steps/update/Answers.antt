@@ -1,4 +1,5 @@
 use Rattle.std.proofs.Common.{inl, refl, subst, List, ℕ}
+use Rattle.std.specs.Prelude.{OnOk}
 use Rattle.gix_ref_file.specs.Tree.{bytes_at}
 use Rattle.gix_ref_file.specs.History.{Adds}
 use Rattle.gix_ref_file.proofs.Histories.{adds_weaker, adds_joined}
@@ -6,7 +7,7 @@ use Rattle.gix_ref_transaction.specs.Locks.{OthersStay, MayBePut}
 use Rattle.std.proofs.lemmas.Result.{on_ok_weaker}
 use Rattle.gix_ref_moves.specs.Contents.{place_of, lock_path_of}
 use Rattle.gix_ref_moves.specs.Moments.{MayNote, NotesLog}
-use Rattle.gix_ref_moves.proofs.ActMoves.{noting_put, putting, is_put, noting_note, giving_note, is_note}
+use Rattle.gix_ref_moves.proofs.ActMoves.{noting_put, putting, is_put, noting_note, giving_note, is_note, noting_pack, is_pack}
 use Rattle.gix_ref_moves.proofs.FileMoves.{on_told, now_of}
 use Rattle.gix_ref_moves.proofs.steps.update.Goals as goal
 
@@ -57,3 +58,21 @@ returns-in_ok-note-in-Note-clause-made g c = λ apart honest.
     let stay = now_of (OthersStay (lock_path_of m) mid.tree) mid new (λ path apart. refl) (c.give_back.ensures.moments (c.note-in-Note.ensures.honest honest)) in
     on_told _ c.told-in-Note.result c.give_back.result tt c.told-in-Note.ensures
     (on_ok_weaker c.give_back.result (is_note m apart line old.tree c.in-Note.is mid.tree is_noted new.tree stay) (c.give_back.ensures.gone (c.note-in-Note.ensures.honest honest)))
+
+pub returns-in-Pack-clause-moments : goal.returns-in-Pack-clause-moments
+returns-in-Pack-clause-moments g c = λ apart honest.
+    let m = c.args.made.now in
+    let line = c.in-Pack.line in
+    let old = g.F.Files.history c.args.files.now in
+    let new = g.F.Files.history c.note-in-Pack.new.files in
+    let first = subst (λ (p : List ℕ). Adds (MayNote line p old.tree) old new) c.deref-in-Pack.ensures.value (c.note-in-Pack.ensures.moments honest) in
+    adds_weaker old new first (λ x may. noting_pack m apart line c.in-Pack.is old.tree x may)
+
+pub returns-in-Pack-clause-made : goal.returns-in-Pack-clause-made
+returns-in-Pack-clause-made g c = λ apart honest.
+    let m = c.args.made.now in
+    let line = c.in-Pack.line in
+    let old = (g.F.Files.history c.args.files.now).tree in
+    let new = (g.F.Files.history c.note-in-Pack.new.files).tree in
+    on_ok_weaker c.note-in-Pack.result (is_pack m apart line c.in-Pack.is old new)
+    (subst (λ (p : List ℕ). OnOk c.note-in-Pack.result (NotesLog line p old new)) c.deref-in-Pack.ensures.value (c.note-in-Pack.ensures.noted honest))

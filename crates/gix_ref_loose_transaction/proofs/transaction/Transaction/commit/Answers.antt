@@ -1,8 +1,11 @@
 use Rattle.std.proofs.Common.{sym, subst, List}
 use Rattle.gix_ref_file.specs.History.{Adds}
+use Rattle.gix_ref_file.proofs.Histories.{adds_weaker}
 use Rattle.gix_ref_moves.specs.Committing.{IsCommitted, OnTheWay, commit_paths}
 use Rattle.gix_ref_moves.specs.Moves.{Once}
 use Rattle.gix_ref_moves.specs.declared.act.Move.{Move}
+use Rattle.gix_ref_loose_transaction.specs.Parts.{parts}
+use Rattle.gix_ref_loose_transaction.proofs.ReadingWays.{on_way, at_end}
 use Rattle.gix_ref_loose_transaction.proofs.Twice.{once_of}
 use Rattle.gix_ref_loose_transaction.proofs.transaction.Transaction.commit.Goals as goal
 
@@ -29,3 +32,32 @@ returns-clause-done g c = λ honest.
     let new = (g.F.Files.history c.commit.new.files).tree in
     let once = subst (λ (ms : List Move). Once (commit_paths t.packed ms)) (sym c.deref.ensures.value) (once_of (commit_paths t.packed t.moves.items) t.once) in
     subst (λ (ms : List Move). IsCommitted t.packed ms old new) c.deref.ensures.value (c.in_ok-commit.ensures.done once honest)
+
+pub returns-in_err-commit-clause-on_way : goal.returns-in_err-commit-clause-on_way
+returns-in_err-commit-clause-on_way g c = λ b packs removes before honest ready.
+    let t = c.args.self in
+    let old = g.F.Files.history c.args.files.now in
+    let new = g.F.Files.history c.commit.new.files in
+    let all = once_of (commit_paths t.packed t.moves.items) t.once in
+    let once = subst (λ (ms : List Move). Once (commit_paths t.packed ms)) (sym c.deref.ensures.value) all in
+    let ways = subst (λ (ms : List Move). Adds (OnTheWay t.packed ms old.tree) old new) c.deref.ensures.value (c.commit.ensures.moments once honest) in
+    adds_weaker old new ways (λ x way. on_way b packs removes before old.tree (parts t) all ready x way)
+
+pub returns-clause-on_way : goal.returns-clause-on_way
+returns-clause-on_way g c = λ b packs removes before honest ready.
+    let t = c.args.self in
+    let old = g.F.Files.history c.args.files.now in
+    let new = g.F.Files.history c.commit.new.files in
+    let all = once_of (commit_paths t.packed t.moves.items) t.once in
+    let once = subst (λ (ms : List Move). Once (commit_paths t.packed ms)) (sym c.deref.ensures.value) all in
+    let ways = subst (λ (ms : List Move). Adds (OnTheWay t.packed ms old.tree) old new) c.deref.ensures.value (c.commit.ensures.moments once honest) in
+    adds_weaker old new ways (λ x way. on_way b packs removes before old.tree (parts t) all ready x way)
+
+pub returns-clause-read : goal.returns-clause-read
+returns-clause-read g c = λ b packs removes before honest ready.
+    let t = c.args.self in
+    let old = (g.F.Files.history c.args.files.now).tree in
+    let new = (g.F.Files.history c.commit.new.files).tree in
+    let all = once_of (commit_paths t.packed t.moves.items) t.once in
+    let once = subst (λ (ms : List Move). Once (commit_paths t.packed ms)) (sym c.deref.ensures.value) all in
+    at_end b packs removes before old (parts t) all ready new (subst (λ (ms : List Move). IsCommitted t.packed ms old new) c.deref.ensures.value (c.in_ok-commit.ensures.done once honest))

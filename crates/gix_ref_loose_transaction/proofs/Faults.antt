@@ -1,0 +1,46 @@
+-- Why edits aren't locked, by why one of their steps fails.
+use Rattle.std.proofs.Common.{◌≡◌, ◌⊎◌, inl, inr, subst, sym, true, List, Option}
+use Rattle.gix_ref_file.specs.Tree.{Tree}
+use Rattle.gix_ref_edit.specs.declared.change.RefEdit.{RefEdit}
+use Rattle.gix_ref_store.specs.Places.{Base}
+use Rattle.gix_ref_transaction.specs.declared.packed.Transaction.{Transaction}
+use Rattle.gix_ref_moves.specs.Committing.{commit_paths}
+use Rattle.gix_ref_moves.specs.declared.act.Move.{Move}
+use Rattle.gix_ref_loose_transaction.specs.Causes.{LockFault, RepackFault, SomeEditFault}
+use Rattle.gix_ref_loose_transaction.specs.LogLines.{Logging}
+use Rattle.gix_ref_loose_transaction.specs.Paths.{has_twice}
+use Rattle.gix_ref_loose_transaction.specs.declared.error.PrepareError.{PrepareError}
+use Rattle.gix_ref_loose_transaction.specs.declared.error.PrepareError.TheVariants as fault
+
+module _ (l : Logging) (b : Base) (tree : Tree) (may : Type 0) (edits : List RefEdit) where
+  pub by_records : (error : PrepareError) → RepackFault error → LockFault l b tree may edits error
+  by_records (fault.PackedTransactionAcquire e) h = tt
+  by_records (fault.PackedTransactionPrepare e) h = tt
+  by_records (fault.Resolve e) h = tt
+  by_records fault.Memory h = tt
+  by_records (fault.Packed e) h = absurd h
+  by_records (fault.PreprocessingFailed e) h = absurd h
+  by_records fault.SamePlace h = absurd h
+  by_records fault.LockAcquire h = absurd h
+  by_records fault.Io h = absurd h
+  by_records (fault.Refused e) h = absurd h
+  by_records (fault.ReferenceDecode e) h = absurd h
+  by_records (fault.CreateOrUpdateRefLog e) h = absurd h
+
+  pub by_edit : (error : PrepareError) → SomeEditFault l b tree may edits error → LockFault l b tree may edits error
+  by_edit (fault.PackedTransactionAcquire e) (edit, among, full, h) = absurd h
+  by_edit (fault.PackedTransactionPrepare e) (edit, among, full, h) = absurd h
+  by_edit (fault.Resolve e) (edit, among, full, h) = absurd h
+  by_edit fault.Memory h = tt
+  by_edit (fault.Packed e) (edit, among, full, h) = absurd h
+  by_edit (fault.PreprocessingFailed e) (edit, among, full, h) = absurd h
+  by_edit fault.SamePlace (edit, among, full, h) = absurd h
+  by_edit fault.LockAcquire h = tt
+  by_edit fault.Io h = tt
+  by_edit (fault.Refused e) h = h
+  by_edit (fault.ReferenceDecode e) h = h
+  by_edit (fault.CreateOrUpdateRefLog e) h = h
+
+  pub by_paths : (t : Option Transaction) (moves : List Move) (error : PrepareError) → (error ≡ fault.Memory) ⊎ ((error ≡ fault.SamePlace) × (has_twice (commit_paths t moves) ≡ true)) → LockFault l b tree may edits error
+  by_paths t moves error (inl is) = subst (LockFault l b tree may edits) (sym is) tt
+  by_paths t moves error (inr (is, twice)) = subst (LockFault l b tree may edits) (sym is) (t, moves, twice)
