@@ -21,18 +21,7 @@ use Rattle.history_model.proofs.NameLemmas.{log-lock, name-lock}
 use Rattle.history_model.proofs.WholeLists.{either}
 use Rattle.history_steps.proofs.PassedStates.{names_begin, names_pass}
 use Rattle.history_steps.proofs.PassedStops.{packed_more}
-use Rattle.history_steps.proofs.TreeMoves.{head_apart}
-
--- a name's state is told by its own file and by `packed-refs`
-abbrev state_by : Kind → Bytes → Bool → Option Bytes → Option Bytes → NameState
-state_by kind name named own packed = cond named (unwrap_or (option_map (loose_state kind) own) (unwrap_or (option_map (packed_text_state kind name) packed) Absent)) Absent
-
-state_same : (kind : Kind) (old new : Tree) (name : Bytes) → (is_name name ≡ true → file_at new name ≡ file_at old name) → file_at new packed_place ≡ file_at old packed_place → name_state kind new name ≡ name_state kind old name
-state_same kind old new name own packed = go (is_name name) refl
-  where
-    go : (b : Bool) → is_name name ≡ b → name_state kind new name ≡ name_state kind old name
-    go false e = ap (λ b. state_by kind name b (file_at new name) (file_at new packed_place)) e ∙ sym (ap (λ b. state_by kind name b (file_at old name) (file_at old packed_place)) e)
-    go true e = λ i. state_by kind name (is_name name) (own e i) (packed i)
+use Rattle.history_steps.proofs.TreeMoves.{head_apart, state_same}
 
 -- what doesn't read as absent is a name
 there_named : (b : Bool) (x : NameState) → is_absent (cond b x Absent) ≡ false → b ≡ true

@@ -1,6 +1,8 @@
 pub mod TreePuts
 pub mod TreeTexts
 pub mod TreeMoves
+pub mod PackedReads
+pub mod PackedRecords
 pub mod OneNameStands
 pub mod AnyOrder
 pub mod OfferedFiles
@@ -12,6 +14,8 @@ pub mod PassedNames
 pub mod PassedStates
 pub mod PassedMoments
 pub mod MoveLines
+pub mod Takings
 pub mod Deletions
+pub mod Packs
 pub mod Renames
 pub mod HeadSwitched

@@ -24,7 +24,7 @@ use Rattle.history_model.specs.Stops.{NameBetween}
 use Rattle.history_steps.specs.Passing.{HoldsBetween, MovesOnTheWay, passing}
 use Rattle.history_steps.specs.TreeHalves.{HoldsNames}
 use Rattle.history_steps.specs.TreeSteps.{MovesName, move_entry}
-use Rattle.history_steps.specs.MoveSteps.{FitsThen, IsAtLine, LinesFit, LinesMove, LinesPass, after_lines, line_entry}
+use Rattle.history_steps.specs.MoveSteps.{FitsThen, IsAtLine, LinesFit, LinesMove, LinesPass, after_lines, line_entry, IsNextLine, NextLinesFit, NextLinesMove, NextLinesPass}
 use Rattle.history_model.proofs.AfterFirstLemmas.{get-with}
 use Rattle.history_model.proofs.IdLemmas.{ids_apart}
 use Rattle.history_model.proofs.RecoveredLemmas.{some_is}
@@ -33,7 +33,7 @@ use Rattle.history_model.proofs.WholeLists.{In, clash, either, in_map, in_right,
 use Rattle.history_model.proofs.WholeNames.{apart_after, names_from}
 use Rattle.history_model.proofs.WholeReads.{no_cause}
 use Rattle.history_steps.proofs.PassedMoves.{Passed, passed}
-use Rattle.history_steps.proofs.TreeMoves.{moves_move}
+use Rattle.history_steps.proofs.TreeMoves.{files_move_names}
 use Rattle.history_steps.proofs.TreePuts.{halves_stand}
 
 -- ---- names that stand once
@@ -107,7 +107,7 @@ module _ (r : Repository) (actor : Actor) (message : Bytes) where
 
 -- ---- on the way of a line
 
-module _ (r : Repository) (c : MoveCommand) (first rest : List To) (to : To) (pair : Pair) (at : IsAtLine r c first rest to pair) where
+module _ (r : Repository) (c : MoveCommand) (first rest : List To) (to : To) (pair : Pair) (at : IsNextLine r c first rest to pair) where
   abbrev actor : Actor
   actor = read_actor c.actor
 
@@ -223,7 +223,7 @@ module _ (r : Repository) (c : MoveCommand) (first rest : List To) (to : To) (pa
     refl,
     halves.1,
     subst (λ (names : References). HoldsNames tree (record r { names = names })) one_more
-        (moves_move pair.names tree mid to.name id actor c.message is_one formed at.unpacked halves.2
+        (files_move_names pair.names tree mid to.name id actor c.message is_one formed halves.2
         (subst (λ entry. MovesName to.name entry pair.names tree) (sym same_entry) moves)),
   )
 
@@ -231,7 +231,7 @@ module _ (r : Repository) (c : MoveCommand) (first rest : List To) (to : To) (pa
 
   module _ (tree : Tree) (may : MovesOnTheWay to.name (line_entry r c to) pair.names tree) where
     went : Passed mid to.name id actor c.message tree
-    went = passed mid to.name id actor c.message pair tree at.stands is_one formed at.unpacked (subst (λ entry. MovesOnTheWay to.name entry pair.names tree) (sym same_entry) may)
+    went = passed mid to.name id actor c.message pair tree at.stands is_one formed (subst (λ entry. MovesOnTheWay to.name entry pair.names tree) (sym same_entry) may)
         (λ differ. subst (λ entry. is_log_entry r.kind entry ≡ true) (sym same_entry) (entry_formed (λ same. differ (ap (λ (entry : LogEntry). entry.before) same_entry ∙ same))))
 
     abbrev x : Repository
@@ -305,11 +305,25 @@ module _ (r : Repository) (c : MoveCommand) (first rest : List To) (to : To) (pa
       not_lost = tt;
     }
 
+pub next_lines_fit : NextLinesFit
+next_lines_fit r c first rest to pair at = fits r c first rest to pair at
+
+pub next_lines_move : NextLinesMove
+next_lines_move r c first rest to pair new at moves = moved r c first rest to pair at new moves
+
+pub next_lines_pass : NextLinesPass
+next_lines_pass r c first rest to pair tree at may = between r c first rest to pair at tree may
+
+-- ---- where no names are packed
+
+is_next : (r : Repository) (c : MoveCommand) (first rest : List To) (to : To) (pair : Pair) → IsAtLine r c first rest to pair → IsNextLine r c first rest to pair
+is_next r c first rest to pair at = record { sound = at.sound; none = at.none; lines = at.lines; stands = at.stands }
+
 pub lines_fit : LinesFit
-lines_fit r c first rest to pair at = fits r c first rest to pair at
+lines_fit r c first rest to pair at = next_lines_fit r c first rest to pair (is_next r c first rest to pair at)
 
 pub lines_move : LinesMove
-lines_move r c first rest to pair new at moves = moved r c first rest to pair at new moves
+lines_move r c first rest to pair new at moves = next_lines_move r c first rest to pair new (is_next r c first rest to pair at) moves
 
 pub lines_pass : LinesPass
-lines_pass r c first rest to pair tree at may = between r c first rest to pair at tree may
+lines_pass r c first rest to pair tree at may = next_lines_pass r c first rest to pair tree (is_next r c first rest to pair at) may

@@ -5,15 +5,17 @@ use Rattle.history_model.specs.Objects.{Value, StoredCommit, StoredTag, value_te
 use Rattle.history_model.specs.Repository.{Repository, Values, HaveOwnIds}
 use Rattle.history_model.specs.Commands.{Command}
 use Rattle.history_model.specs.Meaning.{new_commit, new_tag, stored_by, store_one, store_all, is_taken, with_name, after}
-use Rattle.history_model.specs.Places.{file_at, object_place, packed_place}
+use Rattle.history_model.specs.Places.{file_at, object_place}
 use Rattle.history_model.specs.StandsFor.{StandsFor}
 use Rattle.history_steps.specs.TreeHalves.{HoldsValues}
 use Rattle.history_steps.specs.TreeSteps.{PutsValue}
-use Rattle.history_steps.specs.OneNameSteps.{NameMove, MovesOneName, CommitsMoveOneName, TagsMoveOneName, OneNameStands}
+use Rattle.history_steps.specs.OneNameSteps.{NameMove, MovesOneName, CommitsMoveOneName, TagsMoveOneName, OneNameStands, OneNameMoves}
 use Rattle.gix_hash_id.specs.declared.kind.Kind.{Kind}
-use Rattle.history_steps.proofs.TreePuts.{halves_stand, names_speak_of_no_values, puts_store, standing_is_stored}
-use Rattle.history_steps.proofs.TreeMoves.{moves_move, packed_apart, packed_no_log}
+use Rattle.history_steps.proofs.TreePuts.{halves_stand, puts_store, standing_is_stored}
+use Rattle.history_steps.proofs.PassedStops.{names_speak_of_more}
+use Rattle.history_steps.proofs.TreeMoves.{files_move_names}
 use Rattle.history_model.proofs.IdLemmas.{digest_is_id}
+use Rattle.history_model.proofs.WholeStores.{all_keep}
 
 -- a value is put, or its text stands already and nothing changes
 pub one_held : (kind : Kind) (old mid : Tree) (values : Values) (value : Value) → HaveOwnIds kind values → is_taken kind values value ≡ false → HoldsValues kind old values
@@ -40,14 +42,15 @@ moved_so r command move = record r { names = with_name r move.name move.id move.
 pub after_is : (r : Repository) (command : Command) (move : NameMove) → MovesOneName r command move → after r command ≡ moved_so r command move
 after_is r command move moves = λ i. record { kind = r.kind; names = moves.names i; branch = moves.branch i; objects = store_all r.kind r.objects (stored_by r command) }
 
-pub one_name_stands : OneNameStands
-one_name_stands kind old new r command move moves stands is_one none held moved =
+pub one_name_moves : OneNameMoves
+one_name_moves kind old new r command move moves stands is_one held moved =
     let halves = (halves_stand kind old r).0 stands in
-    let name = move.name in
-    let there = moves_move old.names new.names r name move.id move.actor move.message is_one moves.formed none halves.2 moved in
+    let there = files_move_names old.names new.names r move.name move.id move.actor move.message is_one moves.formed halves.2 moved in
     subst (StandsFor kind new) (sym (after_is r command move moves)) ((halves_stand kind new (moved_so r command move)).1 (
       halves.0,
       held,
-      names_speak_of_no_values new.names _ (store_all r.kind r.objects (stored_by r command))
-          (moved.others packed_place (packed_apart name is_one) (packed_no_log name) ∙ none) there,
+      names_speak_of_more new.names _ (store_all r.kind r.objects (stored_by r command)) (λ id value at. all_keep r.kind r.objects (stored_by r command) id value at) there,
     ))
+
+pub one_name_stands : OneNameStands
+one_name_stands kind old new r command move moves stands is_one none held moved = one_name_moves kind old new r command move moves stands is_one held moved

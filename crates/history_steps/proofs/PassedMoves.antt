@@ -18,7 +18,7 @@ use Rattle.history_model.specs.StandsFor.{StandsFor}
 use Rattle.history_steps.specs.TreeHalves.{HoldsNames}
 use Rattle.history_steps.specs.TreeSteps.{MovesName, move_entry}
 use Rattle.history_model.specs.Stops.{NameBetween}
-use Rattle.history_steps.specs.Passing.{MovesOnTheWay}
+use Rattle.history_steps.specs.Passing.{MovesOnTheWay, reads_as}
 use Rattle.gix_hash_id.specs.declared.kind.Kind.{Kind}
 use Rattle.history_model.proofs.IdLemmas.{ids_apart}
 use Rattle.history_model.proofs.NameLemmas.{name-lock, name-log, log-lock}
@@ -28,7 +28,8 @@ use Rattle.history_model.proofs.RecoveryLemmas.{recovery_keeps, recovery_reads, 
 use Rattle.history_model.proofs.RecoveredLemmas.{recovered_stands, after_line, all_whole, holds, log_of, log_stays_there}
 use Rattle.history_model.proofs.PlaceLemmas.{one_text, text_itself, texts_apart}
 use Rattle.history_steps.proofs.TreePuts.{halves_stand, no_text}
-use Rattle.history_steps.proofs.TreeMoves.{id_reads, packed_apart, packed_no_log, head_apart, head_no_log, logs_apart, log_no_name, more_texts, moves_moved, moves_move}
+use Rattle.history_steps.proofs.TreeMoves.{id_reads, packed_apart, packed_no_log, head_apart, head_no_log, logs_apart, log_no_name, more_texts, moves_moved, files_move_names}
+use Rattle.history_steps.proofs.PackedReads.{reads_begin}
 use Rattle.history_model.proofs.WholeLists.{either}
 use Rattle.history_model.proofs.EntryLemmas.{none_there}
 use Rattle.history_model.proofs.WholePaths.{begins_parts}
@@ -117,7 +118,7 @@ pub record Passed (r : Repository) (name : Bytes) (id : Id) (actor : Actor) (mes
   pub each : (q : Bytes) → NameBetween r (record r { names = with_name r name id actor message r.names }) (record r { names = names }) false q
 
 module _ (r : Repository) (name : Bytes) (id : Id) (actor : Actor) (message : Bytes) (pair : Pair) (tree : Tree) (s : StandsFor r.kind pair r) (is_one : is_name name ≡ true) (formed : is_id r.kind id ≡ true)
-    (none : file_at pair.names packed_place ≡ None) (may : MovesOnTheWay name (move_entry r name id actor message) pair.names tree) where
+    (may : MovesOnTheWay name (move_entry r name id actor message) pair.names tree) where
   abbrev old : Tree
   old = pair.names
 
@@ -139,14 +140,11 @@ module _ (r : Repository) (name : Bytes) (id : Id) (actor : Actor) (message : By
   holds_was : HoldsNames was r
   holds_was = ((halves_stand r.kind (recovered r.kind pair) r).0 (recovered_stands r.kind pair r s)).2
 
-  none_was : file_at was packed_place ≡ None
-  none_was = file_kept r.kind old packed_place refl refl ∙ none
-
   packed_same : file_at tree packed_place ≡ file_at old packed_place
   packed_same = may.others packed_place (packed_apart name is_one) (packed_no_log name) refl
 
-  none_now : file_at now packed_place ≡ None
-  none_now = file_kept r.kind tree packed_place refl refl ∙ packed_same ∙ none
+  packed_kept : file_at now packed_place ≡ file_at was packed_place
+  packed_kept = file_kept r.kind tree packed_place refl refl ∙ packed_same ∙ sym (file_kept r.kind old packed_place refl refl)
 
   no_log : (q : Bytes) → is_name q ≡ true → q ≢ log
   no_log q named same = absurd (cc (sym (name-log q named) ∙ ap (λ t. is_log_place t) same))
@@ -238,7 +236,7 @@ module _ (r : Repository) (name : Bytes) (id : Id) (actor : Actor) (message : By
     pub passed_moved : Passed r name id actor message tree
     passed_moved = record {
       names = with_name r name id actor message r.names;
-      holds_now = moves_move was now r name id actor message is_one formed none_was holds_was has_moved;
+      holds_now = files_move_names was now r name id actor message is_one formed holds_was has_moved;
       each = λ q. record { id = inr refl; moves = inr (inl refl); log_follows_name = inr refl };
     }
 
@@ -296,7 +294,7 @@ module _ (r : Repository) (name : Bytes) (id : Id) (actor : Actor) (message : By
         head = same_at head_place (head_apart name is_one) (head_no_log name) ∙ holds_was.head;
         names = λ q i. (λ h. ids q ∙ (holds_was.names q i).0 (sym (reads_so q) ∙ h), λ h. reads_so q ∙ (holds_was.names q i).1 (sym (ids q) ∙ h));
         logs = logs_told;
-        packed = λ text at. no_text none_now at;
+        packed = λ text at. holds_was.packed text (sym packed_kept ∙ at);
         places = λ path text at. place_same path ∙ placed path text at;
         folders = λ path e. may.folders path (folder_stood path e);
       }
@@ -386,21 +384,8 @@ module _ (r : Repository) (name : Bytes) (id : Id) (actor : Actor) (message : By
 
     -- ---- the name doesn't stand
     module _ (absent : stands r name ≡ false) where
-      no_file : (o : Option Bytes) → file_at old name ≡ o → o ≡ None
-      no_file None e = refl
-      no_file (Some text) e = absurd (cc (sym absent ∙ sym (only (bytes_eq name head_place) (bytes_eq name packed_place) (stands r name) (is_log_place name) (stands r (log_name name))
-          (texts_apart name head_place (λ same. head_apart name is_one (sym same))) (texts_apart name packed_place (λ same. packed_apart name is_one (sym same))) (name-log name is_one)) ∙ s.places name text e))
-        where
-          only : (a b c d e : Bool) → a ≡ false → b ≡ false → d ≡ false → (a || b || c || (d && e)) ≡ c
-          only false false true d e f g h = refl
-          only false false false false e f g h = refl
-          only false false false true e f g h = cc
-          only false true c d e f g h = cc
-          only true b c d e f g h = cc
-
       reads_absent : name_state r.kind tree name ≡ Absent
-      reads_absent = all_reads name ∙ ap (λ b. read_so r.kind name b (file_at old name) (file_at old packed_place)) is_one
-          ∙ (λ i. read_so r.kind name true (no_file (file_at old name) refl i) (none i))
+      reads_absent = all_reads name ∙ reads_begin r pair s name ∙ ap (λ o. reads_as (option_map (λ (f : Reference). f.id) o)) (none_there (get r.names name) absent)
 
       no_moves : moves_at r name ≡ []
       no_moves = ap (λ o. unwrap_or (option_map (λ (f : Reference). f.moves) o) []) (none_there (get r.names name) absent)

@@ -20,7 +20,7 @@ use Rattle.history_steps.specs.OneNameSteps.{NameMove, MovesOneName, entry_of_mo
 use Rattle.history_model.specs.Stops.{LeftByStop, Between, NameBetween, deletes, made, is_changing}
 use Rattle.history_model.specs.Moments.{LeavesStopped}
 use Rattle.history_model.specs.Wholeness.{IsSound}
-use Rattle.history_steps.specs.Passing.{HoldsBetween, MovesOnTheWay, MovesPass, MovingStops, passing}
+use Rattle.history_steps.specs.Passing.{HoldsBetween, MovesOnTheWay, MovesPass, FilesPass, MovingStops, passing}
 use Rattle.history_model.specs.declared.Cause.{Cause}
 use Rattle.gix_hash_id.specs.declared.kind.Kind.{Kind}
 use Rattle.history_model.proofs.StepLemmas.{stops_may_leave_all}
@@ -50,7 +50,7 @@ some_id (Some ref) = refl
 -- ---- the name of a command that moves one
 
 module _ (pair : Pair) (tree : Tree) (r : Repository) (command : Command) (move : NameMove) (so : MovesOneName r command move) (sound : IsSound r) (s : StandsFor r.kind pair r) (is_one : is_name move.name ≡ true)
-    (none : first_cause r command ≡ None) (free : takes_id r command ≡ false) (unpacked : file_at pair.names packed_place ≡ None)
+    (none : first_cause r command ≡ None) (free : takes_id r command ≡ false)
     (may : MovesOnTheWay move.name (entry_of_move r move) pair.names tree) where
   abbrev name : Bytes
   name = move.name
@@ -78,7 +78,7 @@ module _ (pair : Pair) (tree : Tree) (r : Repository) (command : Command) (move 
       (subst (λ ms. list_all (is_log_entry r.kind) ms ≡ true) moves (moves_formed new (subst IsWritten is_new (after_written r sound.whole sound.written command none)) name))).0
 
   went : Passed r name id move.actor move.message tree
-  went = passed r name id move.actor move.message pair tree s is_one so.formed unpacked may entry_formed
+  went = passed r name id move.actor move.message pair tree s is_one so.formed may entry_formed
 
   abbrev x : Repository
   x = passing r command went.names r.branch
@@ -116,8 +116,11 @@ module _ (pair : Pair) (tree : Tree) (r : Repository) (command : Command) (move 
     not_lost = so.not_lost x;
   }
 
+pub files_pass : FilesPass
+files_pass pair tree r command move so sound s is_one none free may = went_between pair tree r command move so sound s is_one none free may
+
 pub moves_pass : MovesPass
-moves_pass pair tree r command move so sound s is_one none free unpacked may = went_between pair tree r command move so sound s is_one none free unpacked may
+moves_pass pair tree r command move so sound s is_one none free unpacked may = files_pass pair tree r command move so sound s is_one none free may
 
 -- ---- a stop
 

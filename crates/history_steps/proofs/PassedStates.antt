@@ -33,6 +33,7 @@ use Rattle.history_model.proofs.WholeLists.{In, in_left, in_right, in_map, eithe
 use Rattle.history_model.proofs.WholeNames.{names_from, apart_after}
 use Rattle.history_model.proofs.WholeStores.{all_keep, get_in}
 use Rattle.history_steps.proofs.PassedMoves.{gone_too, stays}
+use Rattle.history_steps.proofs.PackedReads.{held, reads_begin}
 use Rattle.history_steps.proofs.PassedNames.{some_id}
 use Rattle.std.proofs.lemmas.Option.{same_Some}
 use Rattle.history_model.proofs.AfterFirstLemmas.{get-with}
@@ -355,15 +356,6 @@ names_pass old command tree sound none way = between old command tree sound none
 
 -- ---- at the beginning
 
--- an id or nothing
-abbrev IsPlain : NameState → Type 0
-IsPlain r = ((id : Id) × (r ≡ Holds id)) ⊎ (r ≡ Absent)
-
-plain_record : (b : Bool) (o : Option Record) → IsPlain (cond b Absent (unwrap_or (option_map (λ found. Holds found.target) o) Absent))
-plain_record true o = inr refl
-plain_record false None = inr refl
-plain_record false (Some found) = inl (found.target, refl)
-
 begin_place : (a b lock log here there absent : Bool) → (here ≡ true → absent ≡ false) → (a || b || here || (log && there)) ≡ true → (a || b || lock || log || not absent) ≡ true
 begin_place true b lock log here there absent f k = refl
 begin_place false true lock log here there absent f k = refl
@@ -371,14 +363,6 @@ begin_place false false true log here there absent f k = refl
 begin_place false false false true here there absent f k = refl
 begin_place false false false false true there absent f k = ap not (f refl)
 begin_place false false false false false there absent f k = cc
-
--- a file at a name stands for it
-name_file : (a b here log there : Bool) → a ≡ false → b ≡ false → log ≡ false → (a || b || here || (log && there)) ≡ true → here ≡ true
-name_file true b here log there e f g k = cc
-name_file false true here log there e f g k = cc
-name_file false false true log there e f g k = refl
-name_file false false false true there e f g k = cc
-name_file false false false false there e f g k = cc
 
 reads_kept : (old : Repository) (command : Command) (tree : Tree) → ((name : Bytes) → name_state old.kind tree name ≡ reads_as (id_at old name)) → ReadsKept old command tree
 reads_kept old (Rename from to) tree h = inl (h from)
@@ -388,56 +372,17 @@ module _ (old : Repository) (command : Command) (pair : Pair) (s : StandsFor old
   abbrev tree : Tree
   tree = pair.names
 
-  held : (name : Bytes) → stands old name ≡ true → (id : Id) × (name_state old.kind tree name ≡ Holds id)
-  held name e = let found = some_is (get old.names name) e in (found.0.id, (s.names name found.0.id).1 (ap (option_map (λ (ref : Reference). ref.id)) found.1))
-
-  plain_packed : (name : Bytes) (o : Option Bytes) → file_at tree packed_place ≡ o → IsPlain (unwrap_or (option_map (packed_text_state old.kind name) o) Absent)
-  plain_packed name None e = inr refl
-  plain_packed name (Some text) e = go (packed_file old.kind text) (s.packed text e)
-    where
-      go : (o : Option PackedFile) → MatchOption o ⊥ (PackedAgrees old) → IsPlain (unwrap_or (option_map (packed_state name) o) Faulty)
-      go None h = absurd h
-      go (Some packed) h = plain_record (is_private name) (find (λ found. bytes_eq found.name name) packed.records)
-
-  plain_begin : (name : Bytes) → IsPlain (name_state old.kind tree name)
-  plain_begin name = go (is_name name) refl (file_at tree name) refl
-    where
-      go : (b : Bool) → is_name name ≡ b → (o : Option Bytes) → file_at tree name ≡ o → IsPlain (name_state old.kind tree name)
-      go false e o f = inr (ap (λ b. cond b (unwrap_or (option_map (loose_state old.kind) (file_at tree name)) (unwrap_or (option_map (packed_text_state old.kind name) (file_at tree packed_place)) Absent)) Absent) e)
-      go true e None f =
-          subst IsPlain (sym (ap (λ b. cond b (unwrap_or (option_map (loose_state old.kind) (file_at tree name)) (unwrap_or (option_map (packed_text_state old.kind name) (file_at tree packed_place)) Absent)) Absent) e
-          ∙ ap (λ o. unwrap_or (option_map (loose_state old.kind) o) (unwrap_or (option_map (packed_text_state old.kind name) (file_at tree packed_place)) Absent)) f))
-          (plain_packed name (file_at tree packed_place) refl)
-      go true e (Some text) f = inl (held name (name_file (bytes_eq name head_place) (bytes_eq name packed_place) (stands old name) (is_log_place name) (stands old (log_name name))
-          (apart head_place (head_apart name e)) (apart packed_place (packed_apart name e)) (name-log name e) (s.places name text f)))
-        where
-          apart : (place : Bytes) → (place ≡ name → ⊥) → bytes_eq name place ≡ false
-          apart place differ = elim (either (bytes_eq name place)) [
-            | inl k ↦ absurd (differ (sym (same_text name place k)))
-            | inr k ↦ k
-          ]
-
-  pub reads_begin : (name : Bytes) → name_state old.kind tree name ≡ reads_as (id_at old name)
-  reads_begin name = elim (plain_begin name) [
-    | inl (id, e) ↦ e ∙ ap reads_as (sym ((s.names name id).0 e))
-    | inr e ↦ go (id_at old name) refl e
-  ]
-    where
-      go : (o : Option Id) → id_at old name ≡ o → name_state old.kind tree name ≡ Absent → name_state old.kind tree name ≡ reads_as (id_at old name)
-      go None k e = e ∙ ap reads_as (sym k)
-      go (Some id) k e = (s.names name id).1 k ∙ ap reads_as (sym k)
-
   begins_so : NamesOnTheWay old command tree
   begins_so = record {
     head = inl s.head;
-    reads = λ name. inl (reads_begin name);
+    reads = λ name. inl (reads_begin old pair s name);
     logs = λ name here. inl (ap whole_lines (s.logs name) ∙ all_whole (reverse (moves_at old name)));
-    log_first = λ name here. inl (reads_begin name);
+    log_first = λ name here. inl (reads_begin old pair s name);
     packed = λ text at. packed_more old (after old command) (λ q v h. all_keep old.kind old.objects (stored_by old command) q v h) (packed_file old.kind text) (s.packed text at);
     places = λ path text at. begin_place (bytes_eq path head_place) (bytes_eq path packed_place) (is_lock_file path) (is_log_place path) (stands old path) (stands old (log_name path)) (is_absent (name_state old.kind tree path))
-        (λ e. ap is_absent (held path e).1) (s.places path text at);
+        (λ e. ap is_absent (held old pair s path e).1) (s.places path text at);
     folders = s.folders;
-    not_lost = reads_kept old command tree reads_begin;
+    not_lost = reads_kept old command tree (reads_begin old pair s);
   }
 
 pub names_begin : NamesBegin

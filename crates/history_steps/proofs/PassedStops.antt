@@ -15,7 +15,7 @@ use Rattle.history_model.specs.PackedNames.{PackedFile, PackedAgrees, PeelAgrees
 use Rattle.gix_ref_format.specs.Packed.{Record}
 use Rattle.history_model.specs.Places.{Pair}
 use Rattle.history_model.specs.Recovery.{recovered, recovered_names}
-use Rattle.history_steps.specs.TreeHalves.{HoldsNames}
+use Rattle.history_steps.specs.TreeHalves.{HoldsNames, NamesSpeakOfMore}
 use Rattle.history_model.specs.Stops.{LeftByStop, Between, IsNotLost, is_changing}
 use Rattle.history_model.specs.Moments.{LeavesStopped}
 use Rattle.history_model.specs.Wholeness.{IsSound}
@@ -249,6 +249,16 @@ module _ (old : Repository) (x : Repository) (keep : (id : Id) (v : Value) → g
   pub packed_more : (found : Option PackedFile) → MatchOption found ⊥ (PackedAgrees old) → MatchOption found ⊥ (PackedAgrees x)
   packed_more None h = h
   packed_more (Some packed) h = (h.0, peels_more packed.records h.1)
+
+pub names_speak_of_more : NamesSpeakOfMore
+names_speak_of_more tree r values keep h = record {
+  head = h.head;
+  names = h.names;
+  logs = h.logs;
+  packed = λ text at. packed_more r (record r { objects = values }) keep (packed_file r.kind text) (h.packed text at);
+  places = h.places;
+  folders = h.folders;
+}
 
 -- ---- a stop
 

@@ -23,10 +23,10 @@ use Rattle.history_model.specs.Places.{Pair, file_at, packed_place}
 use Rattle.history_model.specs.StandsFor.{StandsFor}
 use Rattle.history_model.specs.Stops.{NameBetween}
 use Rattle.history_model.specs.Wholeness.{IsSound}
-use Rattle.history_steps.specs.DeleteSteps.{DeletesName, DeletesOnTheWay}
+use Rattle.history_steps.specs.TakeSteps.{TakesName, TakesOnTheWay}
 use Rattle.history_steps.specs.MoveSteps.{FitsThen}
 use Rattle.history_steps.specs.Passing.{HoldsBetween, MovesOnTheWay, NamesOnTheWay, log_in, passing, reads_as}
-use Rattle.history_steps.specs.RenameSteps.{IsRenaming, RenamesFit, RenamesMake, MakingPasses, RenamesStand, GoingPasses, held_id, rename_entry, with_both}
+use Rattle.history_steps.specs.RenameSteps.{IsOnItsWay, RenamesBring, BringingPasses, RenamesEnd, TakingPasses, IsRenaming, RenamesFit, RenamesMake, MakingPasses, RenamesStand, GoingPasses, held_id, rename_entry, with_both}
 use Rattle.history_steps.specs.TreeHalves.{HoldsValues, HoldsNames}
 use Rattle.history_steps.specs.TreeSteps.{MovesName}
 use Rattle.history_model.proofs.AfterFirstLemmas.{get-with}
@@ -36,11 +36,12 @@ use Rattle.history_model.proofs.WholeForms.{after_written}
 use Rattle.history_model.proofs.WholeLists.{In, clash, either, none_passes, same_text, text_itself}
 use Rattle.history_model.proofs.WholeNames.{apart_after, names_from}
 use Rattle.history_model.proofs.WholeReads.{no_cause}
-use Rattle.history_steps.proofs.Deletions.{deletions_pass, deletions_stand}
+use Rattle.history_steps.proofs.Deletions.{takes_files, takes_so}
+use Rattle.history_steps.proofs.Takings.{takings_pass, takings_stand}
 use Rattle.history_steps.proofs.PassedMoves.{Passed, passed}
 use Rattle.history_steps.proofs.PassedNames.{some_id}
 use Rattle.history_steps.proofs.PassedStates.{names_pass}
-use Rattle.history_steps.proofs.TreeMoves.{moves_move, packed_apart, packed_no_log}
+use Rattle.history_steps.proofs.TreeMoves.{files_move_names, packed_apart, packed_no_log}
 use Rattle.history_steps.proofs.TreePuts.{halves_stand}
 
 abbrev id_in : Option Reference → Option Id
@@ -144,6 +145,9 @@ module _ (r : Repository) (from to : Bytes) (sound : IsSound r) (none : first_ca
       let ref = some_is (get r.names q) there in
       (and_parts (is_name q) (not (is_private q)) (and_parts (is_name q && not (is_private q)) (is_reference r.kind ref.0) ((sound.written).names q ref.0 ref.1)).0).0
 
+  from_named : is_name from ≡ true
+  from_named = named from stood
+
   fits : FitsThen r to
   fits = record {
     named = is_one;
@@ -155,25 +159,24 @@ module _ (r : Repository) (from to : Bytes) (sound : IsSound r) (none : first_ca
 
   -- ---- the new name is made
 
-  module _ (pair : Pair) (s : StandsFor r.kind pair r) (unpacked : file_at pair.names packed_place ≡ None) where
+  module _ (pair : Pair) (s : StandsFor r.kind pair r) where
     halves : (r.kind ≡ r.kind) × HoldsValues r.kind pair.objects r.objects × HoldsNames pair.names r
     halves = (halves_stand r.kind pair r).0 s
 
-    both_stand : (tree : Tree) → MovesName to entry pair.names tree → IsRenaming r from to both (record pair { names = tree })
+    both_stand : (tree : Tree) → MovesName to entry pair.names tree → IsOnItsWay r from to both (record pair { names = tree })
     both_stand tree moves = record {
       sound = sound;
       none = none;
       stands = (halves_stand r.kind (record pair { names = tree }) both).1 (
         refl,
         halves.1,
-        moves_move pair.names tree r to id history_actor (codes "rename") is_one formed.0 unpacked halves.2 moves,
+        files_move_names pair.names tree r to id history_actor (codes "rename") is_one formed.0 halves.2 moves,
       );
-      unpacked = moves.others packed_place (packed_apart to is_one) (packed_no_log to) ∙ unpacked;
     }
 
     module _ (tree : Tree) (may : MovesOnTheWay to entry pair.names tree) where
       went : Passed r to id history_actor (codes "rename") tree
-      went = passed r to id history_actor (codes "rename") pair tree s is_one formed.0 unpacked may entry_formed
+      went = passed r to id history_actor (codes "rename") pair tree s is_one formed.0 may entry_formed
 
       abbrev x : Repository
       x = passing r (Rename from to) went.names r.branch
@@ -236,13 +239,13 @@ module _ (r : Repository) (from to : Bytes) (sound : IsSound r) (none : first_ca
 
   -- ---- the old name goes
 
-  module _ (pair : Pair) (s : StandsFor r.kind pair both) (unpacked : file_at pair.names packed_place ≡ None) where
-    made_stands : (tree : Tree) → DeletesName from pair.names tree → StandsFor r.kind (record pair { names = tree }) new
-    made_stands tree gone = subst (λ t. StandsFor r.kind (record pair { names = tree }) t) same_after (deletions_stand both from None pair tree s (named from stood) unpacked gone)
+  module _ (pair : Pair) (s : StandsFor r.kind pair both) where
+    made_stands : (tree : Tree) → TakesName r.kind from pair.names tree → StandsFor r.kind (record pair { names = tree }) new
+    made_stands tree gone = subst (λ t. StandsFor r.kind (record pair { names = tree }) t) same_after (takings_stand both from None pair tree s (named from stood) gone)
 
-    module _ (tree : Tree) (may : DeletesOnTheWay from pair.names tree) where
+    module _ (tree : Tree) (may : TakesOnTheWay r.kind from pair.names tree) where
       way : NamesOnTheWay both (Delete from None) tree
-      way = deletions_pass both from None pair tree s (named from stood) unpacked may
+      way = takings_pass both from None pair tree s (named from stood) may
 
       id_after : (q : Bytes) → id_at (after both (Delete from None)) q ≡ id_at new q
       id_after q = ap (λ (t : Repository). id_at t q) same_after
@@ -309,14 +312,41 @@ module _ (r : Repository) (from to : Bytes) (sound : IsSound r) (none : first_ca
 pub renames_fit : RenamesFit
 renames_fit r from to sound none = fits r from to sound none
 
+pub renames_bring : RenamesBring
+renames_bring r from to pair new at moves = both_stand r from to at.sound at.none pair at.stands new moves
+
+pub bringing_passes : BringingPasses
+bringing_passes r from to pair tree at may = making r from to at.sound at.none pair at.stands tree may
+
+pub renames_end : RenamesEnd
+renames_end r from to pair new at gone = made_stands r from to at.sound at.none pair at.stands new gone
+
+pub taking_passes : TakingPasses
+taking_passes r from to pair tree at may = going r from to at.sound at.none pair at.stands tree may
+
+-- ---- where no names are packed
+
+is_on_its_way : (r : Repository) (from to : Bytes) (now : Repository) (pair : Pair) → IsRenaming r from to now pair → IsOnItsWay r from to now pair
+is_on_its_way r from to now pair at = record { sound = at.sound; none = at.none; stands = at.stands }
+
 pub renames_make : RenamesMake
-renames_make r from to pair new at moves = both_stand r from to at.sound at.none pair at.stands at.unpacked new moves
+renames_make r from to pair new at moves =
+    let made = renames_bring r from to pair new (is_on_its_way r from to r pair at) moves in
+    let is_one = (fits r from to at.sound at.none).named in
+    record {
+      sound = made.sound;
+      none = made.none;
+      stands = made.stands;
+      unpacked = moves.others packed_place (packed_apart to is_one) (packed_no_log to) ∙ at.unpacked;
+    }
 
 pub making_passes : MakingPasses
-making_passes r from to pair tree at may = making r from to at.sound at.none pair at.stands at.unpacked tree may
+making_passes r from to pair tree at may = bringing_passes r from to pair tree (is_on_its_way r from to r pair at) may
 
 pub renames_stand : RenamesStand
-renames_stand r from to pair new at gone = made_stands r from to at.sound at.none pair at.stands at.unpacked new gone
+renames_stand r from to pair new at gone =
+    renames_end r from to pair new (is_on_its_way r from to (with_both r from to) pair at) (takes_files r.kind from pair.names new (from_named r from to at.sound at.none) at.unpacked gone)
 
 pub going_passes : GoingPasses
-going_passes r from to pair tree at may = going r from to at.sound at.none pair at.stands at.unpacked tree may
+going_passes r from to pair tree at may =
+    taking_passes r from to pair tree (is_on_its_way r from to (with_both r from to) pair at) (takes_so r.kind from pair.names tree (from_named r from to at.sound at.none) at.unpacked may)

@@ -20,12 +20,11 @@ use Rattle.history_model.specs.PackedNames.{id_from_hex, whole_line}
 use Rattle.history_model.specs.Places.{file_at, head_place, packed_place, log_place, is_log_place, is_name_place}
 use Rattle.history_model.specs.NameStates.{NameState, Holds, Symbolic, Absent, Faulty, name_state, loose_state, loose_line, packed_text_state}
 use Rattle.history_steps.specs.TreeHalves.{HoldsNames}
-use Rattle.history_steps.specs.TreeSteps.{MovesName, MovesMove, move_entry}
+use Rattle.history_steps.specs.TreeSteps.{MovesName, MovesMove, FilesMoveNames, move_entry}
 use Rattle.gix_hash_id.specs.declared.kind.Kind.{Kind}
 use Rattle.history_model.proofs.IdLemmas.{low_digit, id_digits, id_from_hex-hex, one_id, apart_ids}
 use Rattle.history_model.proofs.NameLemmas.{name-log}
 use Rattle.history_model.proofs.PlaceLemmas.{one_text, text_itself}
-use Rattle.history_steps.proofs.TreePuts.{no_text}
 use Rattle.std.proofs.lemmas.Bool.{and_parts}
 use Rattle.history_model.proofs.AfterFirstLemmas.{get-with}
 
@@ -68,14 +67,16 @@ id_reads kind id h =
     no_symbol true b e = cc
     no_symbol false b e = refl
 
--- where no names are packed
-loose : Kind → Bytes → Option Bytes → NameState
-loose kind name found = cond (is_name name) (unwrap_or (option_map (loose_state kind) found) Absent) Absent
+-- a name's state is told by its own file and by `packed-refs`
+abbrev pub state_by : Kind → Bytes → Bool → Option Bytes → Option Bytes → NameState
+state_by kind name named own packed = cond named (unwrap_or (option_map (loose_state kind) own) (unwrap_or (option_map (packed_text_state kind name) packed) Absent)) Absent
 
-state_loose : (kind : Kind) (tree : Tree) (name : Bytes) → file_at tree packed_place ≡ None → name_state kind tree name ≡ loose kind name (file_at tree name)
-unfolding loose
-state_loose kind tree name none =
-    ap (λ found. cond (is_name name) (unwrap_or (option_map (loose_state kind) (file_at tree name)) (unwrap_or (option_map (packed_text_state kind name) found) Absent)) Absent) none
+pub state_same : (kind : Kind) (old new : Tree) (name : Bytes) → (is_name name ≡ true → file_at new name ≡ file_at old name) → file_at new packed_place ≡ file_at old packed_place → name_state kind new name ≡ name_state kind old name
+state_same kind old new name own packed = go (is_name name) refl
+  where
+    go : (b : Bool) → is_name name ≡ b → name_state kind new name ≡ name_state kind old name
+    go false e = ap (λ b. state_by kind name b (file_at new name) (file_at new packed_place)) e ∙ sym (ap (λ b. state_by kind name b (file_at old name) (file_at old packed_place)) e)
+    go true e = λ i. state_by kind name (is_name name) (own e i) (packed i)
 
 -- ---- places
 
@@ -138,24 +139,16 @@ module _ (r : Repository) (name : Bytes) (id : Id) (actor : Actor) (message : By
       alone [] = refl
       alone (b ∷ text) = ap (λ t. b ∷ t) (alone text)
 
-  module _ (old new : Tree) (is_one : is_name name ≡ true) (formed : is_id r.kind id ≡ true) (none : file_at old packed_place ≡ None) (h : HoldsNames old r) (m : MovesName name entry old new) where
-    still_none : file_at new packed_place ≡ None
-    still_none = m.others packed_place (packed_apart name is_one) (packed_no_log name) ∙ none
+  module _ (old new : Tree) (is_one : is_name name ≡ true) (formed : is_id r.kind id ≡ true) (h : HoldsNames old r) (m : MovesName name entry old new) where
+    packed_same : file_at new packed_place ≡ file_at old packed_place
+    packed_same = m.others packed_place (packed_apart name is_one) (packed_no_log name)
 
     reads_here : name_state r.kind new name ≡ Holds id
-    unfolding loose
-    reads_here = state_loose r.kind new name still_none ∙ ap (λ b. cond b (unwrap_or (option_map (loose_state r.kind) (file_at new name)) Absent) Absent) is_one
-        ∙ ap (λ o. unwrap_or (option_map (loose_state r.kind) o) Absent) m.here ∙ id_reads r.kind id formed
+    reads_here = ap (λ b. state_by r.kind name b (file_at new name) (file_at new packed_place)) is_one
+        ∙ ap (λ o. state_by r.kind name true o (file_at new packed_place)) m.here ∙ id_reads r.kind id formed
 
     reads_there : (q : Bytes) → q ≢ name → name_state r.kind new q ≡ name_state r.kind old q
-    unfolding loose
-    reads_there q differ = state_loose r.kind new q still_none ∙ go (is_name q) refl ∙ sym (state_loose r.kind old q none)
-      where
-        go : (b : Bool) → is_name q ≡ b → cond (is_name q) (unwrap_or (option_map (loose_state r.kind) (file_at new q)) Absent) Absent
-            ≡ cond (is_name q) (unwrap_or (option_map (loose_state r.kind) (file_at old q)) Absent) Absent
-        go false e = ap (λ b. cond b (unwrap_or (option_map (loose_state r.kind) (file_at new q)) Absent) Absent) e
-            ∙ sym (ap (λ b. cond b (unwrap_or (option_map (loose_state r.kind) (file_at old q)) Absent) Absent) e)
-        go true e = ap (λ o. cond (is_name q) (unwrap_or (option_map (loose_state r.kind) o) Absent) Absent) (m.others q differ (λ same. log_no_name q name e (sym same)))
+    reads_there q differ = state_same r.kind old new q (λ named. m.others q differ (λ same. log_no_name q name named (sym same))) packed_same
 
     holds_same : {a b : Id} → Holds a ≡ Holds b → a ≡ b
     holds_same e = cc
@@ -240,10 +233,13 @@ module _ (r : Repository) (name : Bytes) (id : Id) (actor : Actor) (message : By
       head = m.others head_place (head_apart name is_one) (head_no_log name) ∙ h.head;
       names = names_told;
       logs = logs_told;
-      packed = λ text at. no_text still_none at;
+      packed = λ text at. h.packed text (sym packed_same ∙ at);
       places = places_told;
       folders = m.folders;
     }
 
+pub files_move_names : FilesMoveNames
+files_move_names old new r name id actor message is_one formed h m = moves r name id actor message old new is_one formed h m
+
 pub moves_move : MovesMove
-moves_move old new r name id actor message is_one formed none h m = moves r name id actor message old new is_one formed none h m
+moves_move old new r name id actor message is_one formed none h m = files_move_names old new r name id actor message is_one formed h m

@@ -9,3 +9,5 @@ pub mod MoveSteps
 pub mod DeleteSteps
 pub mod RenameSteps
 pub mod SwitchSteps
+pub mod TakeSteps
+pub mod PackSteps

@@ -59,3 +59,33 @@ LinesPass =
     (r : Repository) (c : MoveCommand) (first rest : List To) (to : To) (pair : Pair) (tree : Tree)
     → IsAtLine r c first rest to pair
     → MovesOnTheWay to.name (line_entry r c to) pair.names tree → HoldsBetween r (Move c) tree
+
+-- ---- whatever is packed
+
+-- No cause holds of the move, the names of its first lines have moved, and this line's is to move next.
+pub record IsNextLine (r : Repository) (c : MoveCommand) (first rest : List To) (to : To)
+    (pair : Pair) : Type 0 where
+  pub sound : IsSound r
+  pub none : first_cause r (Move c) ≡ None
+  pub lines : c.to ≡ first ++ to ∷ rest
+  pub stands : StandsFor r.kind pair (after_lines r c first)
+
+-- The name of that line may come to stand beside those that stand then.
+abbrev pub NextLinesFit : Type 0
+NextLinesFit =
+    (r : Repository) (c : MoveCommand) (first rest : List To) (to : To) (pair : Pair)
+    → IsNextLine r c first rest to pair → FitsThen (after_lines r c first) to.name
+
+-- Its move leaves the names of one line more moved.
+abbrev pub NextLinesMove : Type 0
+NextLinesMove =
+    (r : Repository) (c : MoveCommand) (first rest : List To) (to : To) (pair : Pair) (new : Tree)
+    → IsNextLine r c first rest to pair → MovesName to.name (line_entry r c to) pair.names new
+    → StandsFor r.kind (record pair { names = new }) (after_lines r c (first ++ to ∷ []))
+
+-- Meanwhile each name, once recovered, is as before the command or as after it, and its log tells of each move that was made.
+abbrev pub NextLinesPass : Type 0
+NextLinesPass =
+    (r : Repository) (c : MoveCommand) (first rest : List To) (to : To) (pair : Pair) (tree : Tree)
+    → IsNextLine r c first rest to pair
+    → MovesOnTheWay to.name (line_entry r c to) pair.names tree → HoldsBetween r (Move c) tree

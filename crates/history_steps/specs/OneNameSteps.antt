@@ -71,3 +71,12 @@ OneNameStands =
     → HoldsValues r.kind new.objects (after r command).objects
     → MovesName move.name (entry_of_move r move) old.names new.names
     → StandsFor kind new (after r command)
+
+-- So it does whatever is packed.
+abbrev pub OneNameMoves : Type 0
+OneNameMoves =
+    (kind : Kind) (old new : Pair) (r : Repository) (command : Command) (move : NameMove)
+    → MovesOneName r command move → StandsFor kind old r → IsTrue (is_name move.name)
+    → HoldsValues r.kind new.objects (after r command).objects
+    → MovesName move.name (entry_of_move r move) old.names new.names
+    → StandsFor kind new (after r command)

@@ -153,6 +153,16 @@ MovesPass =
     → MovesOnTheWay move.name (entry_of_move r move) pair.names tree
     → HoldsBetween r command tree
 
+-- So it is whatever is packed.
+abbrev pub FilesPass : Type 0
+FilesPass =
+    (pair : Pair) (tree : Tree) (r : Repository) (command : Command) (move : NameMove)
+    → MovesOneName r command move → IsSound r
+    → StandsFor r.kind pair r → IsTrue (is_name move.name)
+    → first_cause r command ≡ None → IsFalse (takes_id r command)
+    → MovesOnTheWay move.name (entry_of_move r move) pair.names tree
+    → HoldsBetween r command tree
+
 -- A stop while names move, once all values are stored.
 abbrev pub MovingStops : Type 0
 MovingStops =

@@ -13,6 +13,7 @@ use Rattle.history_model.specs.Wholeness.{IsSound}
 use Rattle.history_steps.specs.DeleteSteps.{DeletesName, DeletesOnTheWay}
 use Rattle.history_steps.specs.MoveSteps.{FitsThen}
 use Rattle.history_steps.specs.Passing.{HoldsBetween, MovesOnTheWay}
+use Rattle.history_steps.specs.TakeSteps.{TakesName, TakesOnTheWay}
 use Rattle.history_steps.specs.TreeSteps.{MovesName, move_entry}
 
 -- what the old name holds
@@ -69,3 +70,40 @@ GoingPasses =
     (r : Repository) (from to : Bytes) (pair : Pair) (tree : Tree)
     → IsRenaming r from to (with_both r from to) pair → DeletesOnTheWay from pair.names tree
     → HoldsBetween r (Rename from to) tree
+
+-- ---- whatever is packed
+
+-- No cause holds of the rename, and the pair stands for this repository on its way.
+pub record IsOnItsWay (r : Repository) (from to : Bytes) (now : Repository)
+    (pair : Pair) : Type 0 where
+  pub sound : IsSound r
+  pub none : first_cause r (Rename from to) ≡ None
+  pub stands : StandsFor r.kind pair now
+
+-- Once the new name's files have moved to what the old name holds, both names stand.
+abbrev pub RenamesBring : Type 0
+RenamesBring =
+    (r : Repository) (from to : Bytes) (pair : Pair) (new : Tree) → IsOnItsWay r from to r pair
+    → MovesName to (rename_entry r from to) pair.names new
+    → IsOnItsWay r from to (with_both r from to) (record pair { names = new })
+
+-- Meanwhile each name, once recovered, is as before the rename or as after it, and the old one holds its id.
+abbrev pub BringingPasses : Type 0
+BringingPasses =
+    (r : Repository) (from to : Bytes) (pair : Pair) (tree : Tree) → IsOnItsWay r from to r pair
+    → MovesOnTheWay to (rename_entry r from to) pair.names tree
+    → HoldsBetween r (Rename from to) tree
+
+-- Once the old name's files and its record are gone too, the rename is made.
+abbrev pub RenamesEnd : Type 0
+RenamesEnd =
+    (r : Repository) (from to : Bytes) (pair : Pair) (new : Tree)
+    → IsOnItsWay r from to (with_both r from to) pair → TakesName r.kind from pair.names new
+    → StandsFor r.kind (record pair { names = new }) (after r (Rename from to))
+
+-- Meanwhile each name, once recovered, is as before the rename or as after it, and the new one holds the id.
+abbrev pub TakingPasses : Type 0
+TakingPasses =
+    (r : Repository) (from to : Bytes) (pair : Pair) (tree : Tree)
+    → IsOnItsWay r from to (with_both r from to) pair
+    → TakesOnTheWay r.kind from pair.names tree → HoldsBetween r (Rename from to) tree

@@ -43,6 +43,13 @@ NamesSpeakOfNoValues =
     (tree : Tree) (r : Repository) (values : Values) → file_at tree packed_place ≡ None
     → HoldsNames tree r → HoldsNames tree (record r { objects = values })
 
+-- And with more values it speaks of the same, whatever is packed.
+abbrev pub NamesSpeakOfMore : Type 0
+NamesSpeakOfMore =
+    (tree : Tree) (r : Repository) (values : Values)
+    → ((id : Id) (value : Value) → get r.objects id ≡ Some value → get values id ≡ Some value)
+    → HoldsNames tree r → HoldsNames tree (record r { objects = values })
+
 -- ---- what a tree of values tells
 
 -- Different ids have different places.

@@ -147,3 +147,11 @@ MovesMove =
     → file_at old packed_place ≡ None → HoldsNames old r
     → MovesName name (move_entry r name id actor message) old new
     → HoldsNames new (record r { names = with_name r name id actor message r.names })
+
+-- So it does whatever is packed, since a name's own file wins over a record.
+abbrev pub FilesMoveNames : Type 0
+FilesMoveNames =
+    (old new : Tree) (r : Repository) (name : Bytes) (id : Id) (actor : Actor) (message : Bytes)
+    → IsTrue (is_name name) → IsTrue (is_id r.kind id) → HoldsNames old r
+    → MovesName name (move_entry r name id actor message) old new
+    → HoldsNames new (record r { names = with_name r name id actor message r.names })

@@ -1,9 +1,11 @@
 //! Laws on what the two parts pass through while a command is acted on, over the definitions alone.
 
-ghost use Rattle.history_steps.specs.Passing.{PutsPass, CommitsStoreWhole, TagsStoreWhole, StoringStops, MovesPass, MovingStops, ActsLater, ActsThen, SomeStops, FirstAreSome, NamesPass, NamesBegin};
-ghost use Rattle.history_steps.specs.MoveSteps.{LinesFit, LinesMove, LinesPass};
+ghost use Rattle.history_steps.specs.Passing.{PutsPass, CommitsStoreWhole, TagsStoreWhole, StoringStops, MovesPass, FilesPass, MovingStops, ActsLater, ActsThen, SomeStops, FirstAreSome, NamesPass, NamesBegin};
+ghost use Rattle.history_steps.specs.MoveSteps.{LinesFit, LinesMove, LinesPass, NextLinesFit, NextLinesMove, NextLinesPass};
 ghost use Rattle.history_steps.specs.DeleteSteps.{DeletionsStand, DeletionsPass};
-ghost use Rattle.history_steps.specs.RenameSteps.{RenamesFit, RenamesMake, MakingPasses, RenamesStand, GoingPasses};
+ghost use Rattle.history_steps.specs.RenameSteps.{RenamesFit, RenamesMake, MakingPasses, RenamesStand, GoingPasses, RenamesBring, BringingPasses, RenamesEnd, TakingPasses};
+ghost use Rattle.history_steps.specs.TakeSteps.{TakingsStand, TakingsPass};
+ghost use Rattle.history_steps.specs.PackSteps.{PacksReadAlike, PacksPass, PacksStand};
 ghost use Rattle.history_steps.specs.SwitchSteps.{SwitchesStand, SwitchesPass};
 
 /// While a value is put that takes no id, the values that stood are there once recovered, and the value whole or not at all.
@@ -125,4 +127,69 @@ pub fn switches_stand()
 /// Meanwhile HEAD's branch, once recovered, is as before the switch or as after it, and each name as before.
 pub fn switches_pass()
     ensures { SwitchesPass }
+{}
+
+/// While the name of a command that moves one moves, it is as before or moved, whatever is packed.
+pub fn files_pass()
+    ensures { FilesPass }
+{}
+
+/// Where the names of a move's first lines have moved, the name of the next may come to stand, whatever is packed.
+pub fn next_lines_fit()
+    ensures { NextLinesFit }
+{}
+
+/// The move of its files moves it.
+pub fn next_lines_move()
+    ensures { NextLinesMove }
+{}
+
+/// Meanwhile each name, once recovered, is as before the command or as after it.
+pub fn next_lines_pass()
+    ensures { NextLinesPass }
+{}
+
+/// Where the files of a deleted name are gone and its record, what stands stands for the repository after its deletion.
+pub fn takings_stand()
+    ensures { TakingsStand }
+{}
+
+/// While they go, each name is as before the command or as after it.
+pub fn takings_pass()
+    ensures { TakingsPass }
+{}
+
+/// Where no cause holds of a rename, the move of the new name's files makes it beside the old name, whatever is packed.
+pub fn renames_bring()
+    ensures { RenamesBring }
+{}
+
+/// Meanwhile each name is as before the rename or as after it, and the old one holds its id.
+pub fn bringing_passes()
+    ensures { BringingPasses }
+{}
+
+/// Where the old name's files are gone too and its record, what stands stands for the repository after the rename.
+pub fn renames_end()
+    ensures { RenamesEnd }
+{}
+
+/// While they go, each name is as before the rename or as after it, and the new one holds the id.
+pub fn taking_passes()
+    ensures { TakingPasses }
+{}
+
+/// While names are packed, each name reads as before at each moment, and its log is as before.
+pub fn packs_read_alike()
+    ensures { PacksReadAlike }
+{}
+
+/// Stopped then and recovered, what stands holds the names of before.
+pub fn packs_pass()
+    ensures { PacksPass }
+{}
+
+/// Where all names are packed, what stands stands for the repository as before.
+pub fn packs_stand()
+    ensures { PacksStand }
 {}

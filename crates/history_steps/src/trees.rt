@@ -1,8 +1,8 @@
 //! Laws of the trees that stand for a repository, over the definitions alone.
 
-ghost use Rattle.history_steps.specs.TreeHalves.{HalvesStand, NamesSpeakOfNoValues, PlacesTellIds, PlacesTellValues, ValuesHaveIds};
-ghost use Rattle.history_steps.specs.TreeSteps.{PutsStore, StandingIsStored, StoredStands, TreesTellTaken, OwnIdsStay, StoresInAnyOrder, MovesMove, NoneUnfinished, RenamesPut};
-ghost use Rattle.history_steps.specs.OneNameSteps.{CommitsMoveOneName, TagsMoveOneName, OneNameStands};
+ghost use Rattle.history_steps.specs.TreeHalves.{HalvesStand, NamesSpeakOfNoValues, NamesSpeakOfMore, PlacesTellIds, PlacesTellValues, ValuesHaveIds};
+ghost use Rattle.history_steps.specs.TreeSteps.{PutsStore, StandingIsStored, StoredStands, TreesTellTaken, OwnIdsStay, StoresInAnyOrder, MovesMove, FilesMoveNames, NoneUnfinished, RenamesPut};
+ghost use Rattle.history_steps.specs.OneNameSteps.{CommitsMoveOneName, TagsMoveOneName, OneNameStands, OneNameMoves};
 ghost use Rattle.history_steps.specs.TreeReads.{ObjectsTellValues, CommitsAreRead, FoldersAreRead, BytesAreRead};
 
 /// A pair stands for a repository exactly where each of its trees holds its half.
@@ -109,4 +109,20 @@ pub fn none_unfinished()
 /// A text that was written there and renamed to its place is put.
 pub fn renames_put()
     ensures { RenamesPut }
+{}
+
+/// With more values the tree of names speaks of the same, whatever is packed.
+pub fn names_speak_of_more()
+    ensures { NamesSpeakOfMore }
+{}
+
+/// A move of the files of a name moves the name, whatever is packed.
+pub fn files_move_names()
+    ensures { FilesMoveNames }
+{}
+
+/// The objects after a command that moves one name, and the move of that name, make what stands for the repository after it, whatever is
+/// packed.
+pub fn one_name_moves()
+    ensures { OneNameMoves }
 {}
