@@ -43,11 +43,10 @@ pub mod lookups {
 pub use gix_hash::{Kind, ObjectId, Prefix, oid};
 pub use gix_traverse_commit::{Graph, Row};
 pub use history_model::{Cause, End, Fault};
+pub use history_opening::{NamedBy, OpenError, OpenRefusal};
 pub use history_recovery::{RecoverError, recover};
-pub use history_store::{
-    CreateError, Hit, IdIter, Lookup, Object, Objects, ObjectsRefusal, OpenError, PutError, create,
-};
+pub use history_store::{CreateError, Hit, IdIter, Lookup, Object, Objects, PutError, create};
+pub use history_survey::{ObjectsFlaw, Unopened, open_objects};
 pub use history_word::{Broken, Bytes, Collected, Sink, Source, Stream};
-pub use open::OpenRefusal;
 pub use repository::Repository;
 pub use running::{RunError, run};

@@ -1,35 +1,30 @@
 //! Opening a repository.
 
-ghost use Rattle.std.specs.Prelude.{◌≡◌, false, None, IfOk, OnOk, IfErr};
-ghost use Rattle.history_steps.specs.Offered.{IsOfStage};
+ghost use Rattle.std.specs.Prelude.{◌≡◌, false, None, IfOk, IfErr};
 ghost use Rattle.history_model.specs.Repository as plain;
+ghost use Rattle.history_model.specs.StandsFor.{StandsWhole};
+ghost use Rattle.history_opening.specs.Causes.{IsOpenCause, IsOpenFault};
+ghost use Rattle.history_opening.specs.Opened.{trees_of};
+ghost use Rattle.history_steps.specs.Offered.{IsOfStage};
 ghost use Rattle.history_store.specs.Creation.{IsNew};
-ghost use Rattle.history_store.specs.Opening.{IsNotNew};
 
 use crate::repository::Repository;
 use gix_hash::Kind;
 use gix_ref_file::Files;
-use history_store::{Names, Objects, OpenError, new_branch};
+use history_opening::{OpenRefusal, OpenedFolder, open_folder};
 use std::alloc::Global;
-
-/// Why a repository isn't opened, and its two parts, as they were handed in.
-#[derive(Drop)]
-pub struct OpenRefusal<F: Files> {
-    pub error: OpenError,
-    pub objects: F,
-    pub names: F,
-}
 
 impl<F: Files> Repository<F> {
     ghost use Rattle.history_model.specs.Repository.{fresh};
     ghost use Rattle.history.specs.Face.{objects_part, names_part, has_failed, rows_in};
     ghost use Rattle.history.specs.Stands.{Stands, pair_of};
 
-    /// Opens a repository as [`create`](crate::create) leaves it. No file is changed.
+    /// Opens a folder whose two parts are those of one repository with ids of this kind: whole, in written form and within the limits,
+    /// with no file and no folder besides. So are those that [`create`](crate::create) and [`run`](crate::run) leave, and, where a
+    /// call stopped or failed, [`recover`](crate::recover) behind it. No file is changed.
     ///
-    /// Where it isn't one, the refusal names a cause that holds, and hands both parts back: `NoHead` where no file HEAD
-    /// stands, `BadHead` where it doesn't name a branch, `Stray` for a path that no repository has, `NotYet` for any other
-    /// file, `File` where a call of the files failed, `Memory` where a growth was refused.
+    /// Else the refusal names a cause that holds of them, and hands both parts back. The objects are surveyed before the names.
+    /// `File` comes where a call of the files failed, `Memory` where a growth was refused.
     pub fn open(
         alloc: Global,
         objects: F,
@@ -43,34 +38,36 @@ impl<F: Files> Repository<F> {
         ensures stands { F.is_honest objects → F.is_honest names
             → IfOk result (λ opened. (r : plain.Repository) × (r.kind ≡ kind)
             × Stands F.is_honest F.history opened r × IsOfStage (pair_of F.history opened)) }
+        // Whichever repository the two parts stand for, it is that one.
+        ensures same { (r : plain.Repository) → F.is_honest objects → F.is_honest names
+            → StandsWhole kind (trees_of F.history objects names) r
+            → IfOk result (λ opened. Stands F.is_honest F.history opened r) }
         // Of a new folder it is the one without names and objects, on `refs/heads/main`.
         ensures fresh { F.is_honest objects → F.is_honest names
             → IsNew (F.history objects).tree (F.history names).tree
             → IfOk result (λ opened. Stands F.is_honest F.history opened (fresh kind)) }
-        // At this stage no other folder is opened.
-        ensures stage { F.is_honest objects → F.is_honest names
-            → OnOk result (IsNew (F.history objects).tree (F.history names).tree) }
-        ensures refused { F.is_honest objects → F.is_honest names
-            → IfErr result
-            (λ refusal. IsNotNew F.reading_may_fail (F.history objects).tree
-            (F.history names).tree refusal.error) }
+        ensures refused { F.is_honest objects → F.is_honest names → IfErr result (λ refusal.
+            IsOpenCause F.reading_may_fail kind (trees_of F.history objects names)
+            refusal.error) }
+        // A repository's parts are refused for a fault alone.
+        ensures accepted { (r : plain.Repository) → F.is_honest objects → F.is_honest names
+            → StandsWhole kind (trees_of F.history objects names) r
+            → IsOfStage (trees_of F.history objects names)
+            → IfErr result (λ refusal. IsOpenFault refusal.error) }
         ensures handed_back { IfErr result (λ refusal. (refusal.objects ≡ objects)
             × (refusal.names ≡ names)) }
     {
-        let names = Names::new(names, kind);
-        match new_branch(alloc, &objects, &names) {
-            Ok(branch) => Ok(Repository {
-                objects: Objects::new(alloc, objects, kind),
-                names,
-                branch,
-                rows: None,
-                has_failed: false,
-            }),
-            Err(error) => Err(OpenRefusal {
-                error,
-                objects,
-                names: names.into_files(),
-            }),
-        }
+        let OpenedFolder {
+            objects,
+            names,
+            branch,
+        } = open_folder(alloc, objects, names, kind)?;
+        Ok(Repository {
+            objects,
+            names,
+            branch,
+            rows: None,
+            has_failed: false,
+        })
     }
 }
