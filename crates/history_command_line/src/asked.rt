@@ -11,6 +11,7 @@ use clap::error::ErrorKind;
 use clap::{ArgMatches, Error};
 use gix_hash::Kind;
 use std::alloc::{AllocError, Global};
+use std::convert::AsStr;
 
 /// What is to be done with a repository.
 #[derive(Clone, Copy, Debug, PartialEq, Eq)]
@@ -85,8 +86,8 @@ fn refusal(alloc: Global, error: &Error) -> AskError
 ///
 /// `Help` comes where the words ask for help, with `clap`'s text of it; `Line` where they aren't the program's, with `clap`'s text of why;
 /// `Memory` where memory was refused.
-pub fn read_words<'a>(alloc: Global, words: &'a [&'a str]) -> Result<Asked, AskError>
-    ensures { Reads (map (λ word. word.now) words.now) result }
+pub fn read_words<S: AsStr>(alloc: Global, words: &[S]) -> Result<Asked, AskError>
+    ensures { Reads (map S.text words.now) result }
 {
     let matches = match line(alloc)?.try_get_matches_from(words) {
         Ok(matches) => matches,
