@@ -62,59 +62,59 @@ module _ {F : Type 0} (IsHonest : F → Type 0) (history : F → History) where
 -- through meanwhile.
 module _ {F R W : Type 0} (IsHonest : F → Type 0) (history : F → History) (failures : F → ℕ)
     (MayFail : Type 0) (left : R → Option Bytes) (readings : R → ℕ) (contents : W → Option Bytes)
-    where
-  pub record RunsFrom (r : plain.Repository) (opened ended : Repository F) (reader reader' : R)
-      (writer writer' : W) (end : Result End RunError) : Type 0 where
-    pub commands : List Command
-    pub replies : List Reply
-    pub read : Bytes
-    pub written : Bytes
-    pub new : plain.Repository
-    pub reads : Consumes (left reader) (left reader') read
-    pub writes : Appends (contents writer) (contents writer') written
-    pub ends : EndsRun (IsAtEnd (left reader'))
-        (MadeLastReading left readings reader reader')
-        (CountsFailure failures MayFail opened ended)
-        r commands replies read written end (has_failed ended) new
-    pub traced : IsTraced history failures MayFail opened ended r commands replies new
-    pub stands : has_failed ended ≡ false
-        → Stands IsHonest history ended new × IsOfStage (pair_of history ended)
-    pub recovers : has_failed ended ≡ true → RecoversTo history ended new
+  where
+    pub record RunsFrom (r : plain.Repository) (opened ended : Repository F) (reader reader' : R)
+        (writer writer' : W) (end : Result End RunError) : Type 0 where
+      pub commands : List Command
+      pub replies : List Reply
+      pub read : Bytes
+      pub written : Bytes
+      pub new : plain.Repository
+      pub reads : Consumes (left reader) (left reader') read
+      pub writes : Appends (contents writer) (contents writer') written
+      pub ends : EndsRun (IsAtEnd (left reader'))
+          (MadeLastReading left readings reader reader')
+          (CountsFailure failures MayFail opened ended)
+          r commands replies read written end (has_failed ended) new
+      pub traced : IsTraced history failures MayFail opened ended r commands replies new
+      pub stands : has_failed ended ≡ false
+          → Stands IsHonest history ended new × IsOfStage (pair_of history ended)
+      pub recovers : has_failed ended ≡ true → RecoversTo history ended new
 
-  -- They were opened, and commands run on what was.
-  pub record IsRun (reader_failed : R → Bool) (writer_failed : W → Bool) (kind : Kind)
-      (objects names : F) (reader reader' : R) (writer writer' : W) (performed : Performed F)
-      : Type 0 where
-    pub opened : Repository F
-    pub ended : Repository F
-    pub end : Result End RunError
-    pub told : IsAnswerOf end performed.answer
-    pub opened_objects : objects_part opened ≡ objects
-    pub opened_names : names_part opened ≡ names
-    pub left_objects : performed.objects ≡ objects_part ended
-    pub left_names : performed.names ≡ names_part ended
-    -- what was opened is the repository of the two parts
-    pub whole : IsHonest objects → IsHonest names → AreWhole IsHonest history kind objects names
-    pub is_it : (r : plain.Repository) → IsHonest objects → IsHonest names
-        → StandsWhole kind (trees_of history objects names) r → Stands IsHonest history opened r
-    pub runs : (r : plain.Repository) → Stands IsHonest history opened r
-        → IsOfStage (pair_of history opened)
-        → RunsFrom r opened ended reader reader' writer writer' end
-    -- how the run may end
-    pub input : end ≡ Ok Input → IsAtEnd (left reader')
-    pub read : end ≡ Err runs.Read → (reader_failed reader' ≡ true)
-        ⊎ MadeLastReading left readings reader reader'
-    pub write : end ≡ Err runs.Write → writer_failed writer' ≡ true
-    pub fault : IfOk end (λ it. has_failed ended ≡ is_fault_end it)
+    -- They were opened, and commands run on what was.
+    pub record IsRun (reader_failed : R → Bool) (writer_failed : W → Bool) (kind : Kind)
+        (objects names : F) (reader reader' : R) (writer writer' : W) (performed : Performed F)
+        : Type 0 where
+      pub opened : Repository F
+      pub ended : Repository F
+      pub end : Result End RunError
+      pub told : IsAnswerOf end performed.answer
+      pub opened_objects : objects_part opened ≡ objects
+      pub opened_names : names_part opened ≡ names
+      pub left_objects : performed.objects ≡ objects_part ended
+      pub left_names : performed.names ≡ names_part ended
+      -- what was opened is the repository of the two parts
+      pub whole : IsHonest objects → IsHonest names → AreWhole IsHonest history kind objects names
+      pub is_it : (r : plain.Repository) → IsHonest objects → IsHonest names
+          → StandsWhole kind (trees_of history objects names) r → Stands IsHonest history opened r
+      pub runs : (r : plain.Repository) → Stands IsHonest history opened r
+          → IsOfStage (pair_of history opened)
+          → RunsFrom r opened ended reader reader' writer writer' end
+      -- how the run may end
+      pub input : end ≡ Ok Input → IsAtEnd (left reader')
+      pub read : end ≡ Err runs.Read → (reader_failed reader' ≡ true)
+          ⊎ MadeLastReading left readings reader reader'
+      pub write : end ≡ Err runs.Write → writer_failed writer' ≡ true
+      pub fault : IfOk end (λ it. has_failed ended ≡ is_fault_end it)
 
-  -- nothing is read or written where they aren't opened
-  pub record IsUnrun (kind : Kind) (objects names : F) (reader reader' : R) (writer writer' : W)
-      (performed : Performed F) : Type 0 where
-    pub unopened : IsUnopened IsHonest history MayFail kind objects names performed
-    pub reader : reader' ≡ reader
-    pub writer : writer' ≡ writer
+    -- nothing is read or written where they aren't opened
+    pub record IsUnrun (kind : Kind) (objects names : F) (reader reader' : R) (writer writer' : W)
+        (performed : Performed F) : Type 0 where
+      pub unopened : IsUnopened IsHonest history MayFail kind objects names performed
+      pub reader : reader' ≡ reader
+      pub writer : writer' ≡ writer
 
-  abbrev pub RunsOn : (R → Bool) → (W → Bool) → Kind → F → F → R → R → W → W → Performed F → Type 0
-  RunsOn reader_failed writer_failed kind objects names reader reader' writer writer' performed =
-      IsUnrun kind objects names reader reader' writer writer' performed
-      ⊎ IsRun reader_failed writer_failed kind objects names reader reader' writer writer' performed
+    abbrev pub RunsOn : (R → Bool) → (W → Bool) → Kind → F → F → R → R → W → W → Performed F → Type 0
+    RunsOn reader_failed writer_failed kind objects names reader reader' writer writer' performed =
+        IsUnrun kind objects names reader reader' writer writer' performed
+        ⊎ IsRun reader_failed writer_failed kind objects names reader reader' writer writer' performed

@@ -24,7 +24,7 @@ module _ {F : Type 0} (IsHonest : F → Type 0) (history : F → History) where
       (objects names objects' names' : F) (answer : Result T Failure) : Type 0 where
     pub honest_objects : IsHonest objects → IsHonest objects'
     pub honest_names : IsHonest names → IsHonest names'
-    pub recovered : IsHonest objects → IsHonest names
+    pub done : IsHonest objects → IsHonest names
         → IsDone answer → trees_of history objects' names'
         ≡ recovered kind (trees_of history objects names)
     -- whatever the answer is, what is left recovers to the same

@@ -1,5 +1,6 @@
 //! Opening a folder, to tell whether it is whole or to run commands on it.
 ghost use Rattle.std.specs.Prelude.{◌≡◌, Err};
+ghost use Rattle.history.specs.Face.{names_part, objects_part};
 ghost use Rattle.history_actions.specs.Failures.{IsAnswerOf, IsDone};
 ghost use Rattle.history_actions.specs.Opening.{Checks, KeepsParts, RunsOn};
 ghost use Rattle.history_actions.specs.Saying.{Says, whole};
@@ -25,14 +26,7 @@ pub(crate) fn check_folder<F: Files, W: Sink>(
     ensures says { Says W.contents W.has_failed writer.old writer.new whole result.answer }
 {
     match Repository::open(alloc, objects, names, kind) {
-        Ok(repository) => {
-            let (objects, names) = repository.into_parts();
-            Performed {
-                answer: say_whole(writer),
-                objects,
-                names,
-            }
-        }
+        Ok(repository) => handed_back(repository, say_whole(writer)),
         Err(refusal) => unopened(refusal),
     }
 }
@@ -50,17 +44,25 @@ pub(crate) fn run_folder<F: Files, R: Source, W: Sink>(
         W.contents R.has_failed W.has_failed kind objects names reader.old reader.new
         writer.old writer.new result }
 {
-    match Repository::open(alloc, objects, names, kind) {
-        Ok(mut repository) => {
-            let end = run(alloc, reader, writer, &mut repository);
-            let (objects, names) = repository.into_parts();
-            Performed {
-                answer: answer_of(end),
-                objects,
-                names,
-            }
-        }
-        Err(refusal) => unopened(refusal),
+    let mut repository = match Repository::open(alloc, objects, names, kind) {
+        Ok(repository) => repository,
+        Err(refusal) => return unopened(refusal),
+    };
+    let end = run(alloc, reader, writer, &mut repository);
+    handed_back(repository, answer_of(end))
+}
+
+// What comes of a repository, whose parts are handed back.
+fn handed_back<F: Files>(repository: Repository<F>, answer: Result<(), Failure>) -> Performed<F>
+    ensures answer { result.answer ≡ answer }
+    ensures objects { result.objects ≡ objects_part repository }
+    ensures names { result.names ≡ names_part repository }
+{
+    let (objects, names) = repository.into_parts();
+    Performed {
+        answer,
+        objects,
+        names,
     }
 }
 

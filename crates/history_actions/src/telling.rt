@@ -18,14 +18,14 @@ pub fn report<E: Sink>(answer: &Result<(), Failure>, errors: &mut E) -> u8
         (told answer.now) }
     ensures silent { told answer.now ≡ [] → errors.new ≡ errors.old }
 {
-    match answer {
-        Ok(()) => 0,
-        Err(Failure::Ended(_)) => 1,
-        Err(failure) => {
-            let _ = tell(failure, errors);
-            1
-        }
+    let Err(failure) = answer else {
+        return 0;
+    };
+    if let Failure::Ended(_) = failure {
+        return 1;
     }
+    let _ = tell(failure, errors);
+    1
 }
 
 // Writes the line of a failure.

@@ -1,5 +1,7 @@
-//! The program `history`. Without words it runs commands on a new repository in memory, from standard input to standard output; with
-//! words it does what they ask for with a folder.
+//! The program `history`.
+//!
+//! Without words it runs commands on a new repository in memory, from standard input to standard output; with words it does what they ask for
+//! with a folder.
 #![tactic(auto)]
 
 mod folder;
