@@ -1,42 +1,59 @@
 -- What an opened repository stands for.
-use Rattle.std.proofs.Common.{◌≡◌, false, is_some, sym, ap, subst, ◌∙◌, List, Option, None}
+use Rattle.std.proofs.Common.{◌≡◌, sym, ap, subst, ◌∙◌, List, Option, None}
+use Rattle.std.specs.FinMap.{contains_key}
+use Rattle.gix_hash_id.specs.declared.kind.Kind.{Kind}
 use Rattle.gix_ref_file.specs.History.{History}
 use Rattle.gix_ref_file.specs.Tree.{Tree}
-use Rattle.std.specs.FinMap.{contains_key, empty, get-empty}
-use Rattle.history_steps.specs.Offered.{IsOfStage}
-use Rattle.gix_hash_id.specs.Id.{Id}
-use Rattle.history_model.specs.Objects.{by_id}
-use Rattle.history_model.specs.Places.{packed_place}
-use Rattle.history_model.specs.Repository.{fresh, first_branch}
-use Rattle.gix_hash_id.specs.declared.kind.Kind.{Kind}
-use Rattle.history_store.proofs.FreshParts.{new_stands_whole}
-use Rattle.history_store.specs.Creation.{IsNew}
-use Rattle.history.specs.declared.repository.Repository.{Repository}
 use Rattle.gix_traverse_commit.specs.Told.{rows_of}
 use Rattle.gix_traverse_commit.specs.declared.rows.Row.{Row}
-use Rattle.history.specs.Face.{objects_part, names_part, known_ids, rows_in}
+use Rattle.history_model.specs.Places.{Pair, packed_place}
+use Rattle.history_model.specs.Repository as plain
+use Rattle.history_model.specs.StandsFor.{StandsWhole}
+use Rattle.history_opening.specs.Opened.{IsOpenedAs, trees_of}
+use Rattle.history_opening.specs.declared.folder.OpenedFolder.{OpenedFolder}
+use Rattle.history_steps.specs.Offered.{IsOfStage}
+use Rattle.history_store.specs.Creation.{IsNew}
+use Rattle.history_store.specs.Face.{files_of_names, files_of_objects, ids_of_objects, kind_of_names, kind_of_objects}
+use Rattle.history_store.specs.declared.objects.Objects.{Objects}
+use Rattle.history.specs.declared.repository.Repository.{Repository}
+use Rattle.history.specs.Face.{rows_in}
 use Rattle.history.specs.Indexed.{AgreeRows}
+use Rattle.history.specs.Stands.{Stands, pair_of}
 use Rattle.history.proofs.RowsKept.{none_agree}
-use Rattle.history.specs.Stands.{Stands}
 
--- a repository over the parts of a new one stands for the repository without names and objects
-pub opened_stands : {F : Type 0} (IsHonest : F → Type 0) (history : F → History) (repository : Repository F) (kind : Kind) → IsHonest (objects_part repository) → IsHonest (names_part repository)
-    → repository.objects.kind ≡ kind → repository.names.kind ≡ kind → repository.branch.items ≡ first_branch → known_ids repository ≡ empty → rows_in repository ≡ None
-    → IsNew (history (objects_part repository)).tree (history (names_part repository)).tree → Stands IsHonest history repository (fresh kind)
-opened_stands IsHonest history repository kind objects names of_kind names_kind branch none unrowed new = record {
-  honest_objects = objects;
-  honest_names = names;
-  whole = new_stands_whole kind (history (objects_part repository)).tree (history (names_part repository)).tree new;
-  objects_kind = of_kind;
-  names_kind = names_kind;
-  branch = branch;
-  known = λ id. ap (λ ids. contains_key ids id) none ∙ ap is_some (get-empty by_id id) ∙ sym (no_object_known id);
-  rows = subst (λ (rows : Option (List Row)). AgreeRows kind (fresh kind).objects (rows_of rows)) (sym unrowed) (none_agree kind (fresh kind).objects);
-}
-  where
-    no_object_known : (id : Id) → contains_key (fresh kind).objects id ≡ false
-    no_object_known id = ap is_some (get-empty by_id id)
+-- a repository that is made of an opened folder
+module _ {F : Type 0} (IsHonest : F → Type 0) (history : F → History) (opened : OpenedFolder F) (kind : Kind) (objects names : F) (repository : Repository F)
+    (objects_are : repository.objects ≡ opened.objects) (names_are : repository.names ≡ opened.names) (branch_is : repository.branch ≡ opened.branch) (unrowed : rows_in repository ≡ None)
+    (objects_files : files_of_objects opened.objects ≡ objects) (names_files : files_of_names opened.names ≡ names)
+    (objects_kind : kind_of_objects opened.objects ≡ kind) (names_kind : kind_of_names opened.names ≡ kind) where
+  own_objects : files_of_objects repository.objects ≡ objects
+  own_objects = ap files_of_objects objects_are ∙ objects_files
 
--- and that is one of this stage
+  own_names : files_of_names repository.names ≡ names
+  own_names = ap files_of_names names_are ∙ names_files
+
+  same_pair : trees_of history objects names ≡ pair_of history repository
+  same_pair = λ i. record { objects = (history (sym own_objects i)).tree; names = (history (sym own_names i)).tree }
+
+  pub opened_stage : IsOfStage (trees_of history objects names) → IsOfStage (pair_of history repository)
+  opened_stage stage = subst IsOfStage same_pair stage
+
+  -- stands for the one that the folder is
+  pub opened_stands : IsHonest objects → IsHonest names → (r : plain.Repository) → IsOpenedAs kind (trees_of history objects names) opened r → Stands IsHonest history repository r
+  opened_stands honest_objects honest_names r is = record {
+    honest_objects = subst IsHonest (sym own_objects) honest_objects;
+    honest_names = subst IsHonest (sym own_names) honest_names;
+    whole = subst (λ (pair : Pair). StandsWhole r.kind pair r) same_pair (subst (λ (own : Kind). StandsWhole own (trees_of history objects names) r) (sym of_kind) is.stands);
+    objects_kind = ap kind_of_objects objects_are ∙ objects_kind ∙ sym of_kind;
+    names_kind = ap kind_of_names names_are ∙ names_kind ∙ sym of_kind;
+    branch = ap (λ branch. branch.items) branch_is ∙ is.branch;
+    known = λ id. ap (λ (own : Objects F). contains_key (ids_of_objects own) id) objects_are ∙ is.known id;
+    rows = subst (λ (rows : Option (List Row)). AgreeRows r.kind r.objects (rows_of rows)) (sym unrowed) (none_agree r.kind r.objects);
+  }
+    where
+      of_kind : r.kind ≡ kind
+      of_kind = (is.stands).stands.of_kind
+
+-- a new repository is one of this stage
 pub opened_of_stage : (objects names : Tree) → IsNew objects names → IsOfStage (record { objects = objects; names = names })
 opened_of_stage objects names new = record { unpacked = new.no_other packed_place (λ e. cc) }

@@ -3,6 +3,7 @@
 rows that stand first are written by hand with what they are refused for, and each commit and tree that they tell is one that git
 printed; behind them come commands by chance."""
 
+import hashlib
 import random
 import sys
 from pathlib import Path
@@ -20,6 +21,7 @@ SIGNED = b"author 1 3 %d +0000\nA\na@b\ncommitter 1 3 %d +0000\nA\na@b\nmessage 
 ONE = SIGNED % (1, 1, 3, b"one")
 HEAD = b"ref: refs/heads/main\n"
 LIMIT = 2 ** 24
+NEW_LINE, ZERO = b"\n", b"\0"
 
 
 class Long:
@@ -123,7 +125,7 @@ def rows():
         answer(stream, cause, end="Refused")
     for kind, hello in [("sha1", "b6fc4c620b67d95f953a5c1c1230aaab5db5a1b0"),
                         ("sha256", "8aec4e4876f854f688d0ebfc8f37598f38e5fd6903cccc850ca36591175aeb60")]:
-        ROWS.append((f"{kind} put:hello", f"{hello} exists blob:hello first Malformed NotYet:objects/{hello[:2]}/{hello[2:]}"))
+        ROWS.append((f"{kind} put:hello", f"{hello} exists blob:hello first Malformed opened Stray:objects/{hello[:2]}/{hello[2:]}"))
 
 
 def first_causes():
@@ -924,9 +926,14 @@ def opening():
     for kind in KINDS:
         ROWS.append((f"{kind} {head} open", "done opened"))
         ROWS.append((f"{kind} open", "NoHead"))
-        for text, cause in [(b"refs/heads/main\n", "BadHead"), (b"ref: refs/tags/main\n", "BadHead"),
-                            (b"ref: refs/heads/other\n", "NotYet:HEAD")]:
-            ROWS.append((f"{kind} names:write:HEAD:{word(text)} open", f"done {cause}"))
+        for text in [b"refs/heads/main\n", b"ref: refs/tags/main\n"]:
+            ROWS.append((f"{kind} names:write:HEAD:{word(text)} open", "done BadHead"))
+        # HEAD may name any branch.
+        plain = Plain(kind)
+        plain.branch = b"refs/heads/other"
+        ended, replies = plain.run(b"commit HEAD new\n" + ONE + b"names\n")
+        ROWS.append((f"{kind} names:write:HEAD:{word(b'ref: refs/heads/other' + NEW_LINE)} open run:{word(b'commit HEAD new' + NEW_LINE + ONE + b'names' + NEW_LINE)} left",
+                     f"done opened {told(ended, replies)} {left(plain)}"))
         ROWS.append((f"{kind} {head} names:folder:hooks open", "done done Stray:hooks"))
         ROWS.append((f"{kind} {head} names:write:packed-refs:- open", "done done NotYet:packed-refs"))
         folders = ["refs", "refs/heads", "refs/heads/main", "refs/heads/main/x", "refs/heads/main/x/y", "refs/heads/main/z", "logs",
@@ -937,12 +944,85 @@ def opening():
         known(kind, replies[0][0])
         ROWS.append((" ".join([kind, head, *(f"names:folder:{it}" for it in folders), "open", f"run:{word(stream)}", "left"]),
                      " ".join(["done"] * 12 + ["opened", told(ended, replies), left(plain)])))
-        # The parts that come back open no more: they hold a history.
+
+
+def object_file(kind, text):
+    """Where the object of this text stands."""
+    digits = hashlib.new(kind, text).hexdigest().encode()
+    return b"objects/" + digits[:2] + b"/" + digits[2:]
+
+
+def reopening():
+    """A folder with a commit, as it is or changed: opened again, or not, for its cause; what `recover` makes whole opens behind it."""
+    again = b"names\nfiles main\nshow main path 1\na\n"
+    for kind in KINDS:
         plain = Plain(kind)
-        ended, replies = plain.run(INPUT)
+        ended, replies = plain.run(PUT_HELLO)
+        commit, tree, blob = (text for text in reversed(list(plain.objects.values())))
+        log = plain.logs[b"refs/heads/main"]
+        assert (len(log) == 102) == (kind == "sha1")
+        answers = told(*plain.run(again))
+        made, whole = f"{kind} create open run:{word(PUT_HELLO)}", f"created opened {told(ended, replies)}"
+        opens = f"open run:{word(again)} left"
+        opened = f"opened {answers} {left(plain)}"
+        empty = object_file(kind, b"blob 0\0")
+        objects = {name: object_file(kind, text) for name, text in [("commit", commit), ("tree", tree), ("blob", blob)]}
+        digits = {name: path.replace(b"objects/", b"").replace(b"/", b"").decode() for name, path in objects.items()}
+
+        def row(cause, *words, then="", done=None):
+            ROWS.append((" ".join([made, "close", *words, "open", *([then] if then else [])]),
+                         " ".join([whole, *["done"] * len(words), cause, *([done] if done else [])])))
+
+        ROWS.append((f"{made} close {opens}", f"{whole} {opened}"))
+        ROWS.append((f"{kind} create open run:{word(INPUT)} close open", f"created opened {told(*Plain(kind).run(INPUT))} opened"))
+        # A name's lock and a log's half line go with `recover`.
+        row("Unfinished:refs/heads/main.lock", "names:write:refs/heads/main.lock:-", then=f"recover {opens}", done=f"recovered {opened}")
+        row("BadLog:logs/refs/heads/main:2", "names:append:logs/refs/heads/main:0000",
+            then=f"recover names:kind:logs/refs/heads/main {opens}", done=f"recovered file:{len(log)} {opened}")
+        row("Symbolic:refs/heads/x", f"names:write:refs/heads/x:{word(b'ref: refs/heads/main' + NEW_LINE)}")
+        row("Stray:README", "names:write:README:hello")
+        row("BadHead", f"names:write:HEAD:{word(digits['commit'].encode() + NEW_LINE)}")
+        row("Stray:refs/heads/q.lock", "names:folder:refs/heads/q.lock")
+        ROWS.append((f"{made} close names:folder:refs/heads/q open run:{word(again)}", f"{whole} done opened {answers}"))
+        # The empty blob may stand with no name of it; under its id no other bytes may.
+        folder = [] if any(path.startswith(empty[:10]) for path in objects.values()) else [f"objects:folder:{word(empty[:10])}"]
+        ROWS.append((" ".join([made, "close", *folder, f"objects:write:{word(empty)}:{word(b'blob 0' + ZERO)}", f"open run:{word(again)}"]),
+                     " ".join([whole, *["done"] * (len(folder) + 1), f"opened {answers}"])))
+        row(f"WrongId:{word(empty)}", *folder, f"objects:write:{word(empty)}:{word(b'blob 1' + ZERO + b'x')}")
+        # What is named must stand, in its kind.
+        row(f"Missing:{digits['tree']}:{digits['commit']}", f"objects:remove:{word(objects['tree'])}")
+        row(f"Missing:{digits['blob']}:{digits['tree']}", f"objects:remove:{word(objects['blob'])}")
+        row(f"Missing:{digits['commit']}:refs/heads/main", f"objects:remove:{word(objects['commit'])}")
+        row(f"WrongKind:{digits['tree']}:refs/heads/x", f"names:write:refs/heads/x:{word(digits['tree'].encode() + NEW_LINE)}")
+        row("Unfinished:objects/unfinished", "objects:write:objects/unfinished:blob", then=f"recover {opens}", done=f"recovered {opened}")
+        row(f"BadObject:{word(objects['blob'])}", f"objects:write:{word(objects['blob'])}:blob")
+        row("BadName:refs/heads/x", "names:write:refs/heads/x:-")
+        row("PrivateName:refs/bisect/x", "names:folder:refs/bisect", f"names:write:refs/bisect/x:{word(digits['commit'].encode() + NEW_LINE)}")
+        row("LogWithoutName:logs/refs/heads/x", f"names:write:logs/refs/heads/x:{word(log)}", then=f"recover {opens}", done=f"recovered {opened}")
+        row("LongLogLine:logs/refs/heads/main:2", "names:append:logs/refs/heads/main:x*4097")
+        # With ids of the other kind no file is an object's.
         first = sorted(plain.objects)[0].decode()
-        ROWS.append((f"{kind} create open run:{word(INPUT)} close open",
-                     f"created opened {told(ended, replies)} NotYet:objects/{first[:2]}/{first[2:]}"))
+        mixed = [*placed("objects", {b"objects/" + it[:2] + b"/" + it[2:]: text for it, text in plain.objects.items()}),
+                 f"names:write:HEAD:{word(HEAD)}", "open"]
+        other = "sha256" if kind == "sha1" else "sha1"
+        ROWS.append((" ".join([other, *mixed]), " ".join([*["done"] * (len(mixed) - 1), f"Stray:objects/{first[:2]}/{first[2:]}"])))
+
+
+def reopened_between():
+    """Commands of each kind that changes files, with the folder closed and opened again between them."""
+    second = b"commit refs/heads/side new\nparent main\nput exec 3 1\nd/b\n2\n" + SIGNED % (2, 2, 3, b"two")
+    streams = [PUT_HELLO, tag(b"refs/tags/v1 new main", 3), second,
+               move(b"refs/heads/main any side"),
+               b"rename refs/heads/side refs/heads/kept\n", b"switch refs/heads/kept\n", b"index\n",
+               b"delete refs/tags/v1 any\n", b"names\npast main\nlog topological all +kept +main\nfiles kept\nshow main path 3\nd/b\n"]
+    for kind in KINDS:
+        plain, words, answers = Plain(kind), ["create", "open"], ["created", "opened"]
+        for stream in streams:
+            ended, replies = plain.run(stream)
+            assert (ended, refusals(replies)) == ("Input", []), (stream, ended, replies)
+            words += [f"run:{word(stream)}", "close", "open"]
+            answers += [told(ended, replies), "opened"]
+        ROWS.append((" ".join([kind, *words, "left"]), " ".join([*answers, left(plain)])))
 
 
 FEW = b"commit refs/heads/main new\nput file 5 1\na/b/c\n1\nput file 1 1\nd\n2\n"
@@ -1033,6 +1113,26 @@ def stops():
             for part, answers in (("objects", in_objects), ("names", in_names)):
                 each(80, kind, f"create {part}:stop:#:{kept} open run:{word(stream)} left", [closed, *answers, whole])
         creation(kind)
+
+
+def reopened_stops():
+    """What each stop of a run leaves is opened again once it is recovered, and goes on answering."""
+    stream, again = PUT_HELLO + tag(b"refs/tags/v1 new main"), b"names\nshow main path 1\na\n"
+    fault = b"fault File\n"
+    for kind in KINDS:
+        plain, first = Plain(kind), Plain(kind)
+        _, replies = plain.run(stream)
+        first.run(PUT_HELLO)
+        none = told(*Plain(kind).run(again))
+        before, after = (f" opened {told(*state.run(again))}" for state in (first, plain))
+        ends = [f"created opened Fault:{word(b''.join(reply for reply, _ in replies[:count]) + fault)} " for count in range(2)]
+        closed, whole = f"created File closed {left(plain, 0, False)} opened {none}", f"created opened {told('Input', replies)} {left(plain)}{after}"
+        in_objects = [f"{ends[0]}{left(plain, count, False)} opened {none}" for count in range(4)]
+        in_objects += [ends[1] + left_with(plain, first, count) + before for count in (3, 4)]
+        in_names = [*(f"{ends[0]}{left(plain, count, False)} opened {none}" for count in (0, 3)), ends[0] + left(first) + before]
+        in_names += [*(ends[1] + left_with(plain, first, count) + before for count in (3, 4)), ends[1] + left(plain) + after]
+        for part, answers in (("objects", in_objects), ("names", in_names)):
+            each(90, kind, f"create {part}:stop:#:5 open run:{word(stream)} left open run:{word(again)}", [closed, *answers, whole])
 
 
 def move_stops():
@@ -1181,7 +1281,7 @@ def by_chance(chance, kind):
 
 if __name__ == "__main__":
     for part in (rows, first_causes, two_branches, of_names, moves, renames, deletions, switches, tags, indexes, logs, path_logs, short_ids, removals, nested,
-                 limits, opening, readings, readers, faults, index_faults, log_faults, move_stops, rename_stops, delete_stops, switch_stops, tag_stops, stops):
+                 limits, opening, reopening, reopened_between, readings, readers, faults, index_faults, log_faults, move_stops, rename_stops, delete_stops, switch_stops, tag_stops, stops, reopened_stops):
         part()
     for kind in KINDS:
         recoveries(kind)

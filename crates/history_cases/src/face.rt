@@ -1,15 +1,15 @@
 //! The store of objects by the face alone.
 
-use crate::session::show_open_error;
 use case_words::{Page, read_bytes};
 use gix_ref_file::MemoryFiles;
 use history::lookups::{Exists, Find};
-use history::{Kind, Objects, PutError, lookups};
+use history::{Kind, ObjectsFlaw, PutError, Unopened, lookups, open_objects};
 use std::alloc::Global;
 
-/// A blob that is put and found; then a tag of it, which is malformed, and the part, which isn't opened with objects yet.
+/// A blob that is put and found; then a tag of it, which is malformed; and the part, which is opened with the blob, and isn't with ids of
+/// the other kind.
 pub fn put(alloc: Global, kind: Kind, content: &str, page: &mut Page) -> Option<()> {
-    let mut objects = Objects::open(alloc, MemoryFiles::new(alloc), kind).ok()?;
+    let mut objects = open_objects(alloc, MemoryFiles::new(alloc), kind).ok()?;
     let id = objects
         .put(alloc, lookups::Kind::Blob, read_bytes(alloc, content)?)
         .ok()?;
@@ -34,8 +34,23 @@ pub fn put(alloc: Global, kind: Kind, content: &str, page: &mut Page) -> Option<
         Err(PutError::Malformed) => page.word("Malformed"),
         _ => page.word("put"),
     }
-    if let Err(refusal) = Objects::open(alloc, objects.into_files(), kind) {
-        show_open_error(&refusal.error, page);
+    reopen(alloc, kind, objects.into_files(), page)
+}
+
+// Opens a part again, and then with ids of the other kind, of which it has none.
+fn reopen(alloc: Global, kind: Kind, files: MemoryFiles, page: &mut Page) -> Option<()> {
+    let objects = open_objects(alloc, files, kind).ok()?;
+    page.word("opened");
+    let other = match kind {
+        Kind::Sha1 => Kind::Sha256,
+        Kind::Sha256 => Kind::Sha1,
+    };
+    match open_objects(alloc, objects.into_files(), other) {
+        Err(Unopened {
+            flaw: ObjectsFlaw::Stray(path),
+            ..
+        }) => page.named("Stray", &path),
+        _ => page.word("other"),
     }
     Some(())
 }

@@ -4,6 +4,7 @@
 mod face;
 mod files;
 mod indexed;
+mod refusals;
 mod runs;
 mod session;
 

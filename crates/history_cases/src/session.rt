@@ -1,9 +1,10 @@
 //! A repository and its parts, and what words do with them.
 
+use crate::refusals::show_open_error;
 use crate::{face, files, indexed, runs};
 use case_words::{Page, Session, Trial, act_on, sound};
 use gix_ref_file::MemoryFiles;
-use history::{CreateError, Kind, OpenError, RecoverError, Repository, create, recover};
+use history::{CreateError, Kind, RecoverError, Repository, create, recover};
 use std::alloc::Global;
 use std::mem;
 
@@ -158,17 +159,5 @@ fn show_created(created: Result<(), CreateError>, page: &mut Page) {
         Err(CreateError::NotEmpty(path)) => page.named("NotEmpty", &path),
         Err(CreateError::File) => page.word("File"),
         Err(CreateError::Memory) => page.word("Memory"),
-    }
-}
-
-/// Why a folder or a part isn't opened.
-pub fn show_open_error(error: &OpenError, page: &mut Page) {
-    match error {
-        OpenError::NoHead => page.word("NoHead"),
-        OpenError::BadHead => page.word("BadHead"),
-        OpenError::Stray(path) => page.named("Stray", path),
-        OpenError::NotYet(path) => page.named("NotYet", path),
-        OpenError::File => page.word("File"),
-        OpenError::Memory => page.word("Memory"),
     }
 }

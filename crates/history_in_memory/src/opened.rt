@@ -5,8 +5,8 @@ ghost use Rattle.history_steps.specs.Offered.{IsOfStage};
 ghost use Rattle.history_model.specs.Repository.{fresh};
 ghost use Rattle.history.specs.Face.{has_failed};
 ghost use Rattle.history.specs.Stands.{Stands, pair_of};
-ghost use Rattle.history.specs.declared.open.OpenRefusal.{OpenRefusal};
 ghost use Rattle.history_in_memory.specs.declared.opened.NewError.TheVariants as why;
+ghost use Rattle.history_opening.specs.declared.error.OpenRefusal.{OpenRefusal};
 
 use gix_hash::Kind;
 use gix_ref_file::{Files, MemoryFiles};

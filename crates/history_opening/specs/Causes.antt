@@ -1,5 +1,5 @@
 -- Why a folder isn't opened: what its error says of the two trees.
-use Rattle.std.specs.Prelude.{◌≡◌, ◌⊎◌, ⊤, option_map}
+use Rattle.std.specs.Prelude.{◌≡◌, ◌⊎◌, option_map}
 use Rattle.std.specs.FinMap.{get}
 use Rattle.gix_hash_id.specs.declared.kind.Kind.{Kind}
 use Rattle.gix_ref_file.specs.Tree.{Tree}

@@ -1,0 +1,227 @@
+-- The two parts that were surveyed, as one repository.
+use Rattle.std.proofs.Common.{◌≡◌, ◌⊎◌, ◌<◌, ◌^◌, true, cond, [], ◌∷◌, ◌++◌, length, refl, sym, ◌∙◌, ap, subst, arith, inl, inr, codes, Option, Some, None, is_some, option_map}
+use Rattle.std.specs.Prelude.{option_and_then}
+use Rattle.std.specs.FinMap.{contains_key, empty, get}
+use Rattle.std.proofs.lemmas.List.{append_cancel_left, append_cancel_right}
+use Rattle.std.proofs.lemmas.Option.{same_Some}
+use Rattle.gix_hash_id.specs.Id.{Id, id_of}
+use Rattle.gix_hash_id.specs.declared.kind.Kind.{Kind}
+use Rattle.gix_object_find.specs.Table.{Object}
+use Rattle.gix_ref_file.specs.History.{History}
+use Rattle.gix_ref_file.specs.Tree.{Tree}
+use Rattle.history_model.specs.Bytes.{Bytes}
+use Rattle.history_model.specs.Forms.{is_id}
+use Rattle.history_model.specs.Objects.{Value, content_of, object_kind, value_text}
+use Rattle.history_model.specs.Places.{Pair, object_place}
+use Rattle.history_model.specs.Repository.{HaveOwnIds, Repository, Values, first_branch}
+use Rattle.history_model.specs.StandsFor.{StandsWhole, head_text}
+use Rattle.history_model.proofs.PlaceLemmas.{file_at_id, values_have_ids}
+use Rattle.history_steps.specs.Offered.{IsOfStage}
+use Rattle.history_steps.specs.TreeHalves.{HoldsValues}
+use Rattle.history_steps.proofs.TreePuts.{halves_stand}
+use Rattle.history_store.specs.Face.{ids_of_objects}
+use Rattle.history_store.specs.Ids.{IdSet}
+use Rattle.history_store.specs.KnownObjects.{object_at}
+use Rattle.history_store.specs.ObjectTexts.{object_in}
+use Rattle.history_store.proofs.TextObjects.{object_in-text}
+use Rattle.history_survey.specs.Flaws.{IsObjectsFlaw}
+use Rattle.history_survey.specs.Opened.{IsOpened, IsSoundStore, store_of}
+use Rattle.history_survey.specs.declared.flaw.ObjectsFlaw.{ObjectsFlaw}
+use Rattle.history_survey.proofs.Joins.{whole_on}
+use Rattle.history_names_survey.specs.Causes.{HasCause, IsFault}
+use Rattle.history_names_survey.specs.Joined.{StandsStore}
+use Rattle.history_names_survey.specs.Parts.{IsNamesPart, StandsNames}
+use Rattle.history_names_survey.specs.Stored.{AreKindsOf, Kinds, is_of_wrong_kind}
+use Rattle.history_names_survey.specs.declared.error.NamesError.{NamesError}
+use Rattle.history_names_survey.specs.declared.error.NamesError.TheVariants.{NoHead, BadHead, Stray, NotYet, Unfinished, BadName, PrivateName, Symbolic, Missing, WrongKind, BadLog, LongLogLine, LogWithoutName, File, Memory}
+use Rattle.history_opening.specs.Causes.{IsOpenCause, IsOpenFault, cause_of_flaw, cause_of_names, kinds_of}
+use Rattle.history_opening.specs.Opened.{IsOpenedAs}
+use Rattle.history_opening.specs.declared.folder.OpenedFolder.{OpenedFolder}
+use Rattle.history_opening.proofs.NoFlaws.{fault_alone}
+
+-- ---- HEAD's text tells the branch
+
+same_branch : (a b : Bytes) → head_text a ≡ head_text b → a ≡ b
+same_branch a b e = append_cancel_left (codes "ref: ") a b (append_cancel_right (codes "ref: " ++ a) (codes "ref: " ++ b) (10 ∷ []) e)
+
+-- ---- the files of values tell their ids and kinds
+
+same_ids : (kind : Kind) (tree : Tree) (a b : Values) → HoldsValues kind tree a → HoldsValues kind tree b → HaveOwnIds kind a → HaveOwnIds kind b → (id : Id) → contains_key a id ≡ contains_key b id
+same_ids kind tree a b in_a in_b own_a own_b id = go (get a id) refl (get b id) refl
+  where
+    some_text : (o : Option Value) → is_some o ≡ is_some (option_map (value_text kind) o)
+    some_text None = refl
+    some_text (Some v) = refl
+
+    of_id : is_id kind id ≡ true → contains_key a id ≡ contains_key b id
+    of_id formed =
+        some_text (get a id)
+        ∙ ap is_some (sym (file_at_id kind a own_a id formed) ∙ sym (in_a.files (object_place id)) ∙ in_b.files (object_place id) ∙ file_at_id kind b own_b id formed)
+        ∙ sym (some_text (get b id))
+
+    go : (x : Option Value) → get a id ≡ x → (y : Option Value) → get b id ≡ y → contains_key a id ≡ contains_key b id
+    go None e None f = ap is_some e ∙ sym (ap is_some f)
+    go (Some v) e y f = of_id (values_have_ids kind a own_a id v e)
+    go None e (Some w) f = of_id (values_have_ids kind b own_b id w f)
+
+module _ (kind : Kind) (tree : Tree) (values : Values) (holds : HoldsValues kind tree values) (sound : IsSoundStore kind values)
+    (ids : IdSet) (known : (id : Id) → contains_key ids id ≡ contains_key values id) where
+  object_of : (id : Id) (v : Value) → get values id ≡ Some v → object_at tree id ≡ Some (record { kind = object_kind v; content = content_of kind v })
+  object_of id v at =
+      ap (option_and_then object_in) (holds.files (object_place id) ∙ file_at_id kind values (sound.whole).own_ids id (values_have_ids kind values (sound.whole).own_ids id v at) ∙ ap (option_map (value_text kind)) at)
+      ∙ object_in-text (object_kind v) (content_of kind v) small
+    where
+      small : length (content_of kind v) < 2 ^ 64
+      small = let most = (sound.written id v at).1 in omega arith
+
+  kinds_told : (id : Id) → option_map (λ (object : Object). object.kind) (cond (contains_key ids id) (object_at tree id) None) ≡ option_map object_kind (get values id)
+  kinds_told id = go (get values id) refl
+    where
+      go : (o : Option Value) → get values id ≡ o → option_map (λ (object : Object). object.kind) (cond (contains_key ids id) (object_at tree id) None) ≡ option_map object_kind (get values id)
+      go None e = ap (λ b. option_map (λ (object : Object). object.kind) (cond b (object_at tree id) None)) (known id ∙ ap is_some e) ∙ ap (option_map object_kind) (sym e)
+      go (Some v) e =
+          ap (λ b. option_map (λ (object : Object). object.kind) (cond b (object_at tree id) None)) (known id ∙ ap is_some e)
+          ∙ ap (option_map (λ (object : Object). object.kind)) (object_of id v e)
+          ∙ ap (option_map object_kind) (sym e)
+
+-- ---- the halves of a pair that stands for a repository
+
+module _ (kind : Kind) (pair : Pair) (r : Repository) (stands : StandsWhole kind pair r) where
+  pub of_kind : r.kind ≡ kind
+  of_kind = ((halves_stand kind pair r).0 stands.stands).0
+
+  holds_values : HoldsValues kind pair.objects r.objects
+  holds_values = subst (λ k. HoldsValues k pair.objects r.objects) of_kind ((halves_stand kind pair r).0 stands.stands).1
+
+  is_sound : IsSoundStore kind r.objects
+  is_sound = subst (λ k. IsSoundStore k r.objects) of_kind (record { whole = whole_on r empty first_branch (stands.whole).store; written = (stands.written).values })
+
+  pub stands_names : IsOfStage pair → StandsNames pair.names r
+  stands_names stage = record {
+    holds = ((halves_stand kind pair r).0 stands.stands).2;
+    whole = (stands.whole).names;
+    branch = (stands.written).branch;
+    names = (stands.written).names;
+    unpacked = stage.unpacked;
+  }
+
+  -- a flaw of its objects part is a fault
+  pub fault_of_objects : (MayFail : Type 0) (flaw : ObjectsFlaw) → IsObjectsFlaw MayFail kind pair.objects flaw → IsOpenFault (cause_of_flaw flaw)
+  fault_of_objects MayFail flaw h = elim (fault_alone kind pair.objects r.objects holds_values is_sound MayFail flaw h) [ inl e ↦ inl (ap cause_of_flaw e) | inr e ↦ inr (ap cause_of_flaw e) ]
+
+-- ---- an opened store, and the names part over it
+
+-- what was found of the names part, by its files and their kind
+pub part_of : {F : Type 0} (history : F → History) (kinds : Kinds) (branch : Bytes) (known own : F) (k kind : Kind) → known ≡ own → k ≡ kind
+    → IsNamesPart k kinds (history known).tree branch → IsNamesPart kind kinds (history own).tree branch
+part_of history kinds branch known own k kind e f h =
+    subst (λ files. IsNamesPart kind kinds (history files).tree branch) e (subst (λ (q : Kind). IsNamesPart q kinds (history known).tree branch) f h)
+
+pub cause_of : {F : Type 0} (history : F → History) (MayFail : Type 0) (kinds : Kinds) (error : NamesError) (known own : F) (k kind : Kind) → known ≡ own → k ≡ kind
+    → HasCause MayFail k kinds (history known).tree error → HasCause MayFail kind kinds (history own).tree error
+cause_of history MayFail kinds error known own k kind e f h =
+    subst (λ files. HasCause MayFail kind kinds (history files).tree error) e (subst (λ (q : Kind). HasCause MayFail q kinds (history known).tree error) f h)
+
+-- the kinds that a store tells of the ids that it knows
+abbrev pub told_kinds : Tree → IdSet → Kinds
+told_kinds tree ids id = option_map (λ (object : Object). object.kind) (cond (contains_key ids id) (object_at tree id) None)
+
+module _ (kind : Kind) (pair : Pair) (ids : IdSet) (whole : IsOpened kind pair.objects ids) where
+  abbrev kinds : Kinds
+  kinds = told_kinds pair.objects ids
+
+  own_kinds : AreKindsOf kinds whole.values
+  own_kinds = kinds_told kind pair.objects whole.values whole.holds whole.sound ids whole.known
+
+  store : StandsStore kind pair.objects whole.values
+  store = record { holds = whole.holds; whole = (whole.sound).whole; written = (whole.sound).written }
+
+  known_as : (r : Repository) → StandsWhole kind pair r → (id : Id) → contains_key ids id ≡ contains_key r.objects id
+  known_as r stands id =
+      whole.known id
+      ∙ same_ids kind pair.objects whole.values r.objects whole.holds (holds_values kind pair r stands) ((whole.sound).whole).own_ids ((is_sound kind pair r stands).whole).own_ids id
+
+  pub kinds_as : (r : Repository) → StandsWhole kind pair r → AreKindsOf kinds r.objects
+  kinds_as r stands = kinds_told kind pair.objects r.objects (holds_values kind pair r stands) (is_sound kind pair r stands) ids (known_as r stands)
+
+  module _ {F : Type 0} (opened : OpenedFolder F) (own : ids_of_objects opened.objects ≡ ids) (part : IsNamesPart kind kinds pair.names opened.branch.items) where
+    abbrev one : Repository
+    one = record { kind = kind; names = part.names; branch = opened.branch.items; objects = whole.values }
+
+    names_stand : StandsNames pair.names one
+    names_stand = part.stands whole.values own_kinds
+
+    unpacked : IsOfStage pair
+    unpacked = record { unpacked = names_stand.unpacked }
+
+    one_stands : StandsWhole kind pair one
+    one_stands = record {
+      stands = (halves_stand kind pair one).1 (refl, whole.holds, names_stand.holds);
+      written = record { branch = names_stand.branch; names = names_stand.names; values = (whole.sound).written };
+      whole = record { store = whole_on (store_of kind whole.values) part.names opened.branch.items (whole.sound).whole; names = names_stand.whole };
+    }
+
+    -- whichever repository the pair stands for
+    pub opened_as : (r : Repository) → StandsWhole kind pair r → IsOpenedAs kind pair opened r
+    opened_as r stands = record {
+      stands = stands;
+      stage = unpacked;
+      branch = same_branch opened.branch.items r.branch (same_Some (head_text opened.branch.items) (head_text r.branch) (sym (names_stand.holds).head ∙ (stands.stands).head));
+      known = λ id. ap (λ (set : IdSet). contains_key set id) own ∙ known_as r stands id;
+    }
+
+    -- and it stands for one
+    pub opened_as_one : (r : Repository) × IsOpenedAs kind pair opened r
+    opened_as_one = (one, opened_as one one_stands)
+
+  -- ---- causes
+
+  carried : (A B : Type 0) → (A → B) → (k l : Kinds) → ((id : Id) → k id ≡ l id) → (tree : Tree) (error : NamesError) → HasCause A kind k tree error → HasCause B kind l tree error
+  carried A B f k l same tree NoHead h = h
+  carried A B f k l same tree BadHead h = h
+  carried A B f k l same tree (Stray path) h = h
+  carried A B f k l same tree (NotYet path) h = h
+  carried A B f k l same tree (Unfinished path) h = h
+  carried A B f k l same tree (BadName path) h = h
+  carried A B f k l same tree (PrivateName name) h = h
+  carried A B f k l same tree (Symbolic name) h = h
+  carried A B f k l same tree (Missing id name) h = (h.0, sym (same (id_of id)) ∙ h.1)
+  carried A B f k l same tree (WrongKind id name) h = (h.0, ap is_of_wrong_kind (sym (same (id_of id))) ∙ h.1)
+  carried A B f k l same tree (BadLog path number) h = h
+  carried A B f k l same tree (LongLogLine path number) h = h
+  carried A B f k l same tree (LogWithoutName path) h = h
+  carried A B f k l same tree File h = f h
+  carried A B f k l same tree Memory h = h
+
+  pub names_cause : (M : Type 0) (error : NamesError) → HasCause (M ⊎ M) kind kinds pair.names error → IsOpenCause M kind pair (cause_of_names error)
+  names_cause M error h = inr (record {
+    values = whole.values;
+    store = store;
+    cause = error;
+    told = refl;
+    holds = carried (M ⊎ M) M either kinds (kinds_of whole.values) own_kinds pair.names error h;
+  })
+    where
+      either : M ⊎ M → M
+      either (inl m) = m
+      either (inr m) = m
+
+pub objects_cause : (M : Type 0) (kind : Kind) (pair : Pair) (flaw : ObjectsFlaw) → IsObjectsFlaw M kind pair.objects flaw → IsOpenCause M kind pair (cause_of_flaw flaw)
+objects_cause M kind pair flaw h = inl (record { flaw = flaw; told = refl; holds = h })
+
+pub names_fault : (error : NamesError) → IsFault error → IsOpenFault (cause_of_names error)
+names_fault File h = inl refl
+names_fault Memory h = inr refl
+names_fault NoHead h = absurd h
+names_fault BadHead h = absurd h
+names_fault (Stray path) h = absurd h
+names_fault (NotYet path) h = absurd h
+names_fault (Unfinished path) h = absurd h
+names_fault (BadName path) h = absurd h
+names_fault (PrivateName name) h = absurd h
+names_fault (Symbolic name) h = absurd h
+names_fault (Missing id name) h = absurd h
+names_fault (WrongKind id name) h = absurd h
+names_fault (BadLog path number) h = absurd h
+names_fault (LongLogLine path number) h = absurd h
+names_fault (LogWithoutName path) h = absurd h
