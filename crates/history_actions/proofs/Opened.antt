@@ -10,7 +10,9 @@ use Rattle.history_steps.specs.Offered.{IsOfStage}
 use Rattle.history.specs.Face.{names_part, objects_part}
 use Rattle.history.specs.Stands.{Stands, pair_of}
 use Rattle.history.specs.declared.repository.Repository.{Repository}
-use Rattle.history_actions.specs.Failures.{IsDone}
+use Rattle.history.specs.declared.running.RunError.{RunError}
+use Rattle.history_model.specs.declared.End.{End}
+use Rattle.history_actions.specs.Failures.{IsAnswerOf, IsDone}
 use Rattle.history_actions.specs.Opening.{AreWhole}
 use Rattle.history_actions.specs.Saying.{Says}
 use Rattle.history_actions.specs.declared.failure.Failure.{Failure}
@@ -39,3 +41,7 @@ pub says_as : {W T : Type 0} (contents : W → Option Bytes) (has_failed : W →
     → Says contents has_failed old new text a
 says_as contents has_failed old new text a b same says =
     subst (Says contents has_failed old new text) (sym same) says
+
+pub answer_as : {T : Type 0} (end : Result End RunError) (a b : Result T Failure) → a ≡ b
+    → IsAnswerOf end b → IsAnswerOf end a
+answer_as end a b same answers = subst (IsAnswerOf end) (sym same) answers

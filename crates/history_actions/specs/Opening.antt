@@ -21,15 +21,15 @@ use Rattle.history.specs.Runs.{EndsRun, MadeLastReading, is_fault_end}
 use Rattle.history.specs.Stands.{RecoversTo, Stands, pair_of}
 use Rattle.history.specs.declared.repository.Repository.{Repository}
 use Rattle.history.specs.declared.running.RunError.{RunError}
-use Rattle.history.specs.declared.running.RunError.TheVariants as runs
+use Rattle.history.specs.declared.running.RunError.TheVariants as run_errors
 use Rattle.history_actions.specs.Failures.{IsAnswerOf, IsDone}
 use Rattle.history_actions.specs.declared.answers.Performed.{Performed}
 use Rattle.history_actions.specs.declared.failure.Failure.TheVariants.{Unopened}
 
 -- the two parts are handed back as they were
 pub record KeepsParts {F : Type 0} (objects names : F) (performed : Performed F) : Type 0 where
-  pub objects : performed.objects ≡ objects
-  pub names : performed.names ≡ names
+  pub same_objects : performed.objects ≡ objects
+  pub same_names : performed.names ≡ names
 
 module _ {F : Type 0} (IsHonest : F → Type 0) (history : F → History) where
   -- the two parts are those of a repository of this kind, whole
@@ -102,17 +102,17 @@ module _ {F R W : Type 0} (IsHonest : F → Type 0) (history : F → History) (f
           → RunsFrom r opened ended reader reader' writer writer' end
       -- how the run may end
       pub input : end ≡ Ok Input → IsAtEnd (left reader')
-      pub read : end ≡ Err runs.Read → (reader_failed reader' ≡ true)
+      pub read : end ≡ Err run_errors.Read → (reader_failed reader' ≡ true)
           ⊎ MadeLastReading left readings reader reader'
-      pub write : end ≡ Err runs.Write → writer_failed writer' ≡ true
+      pub write : end ≡ Err run_errors.Write → writer_failed writer' ≡ true
       pub fault : IfOk end (λ it. has_failed ended ≡ is_fault_end it)
 
     -- nothing is read or written where they aren't opened
     pub record IsUnrun (kind : Kind) (objects names : F) (reader reader' : R) (writer writer' : W)
         (performed : Performed F) : Type 0 where
       pub unopened : IsUnopened IsHonest history MayFail kind objects names performed
-      pub reader : reader' ≡ reader
-      pub writer : writer' ≡ writer
+      pub unread : reader' ≡ reader
+      pub unwritten : writer' ≡ writer
 
     abbrev pub RunsOn : (R → Bool) → (W → Bool) → Kind → F → F → R → R → W → W → Performed F → Type 0
     RunsOn reader_failed writer_failed kind objects names reader reader' writer writer' performed =
