@@ -28,7 +28,7 @@ whole_parts IsHonest history kind objects names opened same_objects same_names (
     let parts = ap₂ (trees_of history) same_objects same_names in (
       r,
       subst (λ k. StandsWhole k (trees_of history objects names) r) of_kind
-      (subst (λ pair. StandsWhole r.kind pair r) parts stands.whole),
+          (subst (λ pair. StandsWhole r.kind pair r) parts stands.whole),
       subst IsOfStage parts stage,
     )
 
