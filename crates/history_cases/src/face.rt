@@ -46,10 +46,12 @@ fn reopen(alloc: Global, kind: Kind, files: MemoryFiles, page: &mut Page) -> Opt
         Kind::Sha256 => Kind::Sha1,
     };
     match open_objects(alloc, objects.into_files(), other) {
-        Err(Unopened {
-            flaw: ObjectsFlaw::Stray(path),
-            ..
-        }) => page.named("Stray", &path),
+        Err(
+            Unopened {
+                flaw: ObjectsFlaw::Stray(path),
+                ..
+            },
+        ) => page.named("Stray", &path),
         _ => page.word("other"),
     }
     Some(())
