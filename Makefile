@@ -7,7 +7,7 @@ REFERENCES := crates/gix_ref_store_cases/out/gix_ref_store_cases
 # Names a source that is newer than the program, if there is one.
 NEWER = find crates.txt crates -name out -prune -o -type f -newer $(PROGRAM) -print -quit
 
-.PHONY: test wrong-bodies demo bench faults install program hashing walks references
+.PHONY: test wrong-bodies demo folder-demo bench faults install program hashing walks references
 
 # The merge gate: the documents' names, every proof from nothing, the must-fail edits, the tests and the program. docs/GATE.md says
 # how long it takes.
@@ -29,6 +29,11 @@ demo:
 	  echo 'This run is not the proved build, which make program makes.' >&2; \
 	  cd crates/history_program && rt try --steps 60000000 < ../../demo/first.stream; \
 	fi
+
+# Shows the proved program on a real folder, which is removed again: made, run on, checked, refused, recovered. It fails where anything
+# else than demo/folder.wanted is told.
+folder-demo: program
+	demo/folder $(PROGRAM)
 
 # A report, no test: commits per second as the history grows, one large content, the hashing of a stream, look-ups of prefixes,
 # walks over 30,000 commits, and listings and lookups of 10,000 references.

@@ -1,23 +1,25 @@
-//! The program `history`: a run over standard input and output, on a new repository in memory.
+//! The program `history`.
+//!
+//! Without words it runs commands on a new repository in memory, from standard input to standard output; with words it does what they ask for
+//! with a folder.
 #![tactic(auto)]
 
-use history::{End, Kind, Stream, run};
-use history_in_memory::new_repository;
-use std::process::ExitCode;
+mod folder;
+mod memory;
 
-/// Makes a repository and runs on it. `None` where that didn't succeed.
-fn serve(rt: &HostRuntime) -> Option<End> {
-    let alloc = rt.alloc();
-    let mut repository = new_repository(alloc, Kind::Sha1).ok()?;
-    // Each reply is written by one call, so neither stream needs a buffer of its own.
-    let mut reader = Stream::new(rt.stdin());
-    let mut writer = Stream::new(rt.stdout());
-    run(alloc, &mut reader, &mut writer, &mut repository).ok()
+use std::process::ExitCode;
+use std::{env, io};
+
+/// The program's words, of which the first is its name.
+fn words(rt: &HostRuntime) -> io::Result<Vec<String>> {
+    Ok(env::args(rt)?.collect(rt.alloc())?)
 }
 
 fn main(rt: HostRuntime) -> ExitCode {
-    match serve(&rt) {
-        Some(End::Input) => ExitCode::SUCCESS,
-        _ => ExitCode::FAILURE,
-    }
+    let status = match words(&rt) {
+        Ok(words) if words.len() > 1 => folder::answer(&rt, words.as_slice()),
+        Ok(_) => memory::serve(&rt),
+        Err(error) => folder::refuse(&rt, &error),
+    };
+    ExitCode::from(status)
 }

@@ -1,0 +1,7 @@
+pub mod Creating
+pub mod Failures
+pub mod Opening
+pub mod Performing
+pub mod Recovering
+pub mod Saying
+pub mod Told

@@ -1,0 +1,120 @@
+-- What comes of opening a folder's two parts: a repository to check or to run commands on, or a cause.
+use Rattle.std.specs.Prelude.{◌≡◌, ◌⊎◌, ℕ, Bool, true, false, List, Option, Some, Result, Ok, Err, IfOk}
+use Rattle.std.specs.Io.KnownBytes.{Appends, Consumes, IsAtEnd}
+use Rattle.gix_hash_id.specs.declared.kind.Kind.{Kind}
+use Rattle.gix_ref_file.specs.History.{History}
+use Rattle.history_model.specs.Bytes.{Bytes}
+use Rattle.history_model.specs.Commands.{Command}
+use Rattle.history_model.specs.Replies.{Reply}
+use Rattle.history_model.specs.Repository as plain
+use Rattle.history_model.specs.StandsFor.{StandsWhole}
+use Rattle.history_model.specs.declared.End.{End}
+use Rattle.history_model.specs.declared.End.TheVariants.{Input}
+use Rattle.history_opening.specs.Causes.{IsOpenCause, IsOpenFault}
+use Rattle.history_opening.specs.Opened.{trees_of}
+use Rattle.history_opening.specs.declared.error.OpenError.{OpenError}
+use Rattle.history_steps.specs.Offered.{IsOfStage}
+use Rattle.history.specs.Acts.{CountsFailure}
+use Rattle.history.specs.Face.{has_failed, names_part, objects_part}
+use Rattle.history.specs.Moments.{IsTraced}
+use Rattle.history.specs.Runs.{EndsRun, MadeLastReading, is_fault_end}
+use Rattle.history.specs.Stands.{RecoversTo, Stands, pair_of}
+use Rattle.history.specs.declared.repository.Repository.{Repository}
+use Rattle.history.specs.declared.running.RunError.{RunError}
+use Rattle.history.specs.declared.running.RunError.TheVariants as run_errors
+use Rattle.history_actions.specs.Failures.{IsAnswerOf, IsDone}
+use Rattle.history_actions.specs.declared.answers.Performed.{Performed}
+use Rattle.history_actions.specs.declared.failure.Failure.TheVariants.{Unopened}
+
+-- the two parts are handed back as they were
+pub record KeepsParts {F : Type 0} (objects names : F) (performed : Performed F) : Type 0 where
+  pub same_objects : performed.objects ≡ objects
+  pub same_names : performed.names ≡ names
+
+module _ {F : Type 0} (IsHonest : F → Type 0) (history : F → History) where
+  -- the two parts are those of a repository of this kind, whole
+  abbrev pub AreWhole : Kind → F → F → Type 0
+  AreWhole kind objects names = (r : plain.Repository)
+      × StandsWhole kind (trees_of history objects names) r × IsOfStage (trees_of history objects names)
+
+  -- They aren't opened, for this cause, which holds of them; where they are a repository's, it is a fault.
+  pub record IsUnopened (MayFail : Type 0) (kind : Kind) (objects names : F)
+      (performed : Performed F) : Type 0 where
+    pub cause : OpenError
+    pub told : performed.answer ≡ Err (Unopened cause)
+    pub kept : KeepsParts objects names performed
+    pub holds : IsHonest objects → IsHonest names
+        → IsOpenCause MayFail kind (trees_of history objects names) cause
+    pub fault : IsHonest objects → IsHonest names → AreWhole kind objects names
+        → IsOpenFault cause
+
+  -- They are whole, and handed back as they were.
+  pub record IsWhole (kind : Kind) (objects names : F) (performed : Performed F) : Type 0 where
+    pub kept : KeepsParts objects names performed
+    pub whole : IsHonest objects → IsHonest names → AreWhole kind objects names
+    pub done : IsDone performed.answer
+
+  abbrev pub Checks : Type 0 → Kind → F → F → Performed F → Type 0
+  Checks MayFail kind objects names performed =
+      IsUnopened MayFail kind objects names performed ⊎ IsWhole kind objects names performed
+
+-- A run from this plain repository on: the commands that it acted on, what was read, written and left, and what the files went
+-- through meanwhile.
+module _ {F R W : Type 0} (IsHonest : F → Type 0) (history : F → History) (failures : F → ℕ)
+    (MayFail : Type 0) (left : R → Option Bytes) (readings : R → ℕ) (contents : W → Option Bytes)
+  where
+    pub record RunsFrom (r : plain.Repository) (opened ended : Repository F) (reader reader' : R)
+        (writer writer' : W) (end : Result End RunError) : Type 0 where
+      pub commands : List Command
+      pub replies : List Reply
+      pub read : Bytes
+      pub written : Bytes
+      pub new : plain.Repository
+      pub reads : Consumes (left reader) (left reader') read
+      pub writes : Appends (contents writer) (contents writer') written
+      pub ends : EndsRun (IsAtEnd (left reader'))
+          (MadeLastReading left readings reader reader')
+          (CountsFailure failures MayFail opened ended)
+          r commands replies read written end (has_failed ended) new
+      pub traced : IsTraced history failures MayFail opened ended r commands replies new
+      pub stands : has_failed ended ≡ false
+          → Stands IsHonest history ended new × IsOfStage (pair_of history ended)
+      pub recovers : has_failed ended ≡ true → RecoversTo history ended new
+
+    -- They were opened, and commands run on what was.
+    pub record IsRun (reader_failed : R → Bool) (writer_failed : W → Bool) (kind : Kind)
+        (objects names : F) (reader reader' : R) (writer writer' : W) (performed : Performed F)
+        : Type 0 where
+      pub opened : Repository F
+      pub ended : Repository F
+      pub end : Result End RunError
+      pub told : IsAnswerOf end performed.answer
+      pub opened_objects : objects_part opened ≡ objects
+      pub opened_names : names_part opened ≡ names
+      pub left_objects : performed.objects ≡ objects_part ended
+      pub left_names : performed.names ≡ names_part ended
+      -- what was opened is the repository of the two parts
+      pub whole : IsHonest objects → IsHonest names → AreWhole IsHonest history kind objects names
+      pub is_it : (r : plain.Repository) → IsHonest objects → IsHonest names
+          → StandsWhole kind (trees_of history objects names) r → Stands IsHonest history opened r
+      pub runs : (r : plain.Repository) → Stands IsHonest history opened r
+          → IsOfStage (pair_of history opened)
+          → RunsFrom r opened ended reader reader' writer writer' end
+      -- how the run may end
+      pub input : end ≡ Ok Input → IsAtEnd (left reader')
+      pub read : end ≡ Err run_errors.Read → (reader_failed reader' ≡ true)
+          ⊎ MadeLastReading left readings reader reader'
+      pub write : end ≡ Err run_errors.Write → writer_failed writer' ≡ true
+      pub fault : IfOk end (λ it. has_failed ended ≡ is_fault_end it)
+
+    -- nothing is read or written where they aren't opened
+    pub record IsUnrun (kind : Kind) (objects names : F) (reader reader' : R) (writer writer' : W)
+        (performed : Performed F) : Type 0 where
+      pub unopened : IsUnopened IsHonest history MayFail kind objects names performed
+      pub unread : reader' ≡ reader
+      pub unwritten : writer' ≡ writer
+
+    abbrev pub RunsOn : (R → Bool) → (W → Bool) → Kind → F → F → R → R → W → W → Performed F → Type 0
+    RunsOn reader_failed writer_failed kind objects names reader reader' writer writer' performed =
+        IsUnrun kind objects names reader reader' writer writer' performed
+        ⊎ IsRun reader_failed writer_failed kind objects names reader reader' writer writer' performed

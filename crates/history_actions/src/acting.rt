@@ -1,0 +1,70 @@
+//! Doing what a command line asks for.
+ghost use Rattle.history_actions.specs.Performing.{Acts, Performs};
+
+use crate::answers::Performed;
+use crate::creating::create_folder;
+use crate::opening::{check_folder, run_folder};
+use crate::recovering::recover_folder;
+use crate::telling::report;
+use gix_ref_file::Files;
+use history::{Sink, Source};
+use history_command_line::{Action, Asked};
+use std::alloc::Global;
+
+/// Does what is asked for with a folder's two parts, one of which holds the objects and the other all else, and answers the program's
+/// status: 0 where it is done, else 1.
+///
+/// `create` makes a repository of the two parts and writes `created`, `check` opens them and writes `whole`, `recover` recovers them and
+/// writes `recovered`, each with a line feed; `run` opens them and runs commands, from `reader` to `writer`. Why it isn't done is told
+/// on `errors`, as [`report`] says.
+pub fn act<F: Files + Drop, R: Source, W: Sink, E: Sink>(
+    alloc: Global,
+    asked: &Asked,
+    objects: F,
+    names: F,
+    reader: &mut R,
+    writer: &mut W,
+    errors: &mut E,
+) -> u8
+    ensures { Acts F.is_honest F.history F.failures F.reading_may_fail R.left R.readings W.contents
+        R.has_failed W.has_failed asked.now objects names reader.old reader.new writer.old writer.new
+        E.contents E.has_failed errors.old errors.new result }
+{
+    let performed = perform(alloc, asked, objects, names, reader, writer);
+    report(&performed.answer, errors)
+}
+
+/// The same as [`act`], but for the report: hands back the two parts as they are left, with what came of it.
+pub fn perform<F: Files, R: Source, W: Sink>(
+    alloc: Global,
+    asked: &Asked,
+    objects: F,
+    names: F,
+    reader: &mut R,
+    writer: &mut W,
+) -> Performed<F>
+    ensures { Performs F.is_honest F.history F.failures F.reading_may_fail R.left R.readings
+        W.contents R.has_failed W.has_failed asked.now.action asked.now.kind objects names
+        reader.old reader.new writer.old writer.new result }
+{
+    match asked.action {
+        Action::Create => {
+            let (mut objects, mut names) = (objects, names);
+            Performed {
+                answer: create_folder(alloc, &mut objects, &mut names, asked.kind, writer),
+                objects,
+                names,
+            }
+        }
+        Action::Run => run_folder(alloc, objects, names, asked.kind, reader, writer),
+        Action::Check => check_folder(alloc, objects, names, asked.kind, writer),
+        Action::Recover => {
+            let (mut objects, mut names) = (objects, names);
+            Performed {
+                answer: recover_folder(alloc, &mut objects, &mut names, asked.kind, writer),
+                objects,
+                names,
+            }
+        }
+    }
+}

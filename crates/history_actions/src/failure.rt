@@ -1,0 +1,67 @@
+//! Why an action isn't done.
+ghost use Rattle.std.specs.Prelude.{◌≡◌};
+ghost use Rattle.history_actions.specs.Failures.{create_failure, recover_failure};
+
+use history::{CreateError, End, OpenError, RecoverError};
+use history_word::Broken;
+use thiserror::Error;
+
+/// Why an action isn't done.
+#[derive(Drop, PartialEq, Eq, Debug, Error)]
+pub enum Failure {
+    /// The folder that was to be made a repository holds this.
+    #[error("not empty: {0:?}")]
+    NotEmpty(Vec<u8>),
+    /// The folder isn't opened.
+    #[error("the folder isn't opened")]
+    Unopened(OpenError),
+    /// A call of the files failed.
+    #[error("a call of the files failed")]
+    File,
+    /// A growth was refused.
+    #[error("a growth was refused")]
+    Memory,
+    /// The reader of a run has failed.
+    #[error("the reader has failed")]
+    Read,
+    /// The writer has failed.
+    #[error("the writer has failed")]
+    Write,
+    /// The run ended where its input didn't.
+    #[error("the run ended before its input")]
+    Ended(End),
+}
+
+impl From<CreateError> for Failure {
+    ghost from_gives = { λ error failure. failure ≡ create_failure error };
+
+    fn from(error: CreateError) -> Failure {
+        match error {
+            CreateError::NotEmpty(path) => Failure::NotEmpty(path),
+            CreateError::File => Failure::File,
+            CreateError::Memory => Failure::Memory,
+        }
+    }
+}
+
+impl From<RecoverError> for Failure {
+    ghost from_gives = { λ error failure. failure ≡ recover_failure error };
+
+    fn from(error: RecoverError) -> Failure {
+        match error {
+            RecoverError::File => Failure::File,
+            RecoverError::Memory => Failure::Memory,
+        }
+    }
+}
+
+/// Of the writer of an action.
+impl From<Broken> for Failure {
+    ghost use Rattle.history_actions.specs.declared.failure.Failure.TheVariants.{Write};
+
+    ghost from_gives = { λ _ failure. failure ≡ Write };
+
+    fn from(_: Broken) -> Failure {
+        Failure::Write
+    }
+}

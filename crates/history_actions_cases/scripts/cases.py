@@ -1,0 +1,267 @@
+#!/usr/bin/env python3
+"""Writes the cases of history_actions and history_command_line, and the answers that are wanted.
+
+Texts and statuses are those of docs/PROTOCOL.md, ids those of Git's object format by hashlib, and what stands on a bad line is what
+clap 4 prints. No answer is taken from the program.
+"""
+
+import hashlib
+import sys
+from pathlib import Path
+
+sys.path.append(str(Path(__file__).resolve().parents[3] / "scripts"))
+from case_words import word, write
+
+ROWS = []
+ZERO = b"\0"
+NULL = {"sha1": b"0" * 40, "sha256": b"0" * 64}
+
+
+class Kind:
+    """A hash function, with the objects of the first commit."""
+
+    def __init__(self, name):
+        self.name = name
+        self.tree = self.id(b"tree", b"")
+        actor = b"A <a@b> 1 +0000\n"
+        self.commit_text = b"tree " + self.tree + b"\nauthor " + actor + b"committer " + actor + b"\none"
+        self.commit = self.id(b"commit", self.commit_text)
+        self.blob = self.id(b"blob", b"hello")
+
+    def text(self, kind, content):
+        return kind + b" " + str(len(content)).encode() + ZERO + content
+
+    def id(self, kind, content):
+        return hashlib.new(self.name, self.text(kind, content)).hexdigest().encode()
+
+    def place(self, id):
+        return b"objects/" + id[:2] + b"/" + id[2:]
+
+    def put(self, kind, content):
+        """Words that write an object's file, and their answers."""
+        return self.put_text(self.id(kind, content), self.text(kind, content))
+
+    def put_text(self, id, text):
+        place = self.place(id)
+        folder = place.rsplit(b"/", 1)[0]
+        return [("objects:folder:" + word(folder), "done"), (f"objects:write:{word(place)}:{word(text)}", "done")]
+
+
+FIRST = b"commit refs/heads/main new\nauthor 1 3 1 +0000\nA\na@b\ncommitter 1 3 1 +0000\nA\na@b\nmessage 3\none\nend\n"
+
+
+def answer(status, written=b"", told=b""):
+    return f"{status}:{word(written)}:{word(told)}"
+
+
+def row(kind, *steps):
+    """A line of words, each with its answer; a word without one has the answer None."""
+    ROWS.append((" ".join([kind, *(it for it, _ in steps)]), " ".join(it for _, it in steps if it is not None)))
+
+
+CREATE = ("create", answer(0, b"created\n"))
+CHECK = ("check", answer(0, b"whole\n"))
+RECOVER = ("recover", answer(0, b"recovered\n"))
+
+
+def refused(action, *values):
+    return (action, answer(1, b"", b"refused " + b" ".join(values) + b"\n"))
+
+
+def fault(action, cause, written=b""):
+    return (action, answer(1, written, b"fault " + cause + b"\n"))
+
+
+def files(part, call, *values, told="done"):
+    return (":".join([part, call, *(word(it) for it in values)]), told)
+
+
+def actions(kind):
+    k = kind.name
+    first = ("run:" + word(FIRST), answer(0, b"ok commit " + kind.commit + b"\n"))
+    names = b"ok names 1 refs/heads/main\n" + kind.commit + b" " + kind.commit + b" refs/heads/main\n"
+    log = NULL[k] + b" " + kind.commit + b" A <a@b> 1 +0000\tone\n"
+    # Each action, done.
+    row(k, CREATE)
+    row(k, CREATE, CHECK)
+    row(k, CREATE, CHECK, CHECK, RECOVER, CHECK)
+    row(k, CREATE, first, CHECK, ("run:names%0a", answer(0, names)), ("run", answer(0)))
+    # What a new repository can't be made of, and what goes.
+    row(k, CREATE, refused("create", b"NotEmpty", b"HEAD"), CHECK)
+    row(k, CREATE, first, refused("create", b"NotEmpty", kind.place(min(kind.tree, kind.commit))))
+    row(k, files("names", "write", b"README", b"hello"), refused("create", b"NotEmpty", b"README"), files("names", "kind", b"HEAD", told="absent"))
+    row(k, files("names", "folder", b"a b"), refused("create", b"NotEmpty", b"a b"))
+    row(
+        k,
+        files("objects", "folder", b"objects"),
+        files("objects", "write", b"objects/unfinished", b"x"),
+        files("names", "write", b"HEAD.lock", b"x"),
+        CREATE,
+        files("objects", "kind", b"objects/unfinished", told="absent"),
+        files("names", "kind", b"HEAD.lock", told="absent"),
+        files("names", "read", b"HEAD", told="21:" + word(b"so ref: refs/heads/main\n")),
+        CHECK,
+    )
+    # How a run ends, which nothing but its replies tells.
+    for stream, reply in (
+        (b"hello\n", b"refused Syntax\n"),
+        (b"commit refs/heads/main new\n", b"refused Truncated\n"),
+        (b"x" * 4097, b"refused LineTooLong\n"),
+        (b"names\nhello\n", b"ok names 0 refs/heads/main\nrefused Syntax\n"),
+    ):
+        row(k, CREATE, ("run:" + word(stream), answer(1, reply)), CHECK)
+    row(k, CREATE, ("run:show%20HEAD%0anames%0a", answer(0, b"refused UnbornHead\nok names 0 refs/heads/main\n")))
+    # Files, readers and writers that fail.
+    for part in ("objects", "names"):
+        row(k, (f"{part}:fail:1:-", None), fault("create", b"File"))
+        for action in ("check", "recover", "run:names%0a"):
+            row(k, CREATE, (f"{part}:fail:1:-", None), fault(action, b"File"), (f"{part}:sound", None), CHECK)
+    row(k, CREATE, ("drops:0:names%0a", fault("", b"Read")[1]), CHECK)
+    row(k, CREATE, ("drops:6:names%0anames%0a", fault("", b"Read", b"ok names 0 refs/heads/main\n")[1]), CHECK)
+    row(k, ("narrow:0:create", fault("", b"Write")[1]), CHECK)
+    row(k, ("narrow:3:create", fault("", b"Write", b"cre")[1]), CHECK)
+    row(k, CREATE, ("narrow:5:check", fault("", b"Write", b"whole")[1]), CHECK)
+    row(k, CREATE, ("narrow:9:recover", fault("", b"Write", b"recovered")[1]), ("narrow:10:recover", answer(0, b"recovered\n")))
+    row(k, CREATE, ("narrow:2:run", fault("", b"Write", b"ok")[1]), CHECK)
+    # All in one call, and errors that can't be told whole.
+    row(k, ("last:create:0", answer(0, b"created\n")), refused("check", b"NoHead"))
+    row(k, CREATE, ("last:check:0", answer(0, b"whole\n")))
+    row(k, CREATE, ("last:run:0", answer(0, b"ok names 0 refs/heads/main\n")))
+    row(k, CREATE, ("last:recover:0", answer(0, b"recovered\n")))
+    for room in (0, 5, 12, 14, 15, 40):
+        row(k, (f"last:check:{room}", answer(1, b"", b"refused NoHead\n"[:room])))
+    # Why a folder isn't opened: by check, and by run, which then reads and writes nothing; no file is changed.
+    flaws(kind, first, log)
+
+
+def flaws(kind, first, log):
+    k = kind.name
+
+    def unopened(cause, *steps, then=()):
+        row(k, CREATE, first, *steps, refused("check", *cause), refused("run:names%0a", *cause), *then)
+
+    back = (RECOVER, CHECK)
+    row(k, refused("check", b"NoHead"), refused("run:names%0a", b"NoHead"), RECOVER)
+    unopened([b"BadHead"], files("names", "write", b"HEAD", kind.commit + b"\n"))
+    unopened([b"Stray", b"README"], files("names", "write", b"README", b"hello"), then=(RECOVER, refused("check", b"Stray", b"README")))
+    unopened([b"Stray", b"a b\nc"], files("names", "write", b"a b\nc", b""))
+    unopened([b"Stray", b"refs/heads/q.lock"], files("names", "folder", b"refs/heads/q.lock"))
+    row(k, CREATE, first, files("names", "folder", b"refs/heads/q"), CHECK)
+    unopened([b"Unfinished", b"refs/heads/main.lock"], files("names", "write", b"refs/heads/main.lock", b""), then=back)
+    unopened([b"Unfinished", b"objects/unfinished"], files("objects", "write", b"objects/unfinished", b""), then=back)
+    unopened(
+        [b"BadLog", b"logs/refs/heads/main", b"2"],
+        files("names", "append", b"logs/refs/heads/main", b"0000"),
+        then=(*back, files("names", "kind", b"logs/refs/heads/main", told=f"file:{len(log)}")),
+    )
+    unopened([b"LongLogLine", b"logs/refs/heads/main", b"2"], files("names", "append", b"logs/refs/heads/main", b"x" * 4097))
+    unopened([b"LogWithoutName", b"logs/refs/heads/gone"], files("names", "write", b"logs/refs/heads/gone", log), then=back)
+    unopened([b"Symbolic", b"refs/heads/x"], files("names", "write", b"refs/heads/x", b"ref: refs/heads/main\n"))
+    unopened([b"BadName", b"refs/heads/x"], files("names", "write", b"refs/heads/x", b"hello\n"))
+    unopened([b"BadName", b"refs/heads/a..b"], files("names", "write", b"refs/heads/a..b", kind.commit + b"\n"))
+    unopened([b"PrivateName", b"refs/bisect/x"], files("names", "folder", b"refs/bisect"), files("names", "write", b"refs/bisect/x", kind.commit + b"\n"))
+    # Objects, and what names them.
+    empty = kind.id(b"blob", b"")
+    row(k, CREATE, first, *kind.put(b"blob", b""), CHECK)
+    unopened([b"WrongId", kind.place(empty)], *kind.put_text(empty, kind.text(b"blob", b"x")))
+    unopened([b"BadObject", kind.place(empty)], *kind.put_text(empty, b"hello"))
+    unopened([b"BadTree", kind.id(b"tree", b"hello")], *kind.put(b"tree", b"hello"))
+    file = b"100644 a" + ZERO + bytes.fromhex(kind.blob.decode())
+    tree = kind.id(b"tree", file)
+    unopened([b"Missing", kind.blob, tree], *kind.put(b"tree", file))
+    row(k, CREATE, first, *kind.put(b"tree", file), *kind.put(b"blob", b"hello"), CHECK)
+    folder = b"40000 a" + ZERO + bytes.fromhex(kind.blob.decode())
+    above = kind.id(b"tree", folder)
+    unopened([b"WrongKind", kind.blob, above], *kind.put(b"tree", folder), *kind.put(b"blob", b"hello"))
+    unopened([b"Missing", kind.blob, b"refs/heads/x"], files("names", "write", b"refs/heads/x", kind.blob + b"\n"))
+    unopened([b"WrongKind", kind.blob, b"refs/heads/x"], files("names", "write", b"refs/heads/x", kind.blob + b"\n"), *kind.put(b"blob", b"hello"))
+
+
+MORE = "\nFor more information, try '--help'.\n"
+WHOLE = "\nUsage: history <COMMAND>\n"
+
+
+def words(*given):
+    return "words:" + ",".join(word(it.encode()) for it in ("history", *given))
+
+
+def asks(given, action, folder, kind="sha1"):
+    ROWS.append((f"sha1 {words(*given)}", f"{action} {kind}:{word(folder.encode())}"))
+
+
+def bad(given, text):
+    ROWS.append((f"sha1 {words(*given)}", f"line:{word(text.encode())}"))
+
+
+def lines():
+    for action in ("create", "run", "check", "recover"):
+        asks((action, "there"), action, "there")
+        asks((action, "there", "--sha256"), action, "there", "sha256")
+        asks((action, "--sha256", "there"), action, "there", "sha256")
+        asks((action, "--", "--sha256"), action, "--sha256")
+        asks((action, "a b/ü"), action, "a b/ü")
+        usage = f"\nUsage: history {action} [OPTIONS] <folder>\n" + MORE
+        lacking = "error: the following required arguments were not provided:\n  <folder>\n"
+        bad((action,), lacking + f"\nUsage: history {action} <folder>\n" + MORE)
+        bad((action, "--sha256"), lacking + f"\nUsage: history {action} --sha256 <folder>\n" + MORE)
+        bad((action, "a", "b"), "error: unexpected argument 'b' found\n" + usage)
+        bad((action, "a", "--sha256", "--sha256"), "error: the argument '--sha256' cannot be used multiple times\n" + usage)
+        bad((action, "a", "--sha256=x"), "error: unexpected value 'x' for '--sha256' found; no more were expected\n" + f"\nUsage: history {action} --sha256 <folder>\n" + MORE)
+        ROWS.append((f"sha1 {words(action, '-h')}", f"help:{word(help_of(action).encode())}"))
+    bad((), "error: 'history' requires a subcommand but one was not provided\n  [subcommands: create, run, check, recover, help]\n" + WHOLE + MORE)
+    bad(("frobnicate",), "error: unrecognized subcommand 'frobnicate'\n" + WHOLE + MORE)
+    bad(("--sha256", "create", "there"), "error: unexpected argument '--sha256' found\n\n  tip: 'create --sha256' exists\n" + WHOLE + MORE)
+    ROWS.append((f"sha1 {words('--help')}", f"help:{word(HELP.encode())}"))
+    ROWS.append((f"sha1 {words('help')}", f"help:{word(HELP.encode())}"))
+
+
+ABOUT = {
+    "create": "Makes a repository",
+    "run": "Runs the commands of standard input, and answers them on standard output",
+    "check": "Tells whether a repository is whole",
+    "recover": "Removes what a stopped run left",
+}
+
+HELP = (
+    "A version store with Git's object ids, reference names and logs\n\nUsage: history <COMMAND>\n\nCommands:\n"
+    + "".join(f"  {name:<7}  {about}\n" for name, about in ABOUT.items())
+    + "  help     Print this message or the help of the given subcommand(s)\n\nOptions:\n  -h, --help  Print help\n"
+)
+
+
+def help_of(action):
+    return (
+        f"{ABOUT[action]}\n\nUsage: history {action} [OPTIONS] <folder>\n\nArguments:\n  <folder>  The repository's folder\n\n"
+        "Options:\n      --sha256  Takes SHA-256 in place of SHA-1\n  -h, --help    Print help\n"
+    )
+
+
+def real(kind):
+    """The same on a real folder, which the program makes."""
+    run = ("run:" + word(FIRST), answer(0, b"ok commit " + kind.commit + b"\n"))
+    names = b"ok names 1 refs/heads/main\n" + kind.commit + b" " + kind.commit + b" refs/heads/main\n"
+    row("real", refused("check", b"NoHead"), CREATE, CHECK, run, CHECK, ("run:names%0a", answer(0, names)))
+    row("real", CREATE, run, files("names", "write", b"README", b"hello"), refused("check", b"Stray", b"README"), refused("run:names%0a", b"Stray", b"README"))
+    row(
+        "real",
+        CREATE,
+        run,
+        files("names", "append", b"logs/refs/heads/main", b"0000"),
+        refused("check", b"BadLog", b"logs/refs/heads/main", b"2"),
+        RECOVER,
+        CHECK,
+        files("names", "kind", b"logs/refs/heads/main", told="file:102"),
+        files("names", "write", b"refs/heads/main.lock", b""),
+        refused("check", b"Unfinished", b"refs/heads/main.lock"),
+        RECOVER,
+        CHECK,
+        files("names", "kind", b"refs/heads/main.lock", told="absent"),
+    )
+    row("real", CREATE, ("run:hello%0a", answer(1, b"refused Syntax\n")), refused("create", b"NotEmpty", b"HEAD"))
+
+
+for name in ("sha1", "sha256"):
+    actions(Kind(name))
+lines()
+real(Kind("sha1"))
+write(Path(__file__), ROWS)

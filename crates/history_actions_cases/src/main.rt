@@ -1,0 +1,30 @@
+//! Answers cases of `history_actions` and `history_command_line`, a line each.
+//!
+//! A line is words of a command line, or a folder in memory or a real one, and what is done with it.
+#![tactic(auto)]
+
+mod line;
+mod narrow;
+mod real;
+mod session;
+
+use crate::session::Folder;
+use case_words::answer;
+use std::io::{self, BufRead, BufReader, BufWriter, Write};
+
+fn main(rt: HostRuntime) -> io::Result<()> {
+    let reader = BufReader::new(rt.alloc(), rt.reader())?;
+    let mut writer = BufWriter::new(rt.alloc(), io::writer(&rt))?;
+    let mut number = 0;
+    for line in reader.lines(rt.alloc()) {
+        let line = line?;
+        number += 1;
+        let text = match line.as_str().split_once(' ') {
+            Some(("real", words)) => real::answer(&rt, number, words)?,
+            _ => answer::<Folder>(rt.alloc(), line.as_str())?,
+        };
+        writer.write_all(text.as_bytes())?;
+        writer.write_all(b"\n")?;
+    }
+    writer.flush()
+}

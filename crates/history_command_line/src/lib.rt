@@ -1,0 +1,7 @@
+//! The program's command line: what it asks for.
+#![tactic(auto)]
+
+mod asked;
+mod line;
+
+pub use asked::{Action, AskError, Asked, read_words};

@@ -1,0 +1,72 @@
+//! What the program's words ask for, done with a real folder.
+
+use gix_ref_folder::{Folder, Part};
+use history::{Broken, Stream};
+use history_actions::act;
+use history_command_line::{AskError, Asked, read_words};
+use history_word::write_all;
+use std::alloc::AllocError;
+use std::io::{self, ErrorKind};
+
+/// The status of a line that isn't the program's.
+const BAD_LINE: u8 = 2;
+
+/// Does what the words ask for, and answers the program's status.
+pub fn answer(rt: &HostRuntime, words: &[String]) -> u8 {
+    match read_words(rt.alloc(), words) {
+        Ok(asked) => act_on_folder(rt, &asked).unwrap_or_else(|_| tell_memory(rt)),
+        Err(AskError::Help(text)) => tell_help(rt, text.as_str()),
+        Err(AskError::Line(text)) => tell(rt, text.as_bytes(), BAD_LINE),
+        Err(AskError::Memory) => tell_memory(rt),
+    }
+}
+
+/// Tells why there are no words, and answers the program's status.
+pub fn refuse(rt: &HostRuntime, error: &io::Error) -> u8 {
+    match error.kind() {
+        ErrorKind::OutOfMemory => tell_memory(rt),
+        _ => tell(rt, b"error: a word isn't UTF-8\n", BAD_LINE),
+    }
+}
+
+// Acts on the two parts of the folder that is named.
+fn act_on_folder(rt: &HostRuntime, asked: &Asked) -> Result<u8, AllocError> {
+    let objects = Folder::new(rt, copy(rt, asked)?, Part::Objects);
+    let names = Folder::new(rt, copy(rt, asked)?, Part::Names);
+    // Each reply is written by one call, so no stream needs a buffer of its own.
+    let mut reader = Stream::new(rt.stdin());
+    let mut writer = Stream::new(rt.stdout());
+    let mut errors = Stream::new(rt.stderr());
+    Ok(act(
+        rt.alloc(),
+        asked,
+        objects,
+        names,
+        &mut reader,
+        &mut writer,
+        &mut errors,
+    ))
+}
+
+// The folder's path.
+fn copy(rt: &HostRuntime, asked: &Asked) -> Result<String, AllocError> {
+    String::from_str(rt.alloc(), asked.folder.as_str())
+}
+
+// Writes a text on standard error, and answers the status; where that fails nothing else can be told.
+fn tell(rt: &HostRuntime, text: &[u8], status: u8) -> u8 {
+    let _ = write_all(&mut Stream::new(rt.stderr()), text);
+    status
+}
+
+fn tell_memory(rt: &HostRuntime) -> u8 {
+    tell(rt, b"fault Memory\n", 1)
+}
+
+// Writes help on standard output.
+fn tell_help(rt: &HostRuntime, text: &str) -> u8 {
+    match write_all(&mut Stream::new(rt.stdout()), text.as_bytes()) {
+        Ok(()) => 0,
+        Err(Broken) => tell(rt, b"fault Write\n", 1),
+    }
+}
