@@ -1,5 +1,4 @@
-//! The steps in which moves are made: all updates first, then the logs go of what is removed, and at last its files, and those of what is
-//! packed.
+//! The steps in which moves are made: all updates, then the logs go of what is removed, at last its files and those of what is packed.
 
 ghost use Rattle.gix_ref_file.specs.Calls.{Achieves, Passes};
 ghost use Rattle.gix_ref_moves.specs.Contents.{forgotten, gone, removed, updated};
