@@ -1,4 +1,4 @@
-use Rattle.std.proofs.Common.{Err, ◌≡◌, ◌∙◌, inl, inr, refl, sym}
+use Rattle.std.proofs.Common.{Err, ◌∙◌, inl, inr, refl}
 use Rattle.history_actions.specs.Saying.{whole}
 use Rattle.history_actions.specs.declared.failure.Failure.TheVariants.{Unopened}
 use Rattle.history_actions.proofs.Opened.{done_as, says_as, whole_parts}
