@@ -1,5 +1,5 @@
 -- What was opened, by its two parts.
-use Rattle.std.proofs.Common.{◌≡◌, Bool, true, false, Option, Result, Err, Ok, ap, ap₂, refl, subst, sym}
+use Rattle.std.proofs.Common.{◌≡◌, Bool, Option, Result, ap₂, subst, sym}
 use Rattle.gix_hash_id.specs.declared.kind.Kind.{Kind}
 use Rattle.gix_ref_file.specs.History.{History}
 use Rattle.history_model.specs.Bytes.{Bytes}

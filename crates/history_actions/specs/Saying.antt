@@ -1,5 +1,5 @@
 -- What an action says where it is done.
-use Rattle.std.specs.Prelude.{◌≡◌, ◌⊎◌, Bool, true, Option, Result, Ok, Err, codes}
+use Rattle.std.specs.Prelude.{◌≡◌, Bool, true, Option, Result, Ok, Err, codes}
 use Rattle.std.specs.Io.KnownBytes.{Appends}
 use Rattle.gix_hash_id.specs.Writes.{AppendsFewer}
 use Rattle.history_model.specs.Bytes.{Bytes, line}

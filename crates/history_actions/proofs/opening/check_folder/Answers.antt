@@ -1,4 +1,6 @@
-use Rattle.std.proofs.Common.{◌≡◌, ◌∙◌, inl, inr, refl, sym}
+use Rattle.std.proofs.Common.{Err, ◌∙◌, inl, inr, refl}
+use Rattle.history_actions.specs.Saying.{whole}
+use Rattle.history_actions.specs.declared.failure.Failure.TheVariants.{Unopened}
 use Rattle.history_actions.proofs.Opened.{done_as, says_as, whole_parts}
 use Rattle.history_actions.proofs.opening.check_folder.Goals as goal
 
@@ -9,14 +11,14 @@ returns-in-Ok g c =
       files = inr (record {
         kept = record {
           same_objects = c.handed_back.ensures.objects ∙ ok.0;
-          same_names = c.handed_back.ensures.names ∙ ok.1.0;
+          same_names = c.handed_back.ensures.names ∙ ok.1;
         };
         whole = λ honest_objects honest_names.
             whole_parts g.F.Files.is_honest g.F.Files.history c.args.kind c.args.objects c.args.names
-            c.in-Ok.repository ok.0 ok.1.0 (c.in-Ok.ensures.stands honest_objects honest_names);
+            c.in-Ok.repository ok.0 ok.1 (c.in-Ok.ensures.stands honest_objects honest_names);
         done = done_as _ _ c.handed_back.ensures.answer c.say_whole.ensures.done;
       });
-      says = says_as _ _ _ _ _ _ _ c.handed_back.ensures.answer c.say_whole.ensures.says;
+      says = says_as g.W.Sink.contents g.W.Sink.has_failed c.args.writer.now c.say_whole.new.writer whole _ c.say_whole.result c.handed_back.ensures.answer c.say_whole.ensures.says;
     }
 
 pub returns-in-Err : goal.returns-in-Err
@@ -31,8 +33,8 @@ returns-in-Err g c =
           same_names = c.unopened.ensures.kept.same_names ∙ back.1;
         };
         holds = c.in-Err.ensures.refused;
-        fault = λ honest_objects honest_names whole.
-            c.in-Err.ensures.accepted whole.0 honest_objects honest_names whole.1.0 whole.1.1;
+        fault = λ honest_objects honest_names are.
+            c.in-Err.ensures.accepted are.0 honest_objects honest_names are.1 are.2;
       });
-      says = says_as _ _ _ _ _ _ _ c.unopened.ensures.told refl;
+      says = says_as g.W.Sink.contents g.W.Sink.has_failed c.args.writer.now c.args.writer.now whole _ (Err (Unopened c.in-Err.refusal.error)) c.unopened.ensures.told refl;
     }
