@@ -45,13 +45,14 @@ fn reopen(alloc: Global, kind: Kind, files: MemoryFiles, page: &mut Page) -> Opt
         Kind::Sha1 => Kind::Sha256,
         Kind::Sha256 => Kind::Sha1,
     };
-    match open_objects(alloc, objects.into_files(), other) {
+    let opened = open_objects(alloc, objects.into_files(), other);
+    match &opened {
         Err(
             Unopened {
                 flaw: ObjectsFlaw::Stray(path),
                 ..
             },
-        ) => page.named("Stray", &path),
+        ) => page.named("Stray", path),
         _ => page.word("other"),
     }
     Some(())
