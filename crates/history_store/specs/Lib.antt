@@ -12,6 +12,8 @@ pub mod Lookups
 pub mod NameLists
 pub mod ObjectTexts
 pub mod Opening
+pub mod Packed
+pub mod Packing
 pub mod Parts
 pub mod Prefixes
 pub mod Puts
