@@ -1,4 +1,5 @@
 pub mod Actors
+pub mod AllNames
 pub mod Commits
 pub mod Tags
 pub mod Creation
