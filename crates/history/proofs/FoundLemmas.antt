@@ -1,7 +1,9 @@
 -- What is found is the same exactly where its entries are.
-use Rattle.std.proofs.Common.{◌≡◌, ap, refl, sym, subst, true, false, Option, Some, None, option_map}
+use Rattle.std.proofs.Common.{◌≡◌, ap, refl, sym, subst, true, false, List, [], ◌∷◌, map, Option, Some, None, option_map}
 use Rattle.std.specs.Bool.{Decides}
+use Rattle.std.specs.Cmp.Lexicographic.{pointwise}
 use Rattle.std.specs.Option.{option_eq}
+use Rattle.std.proofs.lemmas.Bool.{and_from, and_parts}
 use Rattle.std.proofs.lemmas.Option.{same_Some}
 use Rattle.gix_hash_id.specs.Id.{Id, id_of}
 use Rattle.gix_hash_id.specs.Order.{id_eq}
@@ -48,3 +50,21 @@ found_same None None = (λ e. refl, λ e. refl)
 found_same None (Some b) = (λ e. cc, λ e. cc)
 found_same (Some a) None = (λ e. cc, λ e. cc)
 found_same (Some a) (Some b) = let same = by_entries a b in (λ e. ap Some (same.0 e), λ e. same.1 (same_Some (entry_of a) (entry_of b) e))
+
+-- lists of what is found are the same exactly where their entries are
+pub each_found_same : (a b : List (Option Found)) → Decides (pointwise (option_eq (eq-value).it) a b) (map (option_map entry_of) a ≡ map (option_map entry_of) b)
+each_found_same [] [] = (λ e. refl, λ e. refl)
+each_found_same [] (b ∷ bs) = (λ e. cc, λ e. cc)
+each_found_same (a ∷ rest_a) [] = (λ e. cc, λ e. cc)
+each_found_same (a ∷ rest_a) (b ∷ bs) =
+    let first = found_same a b in
+    let rest = each_found_same rest_a bs in (
+      λ e. (let both = and_parts (option_eq (eq-value).it a b) (pointwise (option_eq (eq-value).it) rest_a bs) e in λ i. first.0 both.0 i ∷ rest.0 both.1 i),
+      λ e. and_from (option_eq (eq-value).it a b) (pointwise (option_eq (eq-value).it) rest_a bs) (first.1 (cons_head e)) (rest.1 (cons_tail e)),
+    )
+  where
+    cons_head : {A : Type 0} {x y : A} {xs ys : List A} → x ∷ xs ≡ y ∷ ys → x ≡ y
+    cons_head e = cc
+
+    cons_tail : {A : Type 0} {x y : A} {xs ys : List A} → x ∷ xs ≡ y ∷ ys → xs ≡ ys
+    cons_tail e = cc

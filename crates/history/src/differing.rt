@@ -1,79 +1,117 @@
-//! The commits that differ at a path from their first parents.
+//! The commits that differ at some paths from their first parents.
 
-ghost use Rattle.std.specs.Prelude.{◌≡◌, [], ◌∷◌, filter, map, option_map};
+ghost use Rattle.std.specs.Prelude.{◌≡◌, filter, map, option_map, length, replicate, IfOk, None};
+ghost use Rattle.std.specs.FinMap.{get};
 ghost use Rattle.std.specs.List.{AllByRecursion};
 ghost use Rattle.gix_hash_id.specs.Id.{id_of};
 ghost use Rattle.history_files.specs.Reading.{entry_of};
 ghost use Rattle.history_model.specs.Answers.{differs_at};
+ghost use Rattle.history_model.specs.FileMap.{FileMap};
 ghost use Rattle.history_model.specs.Meaning.{first_files};
-ghost use Rattle.history_model.specs.Objects.{entry_at};
+ghost use Rattle.history_model.specs.Objects.{StoredFolder, entry_at};
 ghost use Rattle.history_model.specs.Repository.{HoldsCommit};
 
 use crate::repository::Repository;
 use crate::stopped::Stopped;
 use gix_hash::ObjectId;
 use gix_ref_file::Files;
-use history_files::Found;
-use std::alloc::Global;
+use history_files::{EntriesState, Found, entries_at};
+use std::alloc::{AllocError, Global};
+
+// Nothing at each of so many paths.
+fn nothing_at(alloc: Global, paths: usize) -> Result<Vec<Option<Found>>, AllocError>
+    ensures { IfOk result (λ found. found.items ≡ replicate paths None) }
+{
+    let mut found = Vec::new(alloc);
+    found.resize(paths, None)?;
+    Ok(found)
+}
 
 impl<F: Files> Repository<F> {
     ghost use Rattle.history_model.specs.Repository as plain;
     ghost use Rattle.history.specs.Acts.{GivesMeant};
     ghost use Rattle.history.specs.Serving.{Serves};
+    ghost use Rattle.history.specs.Stands.{Stands};
     ghost use Rattle.history.specs.Walked.{AllHold};
 
-    /// What the first of a commit's parents has at a path: nothing without a parent.
+    /// What stands at each of some paths below a stored tree, in their order. The trees on the paths are read, each once, and no
+    /// other.
+    fn found_each(
+        &self,
+        alloc: Global,
+        tree: &ObjectId,
+        paths: &[&[u8]],
+        state: &mut EntriesState,
+    ) -> Result<Vec<Option<Found>>, Stopped>
+        ensures { (r : plain.Repository) (below : FileMap) → Stands F.is_honest F.history self.now r
+            → get r.objects (id_of tree.now) ≡ Some (StoredFolder below)
+            → GivesMeant F.reading_may_fail (λ found. map (option_map entry_of) found.items
+            ≡ map (λ path. entry_at r.kind below path.now) paths.now) result }
+    {
+        Ok(entries_at(alloc, &self.objects, tree, paths, state)?)
+    }
+
+    /// What the first of a commit's parents has at each of some paths: nothing without a parent.
     ///
     /// The parents are stored commits. It is a fault where a call of the files failed, or where no memory is left.
     fn found_before(
         &self,
         alloc: Global,
         parents: &[ObjectId],
-        path: &[u8],
-    ) -> Result<Option<Found>, Stopped>
+        paths: &[&[u8]],
+        state: &mut EntriesState,
+    ) -> Result<Vec<Option<Found>>, Stopped>
         ensures { (r : plain.Repository) → Serves F.is_honest F.history self.now r
             → AllByRecursion (HoldsCommit r) (map id_of parents.now)
-            → GivesMeant F.reading_may_fail (λ found. option_map entry_of found
-            ≡ entry_at r.kind (first_files r (map id_of parents.now)) path.now) result }
+            → GivesMeant F.reading_may_fail (λ found. map (option_map entry_of) found.items
+            ≡ map (λ path. entry_at r.kind (first_files r (map id_of parents.now)) path.now)
+            paths.now) result }
     {
         match self.tree_before(alloc, parents)? {
-            Some(tree) => self.found_below(alloc, &tree, path),
-            None => Ok(None),
+            Some(tree) => self.found_each(alloc, &tree, paths, state),
+            None => Ok(nothing_at(alloc, paths.len())?),
         }
     }
 
-    /// Whether what a commit has at a path isn't what its first parent has there.
+    /// Whether what a commit has at some paths isn't what its first parent has there.
     ///
-    /// The commit is stored. Its content is read and its first parent's, and of both the trees on the path. It is a fault where a
-    /// call of the files failed, or where no memory is left.
-    fn differs_at(&self, alloc: Global, id: &ObjectId, path: &[u8]) -> Result<bool, Stopped>
+    /// The commit is stored. Its content is read and its first parent's, and of both the trees on the paths, each once. It is a fault
+    /// where a call of the files failed, or where no memory is left.
+    fn differs_at(
+        &self,
+        alloc: Global,
+        id: &ObjectId,
+        paths: &[&[u8]],
+        state: &mut EntriesState,
+    ) -> Result<bool, Stopped>
         ensures { (r : plain.Repository) → Serves F.is_honest F.history self.now r
-            → HoldsCommit r (id_of id.now) → GivesMeant F.reading_may_fail
-            (λ differs. differs ≡ differs_at r (path.now ∷ []) (id_of id.now)) result }
+            → HoldsCommit r (id_of id.now) → GivesMeant F.reading_may_fail (λ differs.
+            differs ≡ differs_at r (map (λ path. path.now) paths.now) (id_of id.now)) result }
     {
         let commit = self.read_commit(alloc, id)?;
-        let found = self.found_below(alloc, &commit.tree, path)?;
-        let before = self.found_before(alloc, commit.parents.as_slice(), path)?;
-        Ok(found != before)
+        let found = self.found_each(alloc, &commit.tree, paths, state)?;
+        let before = self.found_before(alloc, commit.parents.as_slice(), paths, state)?;
+        Ok(found.as_slice() != before.as_slice())
     }
 
-    /// Those of some commits that differ at a path from their first parents, in their order.
+    /// Those of some commits that differ at some paths from their first parents, in their order.
     ///
     /// The commits are stored. It is a fault where a call of the files failed, or where no memory is left.
     pub(crate) fn differing(
         &self,
         alloc: Global,
         ids: &[ObjectId],
-        path: &[u8],
+        paths: &[&[u8]],
     ) -> Result<Vec<ObjectId>, Stopped>
         ensures { (r : plain.Repository) → Serves F.is_honest F.history self.now r
             → AllHold r ids.now → GivesMeant F.reading_may_fail
             (λ differing. map id_of differing.items
-            ≡ filter (differs_at r (path.now ∷ [])) (map id_of ids.now)) result }
+            ≡ filter (differs_at r (map (λ path. path.now) paths.now)) (map id_of ids.now)) result }
     {
+        let mut state = EntriesState::new(alloc);
         let mut differing = Vec::new(alloc);
         for id in ids {
-            if self.differs_at(alloc, id, path)? {
+            if self.differs_at(alloc, id, paths, &mut state)? {
                 differing.push(*id)?;
             }
         }

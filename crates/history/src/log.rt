@@ -200,7 +200,7 @@ impl<F: Files> Repository<F> {
     {
         let walked = self.walked(alloc, command)?;
         let listed = match &command.path {
-            Some(path) => self.differing(alloc, &walked, kept(path))?,
+            Some(path) => self.differing(alloc, &walked, &[kept(path)])?,
             None => walked,
         };
         Ok(log_text(alloc, &listed)?)

@@ -16,7 +16,7 @@ pub loop-id-preserved : goal.loop-id-preserved
 loop-id-preserved g c = λ r s hold.
     let ids = c.args.ids.now in
     let i = c.loop-id.id-index in
-    let test = differs_at r (c.args.path.now ∷ []) in
+    let test = differs_at r (map (λ path. path.now) c.args.paths.now) in
     let differs = c.in_ok-differs_at.ensures r s (hold _ (among ids i (Sha1 []) c.loop-id-test.true)) in
     elim c.if-branch.branch [
       | then-branch+in_ok-push w ↦
@@ -27,4 +27,4 @@ loop-id-preserved g c = λ r s hold.
 
 pub returns : goal.returns
 returns g c = λ r s hold.
-    c.loop-id.invariant r s hold ∙ ap (λ some. filter (differs_at r (c.args.path.now ∷ [])) (map id_of some)) (take_all c.loop-id.id-index c.args.ids.now c.loop-id-test.false)
+    c.loop-id.invariant r s hold ∙ ap (λ some. filter (differs_at r (map (λ path. path.now) c.args.paths.now)) (map id_of some)) (take_all c.loop-id.id-index c.args.ids.now c.loop-id-test.false)

@@ -9,4 +9,4 @@ use Rattle.history.proofs.repository.Repository.differing.Given as goal
 -- those of the commits so far that differ
 abbrev pub invariant-loop-id : goal.invariant-loop-id
 invariant-loop-id g l = (r : plain.Repository) → Serves g.F.Files.is_honest g.F.Files.history l.self r → AllHold r l.ids
-    → map id_of l.differing.items ≡ filter (differs_at r (l.path ∷ [])) (map id_of (take l.id-index l.ids))
+    → map id_of l.differing.items ≡ filter (differs_at r (map (λ path. path.now) l.paths)) (map id_of (take l.id-index l.ids))

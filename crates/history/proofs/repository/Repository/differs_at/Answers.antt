@@ -1,6 +1,10 @@
-use Rattle.std.proofs.Common.{◌∙◌, ap, sym, subst, List, map}
+use Rattle.std.proofs.Common.{◌≡◌, ◌∙◌, ap, sym, subst, List, map, Option, Bor}
+use Rattle.std.specs.Prelude.{option_map}
 use Rattle.std.specs.List.{AllByRecursion}
 use Rattle.gix_hash_id.specs.Id.{Id, id_of}
+use Rattle.history_files.specs.Reading.{entry_of}
+use Rattle.history_files.specs.declared.found.Found.{Found}
+use Rattle.history_model.specs.Bytes.{Bytes}
 use Rattle.history_model.specs.FileMap.{FileMap}
 use Rattle.history_model.specs.Meaning.{first_files}
 use Rattle.history_model.specs.Objects.{entry_at}
@@ -8,7 +12,7 @@ use Rattle.history_model.specs.Repository.{HoldsCommit}
 use Rattle.history.proofs.Answered.{folder_at}
 use Rattle.history.proofs.Befores.{held_commit, held_files}
 use Rattle.history.proofs.DifferingLemmas.{differs_told, fault_told, held_parents, parents_held}
-use Rattle.history.proofs.FoundLemmas.{found_same}
+use Rattle.history.proofs.FoundLemmas.{each_found_same}
 use Rattle.history.proofs.repository.Repository.differs_at.Goals as goal
 
 pub returns-in_err-commit : goal.returns-in_err-commit
@@ -40,6 +44,7 @@ returns g c = λ r s holds.
     let folder = folder_at r store (id_of c.args.id.now) held.0 c.in_ok-commit.commit held.1 says in
     let named = ap (map id_of) c.as_slice.ensures ∙ says.parents ∙ sym (held_parents _ _ c.args.self.now r s.stands (id_of c.args.id.now) holds) in
     let hold = subst (AllByRecursion (HoldsCommit r)) (sym named) (parents_held _ _ c.args.self.now r s.stands (id_of c.args.id.now) holds) in
-    let here = c.in_ok-found.ensures r held.0.files s.stands folder ∙ ap (λ (files : FileMap). entry_at r.kind files c.args.path.now) (sym (held_files r store (id_of c.args.id.now) holds)) in
-    let there = c.in_ok-before.ensures r s hold ∙ ap (λ (ids : List Id). entry_at r.kind (first_files r ids) c.args.path.now) named in
-    c.ne.ensures ∙ differs_told _ _ c.args.self.now r s.stands c.args.path.now (id_of c.args.id.now) c.in_ok-found.found c.in_ok-before.before _ holds here there (found_same c.in_ok-found.found c.in_ok-before.before)
+    let paths = c.args.paths.now in
+    let here = ap (map (option_map entry_of)) c.as_slice-2.ensures.value ∙ c.in_ok-found.ensures r held.0.files s.stands folder ∙ ap (λ (files : FileMap). map (λ (path : Bor Bytes). entry_at r.kind files path.now) paths) (sym (held_files r store (id_of c.args.id.now) holds)) in
+    let there = ap (map (option_map entry_of)) c.as_slice-3.ensures.value ∙ c.in_ok-before.ensures r s hold ∙ ap (λ (ids : List Id). map (λ (path : Bor Bytes). entry_at r.kind (first_files r ids) path.now) paths) named in
+    c.ne.ensures ∙ differs_told _ _ c.args.self.now r s.stands paths (id_of c.args.id.now) c.as_slice-2.result.now c.as_slice-3.result.now _ holds here there (each_found_same c.as_slice-2.result.now c.as_slice-3.result.now)

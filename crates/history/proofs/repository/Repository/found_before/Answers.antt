@@ -9,9 +9,9 @@ pub returns-in-Some : goal.returns-in-Some
 returns-in-Some g c = λ r s hold.
     let ids = map id_of c.args.parents.now in
     let tree = subst (IsTreeBefore r ids) c.in-Some.is (c.in_ok-tree.ensures r s hold) in
-    c.found_below.ensures r (first_files r ids) s.stands (tree_there r ids c.in-Some.tree tree)
+    c.found_each.ensures r (first_files r ids) s.stands (tree_there r ids c.in-Some.tree tree)
 
-pub returns-in-None : goal.returns-in-None
-returns-in-None g c = λ r s hold.
+pub returns-in_ok-nothing_at-in-None : goal.returns-in_ok-nothing_at-in-None
+returns-in_ok-nothing_at-in-None g c = λ r s hold.
     let ids = map id_of c.args.parents.now in
-    nothing_before r ids c.args.path.now (subst (IsTreeBefore r ids) c.in-None.is (c.in_ok-tree.ensures r s hold))
+    nothing_before r ids c.args.paths.now c.in_ok-nothing_at-in-None.field-0.items (subst (IsTreeBefore r ids) c.in-None.is (c.in_ok-tree.ensures r s hold)) c.in_ok-nothing_at-in-None.ensures
