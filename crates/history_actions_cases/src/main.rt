@@ -15,10 +15,10 @@ use std::io::{self, BufRead, BufReader, BufWriter, Write};
 fn main(rt: HostRuntime) -> io::Result<()> {
     let reader = BufReader::new(rt.alloc(), rt.reader())?;
     let mut writer = BufWriter::new(rt.alloc(), io::writer(&rt))?;
-    let mut number = 0;
+    let mut number = 0u64;
     for line in reader.lines(rt.alloc()) {
         let line = line?;
-        number += 1;
+        number = number.saturating_add(1);
         let text = match line.as_str().split_once(' ') {
             Some(("real", words)) => real::answer(&rt, number, words)?,
             _ => answer::<Folder>(rt.alloc(), line.as_str())?,
