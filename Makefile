@@ -20,8 +20,8 @@ wrong-bodies:
 	planted/try $(CRATES)
 
 # Runs the program on a stream of several commands and prints its replies: the proved program where it stands and is of these
-# sources, else the sources as they are, by rt try, which proves nothing: it took 38 to 79 seconds from a fresh checkout, and 1.5
-# minutes beside much other work.
+# sources, else the sources as they are, by rt try, which proves nothing: from a fresh checkout it takes some 100 seconds of each of two
+# processors.
 demo:
 	@if [ -x $(PROGRAM) ] && [ -z "$$($(NEWER))" ]; then \
 	  $(PROGRAM) < demo/first.stream; \
