@@ -36,7 +36,7 @@ use Rattle.history_store.proofs.Surveys.{one_more}
 -- ---- one file
 
 module _ (kind : Kind) where
-  spelled_told : (text : Bytes) (found : Option ObjectId) → SpellsId kind text found → option_map id_of found ≡ spelled_id kind text
+  pub spelled_told : (text : Bytes) (found : Option ObjectId) → SpellsId kind text found → option_map id_of found ≡ spelled_id kind text
   spelled_told text (Some id) (digits, is, reads) = sym (ap (spelled_id kind) is ∙ ap (option_and_then (id_from_hex kind)) (line_read digits) ∙ reads)
   spelled_told text None none = by_end (ends (10 ∷ []) text) refl
     where

@@ -30,6 +30,7 @@ impl<F: Files> Names<F> {
     pub fn switch(&mut self, alloc: Global, branch: &[u8]) -> Result<(), FileError>
         ensures honest { F.is_honest self.old.files → F.is_honest self.new.files }
         ensures kind { self.new.kind ≡ self.old.kind }
+        ensures packed { self.new.packed ≡ self.old.packed }
         ensures switched { Achieves F.is_honest F.history self.old.files self.new.files result
             (PutsBeside head_place (head_text branch.now)) }
 
