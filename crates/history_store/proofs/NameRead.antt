@@ -24,6 +24,7 @@ use Rattle.history_model.proofs.FormatLemmas.{records_alike}
 use Rattle.history_model.proofs.NameLemmas.{partial_of, some_or}
 use Rattle.history_model.proofs.WholePaths.{begins_parts}
 use Rattle.history_steps.proofs.PackedRecords.{packed_read}
+use Rattle.history_store.specs.NameLists.{spelled_id}
 use Rattle.history_store.specs.Packing.{NameReads, kept_hit, told_id}
 use Rattle.history_store.specs.References.{SpellsId}
 use Rattle.history_store.proofs.Gathered.{spelled_told}
@@ -73,19 +74,23 @@ line_told kind text = go (begins (codes "ref: ") text) refl (is_name (drop 5 tex
     go true e false o f = plain o
     go false e b o f = plain o
 
-loose_told : (kind : Kind) (text : Bytes) (found : Option ObjectId) → SpellsId kind text found → option_map id_of found ≡ told_id (loose_state kind text)
-loose_told kind text found spells = spelled_told kind text found spells ∙ go (whole_line text)
+-- the id that a text spells is the one that it is read as
+pub spelled_read : (kind : Kind) (text : Bytes) → spelled_id kind text ≡ told_id (loose_state kind text)
+spelled_read kind text = go (whole_line text)
   where
     go : (o : Option Bytes) → option_and_then (id_from_hex kind) o ≡ told_id (unwrap_or (option_map (loose_line kind) o) Faulty)
     go None = refl
     go (Some line) = line_told kind line
 
+loose_told : (kind : Kind) (text : Bytes) (found : Option ObjectId) → SpellsId kind text found → option_map id_of found ≡ told_id (loose_state kind text)
+loose_told kind text found spells = spelled_told kind text found spells ∙ spelled_read kind text
+
 -- ---- its record
 
-abbrev target : Record → Id
+abbrev pub target : Record → Id
 target e = e.target
 
-kept_told : (kind : Kind) (name : Bytes) (file : Option Bytes) (packed : Option Buffer) → is_name name ≡ true → KeepsFile kind file (option_map kept packed)
+pub kept_told : (kind : Kind) (name : Bytes) (file : Option Bytes) (packed : Option Buffer) → is_name name ≡ true → KeepsFile kind file (option_map kept packed)
     → option_map target (kept_hit packed name) ≡ told_id (packed_read kind name file)
 kept_told kind name None None named keeps = refl
 kept_told kind name None (Some buffer) named keeps = absurd keeps
@@ -106,7 +111,7 @@ kept_told kind name (Some text) (Some buffer) named keeps =
 
 -- ---- both
 
-state_of : (kind : Kind) (tree : Tree) (name : Bytes) (o : Option Bytes) → is_name name ≡ true → file_at tree name ≡ o → name_state kind tree name ≡ unwrap_or (option_map (loose_state kind) o) (packed_read kind name (file_at tree packed_place))
+pub state_of : (kind : Kind) (tree : Tree) (name : Bytes) (o : Option Bytes) → is_name name ≡ true → file_at tree name ≡ o → name_state kind tree name ≡ unwrap_or (option_map (loose_state kind) o) (packed_read kind name (file_at tree packed_place))
 state_of kind tree name o named e =
     λ i. cond (named i) (unwrap_or (option_map (loose_state kind) (e i)) (packed_read kind name (file_at tree packed_place))) Absent
 
@@ -117,6 +122,11 @@ pub record_reads : (kind : Kind) (tree : Tree) (name : Bytes) (found : Option Ob
     → option_map id_of found ≡ option_map target (kept_hit packed name) → NameReads kind tree name found
 record_reads kind tree name found packed named none keeps is =
     is ∙ kept_told kind name (file_at tree packed_place) packed named keeps ∙ sym (ap told_id (state_of kind tree name None named none))
+
+-- what is no name reads as none
+pub no_name_reads : (kind : Kind) (tree : Tree) (name : Bytes) → is_name name ≡ false → None ≡ told_id (name_state kind tree name)
+no_name_reads kind tree name wrong =
+    sym (ap (λ b. told_id (cond b (unwrap_or (option_map (loose_state kind) (file_at tree name)) (packed_read kind name (file_at tree packed_place))) Absent)) wrong)
 
 -- ---- what was read of a file
 

@@ -16,9 +16,9 @@ use Rattle.history_model.specs.Bytes.{Bytes}
 use Rattle.gix_object_lines.specs.NameTest.{is_full_name}
 use Rattle.history_model.specs.Places.{file_at, packed_place}
 use Rattle.history_model.proofs.PlaceLemmas.{one_text, text_itself, texts_apart}
-use Rattle.history_steps.proofs.PackedRecords.{all_by_finds, all_found}
+use Rattle.history_steps.proofs.PackedRecords.{all_by_finds}
 use Rattle.history_store.proofs.RecordsLeft.{ascend_once, as_all}
-use Rattle.history_store.specs.Packed.{AllFull, AreGone, ArePacked, HasPackedText, IsPackedText, MayBeGone, MayPack, lines_of_names, name_texts, record_of_name, records_of}
+use Rattle.history_store.specs.Packed.{AllFull, AllOfKind, AreGone, ArePacked, HasPackedText, IsPackedText, MayBeGone, MayPack, lines_of_names, name_texts, record_of_name, records_of}
 use Rattle.history_store.specs.Packing.{FileIsGone, FileMayGo}
 use Rattle.history_store.specs.References.{MayBeWritten, PutsBeside, lock_place}
 use Rattle.history_store.specs.declared.packs.PackedName.{PackedName}
@@ -196,14 +196,10 @@ packed_kept names named mid new gone = gone.others packed_place (apart_from_all 
 
 -- ---- the text is read
 
-all_as : (kind : Kind) (records : List Record) → AllHaveKind kind records → AllByRecursion (HasKind kind) records
-all_as kind [] h = tt
-all_as kind (r ∷ records) h = (h.0, all_as kind records h.1)
-
-pub packed_reads : (kind : Kind) (names : List PackedName) (text : Bytes) → IsPackedText kind (records_of names) text → AllHaveKind kind (records_of names) → packed_records kind text ≡ None → ⊥
+pub packed_reads : (kind : Kind) (names : List PackedName) (text : Bytes) → IsPackedText kind (records_of names) text → AllOfKind kind names → packed_records kind text ≡ None → ⊥
 packed_reads kind names text told kinds none =
     let all = all_by_finds (HasKind kind) told.after (ascend_once told.after told.ascend)
-    (λ e found. all_found (HasKind kind) (records_of names) e.name e (all_as kind (records_of names) kinds) (sym (told.each e.name) ∙ found)) in
+    (λ e found. kinds e.name e (sym (told.each e.name) ∙ found)) in
     none_some (sym none ∙ told.reads (as_all kind told.after all))
   where
     none_some : {x : List Record} → None ≡ Some x → ⊥

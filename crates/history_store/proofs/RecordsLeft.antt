@@ -86,6 +86,21 @@ none_told : (p : Bytes → Bool) (records : List Record) → AllByRecursion (λ 
 none_told p [] h = refl
 none_told p (r ∷ records) h = or_from (p r.name) (list_any p (map name_in records)) h.0 (none_told p records h.1)
 
+-- records that ascend have the form, where their names do
+pub form_made : (records : List Record) → Ascend records → AllByRecursion (λ (e : Record). is_name e.name ≡ true) records → AllByRecursion (λ (e : Record). is_private e.name ≡ false) records
+    → (sorted : Bool) → is_packed_form (record { sorted = sorted; records = records }) ≡ true
+form_made records ascend named public sorted =
+    let own = map name_in records in
+    and_from (list_all is_name own && not (has_twice bytes_eq own) && not (list_any is_private own)) (not sorted || is_sorted by_bytes (map pair_of own))
+    (and_from (list_all is_name own && not (has_twice bytes_eq own)) (not (list_any is_private own))
+    (and_from (list_all is_name own) (not (has_twice bytes_eq own)) (all_told is_name records named) (not_false (has_twice bytes_eq own) (ascend_once records ascend)))
+    (not_false (list_any is_private own) (none_told is_private records public)))
+    (right (not sorted) (is_sorted by_bytes (map pair_of own)) (ascend_sorted records ascend))
+  where
+    right : (a b : Bool) → b ≡ true → (a || b) ≡ true
+    right true b h = refl
+    right false b h = h
+
 -- the parts of a form
 module _ (packed : PackedFile) (formed : is_packed_form packed ≡ true) where
   abbrev names : List Bytes
@@ -139,18 +154,8 @@ module _ (kind : Kind) (name text : Bytes) (records after : List Record) (read :
   module _ (formed : is_packed_form (record { sorted = says_sorted text; records = records }) ≡ true) where
     left_formed : (sorted : Bool) → is_packed_form (record { sorted = sorted; records = after }) ≡ true
     left_formed sorted =
-        let own = map name_in after in
-        and_from (list_all is_name own && not (has_twice bytes_eq own) && not (list_any is_private own)) (not sorted || is_sorted by_bytes (map pair_of own))
-        (and_from (list_all is_name own && not (has_twice bytes_eq own)) (not (list_any is_private own))
-        (and_from (list_all is_name own) (not (has_twice bytes_eq own))
-        (all_told is_name after (by_was (λ (e : Record). is_name e.name ≡ true) (λ e found. found_name old formed e.name e found)))
-        (not_false (has_twice bytes_eq own) (ascend_once after edited.ascend)))
-        (not_false (list_any is_private own) (none_told is_private after (by_was (λ (e : Record). is_private e.name ≡ false) (λ e found. found_public old formed e.name e found)))))
-        (right (not sorted) (is_sorted by_bytes (map pair_of own)) (ascend_sorted after edited.ascend))
-      where
-        right : (a b : Bool) → b ≡ true → (a || b) ≡ true
-        right true b h = refl
-        right false b h = h
+        form_made after edited.ascend (by_was (λ (e : Record). is_name e.name ≡ true) (λ e found. found_name old formed e.name e found))
+        (by_was (λ (e : Record). is_private e.name ≡ false) (λ e found. found_public old formed e.name e found)) sorted
 
     lacks : (sorted : Bool) → LacksName name old (record { sorted = sorted; records = after })
     lacks sorted = record { formed = left_formed sorted; each = each }

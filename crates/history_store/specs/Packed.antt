@@ -8,7 +8,7 @@ use Rattle.gix_object_lines.specs.Bytes.{is_among}
 use Rattle.gix_ref_format.specs.Packed.{Record, packed_records}
 use Rattle.gix_ref_format.specs.PackedBuffer.{hit}
 use Rattle.gix_ref_packed.specs.Edited.{Ascend, Line, own_line}
-use Rattle.gix_ref_packed.specs.Written.{AllHaveKind, packed_text}
+use Rattle.gix_ref_packed.specs.Written.{AllHaveKind, HasKind, packed_text}
 use Rattle.history_model.specs.Bytes.{Bytes}
 use Rattle.gix_object_lines.specs.NameTest.{is_full_name}
 use Rattle.history_model.specs.Places.{file_at, packed_place}
@@ -33,9 +33,10 @@ name_texts names = map (λ n. n.name) names
 abbrev pub AllFull : List Bytes → Type 0
 AllFull names = AllByRecursion (λ name. IsTrue (is_full_name name)) names
 
--- the ids are all of this kind
+-- the ids are of this kind, of the first of each name
 abbrev pub AllOfKind : Kind → List PackedName → Type 0
-AllOfKind kind names = AllHaveKind kind (records_of names)
+AllOfKind kind names =
+    (name : Bytes) (e : Record) → hit (records_of names) name ≡ Some e → HasKind kind e
 
 -- The text of these records in the order of their names, each name once; and where all their ids are of the kind it is read as them.
 pub record IsPackedText (kind : Kind) (records : List Record) (text : Bytes) : Type 0 where

@@ -10,6 +10,7 @@ mod id_text;
 mod ids;
 mod listed;
 mod log_entry;
+mod meeting;
 mod names;
 mod object;
 mod objects;

@@ -14,6 +14,7 @@ ghost use Rattle.history_store.specs.Packing.{HasPackedRoom, KeepsRecords, NameR
 ghost use Rattle.history_store.specs.References.{MayBeWritten, PutsBeside, SameFolders};
 
 use crate::names::{Names, id_in};
+use crate::written::is_name;
 use gix_hash::{Kind, ObjectId};
 use gix_ref_file::{FileError, Files};
 use gix_ref_format::packed::Buffer;
@@ -44,15 +45,19 @@ impl<F: Files> Names<F> {
         Ok(())
     }
 
-    /// The id that a name holds: that of its own file, and where none stands that of its record. `None` where it holds none.
+    /// The id that a name holds: that of its own file, and where none stands that of its record. `None` where it holds none, and where it
+    /// is no name that a repository may hold.
     ///
     /// It is `Failed` where a file call failed, and `Memory` where no memory is left.
     pub fn find(&self, alloc: Global, name: &[u8]) -> Result<Option<ObjectId>, FileError>
-        ensures found { IsTrue (is_name name.now) → Finds F.is_honest F.history self.now.files
+        ensures found { Finds F.is_honest F.history self.now.files
             (λ tree. KeepsRecords self.now tree
             → IfOk result (λ found. NameReads self.now.kind tree name.now found)) }
         ensures failed { IsErrOf result Failed → F.reading_may_fail }
     {
+        if !is_name(name) {
+            return Ok(None);
+        }
         let mut text = Vec::new(alloc);
         match self.files.read(name, &mut text)? {
             Some(_) => Ok(id_in(self.kind, &text)),
