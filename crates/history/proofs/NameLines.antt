@@ -196,11 +196,15 @@ module _ {F : Type 0} (IsHonest : F → Type 0) (history : F → History) (repos
       let whole = serves.whole in
       names_peeled (pair_of history repository) r whole.stands whole.written folder whole.whole.names names of_kind
 
+  pub listed_are : map (told_name r) names ≡ names_shown r folder
+  listed_are =
+      let whole = serves.whole in
+      names_are (pair_of history repository) r whole.stands whole.written folder names of_kind
+
   pub names_answered : (MayFail : Type 0) (shown : List Shown) (text : Vec ℕ Global) → map shown_name shown ≡ map (told_name r) names
       → text.items ≡ reply_text (NamesAre repository.branch.items (map shown_name shown)) → OnlyAnswers MayFail r (Names folder) (Ok text)
   names_answered MayFail shown text told written =
-      let whole = serves.whole in
-      let are = told ∙ names_are (pair_of history repository) r whole.stands whole.written folder names of_kind in (
+      let are = told ∙ listed_are in (
         NamesAre r.branch (names_shown r folder),
         written ∙ (λ i. reply_text (NamesAre (serves.branch i) (are i))),
         names_cause r folder ∙ good,
