@@ -64,9 +64,6 @@ hit_shown : (r : plain.Repository) (name : Bytes) (es : List (Bytes × Reference
 hit_shown r name [] = refl
 hit_shown r name (e ∷ es) = go (bytes_eq e.0 name) refl
   where
-    found : Bool → Option Record
-    found b = option_map (λ (ref : Reference). line_record (name_line r (name, ref))) (cond b (Some e.1) (find by_bytes name es))
-
     go : (b : Bool) → bytes_eq e.0 name ≡ b
         → cond b (Some (line_record (name_line r e))) (hit (map line_record (lines_of r es)) name) ≡ option_map (λ (ref : Reference). line_record (name_line r (name, ref))) (cond (eq_by_cmp by_bytes name e.0) (Some e.1) (find by_bytes name es))
     go true same =

@@ -6,7 +6,7 @@ ghost use Rattle.gix_hash_id.specs.Order.{id_eq};
 ghost use Rattle.history_model.specs.Forms.{is_name};
 ghost use Rattle.history_model.specs.Repository as plain;
 ghost use Rattle.history.specs.Acts.{GivesMeant};
-ghost use Rattle.history.specs.Held.{IsHeld, held_commit, held_id};
+ghost use Rattle.history.specs.Held.{IsHeld, held_commit, held_id, tagged_commit};
 ghost use Rattle.history.specs.Stands.{Stands};
 
 use crate::repository::Repository;
@@ -29,6 +29,17 @@ impl Held {
         ensures { result ≡ not (id_eq (held_id self) (held_commit self)) }
     {
         self.id != self.commit
+    }
+
+    /// The commit of the tag that is held; none where a commit is.
+    pub(crate) fn tagged(self) -> Option<ObjectId>
+        ensures { option_map id_of result ≡ tagged_commit self }
+    {
+        if self.is_tag() {
+            Some(self.commit)
+        } else {
+            None
+        }
     }
 }
 

@@ -37,18 +37,10 @@ fn to_pack(shown: Shown) -> Option<PackedName>
         (λ named. record_of_name named ≡ line_record (shown_name shown)) }
     ensures none { IfNone result (IsFalse (is_full_name shown.name.items)) }
 {
-    let Shown { name, held } = shown;
-    let peeled = if held.is_tag() {
-        Some(held.commit)
-    } else {
-        None
-    };
-    let name = FullName::new(ByteString::new(name)).ok()?;
-    Some(PackedName {
-        name,
-        id: held.id,
-        peeled,
-    })
+    let id = shown.held.id;
+    let peeled = shown.held.tagged();
+    let name = FullName::new(ByteString::new(shown.name)).ok()?;
+    Some(PackedName { name, id, peeled })
 }
 
 /// The names as they are to be packed.
@@ -59,7 +51,8 @@ fn all_to_pack(alloc: Global, shown: Vec<Shown>) -> Result<Vec<PackedName>, Stop
     let mut names = Vec::new(alloc);
     for one in shown {
         // The names of a whole repository are full ones.
-        names.push(to_pack(one).ok_or(Fault::File)?)?;
+        let named = to_pack(one).ok_or(Fault::File)?;
+        names.push(named)?;
     }
     Ok(names)
 }
