@@ -1,8 +1,7 @@
 -- A name goes: what a `delete` is refused for, and what its files pass through.
-use Rattle.std.proofs.Common.{◌≡◌, ◌≢◌, ◌⊎◌, inl, inr, ℕ, bytes_eq, Bool, true, false, cond, not, ◌||◌, List, [], ◌∷◌, ◌++◌, map, refl, sym, ◌∙◌, ap, subst, Option, Some, None, option_map, is_some, unwrap_or}
+use Rattle.std.proofs.Common.{◌≡◌, ◌≢◌, ◌⊎◌, inl, inr, ℕ, bytes_eq, Bool, true, false, cond, not, ◌||◌, List, [], ◌∷◌, ◌++◌, map, refl, sym, ◌∙◌, ap, subst, Option, Some, None, option_map, is_some}
 use Rattle.std.specs.Prelude.{IsTrue, MatchOption, Result, Err, Vec}
 use Rattle.std.specs.declared.alloc.Global.{Global}
-use Rattle.std.specs.FinMap.{get}
 use Rattle.gix_hash_id.specs.Id.{Id, id_of}
 use Rattle.gix_hash_id.specs.Order.{id_eq}
 use Rattle.gix_hash_id.specs.declared.kind.Kind.{Kind}
@@ -14,7 +13,7 @@ use Rattle.gix_ref_file.specs.declared.files.FileError.TheVariants as files
 use Rattle.gix_ref_file.proofs.Histories.{adds_both, adds_weaker}
 use Rattle.history_model.specs.Bytes.{Bytes}
 use Rattle.history_model.specs.Repository as plain
-use Rattle.history_model.specs.Repository.{Reference, stands}
+use Rattle.history_model.specs.Repository.{stands}
 use Rattle.history_model.specs.Forms.{is_name, is_private}
 use Rattle.history_model.specs.Commands.{At, Command, Delete}
 use Rattle.history_model.specs.CommandParts.{option_expect}

@@ -1,5 +1,5 @@
 -- What `names` answers, by what its folder lists.
-use Rattle.std.proofs.Common.{◌≡◌, ℕ, zero, suc, ◌<◌, arith, get_or, inl, inr, Bool, true, false, cond, not, ◌&&◌, ◌||◌, T, List, [], ◌∷◌, ◌++◌, map, drop, length, refl, sym, ◌∙◌, ap, subst, Option, Some, None, option_map, option_and_then, is_some, unwrap_or, filter, codes, bytes_eq, Vec, Ok}
+use Rattle.std.proofs.Common.{◌≡◌, ℕ, zero, suc, ◌<◌, arith, get_or, inl, inr, Bool, true, false, cond, not, ◌&&◌, ◌||◌, T, List, [], ◌∷◌, ◌++◌, map, length, refl, sym, ◌∙◌, ap, subst, Option, Some, None, option_map, is_some, unwrap_or, filter, codes, bytes_eq, Vec, Ok}
 use Rattle.std.specs.declared.alloc.Global.{Global}
 use Rattle.std.specs.Ordering.{eq_by_cmp, is_lt}
 use Rattle.std.specs.Cmp.Lexicographic.{nat_list_cmp_total}
@@ -15,12 +15,11 @@ use Rattle.gix_ref_file.specs.declared.files.FileError.{FileError}
 use Rattle.gix_ref_file.specs.declared.files.FileError.TheVariants.{Failed, Memory}
 use Rattle.gix_hash_id.specs.Id.{Id, id_of, null_id}
 use Rattle.gix_hash_id.specs.declared.kind.Kind.{Kind}
-use Rattle.history_model.specs.Bytes.{Bytes, by_bytes, begins}
+use Rattle.history_model.specs.Bytes.{Bytes, by_bytes}
 use Rattle.history_model.specs.FileMap.{is_below}
 use Rattle.history_model.specs.Forms.{is_name, is_private, is_reference, IsWritten}
 use Rattle.history_model.specs.Repository.{Repository, Reference, HasWholeNames, id_at, peeled}
-use Rattle.history_model.specs.PackedNames.{id_from_hex, whole_line}
-use Rattle.history_model.specs.Places.{Pair, file_at, packed_place}
+use Rattle.history_model.specs.Places.{Pair}
 use Rattle.history_model.specs.NameStates.{name_state}
 use Rattle.history_model.specs.StandsFor.{StandsFor}
 use Rattle.history_model.specs.Commands.{Names}
@@ -31,9 +30,7 @@ use Rattle.history_model.specs.Spelling.{Part, Line}
 use Rattle.history_model.specs.Answers.{is_in_folder, names_shown}
 use Rattle.history_model.specs.declared.Cause.{Cause}
 use Rattle.history_model.specs.declared.Cause.TheVariants.{BadName, PrivateName}
-use Rattle.history_model.proofs.FormatLemmas.{holds_same}
-use Rattle.history_model.proofs.WholeLists.{In, same_text}
-use Rattle.history_model.proofs.WholePaths.{begins_front, begins_parts}
+use Rattle.history_model.proofs.WholeLists.{In}
 use Rattle.history_model.proofs.WholeStores.{in_get}
 use Rattle.history_files.proofs.Lines.{map_twice}
 use Rattle.history_store.specs.AllNames.{ListsAll, id_read}

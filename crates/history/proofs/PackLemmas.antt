@@ -1,9 +1,8 @@
 -- Names are packed: the records that are written, and what the files of names pass through.
 use Rattle.std.proofs.Common.{◌≡◌, ◌<◌, ◌&&◌, zero, suc, arith, length, get_or, ◌++◌, Bool, true, false, cond, not, List, [], ◌∷◌, map, filter, refl, sym, ◌∙◌, ap, subst, inl, inr, Option, Some, None, option_map, is_some, unwrap_or, bytes_eq, Ok}
-use Rattle.std.specs.Prelude.{IsTrue, Result, Err, Vec, ℕ}
+use Rattle.std.specs.Prelude.{Result, Err, Vec, ℕ}
 use Rattle.std.specs.declared.alloc.Global.{Global}
 use Rattle.std.specs.FinMap.{entries, find, get, get-entries}
-use Rattle.std.specs.List.{AllByRecursion}
 use Rattle.std.specs.Ordering.{eq_by_cmp}
 use Rattle.std.proofs.lemmas.Bool.{and_parts}
 use Rattle.std.proofs.lemmas.List.{map-append}

@@ -16,7 +16,6 @@ use Rattle.history.specs.Face.{names_part}
 use Rattle.history.specs.declared.repository.Repository as own
 use Rattle.history.proofs.NameReads.{held}
 use Rattle.gix_hash_id.specs.Id.{Id, id_of}
-use Rattle.std.proofs.lemmas.Bool.{and_parts}
 
 -- what stands before and behind a word
 abbrev pub Ends : Type 0

@@ -1,4 +1,4 @@
-use Rattle.std.proofs.Common.{◌≡◌, ◌∙◌, ap, refl, sym, subst, Err, None, codes}
+use Rattle.std.proofs.Common.{◌≡◌, ◌∙◌, ap, refl, Err, None, codes}
 use Rattle.std.specs.Prelude.{map}
 use Rattle.std.proofs.lemmas.Result.{err_from_is_err_and}
 use Rattle.history.specs.NamesShown.{shown_name, told_name}
