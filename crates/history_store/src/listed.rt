@@ -56,10 +56,10 @@ impl<F: Files> Names<F> {
             ListsAll self.now.kind tree folder.now names.items)) }
         ensures failed { IsErrOf result Failed → F.reading_may_fail }
     {
-        let mut ids = BTreeMap::new(alloc);
-        self.gather(alloc, folder, &mut ids)?;
-        self.add_packed(alloc, folder, &mut ids)?;
-        Ok(names_in_order(alloc, ids)?)
+        let mut found = BTreeMap::new(alloc);
+        self.gather(alloc, folder, &mut found)?;
+        self.add_packed(alloc, folder, &mut found)?;
+        Ok(names_in_order(alloc, found)?)
     }
 
     // Puts in the names below a folder that have records, with the ids that they read as.
@@ -168,11 +168,11 @@ fn names_in_order(
     ensures { IfOk result (λ names. map name_entry names.items
         ≡ filter (λ entry. is_name entry.0) (entries (ids_in ids))) }
 {
-    let mut names = Vec::new(alloc);
+    let mut listed = Vec::new(alloc);
     for (name, id) in ids {
-        push_name(&mut names, name, id)?;
+        push_name(&mut listed, name, id)?;
     }
-    Ok(names)
+    Ok(listed)
 }
 
 // Adds the name with its id, where it is a name of a reference.
