@@ -1,5 +1,5 @@
 -- What is left of the files while a name goes, packed or not.
-use Rattle.std.proofs.Common.{◌≡◌, ◌≢◌, ◌⊎◌, inl, inr, refl, sym, ◌∙◌, ap, subst, Bool, List, Option, Some, None, option_map, true, false, codes}
+use Rattle.std.proofs.Common.{◌≡◌, ◌≢◌, ◌⊎◌, inl, inr, refl, sym, ◌∙◌, ap, subst, Bool, List, Option, Some, None, option_map, true, false, bytes_eq, codes}
 use Rattle.gix_ref_file.specs.Tree.{Tree}
 use Rattle.gix_ref_file.specs.Changes.{to_remove_file, is_file_at, MayLeave}
 use Rattle.gix_ref_file.specs.History.{History, Adds}
@@ -9,13 +9,15 @@ use Rattle.std.specs.FinMap.{remove}
 use Rattle.gix_hash_id.specs.declared.kind.Kind.{Kind}
 use Rattle.history_model.specs.Bytes.{Bytes}
 use Rattle.history_model.specs.Forms.{is_name}
-use Rattle.history_model.specs.Places.{file_at, is_log_place, log_place, packed_place}
+use Rattle.history_model.specs.Places.{file_at, head_place, is_lock_file, is_log_place, log_place, packed_place}
+use Rattle.history_model.proofs.NameLemmas.{ends_after}
 use Rattle.history_steps.specs.TakeSteps.{LacksRecord, TakesRecord}
 use Rattle.history_store.specs.Packing.{FileIsGone, FileMayGo, HasPackedRoom, IsPackedForm, IsTaken, KeepsRecords, LosesRecord, MayLoseRecord, MayTake}
 use Rattle.history_store.specs.declared.names.Names.{Names}
+use Rattle.history_store.specs.declared.log_entry.LogEntry.{LogEntry}
 use Rattle.gix_ref_format.specs.PackedBuffer.{KeepsFile}
 use Rattle.gix_ref_format.specs.PackedKept.{kept}
-use Rattle.history_store.specs.References.{LogIsGone, LogMayGo, MayBeWritten, PutsBeside, SameFolders, lock_place}
+use Rattle.history_store.specs.References.{HasMoved, LogIsGone, LogMayGo, MayBeWritten, PutsBeside, SameFolders, lock_place}
 use Rattle.history_store.proofs.Moves.{name_apart}
 use Rattle.history_store.proofs.Removals.{removed_here}
 use Rattle.history_store.proofs.Stored.{apart_from_removed}
@@ -193,3 +195,15 @@ log_keeps name old mid logs = logs.others packed_place (λ same. log_packed name
 
 pub own_keeps : (name : Bytes) (old new : Tree) → is_name name ≡ true → FileIsGone name old new → file_at new packed_place ≡ file_at old packed_place
 own_keeps name old new named gone = gone.others packed_place (λ same. name_packed name named (sym same))
+
+-- ---- what a move and a switch leave of it
+
+lock_last : (name : Bytes) → is_lock_file (lock_place name) ≡ true
+lock_last name = ends_after name (codes ".lock")
+
+pub move_keeps : (name : Bytes) (entry : LogEntry) (old new : Tree) → is_name name ≡ true → HasMoved name entry old new → file_at new packed_place ≡ file_at old packed_place
+move_keeps name entry old new named moved =
+    moved.others packed_place (λ same. name_packed name named (sym same)) (λ same. log_packed name (sym same)) (λ same. log_apart (sym (lock_last name) ∙ ap is_lock_file (sym same)))
+
+pub head_keeps : (text : Bytes) (old new : Tree) → PutsBeside head_place text old new → file_at new packed_place ≡ file_at old packed_place
+head_keeps text old new puts = puts.others packed_place (λ same. log_apart (ap (bytes_eq packed_place) same)) (λ same. log_apart (ap (bytes_eq packed_place) same))

@@ -119,9 +119,11 @@ impl<F: Files> Names<F> {
             (get (ids_in ids.old) other))) }
         ensures failed { IsErrOf result Failed → F.reading_may_fail }
     {
-        if let Some(id) = self.find(alloc, name)? {
-            ids.insert(Vec::from_slice(alloc, name)?, id)?;
-        }
+        let Some(id) = self.find(alloc, name)? else {
+            return Ok(());
+        };
+        let key = Vec::from_slice(alloc, name)?;
+        ids.insert(key, id)?;
         Ok(())
     }
 
@@ -180,8 +182,8 @@ fn push_name(names: &mut Vec<NamedId>, name: Vec<u8>, id: ObjectId) -> Result<()
     ensures { OnOk result (map name_entry names.new.items ≡ map name_entry names.old.items
         ++ (if is_name name.items then (name.items, id_of id) ∷ [] else [])) }
 {
-    if is_name(&name) {
-        names.push(NamedId { name, id })?;
+    if !is_name(&name) {
+        return Ok(());
     }
-    Ok(())
+    names.push(NamedId { name, id })
 }

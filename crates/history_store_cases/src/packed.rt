@@ -3,7 +3,6 @@
 use crate::names::show_names;
 use crate::objects::show_id;
 use crate::session::Parts;
-use bstr::ByteString;
 use case_ids::read_id;
 use case_words::{Page, read_bytes};
 use gix_ref_format::packed::buffer::Error;
@@ -81,6 +80,6 @@ fn read_name(alloc: Global, word: &str) -> Option<PackedName> {
         Some(digits) => Some(read_id(digits)?),
         None => None,
     };
-    let name = FullName::new(ByteString::new(name)).ok()?;
+    let name = FullName::from_bytes(alloc, &name).ok()?;
     Some(PackedName { name, id, peeled })
 }
