@@ -1,10 +1,15 @@
 mod Listed
 mod Walked
 mod Found
+mod Folders
 mod Heads
 mod LogTexts
 mod LooseTexts
 mod MadeNames
+mod GoodNames
+mod PackedLines
+mod PackedTexts
+mod PackedReads
 mod Standing
 mod Told
 mod Accepted
