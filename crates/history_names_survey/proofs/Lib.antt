@@ -10,6 +10,7 @@ mod GoodNames
 mod PackedLines
 mod PackedTexts
 mod PackedReads
+mod ReadSoFar
 mod Standing
 mod Told
 mod Accepted

@@ -121,11 +121,11 @@ module _ (kind : Kind) where
                     let q = p.gives (next_number m) j in (
                       q.0,
                       ap (λ n. all_good (items kind m false (take n (line ∷ ls)))) (let e : weights (r ∷ seen) + j ≡ suc (weights seen + j) = omega (arith, light) in e)
-                      ∙ at_record m line (take (weights seen + j) ls) found at
-                      ∙ ap (λ o. with_item (Good (with_peel found o)) (all_good (items kind (next_number m) (is_some o) (take (weights seen + j) ls)))) (no_peel found (weights seen + j) ls none)
-                      ∙ ap (with_item (Good (with_peel found None))) q.1
-                      ∙ one_more (with_peel found None) seen _
-                      ∙ ap (λ x. behind (x ∷ seen) (all_good (items kind q.0 false (take j p.rest)))) is_r,
+                          ∙ at_record m line (take (weights seen + j) ls) found at
+                          ∙ ap (λ o. with_item (Good (with_peel found o)) (all_good (items kind (next_number m) (is_some o) (take (weights seen + j) ls)))) (no_peel found (weights seen + j) ls none)
+                          ∙ ap (with_item (Good (with_peel found None))) q.1
+                          ∙ one_more (with_peel found None) seen _
+                          ∙ ap (λ x. behind (x ∷ seen) (all_good (items kind q.0 false (take j p.rest)))) is_r,
                     );
               }
           by_peel recur [] (Some id) some same more = none_some some
@@ -142,11 +142,11 @@ module _ (kind : Kind) where
                     let q = p.gives (next_number (next_number m)) j in (
                       q.0,
                       ap (λ n. all_good (items kind m false (take n (line ∷ l ∷ ls)))) (let e : weights (r ∷ seen) + j ≡ suc (suc (weights seen + j)) = omega (arith, heavy) in e)
-                      ∙ at_record m line (l ∷ take (weights seen + j) ls) found at
-                      ∙ ap (λ o. with_item (Good (with_peel found o)) (all_good (items kind (next_number m) (is_some o) (l ∷ take (weights seen + j) ls)))) some
-                      ∙ ap (with_item (Good (with_peel found (Some id)))) q.1
-                      ∙ one_more (with_peel found (Some id)) seen _
-                      ∙ ap (λ x. behind (x ∷ seen) (all_good (items kind q.0 false (take j p.rest)))) is_r,
+                          ∙ at_record m line (l ∷ take (weights seen + j) ls) found at
+                          ∙ ap (λ o. with_item (Good (with_peel found o)) (all_good (items kind (next_number m) (is_some o) (l ∷ take (weights seen + j) ls)))) some
+                          ∙ ap (with_item (Good (with_peel found (Some id)))) q.1
+                          ∙ one_more (with_peel found (Some id)) seen _
+                          ∙ ap (λ x. behind (x ∷ seen) (all_good (items kind q.0 false (take j p.rest)))) is_r,
                     );
               }
 

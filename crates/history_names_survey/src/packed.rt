@@ -36,9 +36,10 @@ impl<'a> Packed<'a> {
         let mut number = first_number(text);
         let mut records = Vec::new(alloc);
         let mut names = BTreeSet::new(alloc);
-        'records: while let Some(item) = left.next() {
-            let Ok(record) = item else {
-                return Err(NamesError::BadPacked(number));
+        while let Some(item) = left.next() {
+            let record = match item {
+                Ok(record) => record,
+                Err(_) => return Err(NamesError::BadPacked(number)),
             };
             if !may_follow(&records, sorted, &record) {
                 return Err(NamesError::BadPacked(number));

@@ -149,15 +149,15 @@ module _ (kind : Kind) (pair : Pair) (r : Repository) (stands : StandsWhole kind
 -- ---- an opened store, and the names part over it
 
 -- what was found of the names part, by its files and their kind
-pub part_of : {F : Type 0} (history : F → History) (facts : Facts) (branch : Bytes) (known own : F) (k kind : Kind) → known ≡ own → k ≡ kind
-    → IsNamesPart k facts (history known).tree branch → IsNamesPart kind facts (history own).tree branch
+pub part_of : {F : Type 0} (history : F → History) (facts : Kind → Facts) (branch : Bytes) (known own : F) (k kind : Kind) → known ≡ own → k ≡ kind
+    → IsNamesPart k (facts k) (history known).tree branch → IsNamesPart kind (facts kind) (history own).tree branch
 part_of history facts branch known own k kind e f h =
-    subst (λ files. IsNamesPart kind facts (history files).tree branch) e (subst (λ (q : Kind). IsNamesPart q facts (history known).tree branch) f h)
+    subst (λ files. IsNamesPart kind (facts kind) (history files).tree branch) e (subst (λ (q : Kind). IsNamesPart q (facts q) (history known).tree branch) f h)
 
-pub cause_of : {F : Type 0} (history : F → History) (MayFail : Type 0) (facts : Facts) (error : NamesError) (known own : F) (k kind : Kind) → known ≡ own → k ≡ kind
-    → HasCause MayFail k facts (history known).tree error → HasCause MayFail kind facts (history own).tree error
+pub cause_of : {F : Type 0} (history : F → History) (MayFail : Type 0) (facts : Kind → Facts) (error : NamesError) (known own : F) (k kind : Kind) → known ≡ own → k ≡ kind
+    → HasCause MayFail k (facts k) (history known).tree error → HasCause MayFail kind (facts kind) (history own).tree error
 cause_of history MayFail facts error known own k kind e f h =
-    subst (λ files. HasCause MayFail kind facts (history files).tree error) e (subst (λ (q : Kind). HasCause MayFail q facts (history known).tree error) f h)
+    subst (λ files. HasCause MayFail kind (facts kind) (history files).tree error) e (subst (λ (q : Kind). HasCause MayFail q (facts q) (history known).tree error) f h)
 
 -- the facts that a store tells of the ids that it knows
 abbrev pub told_facts : Kind → Tree → IdSet → Facts
