@@ -1019,7 +1019,8 @@ def opening():
         ROWS.append((f"{kind} names:write:HEAD:{word(b'ref: refs/heads/other' + NEW_LINE)} open run:{word(b'commit HEAD new' + NEW_LINE + ONE + b'names' + NEW_LINE)} left",
                      f"done opened {told(ended, replies)} {left(plain)}"))
         ROWS.append((f"{kind} {head} names:folder:hooks open", "done done Stray:hooks"))
-        ROWS.append((f"{kind} {head} names:write:packed-refs:- open", "done done NotYet:packed-refs"))
+        ROWS.append((f"{kind} {head} names:write:packed-refs:- open", "done done opened"))
+        ROWS.append((f"{kind} {head} names:write:packed-refs:{word(NEW_LINE)} open", "done done BadPacked:1"))
         folders = ["refs", "refs/heads", "refs/heads/main", "refs/heads/main/x", "refs/heads/main/x/y", "refs/heads/main/z", "logs",
                    "logs/refs", "logs/refs/heads", "logs/refs/heads/main", "logs/refs/heads/main/x"]
         stream = b"commit refs/heads/main new\n" + ONE

@@ -1,10 +1,16 @@
 mod Listed
 mod Walked
 mod Found
+mod Folders
 mod Heads
 mod LogTexts
 mod LooseTexts
 mod MadeNames
+mod GoodNames
+mod PackedLines
+mod PackedTexts
+mod PackedReads
+mod ReadSoFar
 mod Standing
 mod Told
 mod Accepted
