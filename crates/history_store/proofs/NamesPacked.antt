@@ -175,7 +175,7 @@ module _ (r : Repository) (written : IsWritten r) where
     none_locked tree holds = go (file_at tree lock) refl (stands r lock) refl
       where
         unnamed : (is_name lock ≡ true) → ⊥
-        unnamed h = cc
+        unnamed h = absurd (cc h)
 
         no_place : stands r lock ≡ false → is_name_place r lock ≡ false
         no_place away = ap (λ b. ((bytes_eq lock head_place || bytes_eq lock packed_place) || b) || (is_log_place lock && stands r (log_name lock))) away

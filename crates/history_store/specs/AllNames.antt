@@ -1,5 +1,5 @@
 -- The names below a folder with the ids that they read as, and whether a name meets another, packed or not.
-use Rattle.std.specs.Prelude.{◌≡◌, ◌×◌, ◌⊎◌, Bool, true, false, ◌&&◌, is_some, List, map, Option, Some, None, if◌then◌else◌, IsTrue, IsSome}
+use Rattle.std.specs.Prelude.{◌≡◌, ◌⊎◌, Bool, true, false, ◌&&◌, is_some, List, map, Option, Some, None, if◌then◌else◌, IsTrue, IsSome}
 use Rattle.std.specs.FinMap.{entries, get}
 use Rattle.gix_ref_file.specs.Tree.{Tree}
 use Rattle.gix_ref_file.specs.Changes.{is_file_at}

@@ -185,5 +185,6 @@ fn push_name(names: &mut Vec<NamedId>, name: Vec<u8>, id: ObjectId) -> Result<()
     if !is_name(&name) {
         return Ok(());
     }
-    names.push(NamedId { name, id })
+    names.push(NamedId { name, id })?;
+    Ok(())
 }
