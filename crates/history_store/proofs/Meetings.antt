@@ -3,6 +3,7 @@ use Rattle.std.proofs.Common.{◌≡◌, ◌⊎◌, inl, inr, refl, sym, ◌∙�
 use Rattle.std.specs.Prelude.{Result, Ok, Err, IfOk, nat_le}
 use Rattle.std.specs.FinMap.{get, find, entries, get-entries}
 use Rattle.std.proofs.lemmas.Bool.Decides.{nat_tests}
+use Rattle.std.proofs.lemmas.Bool.{eqb-true}
 use borrow.Author.Tests.{leb-true}
 use Rattle.gix_ref_file.specs.declared.files.FileError.{FileError}
 use Rattle.gix_ref_file.specs.Tree.{Tree}
@@ -16,7 +17,7 @@ use Rattle.history_model.specs.NameStates.{name_state}
 use Rattle.history_model.proofs.WholePaths.{below_front, below_parts}
 use Rattle.history_store.specs.AllNames.{ListsAll, ReadsAsId, ReadsAsNone, TellsHeldAbove, TellsHeldBelow, TellsMeeting, told_if}
 use Rattle.history_store.specs.NameLists.{name_entry}
-use Rattle.history_store.specs.Packing.{told_id}
+use Rattle.history_store.specs.Packing.{NameReads, told_id}
 use Rattle.history_store.specs.References.{HasWay, TellsCollision}
 use Rattle.history_store.specs.Stores.{IsAbove}
 use Rattle.history_store.specs.declared.listed.NamedId.{NamedId}
@@ -43,10 +44,11 @@ pub all_passed : (end : ℕ) (kind : Kind) (name : Bytes) (tree : Tree) → leng
 all_passed end kind name tree far before other above = before other above (omega (arith, far, above_shorter other name above))
 
 -- what was found of a name
-pub some_reads : (kind : Kind) (tree : Tree) (name : Bytes) (found : Option Id) → found ≡ told_id (name_state kind tree name) → is_some found ≡ true → ReadsAsId kind tree name
-some_reads kind tree name found reads some = ap is_some (sym reads) ∙ some
+pub some_reads : (kind : Kind) (tree : Tree) (name : Bytes) (found : Option ObjectId) → NameReads kind tree name found → is_some found ≡ true → ReadsAsId kind tree name
+some_reads kind tree name (Some id) reads some = ap is_some (sym reads)
+some_reads kind tree name None reads some = cc
 
-pub none_reads : (kind : Kind) (tree : Tree) (name : Bytes) (found : Option Id) → found ≡ told_id (name_state kind tree name) → is_some found ≡ false → ReadsAsNone kind tree name
+pub none_reads : (kind : Kind) (tree : Tree) (name : Bytes) (found : Option ObjectId) → NameReads kind tree name found → is_some found ≡ false → ReadsAsNone kind tree name
 none_reads kind tree name None reads none = sym reads
 none_reads kind tree name (Some id) reads none = cc
 
@@ -76,11 +78,13 @@ module _ (kind : Kind) (tree : Tree) (name : Bytes) where
 
   -- whether names are listed tells whether one lies below
   pub listed_tells : (names : List NamedId) (found : Bool) → ListsAll kind tree name names → found ≡ not (length names == 0) → TellsHeldBelow kind name tree found
-  listed_tells names found lists is = subst (TellsHeldBelow kind name tree) (sym is) (go names lists)
+  listed_tells [] found lists is = subst (TellsHeldBelow kind name tree) (sym is) (none_listed lists)
+  listed_tells (first ∷ rest) true lists is = one_listed first rest lists
+  listed_tells (first ∷ rest) false lists is = absurd (omega (arith, eqb-true (length (first ∷ rest)) 0 (flip (length (first ∷ rest) == 0) is)))
     where
-      go : (names : List NamedId) → ListsAll kind tree name names → TellsHeldBelow kind name tree (not (length names == 0))
-      go [] lists = none_listed lists
-      go (first ∷ rest) lists = one_listed first rest lists
+      flip : (b : Bool) → false ≡ not b → b ≡ true
+      flip true e = refl
+      flip false e = cc
 
 -- ---- all of it
 

@@ -56,6 +56,6 @@ impl<F: Files> Names<F> {
         ensures failed { IsErrOf result Failed → F.reading_may_fail }
     {
         let below = self.list_all(alloc, name)?;
-        Ok(!below.is_empty())
+        Ok(!below.as_slice().is_empty())
     }
 }
