@@ -23,5 +23,5 @@ loop-record-preserved g c = λ honest keeps name.
 pub returns-clause-found : goal.returns-clause-found
 returns-clause-found g c = λ honest keeps name.
     let now = get (ids_in c.loop-record.ids) name in
-    ap (λ rs. option_or (told_if (has_record rs name) c.args.self.now.kind (g.F.Files.history c.args.self.now.files).tree name) now) (sym c.in_default.ensures.steps)
+    ap (λ rs. option_or (told_if (has_record rs name) c.args.self.now.kind (g.F.Files.history c.args.self.now.files).tree name) now) (sym c.in_default.ensures.steps.0)
     ∙ c.loop-record.invariant honest keeps name
