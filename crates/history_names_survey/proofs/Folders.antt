@@ -32,29 +32,20 @@ front_kept front folder name below is =
 pub folder_common : (folder name : Bytes) → is_below folder name ≡ true → is_private name ≡ false → is_private folder ≡ false
 folder_common folder name below common = by_test (is_private folder) refl
   where
-    abbrev bisect : Bytes
-    bisect = codes "refs/bisect/"
+    two : ((begins (codes "refs/bisect/") name || begins (codes "refs/worktree/") name) ≡ false) × (begins (codes "refs/rewritten/") name ≡ false)
+    two = or_parts (begins (codes "refs/bisect/") name || begins (codes "refs/worktree/") name) (begins (codes "refs/rewritten/") name) common
 
-    abbrev worktree : Bytes
-    worktree = codes "refs/worktree/"
-
-    abbrev rewritten : Bytes
-    rewritten = codes "refs/rewritten/"
-
-    two : ((begins bisect name || begins worktree name) ≡ false) × (begins rewritten name ≡ false)
-    two = or_parts (begins bisect name || begins worktree name) (begins rewritten name) common
-
-    one : (begins bisect name ≡ false) × (begins worktree name ≡ false)
-    one = or_parts (begins bisect name) (begins worktree name) two.0
+    one : (begins (codes "refs/bisect/") name ≡ false) × (begins (codes "refs/worktree/") name ≡ false)
+    one = or_parts (begins (codes "refs/bisect/") name) (begins (codes "refs/worktree/") name) two.0
 
     by_test : (b : Bool) → is_private folder ≡ b → is_private folder ≡ false
     by_test false is = is
-    by_test true is = elim (or_cases (begins bisect folder || begins worktree folder) (begins rewritten folder) is) [
-      | inl first ↦ elim (or_cases (begins bisect folder) (begins worktree folder) first) [
-        | inl h ↦ clash (front_kept bisect folder name below h) one.0
-        | inr h ↦ clash (front_kept worktree folder name below h) one.1
+    by_test true is = elim (or_cases (begins (codes "refs/bisect/") folder || begins (codes "refs/worktree/") folder) (begins (codes "refs/rewritten/") folder) is) [
+      | inl first ↦ elim (or_cases (begins (codes "refs/bisect/") folder) (begins (codes "refs/worktree/") folder) first) [
+        | inl h ↦ clash (front_kept (codes "refs/bisect/") folder name below h) one.0
+        | inr h ↦ clash (front_kept (codes "refs/worktree/") folder name below h) one.1
       ]
-      | inr h ↦ clash (front_kept rewritten folder name below h) two.1
+      | inr h ↦ clash (front_kept (codes "refs/rewritten/") folder name below h) two.1
     ]
 
 -- ---- all folders of a name

@@ -10,9 +10,11 @@ mod GoodNames
 mod PackedLines
 mod PackedTexts
 mod PackedReads
+mod KeptNames
 mod ReadSoFar
 mod Standing
 mod Told
+mod RecordCauses
 mod Accepted
 mod Surveyed
 mod Joining

@@ -161,7 +161,7 @@ module _ (kind : Kind) (facts : Facts) (tree : Tree) (sound : (path : Bytes) →
   named_by : (name : Bytes) → is_some (ref_at name) ≡ true → Named name
   named_by name there = go (is_name name) refl (file_at tree name) refl there
     where
-      by_entry : is_name name ≡ true → file_at tree name ≡ None → (o : Option Record) → entry_of name ≡ o → is_some (option_map (λ (e : Record). record { id = e.target; moves = log_moves name }) o) ≡ true → Named name
+      by_entry : is_name name ≡ true → file_at tree name ≡ None → (o : Option Record) → entry_of name ≡ o → is_some {T = Reference} (option_map (λ (e : Record). record { id = e.target; moves = log_moves name }) o) ≡ true → Named name
       by_entry h e None at there = absurd (cc there)
       by_entry h e (Some entry) at there = record { named = h; by = inr (e, (entry, at)) }
 
@@ -219,7 +219,7 @@ module _ (kind : Kind) (facts : Facts) (tree : Tree) (sound : (path : Bytes) →
   logs_tell : (name : Bytes) → unwrap_or (file_at tree (log_place name)) [] ≡ log_text (unwrap_or (option_map (λ (ref : Reference). ref.moves) (ref_at name)) [])
   logs_tell name = go (is_name name) refl (file_at tree name) refl (no_log name)
     where
-      by_entry : (o : Option Record) → (is_some (option_map (λ (e : Record). record { id = e.target; moves = log_moves name }) o) ≡ false → file_at tree (log_place name) ≡ None)
+      by_entry : (o : Option Record) → (is_some {T = Reference} (option_map (λ (e : Record). record { id = e.target; moves = log_moves name }) o) ≡ false → file_at tree (log_place name) ≡ None)
           → unwrap_or (file_at tree (log_place name)) []
           ≡ log_text (unwrap_or (option_map (λ (ref : Reference). ref.moves) (option_map (λ (e : Record). record { id = e.target; moves = log_moves name }) o)) [])
       by_entry None none = ap (λ t. unwrap_or t []) (none refl)

@@ -6,7 +6,10 @@ use Rattle.std.proofs.lemmas.Bool.{or_from}
 use Rattle.gix_hash_id.specs.Id.{Id, id_of}
 use Rattle.gix_hash_id.specs.declared.kind.Kind.{Kind}
 use Rattle.gix_hash_id.specs.declared.object_id.ObjectId.{ObjectId}
-use Rattle.gix_object_find.specs.Table.{Object, Table, kind_at}
+use Rattle.gix_object_find.specs.Table.{Object, Table, content_at, content_or_none, kind_at}
+use Rattle.gix_object_lines.specs.declared.kind.Kind.TheVariants.{Tag}
+use Rattle.gix_hash_id.specs.Order.{id_eq}
+use Rattle.std.proofs.lemmas.Option.{same_Some}
 use Rattle.gix_ref_file.specs.Changes.{is_file_at}
 use Rattle.gix_ref_file.specs.Tree.{Tree, bytes_at}
 use Rattle.history_model.specs.Bytes.{Bytes, begins}
@@ -20,8 +23,8 @@ use Rattle.history_names_survey.specs.Causes.{HasCause, IsBadName, IsCollision, 
 use Rattle.history_names_survey.specs.Logs.{HasFault, SpellsLog}
 use Rattle.history_names_survey.specs.Sound.{IsApart, ReadsAs, IsSoundFile}
 use Rattle.history_names_survey.specs.Packed.{has_name, has_record, is_packed_text}
-use Rattle.history_names_survey.specs.PackedRead.{ReadsPacked, names_in}
-use Rattle.history_names_survey.specs.Stored.{Fact, Facts, fact_told, facts_in, is_of_wrong_kind, kind_in, may_be_held}
+use Rattle.history_names_survey.specs.PackedRead.{IsPackedFault, ReadsPacked, names_in}
+use Rattle.history_names_survey.specs.Stored.{Fact, Facts, fact_told, facts_in, is_of_wrong_kind, is_tag_of, kind_in, may_be_held, target_in, target_told}
 use Rattle.history_names_survey.specs.declared.error.NamesError.{NamesError}
 use Rattle.history_names_survey.specs.declared.error.NamesError.TheVariants.{NoHead, BadHead, Stray, Unfinished, BadName, PrivateName, Symbolic, Missing, WrongKind, BadPacked, BadPeeled, Collides, BadLog, LongLogLine, LogWithoutName, File, Memory}
 use Rattle.history_names_survey.specs.declared.log.LogFault.{LogFault}
@@ -94,6 +97,15 @@ held_told kind table id r h = subst (λ o. OnOk r (IsTrue (may_be_held o))) (sym
 pub unheld_told : {T : Type 0} (B : Type 0) (kind : Kind) (table : Table) (id : ObjectId) (name : Vec ℕ Global) (r : Result T NamesError) → IfErr r (IsUnheld B (kind_at table (id_of id)) id name) → IfErr r (IsUnheld B (kind_in (facts_in kind table) (id_of id)) id name)
 unheld_told B kind table id name r h = subst (λ o. IfErr r (IsUnheld B o id name)) (sym (kinds_told kind table (id_of id))) h
 
+-- of a tag that is found, whether it is of this commit
+pub tag_told : (kind : Kind) (table : Table) (id commit : Id) (content : Bytes) (b : Bool) → kind_at table id ≡ Some Tag → content ≡ content_at table id
+    → b ≡ unwrap_or (option_map (id_eq commit) (target_in kind content)) false → b ≡ is_tag_of (facts_in kind table id) commit
+tag_told kind table id commit content b is read told = told ∙ ap (λ text. unwrap_or (option_map (id_eq commit) (target_in kind text)) false) read ∙ go (table id) is
+  where
+    go : (o : Option Object) → option_map (λ (object : Object). object.kind) o ≡ Some Tag → unwrap_or (option_map (id_eq commit) (target_in kind (content_or_none o))) false ≡ is_tag_of (option_map (fact_told kind) o) commit
+    go None e = cc
+    go (Some object) e = ap (λ k. unwrap_or (option_map (id_eq commit) (target_told kind k object.content)) false) (sym (same_Some object.kind Tag e))
+
 -- ---- causes
 
 -- a cause stays where more may fail
@@ -159,6 +171,27 @@ log_causes A kind facts tree path text logs.Memory place at h = tt
 pub stray_file : (tree : Tree) (path : Bytes) → is_file_at tree path ≡ true → bytes_eq path head_place ≡ false → bytes_eq path packed_place ≡ false → is_lock_file path ≡ false → begins refs_front path ≡ false → is_log_place path ≡ false
     → IsStray tree path
 stray_file tree path there head packed lock refs log = inl (there, or_from _ _ (or_from _ _ (or_from _ _ (or_from _ _ head packed) lock) refs) log)
+
+-- ---- a file of packed names
+
+pub fault_cause : (A : Type 0) (kind : Kind) (facts : Facts) (tree : Tree) (error : NamesError) → IsPackedFault kind (bytes_at tree packed_place) error → HasCause A kind facts tree error
+fault_cause A kind facts tree NoHead h = absurd h
+fault_cause A kind facts tree BadHead h = absurd h
+fault_cause A kind facts tree (Stray path) h = absurd h
+fault_cause A kind facts tree (Unfinished path) h = absurd h
+fault_cause A kind facts tree (BadName path) h = absurd h
+fault_cause A kind facts tree (PrivateName name) h = absurd h
+fault_cause A kind facts tree (Symbolic name) h = absurd h
+fault_cause A kind facts tree (Missing id name) h = absurd h
+fault_cause A kind facts tree (WrongKind id name) h = absurd h
+fault_cause A kind facts tree (BadPacked number) h = h
+fault_cause A kind facts tree (BadPeeled name) h = absurd h
+fault_cause A kind facts tree (Collides name other) h = absurd h
+fault_cause A kind facts tree (BadLog path number) h = absurd h
+fault_cause A kind facts tree (LongLogLine path number) h = absurd h
+fault_cause A kind facts tree (LogWithoutName path) h = absurd h
+fault_cause A kind facts tree File h = absurd h
+fault_cause A kind facts tree Memory h = tt
 
 -- ---- names that collide
 

@@ -8,7 +8,7 @@ use crate::log::LogFault;
 use gix_hash::ObjectId;
 use gix_object_find::find;
 use gix_ref_file::FileError;
-use std::alloc::AllocError;
+use std::alloc::{AllocError, AllocFailed};
 use thiserror::Error;
 
 /// Why a names part isn't a repository's. Paths and names are in bytes, whole from the part's root; lines count
@@ -92,6 +92,14 @@ impl From<AllocError> for NamesError {
     ghost from_gives = { λ _ given. given ≡ Memory };
 
     fn from(_: AllocError) -> NamesError {
+        NamesError::Memory
+    }
+}
+
+impl<T: Drop> From<AllocFailed<T>> for NamesError {
+    ghost from_gives = { λ _ given. given ≡ Memory };
+
+    fn from(_: AllocFailed<T>) -> NamesError {
         NamesError::Memory
     }
 }

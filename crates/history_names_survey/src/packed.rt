@@ -2,9 +2,12 @@
 
 ghost use Rattle.std.specs.Prelude.{◌≡◌, ◌++◌, ◌∷◌, [], ◌&&◌, ◌||◌, not, map, Some, IsTrue, MatchOption, MatchResult, bytes_eq, is_some, if◌then◌else◌};
 ghost use Rattle.std.specs.List.{list_any};
-ghost use Rattle.gix_ref_format.specs.Packed.{is_headed, record_of};
+ghost use Rattle.std.specs.Ordering.{is_lt};
+ghost use Rattle.gix_ref_format.specs.Lines.{lines};
+ghost use Rattle.gix_ref_format.specs.Packed.{header_line, is_headed, record_of};
+ghost use Rattle.history_model.specs.Bytes.{by_bytes};
 ghost use Rattle.history_model.specs.Forms as forms;
-ghost use Rattle.history_model.specs.PackedNames.{says_sorted};
+ghost use Rattle.history_model.specs.PackedNames.{first_header, says_sorted};
 ghost use Rattle.history_names_survey.specs.Packed.{is_ascending, record_names};
 ghost use Rattle.history_names_survey.specs.PackedRead.{IsPackedFault, IsReadOf, names_in};
 
@@ -65,12 +68,19 @@ impl<'a> Packed<'a> {
 fn says_sorted(text: &[u8]) -> bool
     ensures { result ≡ says_sorted text.now }
 {
-    let Some((line, _)) = split_once(text, b'\n') else {
-        return false;
-    };
-    match Header::from_line(&text[..line.len() + 1]) {
+    match Header::from_line(first_line(text)) {
         Some(header) => header.sorted,
         None => false,
+    }
+}
+
+// The first line, with its line feed where it has one.
+fn first_line(text: &[u8]) -> &[u8]
+    ensures { first_header (lines text.now) ≡ header_line result.now }
+{
+    match split_once(text, b'\n') {
+        Some((line, _)) => &text[..line.len() + 1],
+        None => text,
     }
 }
 
@@ -82,13 +92,13 @@ fn first_number(text: &[u8]) -> usize
 }
 
 // Whether the record is of a name, and that ascends where it has to, behind records that do.
-fn may_follow(records: &[Reference<'_>], sorted: bool, record: &Reference<'_>) -> bool
+fn may_follow(records: &[Reference<'_>], sorted: bool, next: &Reference<'_>) -> bool
     ensures { IsTrue (not sorted || is_ascending (record_names (map record_of records.now)))
-        → result ≡ (forms.is_name (record_of record.now).name
+        → result ≡ (forms.is_name (record_of next.now).name
         && (not sorted || is_ascending
-        (record_names (map record_of records.now ++ record_of record.now ∷ [])))) }
+        (record_names (map record_of records.now ++ record_of next.now ∷ [])))) }
 {
-    let name = record.name.to_path();
+    let name = next.name.to_path();
     if !is_name(name) {
         return false;
     }
@@ -96,14 +106,21 @@ fn may_follow(records: &[Reference<'_>], sorted: bool, record: &Reference<'_>) -
         return true;
     }
     match records.last() {
-        Some(last) => last.name.to_path() < name,
+        Some(last) => comes_before(last.name.to_path(), name),
         None => true,
     }
 }
 
-// How many lines a record has: its own, and that of its peeled id.
-fn lines_of(record: &Reference<'_>) -> usize
-    ensures { result ≡ (if is_some (record_of record.now).peeled then 2 else 1) }
+// Whether the one stands before the other, by their bytes.
+fn comes_before(one: &[u8], other: &[u8]) -> bool
+    ensures { result ≡ is_lt (by_bytes one.now other.now) }
 {
-    if record.object.is_some() { 2 } else { 1 }
+    one.cmp(other).is_lt()
+}
+
+// How many lines a record has: its own, and that of its peeled id.
+fn lines_of(entry: &Reference<'_>) -> usize
+    ensures { result ≡ (if is_some (record_of entry.now).peeled then 2 else 1) }
+{
+    if entry.object.is_some() { 2 } else { 1 }
 }

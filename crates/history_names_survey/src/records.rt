@@ -1,8 +1,9 @@
 //! The records of `packed-refs`, over the store and beside the files of names.
 
-ghost use Rattle.std.specs.Prelude.{◌≡◌, ◌⊎◌, IfErr, IfOk, IsErrOf, OnOk, map, option_map};
+ghost use Rattle.std.specs.Prelude.{◌≡◌, ◌⊎◌, IfErr, IfOk, IsErrOf, OnOk, false, map, option_map, unwrap_or};
 ghost use Rattle.std.specs.List.{Contains};
 ghost use Rattle.gix_hash_id.specs.Id.{id_of};
+ghost use Rattle.gix_hash_id.specs.Order.{id_eq};
 ghost use Rattle.gix_object_find.specs.declared.find.Error.TheVariants.{Failed};
 ghost use Rattle.gix_ref_file.specs.Calls.{Finds};
 ghost use Rattle.gix_ref_format.specs.Packed.{record_of};
@@ -42,8 +43,8 @@ pub(crate) fn test_records<F: Files, S: Find + FindHeader>(
         (λ tree. IfErr result (HasCause (F.reading_may_fail ⊎ S.may_fail stored.now) kind
         (facts_in kind (S.table stored.now)) tree)) }
 {
-    for record in &packed.records {
-        test_record(alloc, files, kind, stored, packed, record)?;
+    for entry in &packed.records {
+        test_record(alloc, files, kind, stored, packed, entry)?;
     }
     Ok(())
 }
@@ -55,26 +56,26 @@ fn test_record<F: Files, S: Find + FindHeader>(
     kind: Kind,
     stored: &S,
     packed: &Packed<'_>,
-    record: &Reference<'_>,
+    entry: &Reference<'_>,
 ) -> Result<(), NamesError>
     requires packed { Finds F.is_honest F.history files.now (ReadsPacked kind packed.now) }
-    requires among { Contains (map record_of packed.now.records.items) (record_of record.now) }
+    requires among { Contains (map record_of packed.now.records.items) (record_of entry.now) }
     ensures sound { S.is_honest stored.now → Finds F.is_honest F.history files.now
         (λ tree. OnOk result
-        (IsSoundRecord kind (facts_in kind (S.table stored.now)) tree (record_of record.now))) }
+        (IsSoundRecord kind (facts_in kind (S.table stored.now)) tree (record_of entry.now))) }
     ensures wrong { S.is_honest stored.now → Finds F.is_honest F.history files.now
         (λ tree. IfErr result (HasCause (F.reading_may_fail ⊎ S.may_fail stored.now) kind
         (facts_in kind (S.table stored.now)) tree)) }
 {
-    let name = record.name.to_path();
+    let name = entry.name.to_path();
     if is_private(name) {
         return Err(NamesError::PrivateName(Vec::from_slice(alloc, name)?));
     }
     test_apart(alloc, files, packed, name)?;
     if !is_file(files, name)? {
-        test_held(stored, record.target, Vec::from_slice(alloc, name)?)?;
+        test_held(stored, entry.target, Vec::from_slice(alloc, name)?)?;
     }
-    if is_well_peeled(alloc, kind, stored, record)? {
+    if is_well_peeled(alloc, kind, stored, entry)? {
         return Ok(());
     }
     Err(NamesError::BadPeeled(Vec::from_slice(alloc, name)?))
@@ -85,17 +86,17 @@ fn is_well_peeled<S: Find>(
     alloc: Global,
     kind: Kind,
     stored: &S,
-    record: &Reference<'_>,
+    entry: &Reference<'_>,
 ) -> Result<bool, find::Error>
     ensures told { S.is_honest stored.now
         → IfOk result (λ told. told
-        ≡ is_well_peeled (facts_in kind (S.table stored.now)) (record_of record.now)) }
+        ≡ is_well_peeled (facts_in kind (S.table stored.now)) (record_of entry.now)) }
     ensures failed { IsErrOf result Failed → S.may_fail stored.now }
 {
-    let Some(commit) = record.object else {
+    let Some(commit) = entry.object else {
         return Ok(true);
     };
-    is_tag_of(alloc, kind, stored, record.target, commit)
+    is_tag_of(alloc, kind, stored, entry.target, commit)
 }
 
 // Whether a tag of this commit is stored under the id.
@@ -112,8 +113,19 @@ fn is_tag_of<S: Find>(
 {
     let mut content = Vec::new(alloc);
     match stored.find_into(id.as_oid(), &mut content)? {
-        Some(ObjectKind::Tag) => Ok(target_in(kind, &content) == Some(commit)),
+        Some(ObjectKind::Tag) => Ok(is_target(kind, &content, commit)),
         _ => Ok(false),
+    }
+}
+
+// Whether this is what a tag is of.
+fn is_target(kind: Kind, content: &[u8], commit: ObjectId) -> bool
+    ensures { result
+        ≡ unwrap_or (option_map (id_eq (id_of commit)) (target_in kind content.now)) false }
+{
+    match target_in(kind, content) {
+        Some(target) => commit == target,
+        None => false,
     }
 }
 

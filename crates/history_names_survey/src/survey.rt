@@ -1,6 +1,9 @@
 //! All that stands in the names part.
 
-ghost use Rattle.std.specs.Prelude.{◌≡◌, ◌⊎◌, IfErr, IfOk, OnOk};
+ghost use Rattle.std.specs.Prelude.{◌≡◌, ◌⊎◌, IfErr, IfOk, IsTrue, OnOk};
+ghost use Rattle.gix_ref_file.specs.Tree.{bytes_at};
+ghost use Rattle.history_model.specs.Places.{packed_place};
+ghost use Rattle.history_names_survey.specs.Packed.{is_packed_text};
 ghost use Rattle.gix_ref_file.specs.Calls.{Finds};
 ghost use Rattle.history_model.specs.Forms.{is_branch};
 ghost use Rattle.history_model.specs.Repository.{Repository};
@@ -42,6 +45,10 @@ pub fn survey_names<F: Files, S: Find + FindHeader>(
         → Finds F.is_honest F.history (files_of_names names.now) (λ tree. IfErr result
         (HasCause (F.reading_may_fail ⊎ S.may_fail stored.now) (kind_of_names names.now)
         (facts_in (kind_of_names names.now) (S.table stored.now)) tree)) }
+    // The file of packed names is in its form.
+    ensures packed { S.is_honest stored.now
+        → Finds F.is_honest F.history (files_of_names names.now) (λ tree. OnOk result (IsTrue
+        (is_packed_text (kind_of_names names.now) (bytes_at tree packed_place)))) }
     // A repository's names part is refused for a fault alone.
     ensures accepted { (r : Repository) → S.is_honest stored.now
         → r.kind ≡ kind_of_names names.now
