@@ -49,13 +49,16 @@ pub struct Transaction {
 }
 
 /// Prepares edits: those of symbolic references are split, each reference is locked, read and tested, and its new text is written into the
-/// lock; packed records that are to go are left out of the packed references' lock. `committer` is who log lines tell of.
+/// lock. `committer` is who log lines tell of. The new packed references are written into theirs, as `packed_refs` asks: without the records
+/// of what is deleted, and in the two modes of packing with a record of each reference that is updated to an object; a tag's tells also what
+/// the tag leads to. In the last mode the own files of these go with [`Transaction::commit`].
 ///
 /// `PreprocessingFailed` where symbolic references lead too far or a name has two edits, `SamePlace` where two edits concern one file,
 /// `LockAcquire` where a lock stands or a file is in its way, `Refused` where a reference isn't as its edit asks, `ReferenceDecode` where it
 /// can't be read, `CreateOrUpdateRefLog` where a line for its log can't be made, `Packed`, `PackedTransactionAcquire` and
-/// `PackedTransactionPrepare` where packed references can't be opened, locked or written, and `Io` where a lock can't be written. At each
-/// moment each file but locks is as before, and after an error the locks have gone, as far as that succeeds.
+/// `PackedTransactionPrepare` where packed references can't be opened, locked or written, `Resolve` where of an object that is to be packed
+/// isn't found what it leads to, and `Io` where a lock can't be written. At each moment each file but locks is as before, and after an error
+/// the locks have gone, as far as that succeeds.
 pub fn prepare<F: Files, O: Find>(
     alloc: Global,
     store: &mut Store<F>,
