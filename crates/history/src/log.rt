@@ -118,8 +118,10 @@ fn kept_each<'a>(alloc: Global, fields: &'a [Field]) -> Result<Vec<&'a [u8]>, Al
         ≡ map kept_bytes fields.now) }
 {
     let mut each = Vec::new(alloc);
-    for field in fields {
+    let mut rest = fields;
+    while let Some((field, others)) = rest.split_first() {
         each.push(kept(field))?;
+        rest = others;
     }
     Ok(each)
 }
