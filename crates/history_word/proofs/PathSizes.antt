@@ -27,22 +27,24 @@ some_digit (b ∷ size) n e = omega arith
 
 -- the first
 pub first_size : (all left : List Bytes) (size : Bytes) (n : ℕ) (new : List ℕ) → all ≡ size ∷ left → number_of size ≡ Some n → words_size all ≤ 4097 → new ≡ n ∷ [] → HaveSizes all left new
-first_size all left size n new split e room is = record {
+first_size all left size n new split e room is = let one : length new ≡ 1 = ap length is in record {
   told = ap (λ ws. paths_of (codes "path" ∷ ws)) split ∙ path_told size left n e ∙ ap (λ done. sizes_before done (paths_of left)) (sym is);
-  room = omega (arith, room, ap words_size split, some_digit size n e, ap length is);
+  room = omega (arith, room, ap words_size split, some_digit size n e, one);
 }
 
 -- and one more
 pub next_size : (all words behind left : List Bytes) (word size : Bytes) (n : ℕ) (done new : List ℕ) → HaveSizes all words done → words ≡ word ∷ behind → word ≡ codes "path" → behind ≡ size ∷ left → number_of size ≡ Some n
     → new ≡ done ++ n ∷ [] → HaveSizes all left new
-next_size all words behind left word size n done new h split is then e added = record {
-  told = h.told ∙ ap (λ ws. sizes_before done (paths_of ws)) (split ∙ (λ i. is i ∷ then i)) ∙ ap (sizes_before done) (path_told size left n e) ∙ one_more done n (paths_of left) ∙ ap (λ done. sizes_before done (paths_of left)) (sym added);
-  room = omega (arith, h.room, ap words_size split, ap words_size then, ap length is, some_digit size n e, ap length added, length-append done (n ∷ []));
+next_size all words behind left word size n done new h split is follows e added = let four : length word ≡ 4 = ap length is in record {
+  told = h.told ∙ ap (λ ws. sizes_before done (paths_of ws)) (split ∙ (λ i. is i ∷ follows i)) ∙ ap (sizes_before done) (path_told size left n e) ∙ one_more done n (paths_of left) ∙ ap (λ done. sizes_before done (paths_of left)) (sym added);
+  room = omega (arith, h.room, ap words_size split, ap words_size follows, four, some_digit size n e, ap length added, length-append done (n ∷ []));
 }
 
 -- there is room for one more
 pub one_fits : (all words behind left : List Bytes) (word size : Bytes) (n : ℕ) (done : List ℕ) → HaveSizes all words done → words ≡ word ∷ behind → word ≡ codes "path" → behind ≡ size ∷ left → number_of size ≡ Some n → length done < 586
-one_fits all words behind left word size n done h split is then e = omega (arith, h.room, ap words_size split, ap words_size then, ap length is, some_digit size n e)
+one_fits all words behind left word size n done h split is follows e =
+    let four : length word ≡ 4 = ap length is in
+    omega (arith, h.room, ap words_size split, ap words_size follows, four, some_digit size n e)
 
 pub all_told : (all left : List Bytes) (done : List ℕ) → HaveSizes all left done → left ≡ [] → Some done ≡ paths_of (codes "path" ∷ all)
 all_told all left done h none = sym (h.told ∙ ap (λ ws. sizes_before done (paths_of ws)) none ∙ ap Some (append-nil done))
@@ -70,5 +72,5 @@ pub no_next : (all words behind : List Bytes) (word : Bytes) (done : List ℕ) �
 no_next all words behind word done h split is none = none_behind all words done h (ap paths_of (split ∙ (λ i. is i ∷ none i)))
 
 pub bad_next : (all words behind left : List Bytes) (word size : Bytes) (done : List ℕ) → HaveSizes all words done → words ≡ word ∷ behind → word ≡ codes "path" → behind ≡ size ∷ left → number_of size ≡ None → None ≡ paths_of (codes "path" ∷ all)
-bad_next all words behind left word size done h split is then e =
-    none_behind all words done h (ap paths_of (split ∙ (λ i. is i ∷ then i)) ∙ ap (option_and_then (λ n. option_map (λ ns. n ∷ ns) (paths_of left))) e)
+bad_next all words behind left word size done h split is follows e =
+    none_behind all words done h (ap paths_of (split ∙ (λ i. is i ∷ follows i)) ∙ ap (option_and_then (λ n. option_map (λ ns. n ∷ ns) (paths_of left))) e)

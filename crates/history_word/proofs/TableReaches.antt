@@ -233,7 +233,7 @@ module _ (offers : Heading → Bool) (some_offered : offers (FilesHeading (codes
   log_reaches order first items paths enough offered parts =
       let h : Heading = LogHeading order first items (map length paths) in
       let spelled : parts_of (Log (record { order = order; first_parents = first; items = items; paths = paths })) ≡ Line (words_of h) ∷ map Field paths =
-          ap (λ words. Line (codes "log" ∷ (order_words order ++ (parents_word first ∷ (map item_word items ++ words)))) ∷ map Field paths) (paths_words paths) in
+      ap (λ words. Line (codes "log" ∷ (order_words order ++ (parents_word first ∷ (map item_word items ++ words)))) ∷ map Field paths) (paths_words paths) in
       ap reached spelled
       ∙ paths_reach h paths refl (if_taken (are_items items) (Some Done) enough) offered (subst (λ ps. list_all is_part ps ≡ true) spelled parts)
 

@@ -70,6 +70,7 @@ fn first_word(line: &[u8]) -> (&[u8], Option<&[u8]>)
 
 /// Whether no word of the line is empty.
 pub(crate) fn are_words(line: &[u8]) -> bool
+    requires { length line.now ≤ max_line }
     ensures { result ≡ are_nonempty (split_words line.now) }
 {
     let mut words = Words::new(line);
