@@ -11,7 +11,7 @@ ghost use Rattle.history_files.specs.Editing.{HavePaths};
 ghost use Rattle.history_store.specs.Stores.{AreObjectsOf};
 ghost use Rattle.history.specs.Acts.{GivesMeant};
 ghost use Rattle.history.specs.Files.{AreChangesOf, AreReadAs, TellsEdited, IsChangeOf, IsTreeBefore, change_parts, edit_parts, kept_edit, unmade};
-ghost use Rattle.history.specs.Serving.{Serves};
+ghost use Rattle.history.specs.Stands.{Stands};
 
 use crate::fields::into_kept;
 use crate::repository::Repository;
@@ -117,7 +117,7 @@ impl<F: Files> Repository<F> {
         alloc: Global,
         parents: &[ObjectId],
     ) -> Result<Option<ObjectId>, Stopped>
-        ensures { (r : plain.Repository) → Serves F.is_honest F.history self.now r
+        ensures { (r : plain.Repository) → Stands F.is_honest F.history self.now r
             → AllByRecursion (HoldsCommit r) (map id_of parents.now)
             → GivesMeant F.reading_may_fail (IsTreeBefore r (map id_of parents.now)) result }
     {
@@ -135,7 +135,7 @@ impl<F: Files> Repository<F> {
         changes: &[PathChange],
     ) -> Result<Option<EditedFiles>, Stopped>
         ensures { (r : plain.Repository) (made : List model.Edit)
-            → Serves F.is_honest F.history self.now r
+            → Stands F.is_honest F.history self.now r
             → AllByRecursion (HoldsCommit r) (map id_of parents.now)
             → AreChangesOf r.kind changes.now made → HavePaths made
             → TellsEdited F.reading_may_fail r (map id_of parents.now) made result }

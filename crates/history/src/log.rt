@@ -153,7 +153,7 @@ impl<F: Files> Repository<F> {
     ghost use Rattle.history_word.specs.Commands.{IsLog, IsLogItem};
     ghost use Rattle.history.specs.Acts.{OnlyAnswers, GivesMeant};
     ghost use Rattle.history.specs.Logs.{AreEnds};
-    ghost use Rattle.history.specs.Serving.{Serves};
+    ghost use Rattle.history.specs.Stands.{Stands};
     ghost use Rattle.history.specs.Walked.{Walks};
 
     /// What the words of a log's items read as: those of the tips, and those of the hidden commits.
@@ -161,7 +161,7 @@ impl<F: Files> Repository<F> {
     /// All of the words are read, and none is refused. It is a fault where a call of the files failed, or where no memory is left.
     fn read_ends(&self, alloc: Global, items: &[LogItem]) -> Result<Ends, Stopped>
         ensures { (r : plain.Repository) (lines : List model.LogItem)
-            → Serves F.is_honest F.history self.now r → AllZip IsLogItem items.now lines
+            → Stands F.is_honest F.history self.now r → AllZip IsLogItem items.now lines
             → GivesMeant F.reading_may_fail (AreEnds r lines) result }
     {
         let mut tips = Vec::new(alloc);
@@ -183,7 +183,7 @@ impl<F: Files> Repository<F> {
     /// the files failed, or where no memory is left.
     fn walked(&self, alloc: Global, command: &LogCommand) -> Result<Vec<ObjectId>, Stopped>
         ensures { (r : plain.Repository) (order : model.LogCommand)
-            → Serves F.is_honest F.history self.now r → IsLog command.now order
+            → Stands F.is_honest F.history self.now r → IsLog command.now order
             → Walks F.reading_may_fail r order result }
     {
         let ends = self.read_ends(alloc, &command.items)?;
@@ -209,7 +209,7 @@ impl<F: Files> Repository<F> {
     /// the files failed, or where no memory is left.
     pub(crate) fn log(&self, alloc: Global, command: &LogCommand) -> Result<Vec<u8>, Stopped>
         ensures { (r : plain.Repository) (order : model.LogCommand)
-            → Serves F.is_honest F.history self.now r → IsLog command.now order
+            → Stands F.is_honest F.history self.now r → IsLog command.now order
             → OnlyAnswers F.reading_may_fail r (model.Log order) result }
     {
         let walked = self.walked(alloc, command)?;

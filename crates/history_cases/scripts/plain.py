@@ -66,8 +66,8 @@ class Reader:
             return ("rename", *words[1:])
         if words[0] == b"switch" and len(words) == 2:
             return ("switch", words[1])
-        if words == [b"index"]:
-            return ("index",)
+        if words in ([b"pack"], [b"index"]):
+            return (words[0].decode(),)
         refuse_where(words[0] != b"commit" or len(words) not in (3, 4), "Syntax")
         refuse_where((len(words) == 4) != (words[2] == b"at") or words[2] not in (b"at", b"any", b"new"), "Syntax")
         return self.commit(words[1], words[2:])
@@ -217,11 +217,12 @@ class Walk:
 
 
 class Plain:
-    """A repository: objects by id, names, logs, and HEAD's branch. Its tags tell the commits that they are of."""
+    """A repository: objects by id, names, logs, and HEAD's branch. Its tags tell the commits that they are of. Of its files it knows which
+    names have a record alone, and the records of `packed-refs`, where that stands."""
 
     def __init__(self, kind):
         self.kind, self.objects, self.names, self.logs, self.commits, self.tags = kind, {}, {}, {}, {}, {}
-        self.branch = b"refs/heads/main"
+        self.branch, self.packed_alone, self.records = b"refs/heads/main", set(), None
         self.null = b"0" * (40 if kind == "sha1" else 64)
 
     def id(self, object, content):
@@ -348,6 +349,24 @@ class Plain:
             line = b"%s %s %s <%s> %s %s\t%s\n" % (before, digits, *actor, title)
             self.logs[name] = self.logs.get(name, b"") + line
         self.names[name] = digits
+        self.packed_alone.discard(name)
+
+    def forget(self, name):
+        """The name goes, with its log and its record."""
+        del self.names[name], self.logs[name]
+        self.packed_alone.discard(name)
+        (self.records or {}).pop(name, None)
+
+    def pack(self):
+        self.records, self.packed_alone = dict(self.names), set(self.names)
+        return b"ok pack\n"
+
+    def packed_text(self):
+        """What `packed-refs` has in it: a record for each name, and behind that of a tag the commit that it is of."""
+        text = b"# pack-refs with: peeled fully-peeled sorted \n"
+        for name, digits in sorted(self.records.items()):
+            text += b"%s %s\n" % (digits, name) + (b"^%s\n" % self.tags[digits] if digits in self.tags else b"")
+        return text
 
     def delete(self, name, expect):
         refuse_where(not is_name(name), "BadName")
@@ -355,7 +374,7 @@ class Plain:
         wanted = self.resolved(expect[1:])
         refuse_where(name not in self.names, "NoSuchName")
         refuse_where(wanted not in ([], [self.held(name)]), "NotExpected")
-        del self.names[name], self.logs[name]
+        self.forget(name)
         return b"ok delete\n"
 
     def rename(self, old, new):
@@ -366,7 +385,7 @@ class Plain:
         refuse_where(new in self.names, "Taken")
         refuse_where(self.in_the_way(new), "Collides")
         self.hold(new, self.names[old], (b"history", b"", b"0", b"+0000"), b"rename")
-        del self.names[old], self.logs[old]
+        self.forget(old)
         return b"ok rename\n"
 
     def move(self, lines, actor, message):

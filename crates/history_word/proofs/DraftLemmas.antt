@@ -173,6 +173,13 @@ switch_goes name h i q e = absurd i
 pub switch_opens : (name : Word) → TakesOpening (opening.Switch name) (draft.Switch name) []
 switch_opens name = record { fields = []; heads = refl; spelled = refl; begins = switch_goes name }
 
+pack_goes : (h : lines.Heading) → IsOpening opening.Pack h → (q : Place) → next_offered table.Start h ≡ Some (place_of q) → HasCome q draft.Pack (parts_with h [])
+pack_goes lines.PackHeading i q e = done_come draft.Pack model.Pack _ q e refl refl tt
+pack_goes h i q e = absurd i
+
+pub pack_opens : TakesOpening opening.Pack draft.Pack []
+pack_opens = record { fields = []; heads = refl; spelled = refl; begins = pack_goes }
+
 index_goes : (h : lines.Heading) → IsOpening opening.Index h → (q : Place) → next_offered table.Start h ≡ Some (place_of q) → HasCome q draft.Index (parts_with h [])
 index_goes lines.IndexHeading i q e = done_come draft.Index model.Index _ q e refl refl tt
 index_goes h i q e = absurd i
@@ -238,6 +245,8 @@ at_start (opening.Past word) (lines.PastHeading w) i place.Start q e = refl
 at_start (opening.Past word) (lines.PastHeading w) i p q e = cc
 at_start (opening.Switch name) (lines.SwitchHeading n) i place.Start q e = refl
 at_start (opening.Switch name) (lines.SwitchHeading n) i p q e = cc
+at_start opening.Pack lines.PackHeading i place.Start q e = refl
+at_start opening.Pack lines.PackHeading i p q e = cc
 at_start opening.Index lines.IndexHeading i place.Start q e = refl
 at_start opening.Index lines.IndexHeading i p q e = cc
 at_start (opening.Log said) (lines.LogHeading order first_parents items n) i place.Start q e = refl

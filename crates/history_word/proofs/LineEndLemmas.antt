@@ -40,6 +40,7 @@ opening_sizes_are opening.Names (lines.NamesHeading None) e = refl
 opening_sizes_are (opening.NamesIn folder) (lines.NamesHeading (Some f)) e = refl
 opening_sizes_are (opening.Past word) (lines.PastHeading w) e = refl
 opening_sizes_are (opening.Switch name) (lines.SwitchHeading n) e = refl
+opening_sizes_are opening.Pack lines.PackHeading e = refl
 opening_sizes_are opening.Index lines.IndexHeading e = refl
 opening_sizes_are (opening.Log said) (lines.LogHeading order first_parents items paths) e = sym e.1
 opening_sizes_are said h e = absurd e

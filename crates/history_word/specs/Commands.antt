@@ -132,6 +132,7 @@ IsCommandOf (command.Show show) (model.Show word path) =
 IsCommandOf (command.Names folder) (model.Names word) = option_map (λ w. w.items) folder ≡ word
 IsCommandOf (command.Past word) (model.Past bytes) = word.items ≡ bytes
 IsCommandOf (command.Switch name) (model.Switch bytes) = name.items ≡ bytes
+IsCommandOf command.Pack model.Pack = ⊤
 IsCommandOf command.Index model.Index = ⊤
 IsCommandOf (command.Log log) (model.Log order) = IsLog log order
 IsCommandOf _ _ = ⊥

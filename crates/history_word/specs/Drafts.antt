@@ -103,6 +103,7 @@ IsOpening opening.Names (lines.NamesHeading None) = ⊤
 IsOpening (opening.NamesIn folder) (lines.NamesHeading (Some f)) = IfSome folder (λ x. x.items ≡ f)
 IsOpening (opening.Past word) (lines.PastHeading w) = IfSome word (λ x. x.items ≡ w)
 IsOpening (opening.Switch name) (lines.SwitchHeading n) = IfSome name (λ x. x.items ≡ n)
+IsOpening opening.Pack lines.PackHeading = ⊤
 IsOpening opening.Index lines.IndexHeading = ⊤
 IsOpening (opening.Log line) (lines.LogHeading order first_parents items paths) =
     IsLogLine line (log_of order first_parents items) × (listed line.paths ≡ paths)
@@ -203,6 +204,7 @@ IsDraft draft.Names (model.Names None) = ⊤
 IsDraft (draft.NamesIn folder) (model.Names (Some bytes)) = IfSome folder (λ x. x.items ≡ bytes)
 IsDraft (draft.Past word) (model.Past bytes) = IfSome word (λ x. x.items ≡ bytes)
 IsDraft (draft.Switch name) (model.Switch bytes) = IfSome name (λ x. x.items ≡ bytes)
+IsDraft draft.Pack model.Pack = ⊤
 IsDraft draft.Index model.Index = ⊤
 IsDraft (draft.Log log) (model.Log order) = IfSome log (λ x. IsLog x order)
 IsDraft _ _ = ⊥

@@ -166,6 +166,8 @@ pub enum Command {
     Past(Vec<u8>),
     /// Makes HEAD name this branch.
     Switch(Vec<u8>),
+    /// Writes every name to `packed-refs` and removes their own files.
+    Pack,
     /// Makes rows of all stored commits, which later logs walk over.
     Index,
     Log(LogCommand),

@@ -261,6 +261,7 @@ fn read_opening<R: Source>(
         Opening::NamesIn { folder } => Ok(Draft::NamesIn(folder)),
         Opening::Past { word } => Ok(Draft::Past(word)),
         Opening::Switch { name } => Ok(Draft::Switch(name)),
+        Opening::Pack => Ok(Draft::Pack),
         Opening::Index => Ok(Draft::Index),
         Opening::Log(line) => Ok(Draft::Log(read_log(alloc, buffer, source, line)?)),
     }

@@ -160,6 +160,8 @@ def commands():
     row("stream", b"past main\npast", "more past:main more")
     cut(b"switch refs/heads/a\n", "switch:refs/heads/a")
     row("stream", b"switch switch\nswitch", "more switch:switch more")
+    cut(b"pack\n", "pack")
+    row("stream", b"pack\npack", "more pack more")
     cut(b"index\n", "index")
     row("stream", b"index\nindex", "more index more")
     for order in (b"breadth", b"newest", b"oldest", b"date", b"topological"):
@@ -315,7 +317,8 @@ LINES = [
     b"delete main any any\n", b"delete main at a b\n", b"delete main anyone\n", b"delete main to a\n", b"delete  any\n", b"delete main a\n",
     b"commit HEAD new\ndelete main any\n", b"delete main any \n", b"Delete main any\n",
     b"rename\n", b"rename a\n", b"rename a b c\n", b"rename  a b\n", b"rename a  b\n", b"rename a b \n",
-    b"Rename a b\n", b"commit HEAD new\nrename a b\n", b"pack\n",
+    b"Rename a b\n", b"commit HEAD new\nrename a b\n",
+    b"pack a\n", b"pack \n", b" pack\n", b"Pack\n", b"packs\n", b"commit HEAD new\npack\n",
     b"move a\n", b"move \n", b"to a new b\n", b"actor 0 0 s o\n",
     b"tag\n", b"tag a\n", b"tag a new\n", b"tag a any\n", b"tag a at b\n", b"tag a old b\n", b"tag a new b c\n", b"tag a any b c\n",
     b"tag a at b c d\n",
@@ -331,7 +334,7 @@ WRONG = [
               b"tagger 0 1 s o\n\nab\n", b"names\n", b"\n"]),
     (BY_TAGGER, [TAGGED, b"tagger 0 0 s o\n", b"end\n", b"message\n", b"message 01\n", b"message 0 0\n", b"message 0\na\n", TO, ACTOR]),
     (BY_TAGGER + MESSAGE, [TAGGED, b"tagger 0 0 s o\n", MESSAGE, b"end end\n"]),
-    (FIRST, [b"move\n", b"rename a b\n", b"delete main any\n", b"switch a\n", b"index\n", b"actor 0 0 s o\n", b"message 0\n", b"end\n", b"names\n", b"to\n", b"to a\n", b"to a new\n", b"to a any\n",
+    (FIRST, [b"move\n", b"rename a b\n", b"delete main any\n", b"switch a\n", b"pack\n", b"index\n", b"actor 0 0 s o\n", b"message 0\n", b"end\n", b"names\n", b"to\n", b"to a\n", b"to a new\n", b"to a any\n",
              b"to a at b\n", b"to a old b\n", b"to a new b c\n", b"to a any b c\n", b"to a at b c d\n", b"to a at\n", b"to  new b\n",
              b"To a new b\n", b"\n", b"parent a\n"]),
     (MORE, [b"move\n", b"message 0\n", b"end\n", b"author 0 0 s o\n", b"committer 0 0 s o\n", b"tagger 0 0 s o\n", b"parent a\n",

@@ -43,6 +43,7 @@ fn show_command(command: &Command, page: &mut Page) {
         Command::Names(Some(folder)) => page.named("names", folder),
         Command::Past(word) => page.named("past", word),
         Command::Switch(name) => page.named("switch", name),
+        Command::Pack => page.word("pack"),
         Command::Index => page.word("index"),
         Command::Log(log) => show_log(log, page),
     }

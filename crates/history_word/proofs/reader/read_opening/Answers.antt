@@ -6,7 +6,7 @@ use Rattle.history_word.specs.Progress.{IsNoField, StopsFrom}
 use Rattle.history_word.proofs.TakingLemmas.{took_none}
 use Rattle.history_word.proofs.StopLemmas.{stops_then}
 use Rattle.history_word.proofs.LineEndLemmas.{field_first_stops}
-use Rattle.history_word.proofs.DraftLemmas.{commit_opens, tag_opens, move_opens, rename_opens, delete_opens, files_opens, show_opens, path_opens, names_opens, folder_opens, past_opens, switch_opens, index_opens, log_opens}
+use Rattle.history_word.proofs.DraftLemmas.{commit_opens, tag_opens, move_opens, rename_opens, delete_opens, files_opens, show_opens, path_opens, names_opens, folder_opens, past_opens, switch_opens, pack_opens, index_opens, log_opens}
 use Rattle.history_word.proofs.reader.read_opening.Goals as goal
 
 pub returns-in-Commit : goal.returns-in-Commit
@@ -54,6 +54,9 @@ returns-in-Past g c = rw (c.in-Past.is) ([], took_none g.R.Source.left g.R.Sourc
 
 pub returns-in-Switch : goal.returns-in-Switch
 returns-in-Switch g c = rw (c.in-Switch.is) ([], took_none g.R.Source.left g.R.Source.readings c.args.source.now c.args.buffer.now, (switch_opens c.in-Switch.name, λ _. refl))
+
+pub returns-in-Pack : goal.returns-in-Pack
+returns-in-Pack g c = rw (c.in-Pack.is) ([], took_none g.R.Source.left g.R.Source.readings c.args.source.now c.args.buffer.now, (pack_opens, λ _. refl))
 
 pub returns-in-Index : goal.returns-in-Index
 returns-in-Index g c = rw (c.in-Index.is) ([], took_none g.R.Source.left g.R.Source.readings c.args.source.now c.args.buffer.now, (index_opens, λ _. refl))

@@ -49,7 +49,7 @@ returns g c = λ r order s is.
     let are = c.in_ok-ends.ensures r order.items s items in
     let good = sym (c.tells_bad_path.ensures order.paths paths) ∙ c.if-tells_bad_path.false in
     let ends = c.in_ok-ends.ends in
-    let whole = s.stands.whole.whole in
+    let whole = s.whole.whole in
     let tips_are = c.in_ok-ids_of.ensures ∙ ap (filter_map commit_in) c.deref-3.ensures.value in
     let hidden_are = c.in_ok-ids_of-2.ensures ∙ ap (filter_map commit_in) c.deref-4.ensures.value in
     let tips = subst (AllHold r) (sym tips_are) (ids_hold r whole.store ends.tips.items (filter_map tip_word order.items) are.tips) in
@@ -57,6 +57,6 @@ returns g c = λ r order s is.
     let hides = ap not (c.is_empty-hides.ensures ∙ ap (λ n. n == 0) c.in_ok-ends.ends.hidden.ok.0) ∙ hides_told r order.items ends are in
     let made = c.in_ok-order_of.ensures order.order is.order in
     let request : Request = record { order = c.in_ok-order_of.field-0; tips = c.in_ok-ids_of.field-0; hidden = c.in_ok-ids_of-2.field-0 } in
-    walk_given r order ends are g.F.Files.reading_may_fail request whole.store s.stands.whole.written c.commits.result
+    walk_given r order ends are g.F.Files.reading_may_fail request whole.store s.whole.written c.commits.result
     c.in_ok-test.ensures good (sym (λ i. order_cause order.order (is.first_parents i) (hides i)) ∙ made.0) (subst (λ first. IsOrderOf order.order first c.in_ok-order_of.field-0) is.first_parents made.1) tips_are hidden_are
-    tips (c.commits.ensures.lists r s.stands tips hidden)
+    tips (c.commits.ensures.lists r s tips hidden)
