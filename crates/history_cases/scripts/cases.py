@@ -809,8 +809,8 @@ def asking(kind, made, commands):
     return objects, names
 
 
-def log_at(words, path):
-    return b"log %s path %d\n%s\n" % (words, len(path), path)
+def log_at(words, *paths):
+    return b"log %s%s\n" % (words, b"".join(b" path %d" % len(it) for it in paths)) + b"".join(it + b"\n" for it in paths)
 
 
 def path_logs():
@@ -831,12 +831,31 @@ def path_logs():
     listed_ = [(b"a", [15, 14, 12, 9, 3, 1]), (b"b", [15, 10, 2]), (b"c", []), (b"d", [15, 13, 9, 6, 5, 4]), (b"d/e", [13, 9, 6, 5, 4]),
                (b"d/f", [13, 9, 4]), (b"d/", None), (b"d/e/x", []), (b"a/x", [15, 14]), (b"a/x/y", []), (b"A", []), (b"aa", []),
                (b"d" * 4096, [])]
-    as_numbered(made, listed_)
+    as_numbered(made, [((path,), numbers) for path, numbers in listed_])
+    # At several paths: at one of them or below it, in any order, some twice or below others. In `git log --topo-order` 9 stands before 10.
+    several = [((b"a", b"b"), [15, 14, 12, 9, 10, 3, 2, 1]), ((b"b", b"a"), [15, 14, 12, 9, 10, 3, 2, 1]), ((b"a", b"nope"), [15, 14, 12, 9, 3, 1]),
+               ((b"nope", b"none"), []), ((b"b", b"b"), [15, 10, 2]), ((b"d", b"d/e"), [15, 13, 9, 6, 5, 4]), ((b"d/e", b"d/f"), [13, 9, 6, 5, 4]),
+               ((b"d/f", b"a/x"), [15, 14, 13, 9, 4]), ((b"b", b"d/f", b"b", b"c"), [15, 13, 9, 10, 4, 2]), ((b"d", b"d/"), None),
+               ((b"a", b"b", b"d"), [15, 14, 13, 12, 9, 10, 6, 5, 4, 3, 2, 1]), ((b"A", b"d" * 4096, b"a/x"), [15, 14])]
+    as_numbered(made, several)
     paths = [path for path, numbers in listed_ if numbers is not None]
     ways = [b"topological all +m", b"newest all +m", b"oldest all +m", b"date all +m", b"breadth first +m", b"topological first +m",
             b"breadth all +m -s", b"newest-since 5 all +m", b"breadth all +s +m"]
     runs((made,), *((log_at(b"topological all +m", path),) for path in paths), by_git_alone=False)
     runs((made,), *((log_at(way, path),) for way in ways for path in (b"a", b"d", b"b")), by_git_alone=False)
+    told_ = [paths for paths, numbers in several if numbers is not None]
+    runs((made,), *((log_at(b"topological all +m", *paths),) for paths in told_), by_git_alone=False)
+    runs((made,), *((log_at(way, *paths),) for way in ways for paths in told_[:3] + told_[8:9]), by_git_alone=False)
+    three = branch(m + b" new", 1, b"put file 1 1\na\nx\n") + branch(m + b" any", 2, b"put file 1 1\nb\ny\n") + branch(m + b" any", 3, b"put file 1 1\na\nz\n")
+    as_numbered(three, [((b"a", b"b"), [3, 2, 1]), ((b"a", b"nope"), [3, 1]), ((b"b",), [2])])
+    runs((three,), *((log_at(b"topological all +m", *paths),) for paths in [(b"a", b"b"), (b"a", b"nope"), (b"b",), (b"b", b"a", b"a"), ()]),
+         by_git_alone=False)
+    # Each path is tested, behind the words and before the cutoff and the parents; what stands behind the line goes on with the next command.
+    worse = [(b"breadth all +m", (b"a", b""), "BadPath"), (b"breadth all +m", (b"", b"a"), "BadPath"), (b"breadth all +m", (b"a", b"b", b"c//d"), "BadPath"),
+             (b"breadth all +m", (b"a", b"d" * 4097, b"b"), "BadPath"), (b"newest first +m", (b"a", b"/"), "BadPath"),
+             (b"breadth all +nosuch", (b"a", b""), "UnknownWord"), (b"newest first +m", (b"a", b"b"), "OrderWithParents"),
+             (b"newest-since x first +m", (b"a", b"b"), "BadTime")]
+    runs((made,), *((log_at(words, *paths) + b"names\n", cause) for words, paths, cause in worse), by_git_alone=False)
     bad = [b"", b"/", b"/a", b"a/", b"a//b", b"a\0", b"d" * 4097, b"d" * 5000]
     first = [(log_at(b"breadth all +nosuch", b""), "UnknownWord"), (log_at(b"breadth all +HEAD", b""), "UnbornHead"),
              (log_at(b"newest-since x first +m", b""), "BadPath"), (log_at(b"newest first +m", b"/"), "BadPath"),
@@ -928,10 +947,10 @@ def as_numbered(made, listed_):
     """Stops where a log with a path doesn't list the commits of these numbers."""
     plain = Plain("sha1")
     numbers = {reply.split()[-1]: number for number, (reply, _) in enumerate(plain.run(made)[1], 1)}
-    for path, wanted in listed_:
-        _, ((reply, _),) = plain.run(log_at(b"topological all +m", path))
+    for paths, wanted in listed_:
+        _, ((reply, _),) = plain.run(log_at(b"topological all +m", *paths))
         found = [numbers[it] for it in reply.split()[3:]] if reply.startswith(b"ok") else None
-        assert found == wanted, (path, found, wanted)
+        assert found == wanted, (paths, found, wanted)
 
 
 def removals():
@@ -1132,6 +1151,13 @@ def readings():
                                (b"log breadth all +v\n", 2)]:
             reading(kind, tagged, command, count)
         reading(kind, tagged + b"index\n", b"log breadth all +v\n", 1)
+        # A log with paths walks, and then reads each commit with its first parent, and of both each tree on the paths once.
+        three = branch(b"refs/heads/m new", 1, b"put file 1 1\na\nx\n") + branch(b"refs/heads/m any", 2, b"put file 3 1\nb/c\ny\n") \
+            + branch(b"refs/heads/m any", 3, b"put file 1 1\na\nz\n")
+        for paths, count in [((b"a",), 4 + 10), ((b"a", b"b"), 4 + 10), ((b"b/c", b"a", b"b/d"), 4 + 13), ((b"b/c", b"b", b"b/c"), 4 + 13),
+                             ((b"a/x", b"q/r"), 4 + 10), ((), 4)]:
+            reading(kind, three, log_at(b"breadth all +m", *paths), count)
+            reading(kind, three + b"index\n", log_at(b"breadth all +m", *paths), count - 3)
 
 
 def readers():
@@ -1169,7 +1195,8 @@ def log_faults():
     made = PUT_HELLO + b"commit refs/heads/main any\n" + SIGNED % (1, 1, 3, b"two")
     for kind in KINDS:
         orders = (b"breadth", b"newest", b"oldest-since 1", b"date", b"topological")
-        for line in [*(b"log %s all +main\n" % order for order in orders), log_at(b"breadth all +main", b"a")]:
+        for line in [*(b"log %s all +main\n" % order for order in orders), log_at(b"breadth all +main", b"a"),
+                     log_at(b"breadth all +main", b"b", b"a")]:
             stream = made + line * 2
             _, replies = Plain(kind).run(stream)
             one, two, first, second = (reply for reply, _ in replies)
@@ -1557,6 +1584,32 @@ def by_chance(chance, kind, packs_too=False):
     ROWS.append((" ".join([kind, *words, "failed", "left"]), " ".join([*answers, "sound", left(plain)])))
 
 
+def logs_by_chance(chance, kind):
+    """Commits by chance, and logs at up to four paths of what they change."""
+    plain, words, answers = Plain(kind), ["create", "open"], ["created", "opened"]
+    paths = [b"a", b"b", b"a/b", b"a/b/c", b"a.b", b"d/e", b"d/f", b"a//b"]
+
+    def edit():
+        path, content = chance.choice(paths[:7]), chance.choice([b"", b"1", b"2"])
+        if chance.random() < 0.3:
+            return b"remove %d\n%s\n" % (len(path), path)
+        return b"put %s %d %d\n%s\n%s\n" % (chance.choice([b"file", b"file", b"exec"]), len(path), len(content), path, content)
+
+    def line():
+        some = [chance.choice(paths[:7] if chance.random() < 0.98 else paths) for _ in range(chance.randrange(5))]
+        order = chance.choice([b"breadth", b"date", b"topological"])
+        return log_at(b"%s all +%s" % (order, chance.choice([b"main", b"x", b"HEAD"])), *some)
+
+    numbers = range(1, chance.randrange(5, 11))
+    lines = [b"parent %s\n" % it for it in (b"main", b"x")]
+    commits = [branch(b"refs/heads/%s any" % chance.choice([b"main", b"main", b"x"]), number, (chance.choice(lines) if chance.random() < 0.4 else b"")
+                      + b"".join(edit() for _ in range(chance.randrange(3)))) for number in numbers]
+    for stream in commits + [b"".join(line() for _ in range(6)), b"index\n" + b"".join(line() for _ in range(3))]:
+        words.append(f"run:{word(stream)}")
+        answers.append(told(*plain.run(stream)))
+    ROWS.append((" ".join([kind, *words]), " ".join(answers)))
+
+
 if __name__ == "__main__":
     for part in (rows, first_causes, two_branches, of_names, moves, renames, deletions, switches, tags, renamed_tags, indexes, logs, path_logs,
                  short_ids, removals, nested, limits, opening, reopening, reopened_between, readings, readers, faults, index_faults, log_faults,
@@ -1570,4 +1623,7 @@ if __name__ == "__main__":
         by_chance(chance, list(KINDS)[number % 2])
     for number in range(80):
         by_chance(chance, list(KINDS)[number % 2], True)
+    chance = random.Random(41)
+    for number in range(60):
+        logs_by_chance(chance, list(KINDS)[number % 2])
     write(Path(__file__), ROWS)

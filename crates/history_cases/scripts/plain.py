@@ -96,17 +96,19 @@ class Reader:
         return ("past", words[0])
 
     def log(self, words):
-        """A log: its order, the seconds behind it or none, whether it follows first parents alone, its items, and its path or none."""
+        """A log: its order, the seconds behind it or none, whether it follows first parents alone, its items, and its paths."""
         order, words = words[0] if words else b"", words[1:]
         refuse_where(order not in ORDERS, "Syntax")
         since, words = (words[0] if words else None, words[1:]) if order.endswith(b"-since") else (None, words)
         refuse_where(not words or words[0] not in (b"all", b"first"), "Syntax")
-        size = words[-1:] if words[-2:-1] == [b"path"] else []
-        items = [(it[:1], it[1:]) for it in (words[1:-2] if size else words[1:])]
+        first = words[0] == b"first"
+        words, sizes = words[1:], []
+        while words[-2:-1] == [b"path"]:
+            words, sizes = words[:-2], [words[-1], *sizes]
+        items = [(it[:1], it[1:]) for it in words]
         refuse_where(any(sign not in (b"+", b"-") or not target for sign, target in items), "Syntax")
         refuse_where(all(sign != b"+" for sign, _ in items), "Syntax")
-        path = self.fields(size)[0] if size else None
-        return ("log", order.partition(b"-")[0], since, words[0] == b"first", items, path)
+        return ("log", order.partition(b"-")[0], since, first, items, self.fields(sizes))
 
     def commit(self, name, expect):
         parents, edits, words = [], [], self.line()
@@ -151,9 +153,9 @@ def is_path(path):
     return len(path) <= 4096 and b"\0" not in path and b"" not in path.split(b"/")
 
 
-def at_path(files, path):
-    """The files at a path or below it."""
-    return {it: file for it, file in files.items() if (it + b"/").startswith(path + b"/")}
+def at_paths(files, paths):
+    """The files at one of the paths or below it."""
+    return {it: file for it, file in files.items() if any((it + b"/").startswith(path + b"/") for path in paths)}
 
 
 def is_part(part):
@@ -487,15 +489,15 @@ class Plain:
         moves = self.logs[name].splitlines(keepends=True)
         return b"ok past %d\n" % len(moves) + b"".join(reversed(moves))
 
-    def differs(self, digits, path):
-        """Whether a commit's files at a path or below it aren't those of its first parent; without one, whether it has some there."""
+    def differs(self, digits, paths):
+        """Whether a commit's files at some paths or below them aren't those of its first parent; without one, whether it has some there."""
         commit = self.commits[digits]
         before = self.commits[commit["parents"][0]]["files"] if commit["parents"] else {}
-        return at_path(commit["files"], path) != at_path(before, path)
+        return at_paths(commit["files"], paths) != at_paths(before, paths)
 
-    def log(self, order, since, first_parents, items, path):
+    def log(self, order, since, first_parents, items, paths):
         targets = self.resolved([target for _, target in items])
-        refuse_where(path is not None and not is_path(path), "BadPath")
+        refuse_where(any(not is_path(it) for it in paths), "BadPath")
         refuse_where(since is not None and not is_time(since, b"+0000"), "BadTime")
         hidden = [it for it, (sign, _) in zip(targets, items) if sign == b"-"]
         refuse_where(first_parents and order != b"breadth" and (hidden or order in (b"newest", b"oldest")), "OrderWithParents")
@@ -503,7 +505,7 @@ class Plain:
         walk = Walk(self.commits, first_parents)
         hides = Walk(self.commits, False).reached(hidden, 0)
         walked = walk.listed(order, tips, walk.reached(tips, int(since or 0)) - hides)
-        listed = [it for it in walked if path is None or self.differs(it, path)]
+        listed = [it for it in walked if not paths or self.differs(it, paths)]
         return b"ok log %d\n" % len(listed) + b"".join(it + b"\n" for it in listed)
 
     def run(self, data):

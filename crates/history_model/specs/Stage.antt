@@ -19,7 +19,7 @@ opens IndexHeading = true
 opens (NamesHeading folder) = true
 opens (FilesHeading word) = true
 opens (PastHeading name) = true
-opens (LogHeading order first_parents items path) = true
+opens (LogHeading order first_parents items paths) = true
 opens (ShowHeading word path) = true
 opens _ = false
 

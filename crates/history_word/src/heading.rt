@@ -388,6 +388,7 @@ fn said_of_names(alloc: Global, first: &[u8], words: &mut Words) -> Option<Headi
 
 /// What the words of the line say, of which none is empty.
 fn said(alloc: Global, line: &[u8]) -> Option<Heading>
+    requires { length line.now ≤ max_line }
     ensures { Says result (heading_of (split_words line.now)) }
 {
     let mut words = Words::new(line);

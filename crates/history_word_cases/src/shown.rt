@@ -59,7 +59,9 @@ fn show_log(log: &LogCommand, page: &mut Page) {
             LogItem::Hidden(word) => page.named("hidden", word),
         }
     }
-    show_path(&log.path, page);
+    for path in &log.paths {
+        show_field("path", path, page);
+    }
 }
 
 fn show_order(order: &Order, page: &mut Page) {

@@ -1,6 +1,6 @@
 use Rattle.std.proofs.Common.{[], ◌∷◌, refl}
 use Rattle.std.proofs.lemmas.Result.{err_from_is_err_and}
-use Rattle.history_model.specs.Spelling.{option_list}
+use Rattle.history_word.specs.Sizes.{listed}
 use Rattle.history_word.specs.LineTable as table
 use Rattle.history_word.specs.Progress.{IsNoField, StopsFrom}
 use Rattle.history_word.proofs.TakingLemmas.{took_none}
@@ -65,8 +65,8 @@ pub returns-in_err-read_log-in-Log : goal.returns-in_err-read_log-in-Log
 returns-in_err-read_log-in-Log g c =
     let p = err_from_is_err_and c.from_residual-in_err-read_log-in-Log.result c.from_residual-in_err-read_log-in-Log.ensures.1 in
     rw (p.1, p.2, c.in-Log.is) (stops_then g.R.Source.left g.R.Source.has_failed g.R.Source.readings _ _ _ _ _ _ []
-    (λ bytes cause. (place : table.Place) → StopsFrom (option_list c.in-Log.line.path) place bytes cause)
-    (λ bytes cause. (place : table.Place) → StopsFrom (option_list c.in-Log.line.path) place bytes cause)
+    (λ bytes cause. (place : table.Place) → StopsFrom (listed c.in-Log.line.paths) place bytes cause)
+    (λ bytes cause. (place : table.Place) → StopsFrom (listed c.in-Log.line.paths) place bytes cause)
     (λ ys m bad. bad)
     c.in_err-read_log-in-Log.field-0.0 (took_none g.R.Source.left g.R.Source.readings c.args.source.now c.args.buffer.now) c.in_err-read_log-in-Log.ensures)
 

@@ -1,7 +1,8 @@
 //! A run over standard input and output, on a new repository in memory.
 
-use history::{End, Kind, Stream, run};
-use history_in_memory::new_repository;
+use crate::opened::new_repository;
+use gix_hash::Kind;
+use history::{End, Stream, run};
 
 // Makes a repository and runs on it. `None` where that didn't succeed.
 fn run_on_new(rt: &HostRuntime) -> Option<End> {
@@ -13,7 +14,8 @@ fn run_on_new(rt: &HostRuntime) -> Option<End> {
     run(alloc, &mut reader, &mut writer, &mut repository).ok()
 }
 
-/// Makes a repository, runs on it, and answers the program's status: 0 where the input ended between two commands, else 1.
+/// Runs on a new repository with ids of SHA-1, and answers a program's status: 0 where the input ended between two commands; else 1, where
+/// the run ended otherwise, reader or writer failed, or no repository was made.
 pub fn serve(rt: &HostRuntime) -> u8 {
     match run_on_new(rt) {
         Some(End::Input) => 0,
