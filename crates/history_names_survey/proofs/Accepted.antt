@@ -274,7 +274,7 @@ module _ (tree : Tree) (r : Repository) (facts : Facts) (are : AreFactsOf facts 
 
       by_name : (b : Bool) → is_name name ≡ b → (is_name name ≡ true) × (is_file_at tree name ≡ true)
       by_name false is =
-          clash refl (ap is_absent (sym reads ∙ ap (λ b. cond b (unwrap_or (option_map (loose_state r.kind) (file_at tree name)) (packed_read r.kind name (file_at tree packed_place))) Absent) is))
+          clash refl (sym (ap is_absent (sym reads ∙ ap (λ b. cond b (unwrap_or (option_map (loose_state r.kind) (file_at tree name)) (packed_read r.kind name (file_at tree packed_place))) Absent) is)))
       by_name true is = by_text is (file_at tree name) refl (sym (reads_by name is) ∙ reads)
 
   -- what reads as something is a name that stands
@@ -302,7 +302,7 @@ module _ (tree : Tree) (r : Repository) (facts : Facts) (are : AreFactsOf facts 
 
           by_name : (b : Bool) → is_name name ≡ b → (is_name name ≡ true) × (is_file_at tree name ≡ true)
           by_name false is =
-              clash refl (ap is_absent (sym reads ∙ ap (λ b. cond b (unwrap_or (option_map (loose_state r.kind) (file_at tree name)) (packed_read r.kind name (file_at tree packed_place))) Absent) is))
+              clash refl (sym (ap is_absent (sym reads ∙ ap (λ b. cond b (unwrap_or (option_map (loose_state r.kind) (file_at tree name)) (packed_read r.kind name (file_at tree packed_place))) Absent) is)))
           by_name true is = by_text is (file_at tree name) refl (sym (reads_by name is) ∙ reads)
 
       by_state : (state : NameState) → name_state r.kind tree name ≡ state → is_absent state ≡ false → stands r name ≡ true

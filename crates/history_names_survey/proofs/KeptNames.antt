@@ -69,7 +69,7 @@ one_get x (y ∷ xs) l e = let rest = one_get y xs l e in (x ∷ rest.0, ap (λ 
 -- the last one, and those before it
 pub last_of : {X : Type 0} (xs : List X) (l : X) → Some l ≡ slice_get xs (length xs - 1) → (front : List X) × (xs ≡ front ++ l ∷ [])
 last_of [] l e = absurd (cc e)
-last_of (x ∷ xs) l e = one_get x xs l e
+last_of (x ∷ xs) l e = let n : length (x ∷ xs) - 1 ≡ length xs = omega arith in one_get x xs l (e ∙ ap (slice_get (x ∷ xs)) n)
 
 pub follows_last : (records : List Reference) (last next : Reference) (lt : Bool) → lt ≡ is_lt (by_bytes (record_of last).name (record_of next).name) → Some last ≡ slice_get records (length records - 1)
     → is_ascending (record_names (map record_of records)) ≡ true → lt ≡ is_ascending (record_names (map record_of records ++ record_of next ∷ []))

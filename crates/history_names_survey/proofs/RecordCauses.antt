@@ -53,7 +53,9 @@ at_among (x ∷ entries) (suc k) entry below is = let rest = at_among entries k 
 pub one_more_sound : (P : Reference → Type 0) (entries : List Reference) (k : ℕ) (entry : Reference) → k < length entries → entry ≡ get_or entries k entry → AllByRecursion P (take k entries) → P entry → AllByRecursion P (take (k + 1) entries)
 one_more_sound P [] k entry below is all here = absurd (omega (arith, below))
 one_more_sound P (x ∷ entries) zero entry below is all here = (subst P is here, tt)
-one_more_sound P (x ∷ entries) (suc k) entry below is all here = (all.0, one_more_sound P entries k entry (omega (arith, below)) is all.1 here)
+one_more_sound P (x ∷ entries) (suc k) entry below is all here =
+    let n : suc k + 1 ≡ suc (k + 1) = omega arith in
+    subst (λ m. AllByRecursion P (take m (x ∷ entries))) (sym n) (all.0, one_more_sound P entries k entry (omega (arith, below)) is all.1 here)
 
 pub all_sound : (P : Record → Type 0) (entries : List Reference) (records : List Record) (k : ℕ) → map record_of entries ≡ records → take k entries ≡ entries → AllByRecursion (λ (r : Reference). P (record_of r)) (take k entries) → AllByRecursion P records
 all_sound P entries records k are whole all = subst (AllByRecursion P) are (go entries (subst (AllByRecursion (λ (r : Reference). P (record_of r))) whole all))
