@@ -1,5 +1,5 @@
 -- Names that are kept in a set, looked up by their bytes, and the first line of a text.
-use Rattle.std.proofs.Common.{◌≡◌, ◌≢◌, ℕ, ◌+◌, ◌-◌, ◌<◌, Bool, true, false, cond, not, ◌||◌, ◌&&◌, List, [], ◌∷◌, ◌++◌, map, length, take, drop, Some, None, Option, slice_get, refl, sym, ◌∙◌, ap, subst, bytes_eq, arith}
+use Rattle.std.proofs.Common.{◌≡◌, ℕ, ◌+◌, ◌-◌, Bool, true, false, cond, not, ◌||◌, List, [], ◌∷◌, ◌++◌, map, length, take, drop, Some, slice_get, refl, sym, ◌∙◌, ap, bytes_eq, arith}
 use Rattle.std.specs.Borrow.{Bor}
 use Rattle.std.specs.List.{list_any}
 use Rattle.std.specs.Ordering.{is_eq, is_lt, nat_cmp}
@@ -9,7 +9,7 @@ use Rattle.std.proofs.lemmas.Map.Text.{is_eq-slice_cmp}
 use Rattle.std.proofs.lemmas.Option.{same_Some}
 use Rattle.gix_object_lines.specs.Bytes.{Lacks}
 use Rattle.gix_ref_format.specs.Lines.{lines}
-use Rattle.gix_ref_format.specs.Packed.{Record, header_line, record_of}
+use Rattle.gix_ref_format.specs.Packed.{header_line, record_of}
 use Rattle.gix_ref_format.specs.declared.packed.Reference.{Reference}
 use Rattle.gix_ref_format.proofs.LineLemmas.{lines_rest, lines_split}
 use Rattle.history_model.specs.Bytes.{Bytes, by_bytes}

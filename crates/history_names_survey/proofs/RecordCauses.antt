@@ -1,6 +1,6 @@
 -- What is told of a record of `packed-refs`: that it is sound, or why it isn't.
-use Rattle.std.proofs.Common.{◌≡◌, ◌⊎◌, ℕ, zero, suc, ◌+◌, ◌<◌, Bool, true, false, ◌&&◌, ◌||◌, List, [], ◌∷◌, map, length, take, get_or, refl, sym, ◌∙◌, ap, subst, bytes_eq, arith, Vec, Result, Ok, Err}
-use Rattle.std.specs.Prelude.{IsTrue, IsFalse, IfErr, OnOk}
+use Rattle.std.proofs.Common.{◌≡◌, ◌⊎◌, ℕ, zero, suc, ◌+◌, ◌<◌, Bool, true, false, ◌||◌, List, [], ◌∷◌, map, length, take, get_or, refl, sym, ◌∙◌, ap, subst, bytes_eq, arith, Vec, Result}
+use Rattle.std.specs.Prelude.{IsTrue, IfErr}
 use Rattle.std.specs.List.{AllByRecursion, Contains, list_all, list_any}
 use Rattle.std.specs.declared.alloc.Global.{Global}
 use Rattle.std.proofs.lemmas.Bool.{and_parts}
@@ -18,9 +18,9 @@ use Rattle.history_model.specs.NameStates.{name_state}
 use Rattle.history_model.specs.Places.{packed_place}
 use Rattle.history_model.proofs.PlaceLemmas.{text_itself}
 use Rattle.history_names_survey.specs.Causes.{HasBadPeel, HasCause, IsCollision, IsUnheld}
-use Rattle.history_names_survey.specs.Packed.{has_name, has_record, record_names, records_at}
+use Rattle.history_names_survey.specs.Packed.{has_record, record_names, records_at}
 use Rattle.history_names_survey.specs.PackedRead.{ReadsPacked}
-use Rattle.history_names_survey.specs.Sound.{AreSoundRecords, IsApart, IsSoundRecord}
+use Rattle.history_names_survey.specs.Sound.{IsApart, IsSoundRecord}
 use Rattle.history_names_survey.specs.Stored.{Facts, is_well_peeled, kind_in, may_be_held}
 use Rattle.history_names_survey.specs.declared.error.NamesError.{NamesError}
 use Rattle.history_names_survey.specs.declared.packed.Packed.{Packed}

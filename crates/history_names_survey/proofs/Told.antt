@@ -1,6 +1,6 @@
 -- What a file that was read tells: that it is sound, or why it isn't.
-use Rattle.std.proofs.Common.{◌≡◌, ◌⊎◌, inl, inr, Bool, true, false, cond, ◌&&◌, ◌||◌, [], ◌∷◌, ◌++◌, Option, Some, None, option_map, unwrap_or, is_some, refl, sym, ◌∙◌, ap, subst, bytes_eq, Vec, ℕ, Result, Ok, Err}
-use Rattle.std.specs.Prelude.{IsTrue, IsFalse, IfErr, IfOk, OnOk, ⊤}
+use Rattle.std.proofs.Common.{◌≡◌, ◌⊎◌, inl, inr, Bool, true, false, cond, ◌&&◌, ◌||◌, [], Option, Some, None, option_map, unwrap_or, is_some, refl, sym, ◌∙◌, ap, subst, bytes_eq, Vec, ℕ, Result, Ok, Err}
+use Rattle.std.specs.Prelude.{IsTrue, IfErr, IfOk, OnOk}
 use Rattle.std.specs.List.{list_any}
 use Rattle.std.specs.declared.alloc.Global.{Global}
 use Rattle.std.proofs.lemmas.Bool.{or_from}
@@ -19,10 +19,9 @@ use Rattle.history_model.specs.Forms.{is_name, is_private, refs_front}
 use Rattle.history_model.specs.NameStates as states
 use Rattle.history_model.specs.NameStates.{NameState, Absent, name_state, is_absent, loose_state, packed_text_state}
 use Rattle.history_model.specs.Places.{file_at, head_place, packed_place, is_lock_file, is_log_place, log_name}
-use Rattle.history_model.proofs.PlaceLemmas.{texts_apart}
-use Rattle.history_names_survey.specs.Causes.{HasCause, IsBadName, IsCollision, IsCollisionOf, IsStray, may_hold_file, IsUnheld, IsLogOf, log_error}
+use Rattle.history_names_survey.specs.Causes.{HasCause, IsCollision, IsCollisionOf, IsStray, IsUnheld, log_error}
 use Rattle.history_names_survey.specs.Logs.{HasFault, SpellsLog}
-use Rattle.history_names_survey.specs.Sound.{IsApart, ReadsAs, IsSoundFile}
+use Rattle.history_names_survey.specs.Sound.{IsApart, IsSoundFile}
 use Rattle.history_names_survey.specs.Packed.{has_name, has_record, is_packed_text}
 use Rattle.history_names_survey.specs.PackedRead.{IsPackedFault, ReadsPacked, names_in}
 use Rattle.history_names_survey.specs.Stored.{Fact, Facts, fact_told, facts_in, is_of_wrong_kind, is_tag_of, kind_in, may_be_held, target_in, target_told}

@@ -1,4 +1,4 @@
-use Rattle.std.proofs.Common.{◌≡◌, ◌∙◌, arith, false, sym, take, ap}
+use Rattle.std.proofs.Common.{◌≡◌, ◌∙◌, arith, false, sym, take}
 use Rattle.history_names_survey.specs.Packed.{has_name}
 use Rattle.history_names_survey.proofs.Folders.{above_slash, all_passed, is_below_it, one_passed}
 use Rattle.history_names_survey.proofs.Told.{collision_of}

@@ -1,7 +1,5 @@
-use Rattle.std.proofs.Common.{◌≡◌, ◌∙◌, sym, subst}
+use Rattle.std.proofs.Common.{◌∙◌, subst}
 use Rattle.std.proofs.lemmas.Result.{err_from_is_err_and}
-use Rattle.gix_ref_file.specs.Tree.{bytes_at}
-use Rattle.history_model.specs.Places.{packed_place}
 use Rattle.history_names_survey.specs.PackedRead.{IsPackedFault, IsReadOf}
 use Rattle.history_names_survey.specs.Stored.{facts_in}
 use Rattle.history_names_survey.proofs.Surveyed.{all_tested}
