@@ -34,7 +34,7 @@ pub fn act(
 
 fn by_name(alloc: Global, parts: &mut Parts, operation: &str, name: &[u8], page: &mut Page) {
     match operation {
-        "find" => match parts.names.find(alloc, name) {
+        "find-name" => match parts.names.find(alloc, name) {
             Ok(Some(id)) => show_id("at", &id, page),
             Ok(None) => page.word("none"),
             Err(_) => page.word("failed"),

@@ -41,7 +41,7 @@ impl Session for Parts {
             "head" | "name" | "list" | "collides" | "move" | "delete" | "switch" => {
                 names::act(alloc, self, operation, rest, page)
             }
-            "read-packed" | "pack" | "find" | "list-all" | "meets" | "take" => {
+            "read-packed" | "pack" | "find-name" | "list-all" | "meets" | "take" => {
                 packed::act(alloc, self, operation, rest, page)
             }
             "actor"
