@@ -55,7 +55,7 @@ impl Session {
             "edit" => self.edit(alloc, page),
             "files" => self.list(alloc, page),
             "at" => self.find(alloc, parts.next()?, page),
-            "each" => self.find_each(alloc, parts, page),
+            "each" => self.find_each(alloc, word, page),
             "tree" => self.add(alloc, parts.next()?, page),
             "root" => self.stand_on(parts.next()?),
             "fail" => self.fail_at(parts.next()?),
@@ -160,17 +160,9 @@ impl Session {
         Some(())
     }
 
-    // What the root has at each of some paths, and how many trees the call says that it asked for.
-    fn find_each<'a, I: Iterator<Item = &'a str> + Drop>(
-        &self,
-        alloc: Global,
-        words: I,
-        page: &mut Page,
-    ) -> Option<()> {
-        let mut paths = Vec::new(alloc);
-        for word in words {
-            paths.push(read_digits(alloc, word)?).ok()?;
-        }
+    // What the root has at each of the paths that a word names, and how many trees the call says that it asked for.
+    fn find_each(&self, alloc: Global, word: &str, page: &mut Page) -> Option<()> {
+        let paths = paths_in(alloc, word)?;
         let mut lent = Vec::new(alloc);
         for path in &paths {
             lent.push(path.as_slice()).ok()?;
@@ -242,4 +234,15 @@ fn show_broken(oid: ObjectId, page: &mut Page) {
     page.word("Broken(");
     page.put(oid);
     page.text(")");
+}
+
+// The paths that a word names behind its first part.
+fn paths_in(alloc: Global, word: &str) -> Option<Vec<Vec<u8>>> {
+    let mut parts = word.split(':');
+    parts.next()?;
+    let mut paths = Vec::new(alloc);
+    for part in parts {
+        paths.push(read_digits(alloc, part)?).ok()?;
+    }
+    Some(paths)
 }
