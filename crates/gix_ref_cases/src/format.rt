@@ -1,58 +1,73 @@
 //! Cases of `gix_ref_format`, but for its logs.
 
 use bstr::BStr;
+use case_page::Page;
 use gix_hash::Kind;
 use gix_ref_format::lookup::{behind_slash, is_complete, is_own, key_of};
 use gix_ref_format::loose;
 use gix_ref_format::packed::{
     Buffer, FindError, Header, Iter, Peeled, Records, Reference, buffer, iter,
 };
-use gix_ref_name::{FullName, FullNameRef, PartialNameRef};
-use std::alloc::{AllocError, Global};
+use gix_ref_name::{FullName, FullNameRef, PartialNameRef, TargetRef};
+use std::alloc::Global;
 
 // The target of a loose file.
-fn target(alloc: Global, text: &[u8]) -> Result<String, AllocError> {
+fn target(alloc: Global, text: &[u8], page: &mut Page) {
     match loose::decode(alloc, text, Kind::Sha1) {
-        Ok(target) => format!(in alloc; "{target}"),
-        Err(error) => word(alloc, error),
+        Ok(target) => page.put(target),
+        Err(error) => page.text(word(error)),
     }
 }
 
-fn word(alloc: Global, error: loose::Error) -> Result<String, AllocError> {
+fn word(error: loose::Error) -> &'static str {
     match error {
-        loose::Error::Parse => format!(in alloc; "parse"),
-        loose::Error::RefnameValidation => format!(in alloc; "name"),
-        loose::Error::Memory => format!(in alloc; "memory"),
+        loose::Error::Parse => "parse",
+        loose::Error::RefnameValidation => "name",
+        loose::Error::Memory => "memory",
     }
 }
 
 // The text that is written of the target that a text tells.
-fn again(alloc: Global, text: &[u8]) -> Result<String, AllocError> {
+fn again(alloc: Global, text: &[u8], page: &mut Page) {
     match loose::decode(alloc, text, Kind::Sha1) {
-        Ok(target) => {
-            let mut out = Vec::new(alloc);
-            loose::write(target.to_ref(), &mut out)?;
-            hex::encode(alloc, out.as_slice())
-        }
-        Err(error) => word(alloc, error),
+        Ok(target) => put_written(alloc, target.to_ref(), page),
+        Err(error) => page.text(word(error)),
+    }
+}
+
+fn put_written(alloc: Global, target: TargetRef<'_>, page: &mut Page) {
+    let mut out = Vec::new(alloc);
+    match loose::write(target, &mut out) {
+        Ok(()) => page.hex(out.as_slice()),
+        Err(_) => page.text("memory"),
     }
 }
 
 // A reference by its path.
-fn from_path(alloc: Global, text: &[u8]) -> Result<String, AllocError> {
-    let Ok(name) = FullName::from_bytes(alloc, b"refs/heads/main") else {
-        return format!(in alloc; "memory");
-    };
-    match loose::Reference::try_from_path(alloc, name, text, Kind::Sha1) {
-        Ok(reference) => format!(in alloc; "{} {:?}", reference.name, reference.kind()),
-        Err(error) => word(alloc, error),
+fn from_path(alloc: Global, text: &[u8], page: &mut Page) {
+    match FullName::from_bytes(alloc, b"refs/heads/main") {
+        Ok(name) => put_of_name(alloc, name, text, page),
+        Err(_) => page.text("memory"),
     }
 }
 
-fn header(alloc: Global, line: &[u8]) -> Result<String, AllocError> {
+fn put_of_name(alloc: Global, name: FullName, text: &[u8], page: &mut Page) {
+    match loose::Reference::try_from_path(alloc, name, text, Kind::Sha1) {
+        Ok(reference) => {
+            page.put_between("", &reference.name, " ");
+            page.name(reference.kind());
+        }
+        Err(error) => page.text(word(error)),
+    }
+}
+
+fn header(line: &[u8], page: &mut Page) {
     match Header::from_line(line) {
-        Some(header) => format!(in alloc; "{} {}", peeled(header.peeled), header.sorted),
-        None => format!(in alloc; "none"),
+        Some(header) => {
+            page.text(peeled(header.peeled));
+            page.value(header.sorted);
+        }
+        None => page.text("none"),
     }
 }
 
@@ -65,175 +80,146 @@ fn peeled(peeled: Peeled) -> &'static str {
 }
 
 // All items of a file.
-fn items(alloc: Global, bytes: &[u8]) -> Result<String, AllocError> {
-    let Ok(records) = Iter::new(bytes, Kind::Sha1) else {
-        return format!(in alloc; "no header");
-    };
-    let mut text = String::new(alloc);
-    for item in records {
-        let line = shown(alloc, item)?;
-        text.push_str(line.as_str())?;
-        text.push_str("; ")?;
+fn items(bytes: &[u8], page: &mut Page) {
+    match Iter::new(bytes, Kind::Sha1) {
+        Ok(records) => {
+            for item in records {
+                put_item(item, page);
+                page.text("; ");
+            }
+        }
+        Err(_) => page.text("no header"),
     }
-    Ok(text)
 }
 
-fn shown(
-    alloc: Global,
-    item: Result<Reference<'_>, iter::Error<'_>>,
-) -> Result<String, AllocError> {
+fn put_item(item: Result<Reference<'_>, iter::Error<'_>>, page: &mut Page) {
     match item {
-        Ok(record) => record_text(alloc, record),
-        Err(iter::Error::Reference { line_number, .. }) => format!(in alloc; "bad {line_number}"),
-        Err(iter::Error::Header { .. }) => format!(in alloc; "bad header"),
+        Ok(record) => put_record(record, page),
+        Err(iter::Error::Reference { line_number, .. }) => {
+            page.put_between("bad ", line_number, "")
+        }
+        Err(iter::Error::Header { .. }) => page.text("bad header"),
     }
 }
 
 // A record: its target, its name, and the object that it points to in the end.
-fn record_text(alloc: Global, record: Reference<'_>) -> Result<String, AllocError> {
-    format!(in alloc; "{} {} {}", record.target(), record.name, record.object())
+fn put_record(record: Reference<'_>, page: &mut Page) {
+    page.put_between("", record.target(), " ");
+    page.put_between("", record.name, " ");
+    page.put(record.object());
+}
+
+fn put_record_or_none(record: Option<Reference<'_>>, page: &mut Page) {
+    match record {
+        Some(record) => put_record(record, page),
+        None => page.text("none"),
+    }
+}
+
+fn open(alloc: Global, bytes: &[u8]) -> Result<Buffer, buffer::Error> {
+    match bytes.to_vec(alloc) {
+        Ok(copy) => Buffer::from_bytes(alloc, copy, Kind::Sha1),
+        Err(_) => Err(buffer::Error::Memory),
+    }
 }
 
 // The whole of a file: the number of records by name, or the first bad line.
-fn opened(alloc: Global, bytes: &[u8]) -> Result<String, AllocError> {
-    match Buffer::from_bytes(alloc, bytes.to_vec(alloc)?, Kind::Sha1) {
-        Ok(_) => format!(in alloc; "opened"),
-        Err(buffer::Error::Iter { line_number }) => format!(in alloc; "bad {line_number}"),
-        Err(buffer::Error::HeaderParsing) => format!(in alloc; "no header"),
-        Err(buffer::Error::Io) => format!(in alloc; "io"),
-        Err(buffer::Error::Memory) => format!(in alloc; "memory"),
+fn opened(alloc: Global, bytes: &[u8], page: &mut Page) {
+    match open(alloc, bytes) {
+        Ok(_) => page.text("opened"),
+        Err(buffer::Error::Iter { line_number }) => page.put_between("bad ", line_number, ""),
+        Err(buffer::Error::HeaderParsing) => page.text("no header"),
+        Err(buffer::Error::Io) => page.text("io"),
+        Err(buffer::Error::Memory) => page.text("memory"),
     }
 }
 
 // A word looked up in a file.
-fn found(alloc: Global, word: &[u8], bytes: &[u8]) -> Result<String, AllocError> {
-    let Ok(buffer) = Buffer::from_bytes(alloc, bytes.to_vec(alloc)?, Kind::Sha1) else {
-        return format!(in alloc; "not opened");
-    };
+fn found(alloc: Global, word: &[u8], buffer: &Buffer, page: &mut Page) {
     let Ok(name) = PartialNameRef::new(word) else {
-        return format!(in alloc; "no name");
+        return page.text("no name");
     };
-    match buffer.try_find(alloc, name)? {
-        Some(record) => record_text(alloc, record),
-        None => format!(in alloc; "none"),
+    match buffer.try_find(alloc, name) {
+        Ok(record) => put_record_or_none(record, page),
+        Err(_) => page.text("memory"),
     }
 }
 
 // A word that must stand.
-fn must_stand(alloc: Global, word: &[u8], bytes: &[u8]) -> Result<String, AllocError> {
-    let Ok(buffer) = Buffer::from_bytes(alloc, bytes.to_vec(alloc)?, Kind::Sha1) else {
-        return format!(in alloc; "not opened");
-    };
+fn must_stand(alloc: Global, word: &[u8], buffer: &Buffer, page: &mut Page) {
     let Ok(name) = PartialNameRef::new(word) else {
-        return format!(in alloc; "no name");
+        return page.text("no name");
     };
     match buffer.find(alloc, name) {
-        Ok(record) => record_text(alloc, record),
-        Err(FindError::NotFound) => format!(in alloc; "not found"),
-        Err(FindError::Memory) => format!(in alloc; "memory"),
-    }
-}
-
-// The bytes that an opened file lends, in hexadecimal digits.
-fn lent(alloc: Global, bytes: &[u8]) -> Result<String, AllocError> {
-    match Buffer::from_bytes(alloc, bytes.to_vec(alloc)?, Kind::Sha1) {
-        Ok(buffer) => hex::encode(alloc, buffer.as_ref()),
-        Err(_) => format!(in alloc; "not opened"),
+        Ok(record) => put_record(record, page),
+        Err(FindError::NotFound) => page.text("not found"),
+        Err(FindError::Memory) => page.text("memory"),
     }
 }
 
 // Whether no rule completes the name, whether each worktree has its own, the name by which a record may stand for it, and what
 // stands behind its first slash.
-fn looked_up(alloc: Global, name: &[u8]) -> Result<String, AllocError> {
-    let is_complete = is_complete(name);
-    let is_own = is_own(name);
-    let key = name_or_none(key_of(name));
-    let behind = name_or_none(behind_slash(name));
-    format!(in alloc; "{is_complete} {is_own} {key} {behind}")
+fn looked_up(name: &[u8], page: &mut Page) {
+    page.put(is_complete(name));
+    page.value(is_own(name));
+    page.value(name_or_none(key_of(name)));
+    page.value(name_or_none(behind_slash(name)));
 }
 
 fn name_or_none(name: Option<&[u8]>) -> BStr<'_> {
     BStr::new(name.unwrap_or(b"none"))
 }
 
-// The records of a file in order: all, or those whose names begin so.
-fn listed(alloc: Global, prefix: Option<&[u8]>, bytes: &[u8]) -> Result<String, AllocError> {
-    let Ok(buffer) = Buffer::from_bytes(alloc, bytes.to_vec(alloc)?, Kind::Sha1) else {
-        return format!(in alloc; "not opened");
-    };
-    match prefix {
-        Some(prefix) => all_of(alloc, buffer.iter_prefixed(prefix)),
-        None => all_of(alloc, buffer.iter()),
-    }
-}
-
-fn all_of(alloc: Global, records: Records<'_>) -> Result<String, AllocError> {
-    let mut text = String::new(alloc);
+// Each record.
+fn put_all(records: Records<'_>, page: &mut Page) {
     for record in records {
-        text.push_str(record_text(alloc, record)?.as_str())?;
-        text.push_str("; ")?;
+        put_record(record, page);
+        page.text("; ");
     }
-    Ok(text)
 }
 
 // A full name looked up in a file.
-fn found_whole(alloc: Global, word: &[u8], bytes: &[u8]) -> Result<String, AllocError> {
-    let Ok(buffer) = Buffer::from_bytes(alloc, bytes.to_vec(alloc)?, Kind::Sha1) else {
-        return format!(in alloc; "not opened");
-    };
-    let Ok(name) = FullNameRef::new(word) else {
-        return format!(in alloc; "no name");
-    };
-    match buffer.try_find_full_name(name) {
-        Some(record) => record_text(alloc, record),
-        None => format!(in alloc; "none"),
+fn found_whole(word: &[u8], buffer: &Buffer, page: &mut Page) {
+    match FullNameRef::new(word) {
+        Ok(name) => put_record_or_none(buffer.try_find_full_name(name), page),
+        Err(_) => page.text("no name"),
     }
 }
 
-/// What the operation of the line gives.
-pub fn answer(alloc: Global, line: &str) -> Result<String, AllocError> {
-    let Some((operation, rest)) = line.split_once(' ') else {
-        return format!(in alloc; "no case: {line}");
-    };
-    match rest.split_once(' ') {
-        Some((one, other)) => answer_two(alloc, operation, one, other),
-        None => answer_one(alloc, operation, rest),
+/// Adds what the operation of the line gives.
+pub fn put_answer(alloc: Global, line: &str, page: &mut Page) {
+    let (operation, rest) = line.split_once(' ').unwrap_or((line, ""));
+    let (word, digits) = rest.split_once(' ').unwrap_or(("", rest));
+    match hex::decode(alloc, digits) {
+        Ok(bytes) => put_of_bytes(alloc, operation, word.as_bytes(), &bytes, page),
+        Err(_) => page.text("no bytes"),
     }
 }
 
-fn answer_one(alloc: Global, operation: &str, digits: &str) -> Result<String, AllocError> {
-    let Ok(bytes) = hex::decode(alloc, digits) else {
-        return format!(in alloc; "no bytes: {digits}");
-    };
-    let bytes = bytes.as_slice();
+fn put_of_bytes(alloc: Global, operation: &str, word: &[u8], bytes: &[u8], page: &mut Page) {
     match operation {
-        "loose" => target(alloc, bytes),
-        "again" => again(alloc, bytes),
-        "path" => from_path(alloc, bytes),
-        "header" => header(alloc, bytes),
-        "items" => items(alloc, bytes),
-        "open" => opened(alloc, bytes),
-        "all" => listed(alloc, None, bytes),
-        "bytes" => lent(alloc, bytes),
-        "lookup" => looked_up(alloc, bytes),
-        _ => format!(in alloc; "no operation: {operation}"),
+        "loose" => target(alloc, bytes, page),
+        "again" => again(alloc, bytes, page),
+        "path" => from_path(alloc, bytes, page),
+        "header" => header(bytes, page),
+        "items" => items(bytes, page),
+        "open" => opened(alloc, bytes, page),
+        "lookup" => looked_up(bytes, page),
+        _ => match open(alloc, bytes) {
+            Ok(buffer) => put_of_buffer(alloc, operation, word, &buffer, page),
+            Err(_) => page.text("not opened"),
+        },
     }
 }
 
-fn answer_two(
-    alloc: Global,
-    operation: &str,
-    word: &str,
-    digits: &str,
-) -> Result<String, AllocError> {
-    let Ok(bytes) = hex::decode(alloc, digits) else {
-        return format!(in alloc; "no bytes: {digits}");
-    };
+fn put_of_buffer(alloc: Global, operation: &str, word: &[u8], buffer: &Buffer, page: &mut Page) {
     match operation {
-        "find" => found(alloc, word.as_bytes(), bytes.as_slice()),
-        "whole" => found_whole(alloc, word.as_bytes(), bytes.as_slice()),
-        "must" => must_stand(alloc, word.as_bytes(), bytes.as_slice()),
-        "begin" => listed(alloc, Some(word.as_bytes()), bytes.as_slice()),
-        _ => format!(in alloc; "no operation: {operation}"),
+        "bytes" => page.hex(buffer.as_ref()),
+        "all" => put_all(buffer.iter(), page),
+        "begin" => put_all(buffer.iter_prefixed(word), page),
+        "find" => found(alloc, word, buffer, page),
+        "whole" => found_whole(word, buffer, page),
+        "must" => must_stand(alloc, word, buffer, page),
+        _ => page.text("no operation"),
     }
 }

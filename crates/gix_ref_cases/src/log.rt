@@ -1,146 +1,153 @@
 //! Cases of the logs of `gix_ref_format`.
 
+use case_page::Page;
 use gix_object_lines::hex_line::is_id;
 use gix_ref_file::{Files, MemoryFiles};
 use gix_ref_format::log::iter::{Error, FileAt, ReadAt, forward, reverse};
 use gix_ref_format::log::{Line, LineRef};
-use std::alloc::{AllocError, Global};
+use std::alloc::Global;
 
 const REFUSED: &str = "refused";
 
-// The new id, the name, the email and the message, each in hexadecimal digits.
-fn shown(alloc: Global, line: &LineRef<'_>) -> Result<String, AllocError> {
-    let name = hex::encode(alloc, line.signature.name.as_bytes())?;
-    let email = hex::encode(alloc, line.signature.email.as_bytes())?;
-    let message = hex::encode(alloc, line.message.as_bytes())?;
-    format!(in alloc; "{}/{name}/{email}/{message}", line.new_oid)
+// Bytes in hexadecimal digits, behind a slash.
+fn put_part(bytes: &[u8], page: &mut Page) {
+    page.text("/");
+    page.hex(bytes);
 }
 
-fn shown_owned(alloc: Global, line: &Line) -> Result<String, AllocError> {
-    let name = hex::encode(alloc, line.signature.name.as_bytes())?;
-    let email = hex::encode(alloc, line.signature.email.as_bytes())?;
-    let message = hex::encode(alloc, line.message.as_bytes())?;
-    format!(in alloc; "{}/{name}/{email}/{message}", line.new_oid.to_hex())
+// The new id, the name, the email and the message, the last three in hexadecimal digits.
+fn put_line(line: &LineRef<'_>, page: &mut Page) {
+    page.put(line.new_oid);
+    put_part(line.signature.name.as_bytes(), page);
+    put_part(line.signature.email.as_bytes(), page);
+    put_part(line.message.as_bytes(), page);
+}
+
+fn put_owned(line: &Line, page: &mut Page) {
+    page.put(line.new_oid.to_hex());
+    put_part(line.signature.name.as_bytes(), page);
+    put_part(line.signature.email.as_bytes(), page);
+    put_part(line.message.as_bytes(), page);
 }
 
 // Each item behind a space: a line, or `!` and the number of one that is none.
-fn forward_items(alloc: Global, log: &[u8]) -> Result<String, AllocError> {
-    let mut text = String::new(alloc);
+fn put_forward(log: &[u8], page: &mut Page) {
     for item in forward(log) {
-        text.push_str(" ")?;
+        page.text(" ");
         match item {
-            Ok(line) => text.push_str(&shown(alloc, &line)?)?,
-            Err(error) => text.push_str(&format!(in alloc; "!{}", error.line)?)?,
+            Ok(line) => put_line(&line, page),
+            Err(error) => page.put_between("!", error.line, ""),
         }
     }
-    Ok(text)
 }
 
 // The same from the end, through a buffer of so many bytes; an error that ends the walk by its text.
-fn reverse_items<R: ReadAt + Drop>(
-    alloc: Global,
-    log: R,
-    size: usize,
-) -> Result<String, AllocError> {
-    let mut text = String::new(alloc);
-    let mut buffer = Vec::from_elem(alloc, 0, size)?;
-    match reverse(alloc, log, buffer.as_mut_slice()) {
-        Ok(lines) => {
-            for item in lines {
-                text.push_str(" ")?;
-                text.push_str(&item_text(alloc, item)?)?;
-            }
-        }
-        Err(error) => text.push_str(&format!(in alloc; " {error}")?)?,
+fn put_reverse<R: ReadAt + Drop>(alloc: Global, log: R, size: usize, page: &mut Page) {
+    match Vec::from_elem(alloc, 0, size) {
+        Ok(mut buffer) => put_by(alloc, log, buffer.as_mut_slice(), page),
+        Err(_) => page.text("memory"),
     }
-    Ok(text)
 }
 
-fn item_text(alloc: Global, item: Result<Line, Error>) -> Result<String, AllocError> {
+fn put_by<R: ReadAt + Drop>(alloc: Global, log: R, buffer: &mut [u8], page: &mut Page) {
+    match reverse(alloc, log, buffer) {
+        Ok(lines) => {
+            for item in lines {
+                page.text(" ");
+                put_item(item, page);
+            }
+        }
+        Err(error) => page.put_between(" ", error, ""),
+    }
+}
+
+fn put_item(item: Result<Line, Error>, page: &mut Page) {
     match item {
-        Ok(line) => shown_owned(alloc, &line),
-        Err(Error::Decode(error)) => format!(in alloc; "!{}", error.line),
-        Err(error) => format!(in alloc; "{error}"),
+        Ok(line) => put_owned(&line, page),
+        Err(Error::Decode(error)) => page.put_between("!", error.line, ""),
+        Err(error) => page.put(error),
     }
 }
 
 // The same of a file of these bytes.
-fn file_items(alloc: Global, log: &[u8], size: usize) -> Result<String, AllocError> {
+fn put_file(alloc: Global, log: &[u8], size: usize, page: &mut Page) {
     let mut files = MemoryFiles::new(alloc);
-    let Ok(()) = files.write(alloc, b"log", log) else {
-        return format!(in alloc; "{REFUSED}");
-    };
+    if files.write(alloc, b"log", log).is_err() {
+        return page.text(REFUSED);
+    }
     let log = FileAt {
         files: &files,
         path: b"log",
     };
-    reverse_items(alloc, log, size)
+    put_reverse(alloc, log, size, page);
+}
+
+fn read(alloc: Global, text: &[u8]) -> Option<Line> {
+    LineRef::from_bytes(text).ok()?.to_owned(alloc).ok()
 }
 
 // The line as it is written again, in hexadecimal digits.
-fn again(alloc: Global, text: &[u8]) -> Result<String, AllocError> {
-    let Ok(line) = LineRef::from_bytes(text) else {
-        return format!(in alloc; "{REFUSED}");
-    };
-    let Ok(line) = line.to_owned(alloc) else {
-        return format!(in alloc; "{REFUSED}");
-    };
-    written(alloc, &line)
+fn again(alloc: Global, text: &[u8], page: &mut Page) {
+    match read(alloc, text) {
+        Some(line) => put_written(alloc, &line, page),
+        None => page.text(REFUSED),
+    }
 }
 
 // The copy of what was read, written in the same way.
-fn copied(alloc: Global, text: &[u8]) -> Result<String, AllocError> {
-    let Ok(line) = LineRef::from_bytes(text) else {
-        return format!(in alloc; "{REFUSED}");
-    };
-    let Ok(line) = line.to_owned(alloc) else {
-        return format!(in alloc; "{REFUSED}");
-    };
+fn copied(alloc: Global, text: &[u8], page: &mut Page) {
+    match read(alloc, text) {
+        Some(line) => put_copy(alloc, &line, page),
+        None => page.text(REFUSED),
+    }
+}
+
+fn put_copy(alloc: Global, line: &Line, page: &mut Page) {
     match line.try_clone() {
-        Ok(copy) => written(alloc, &copy),
-        Err(_) => format!(in alloc; "{REFUSED}"),
+        Ok(copy) => put_written(alloc, &copy, page),
+        Err(_) => page.text(REFUSED),
     }
 }
 
 // The ids that a line tells, by the calls that give them.
-fn ids(alloc: Global, text: &[u8]) -> Result<String, AllocError> {
+fn ids(text: &[u8], page: &mut Page) {
     let Ok(line) = LineRef::from_bytes(text) else {
-        return format!(in alloc; "{REFUSED}");
+        return page.text(REFUSED);
     };
     if !is_id(line.previous_oid.as_bytes()) || !is_id(line.new_oid.as_bytes()) {
-        return format!(in alloc; "no ids");
+        return page.text("no ids");
     }
-    format!(in alloc; "{} {}", line.previous_oid(), line.new_oid())
+    page.put(line.previous_oid());
+    page.value(line.new_oid());
 }
 
-fn written(alloc: Global, line: &Line) -> Result<String, AllocError> {
+fn put_written(alloc: Global, line: &Line, page: &mut Page) {
     let mut written = Vec::new(alloc);
     match line.write_to(&mut written) {
-        Ok(()) => hex::encode(alloc, written.as_slice()),
-        Err(error) => format!(in alloc; "{error}"),
+        Ok(()) => page.hex(written.as_slice()),
+        Err(error) => page.put(error),
     }
 }
 
-/// What the operation of the line gives.
-pub fn answer(alloc: Global, line: &str) -> Result<String, AllocError> {
-    let Some((operation, rest)) = line.split_once(' ') else {
-        return format!(in alloc; "no case: {line}");
-    };
+/// Adds what the operation of the line gives.
+pub fn put_answer(alloc: Global, line: &str, page: &mut Page) {
+    let (operation, rest) = line.split_once(' ').unwrap_or((line, ""));
     let (number, digits) = rest.split_once(' ').unwrap_or(("0", rest));
-    let Ok(bytes) = hex::decode(alloc, digits) else {
-        return format!(in alloc; "no bytes: {line}");
-    };
-    let Ok(size) = number.parse::<usize>() else {
-        return format!(in alloc; "no number: {line}");
-    };
-    let bytes = bytes.as_slice();
+    let size = number.parse::<usize>().unwrap_or(0);
+    match hex::decode(alloc, digits) {
+        Ok(bytes) => put_of_bytes(alloc, operation, size, bytes.as_slice(), page),
+        Err(_) => page.text("no bytes"),
+    }
+}
+
+fn put_of_bytes(alloc: Global, operation: &str, size: usize, bytes: &[u8], page: &mut Page) {
     match operation {
-        "forward" => forward_items(alloc, bytes),
-        "reverse" => reverse_items(alloc, bytes, size),
-        "file" => file_items(alloc, bytes, size),
-        "again" => again(alloc, bytes),
-        "copy" => copied(alloc, bytes),
-        "ids" => ids(alloc, bytes),
-        _ => format!(in alloc; "no operation: {line}"),
+        "forward" => put_forward(bytes, page),
+        "reverse" => put_reverse(alloc, bytes, size, page),
+        "file" => put_file(alloc, bytes, size, page),
+        "again" => again(alloc, bytes, page),
+        "copy" => copied(alloc, bytes, page),
+        "ids" => ids(bytes, page),
+        _ => page.text("no operation"),
     }
 }

@@ -8,22 +8,31 @@ mod log;
 mod name;
 mod packed;
 
+use case_page::Page;
+use std::alloc::{AllocError, Global};
 use std::io;
+
+// What the operation of a line gives, but for the family `folder`.
+fn told(alloc: Global, family: &str, case: &str) -> Result<String, AllocError> {
+    let mut page = Page::new(alloc);
+    match family {
+        "file" => file::put_answer(alloc, case, &mut page),
+        "name" => name::put_answer(alloc, case, &mut page),
+        "format" => format::put_answer(alloc, case, &mut page),
+        "log" => log::put_answer(alloc, case, &mut page),
+        "packed" => packed::put_answer(alloc, case, &mut page),
+        _ => page.text("no case"),
+    }
+    page.finish()
+}
 
 // What the operation of the line of this number gives: its family stands first.
 fn answer(rt: &HostRuntime, number: u64, line: &str) -> io::Result<String> {
-    let alloc = rt.alloc();
     let (family, case) = line.split_once(' ').unwrap_or((line, ""));
-    let text = match family {
-        "file" => file::answer(alloc, case)?,
-        "folder" => folder::answer(rt, number, case)?,
-        "name" => name::answer(alloc, case)?,
-        "format" => format::answer(alloc, case)?,
-        "log" => log::answer(alloc, case)?,
-        "packed" => packed::answer(alloc, case)?,
-        _ => format!(in alloc; "no case")?,
-    };
-    Ok(text)
+    match family {
+        "folder" => folder::answer(rt, number, case),
+        _ => Ok(told(rt.alloc(), family, case)?),
+    }
 }
 
 fn main(rt: HostRuntime) -> io::Result<()> {

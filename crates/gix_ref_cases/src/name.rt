@@ -10,4 +10,4 @@ mod orders;
 mod partial;
 mod targets;
 
-pub use operations::answer;
+pub use operations::put_answer;

@@ -1,53 +1,65 @@
 //! Cases of `gix_ref_packed`.
 
-use case_page::{read_texts, text_of};
+use case_page::{Page, read_texts, text_of};
 use gix_hash::{Kind, ObjectId};
 use gix_ref_format::packed::{Buffer, Reference};
 use gix_ref_name::FullNameRef;
 use gix_ref_packed::{Edit, edited, packed_text};
-use std::alloc::{AllocError, Global};
+use std::alloc::Global;
 
-/// What the operation of the line gives.
-pub fn answer(alloc: Global, line: &str) -> Result<String, AllocError> {
-    let Some((operation, rest)) = line.split_once(' ') else {
-        return format!(in alloc; "no case: {line}");
-    };
-    let Some(fields) = read_texts(alloc, rest) else {
-        return format!(in alloc; "no bytes: {line}");
-    };
-    match fields.as_slice() {
-        [file, edits] => of_file(alloc, operation, file, edits),
-        _ => format!(in alloc; "no operation: {operation}"),
+/// Adds what the operation of the line gives.
+pub fn put_answer(alloc: Global, line: &str, page: &mut Page) {
+    let (operation, rest) = line.split_once(' ').unwrap_or((line, ""));
+    match read_texts(alloc, rest) {
+        Some(fields) => put_of_fields(alloc, operation, fields.as_slice(), page),
+        None => page.text("no bytes"),
     }
 }
 
-// The file under edits: the answer has a `|` in place of each line feed.
-fn of_file(
-    alloc: Global,
-    operation: &str,
-    file: &[u8],
-    edits: &[u8],
-) -> Result<String, AllocError> {
-    let kind = match operation {
-        "sha1" => Kind::Sha1,
-        "sha256" => Kind::Sha256,
-        _ => return format!(in alloc; "no operation: {operation}"),
-    };
-    let Ok(buffer) = Buffer::from_bytes(alloc, file.to_vec(alloc)?, kind) else {
-        return format!(in alloc; "unread");
-    };
-    let Some(edits) = read_edits(alloc, edits) else {
-        return format!(in alloc; "refused");
-    };
-    let records = edited(alloc, buffer.iter(), edits.as_slice())?;
-    shown(alloc, packed_text(alloc, records.as_slice())?.as_slice())
+fn put_of_fields(alloc: Global, operation: &str, fields: &[Vec<u8>], page: &mut Page) {
+    match (operation, fields) {
+        ("sha1", [file, edits]) => put_of_file(alloc, Kind::Sha1, file, edits, page),
+        ("sha256", [file, edits]) => put_of_file(alloc, Kind::Sha256, file, edits, page),
+        _ => page.text("no operation"),
+    }
 }
 
-fn shown(alloc: Global, text: &[u8]) -> Result<String, AllocError> {
-    let Some(text) = text_of(text) else {
-        return format!(in alloc; "no text");
-    };
-    text.replace(alloc, "\n", "|")
+fn open(alloc: Global, file: &[u8], kind: Kind) -> Option<Buffer> {
+    Buffer::from_bytes(alloc, file.to_vec(alloc).ok()?, kind).ok()
+}
+
+// The file under edits: the answer has a `|` in place of each line feed.
+fn put_of_file(alloc: Global, kind: Kind, file: &[u8], edits: &[u8], page: &mut Page) {
+    match open(alloc, file, kind) {
+        Some(buffer) => put_of_buffer(alloc, &buffer, edits, page),
+        None => page.text("unread"),
+    }
+}
+
+fn put_of_buffer(alloc: Global, buffer: &Buffer, edits: &[u8], page: &mut Page) {
+    match read_edits(alloc, edits) {
+        Some(edits) => {
+            if put_edited(alloc, buffer, edits.as_slice(), page).is_none() {
+                page.text("memory");
+            }
+        }
+        None => page.text("refused"),
+    }
+}
+
+fn put_edited(alloc: Global, buffer: &Buffer, edits: &[Edit<'_>], page: &mut Page) -> Option<()> {
+    let records = edited(alloc, buffer.iter(), edits).ok()?;
+    let text = packed_text(alloc, records.as_slice()).ok()?;
+    show(text.as_slice(), page);
+    Some(())
+}
+
+fn show(text: &[u8], page: &mut Page) {
+    let text = text_of(text).unwrap_or("no text");
+    for (place, line) in text.split('\n').enumerate() {
+        page.text(if place == 0 { "" } else { "|" });
+        page.text(line);
+    }
 }
 
 // Lines `drop <name>`, `write <hex> <name>` and `write <hex> <name> <hex of the peeled id>`.

@@ -1,13 +1,14 @@
 """Writes ../stdin and ../stdout: files of repositories that git made, and what git says of their references.
 
 Each answer comes from `git for-each-ref`, `git symbolic-ref`, `git rev-parse`, `git log -g` and `git ls-remote` over the very files, or, where it
-says so, from a rule of git's documents; none from the program.
+says so, from a rule of git's documents; none from the program. transaction_rows.py has those of transactions.
 """
 import os
 import sys
 import unicodedata
 
 sys.dont_write_bytecode = True
+import transaction_rows
 from repository import Repository, base, rows, run
 
 PREFIXES = ["", "refs/", "refs/heads/", "refs/heads/fe", "refs/heads/a", "refs/heads/a/", "refs/heads/a.", "refs/heads/feature", "refs/heads/zz",
@@ -400,6 +401,8 @@ for asked, answer in list(rows):
         rows.append(("reflog_exists " + rest, "false false false" if answer == "none" else "true true true"))
     if operation == "all":
         rows.append(("force_refresh_packed_buffer " + rest, "packed broken" if answer == "packed broken" else "opened"))
+
+rows += [("transaction " + asked, answer) for asked, answer in transaction_rows.rows]
 
 # how many references a bench's reading gives: all of 200, or the tags that begin so
 for kind in ["loose", "packed"]:

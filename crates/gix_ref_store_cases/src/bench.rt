@@ -6,7 +6,7 @@ mod readings;
 use files::{loose, packed};
 use gix_ref::MemoryFiles;
 use gix_ref::file::Store;
-use readings::{read, reading_of};
+use readings::{Reading, read, reading_of};
 use std::alloc::Global;
 use std::io;
 use std::time::Instant;
@@ -20,22 +20,32 @@ fn store(alloc: Global, kind: &str, count: u32) -> Option<Store<MemoryFiles>> {
     Store::at(files, Vec::new(alloc)).ok()
 }
 
-/// How many references the reading of this name gives, over `loose` or `packed` ones, of which there are so many. Standard error is told
-/// how many microseconds it took.
-pub fn answer(rt: &HostRuntime, case: &str) -> io::Result<String> {
-    let mut words = case.split(' ');
-    let name = words.next().unwrap_or("");
-    let kind = words.next().unwrap_or("");
-    let count = words.next().unwrap_or("").parse::<u32>().unwrap_or(0);
-    let (Some(reading), Some(store)) = (reading_of(name), store(rt.alloc(), kind, count)) else {
-        return Ok(format!(in rt.alloc(); "no store of so many references")?);
-    };
+// How many references a reading gives. Standard error is told how many microseconds it took, behind these words.
+fn time_reading(
+    rt: &HostRuntime,
+    store: &Store<MemoryFiles>,
+    count: u32,
+    reading: Reading,
+    words: &str,
+) -> io::Result<String> {
     let start = Instant::now(rt)?;
-    let found = read(rt.alloc(), &store, count, reading);
+    let found = read(rt.alloc(), store, count, reading);
     let spent = start.elapsed(rt)?;
-    eprintln!(rt; "{name} {kind} {}", spent.as_micros())?;
+    eprintln!(rt; "{words} {}", spent.as_micros())?;
     match found {
         Some(found) => Ok(format!(in rt.alloc(); "{found} references")?),
         None => Ok(format!(in rt.alloc(); "none")?),
+    }
+}
+
+/// How many references the reading of this name gives, over `loose` or `packed` ones, of which there are so many. Standard error is told
+/// how many microseconds it took.
+pub fn answer(rt: &HostRuntime, case: &str) -> io::Result<String> {
+    let (words, count) = case.rsplit_once(' ').unwrap_or((case, ""));
+    let (name, kind) = words.split_once(' ').unwrap_or((words, ""));
+    let count = count.parse::<u32>().unwrap_or(0);
+    match (reading_of(name), store(rt.alloc(), kind, count)) {
+        (Some(reading), Some(store)) => time_reading(rt, &store, count, reading, words),
+        _ => Ok(format!(in rt.alloc(); "no store of so many references")?),
     }
 }

@@ -1,28 +1,39 @@
 //! Listings of references.
 
-use crate::cases::shown;
+use crate::cases::show;
+use case_page::Page;
 use gix_ref_file::MemoryFiles;
+use gix_ref_store::Reference;
 use gix_ref_store::store::file::iter::{Error, LooseThenPacked};
 use gix_ref_store::store::file::{Platform, Store};
-use std::alloc::{AllocError, Global};
+use std::alloc::Global;
 
 type Listing<'s, 'p> = Result<LooseThenPacked<'s, 'p, MemoryFiles>, Error>;
 
 // Each reference, and `!` where one can't be read.
-fn listed(alloc: Global, listing: Listing<'_, '_>) -> Result<String, AllocError> {
-    let mut text = String::new(alloc);
+fn show_all(listing: Listing<'_, '_>, page: &mut Page) {
     let mut references = match listing {
         Ok(references) => references,
-        Err(error) => return format!(in alloc; "{error}"),
+        Err(error) => return page.put(error),
     };
     while let Some(item) = references.next() {
-        match item {
-            Ok(reference) => text.push_str(&format!(in alloc; "{};", shown(alloc, &reference)?)?)?,
-            Err(Error::ReferenceCreation { .. }) => text.push_str("!;")?,
-            Err(error) => text.push_str(&format!(in alloc; "{error};")?)?,
-        }
+        show_item(item, page);
     }
-    Ok(text)
+}
+
+fn show_item(item: Result<Reference, Error>, page: &mut Page) {
+    match item {
+        Ok(reference) => show(&reference, page),
+        Err(error) => show_error(&error, page),
+    }
+    page.text(";");
+}
+
+fn show_error(error: &Error, page: &mut Page) {
+    match error {
+        Error::ReferenceCreation { .. } => page.text("!"),
+        _ => page.put(error),
+    }
 }
 
 fn of_platform(
@@ -30,12 +41,13 @@ fn of_platform(
     platform: &Platform<'_, MemoryFiles>,
     operation: &str,
     prefix: &str,
-) -> Result<String, AllocError> {
+    page: &mut Page,
+) {
     match operation {
-        "all" => listed(alloc, platform.all(alloc)),
-        "pseudo" => listed(alloc, platform.pseudo(alloc)),
-        "within" => listed(alloc, platform.within(alloc, prefix.as_bytes())),
-        _ => listed(alloc, platform.prefixed(alloc, prefix.as_bytes())),
+        "all" => show_all(platform.all(alloc), page),
+        "pseudo" => show_all(platform.pseudo(alloc), page),
+        "within" => show_all(platform.within(alloc, prefix.as_bytes()), page),
+        _ => show_all(platform.prefixed(alloc, prefix.as_bytes()), page),
     }
 }
 
@@ -45,15 +57,16 @@ fn of_packed(
     store: &Store<MemoryFiles>,
     operation: &str,
     prefix: &[u8],
-) -> Result<String, AllocError> {
+    page: &mut Page,
+) {
     let Ok(opened) = store.open_packed_buffer(alloc) else {
-        return format!(in alloc; "packed broken");
+        return page.text("packed broken");
     };
     let packed = opened.as_ref();
     match operation {
-        "iter_packed" => listed(alloc, store.iter_packed(alloc, packed)),
-        "iter_within_packed" => listed(alloc, store.iter_within_packed(alloc, prefix, packed)),
-        _ => listed(alloc, store.iter_prefixed_packed(alloc, prefix, packed)),
+        "iter_packed" => show_all(store.iter_packed(alloc, packed), page),
+        "iter_within_packed" => show_all(store.iter_within_packed(alloc, prefix, packed), page),
+        _ => show_all(store.iter_prefixed_packed(alloc, prefix, packed), page),
     }
 }
 
@@ -62,28 +75,33 @@ fn of_platform_now(
     store: &Store<MemoryFiles>,
     operation: &str,
     prefix: &str,
-) -> Result<String, AllocError> {
+    page: &mut Page,
+) {
     match store.iter(alloc) {
-        Ok(platform) => of_platform(alloc, &platform, operation, prefix),
-        Err(_) => format!(in alloc; "packed broken"),
+        Ok(platform) => of_platform(alloc, &platform, operation, prefix, page),
+        Err(_) => page.text("packed broken"),
     }
 }
 
-/// The references of a listing.
+/// Adds the references of a listing, or that the operation is none.
 pub fn list(
     alloc: Global,
     store: &Store<MemoryFiles>,
     operation: &str,
     asked: &str,
-) -> Result<String, AllocError> {
+    page: &mut Page,
+) {
     let prefix = if asked == "-" { "" } else { asked };
     match operation {
-        "files" => listed(alloc, store.loose_iter_prefixed(alloc, prefix.as_bytes())),
-        "loose_iter" => listed(alloc, store.loose_iter(alloc)),
-        "iter_pseudo" => listed(alloc, store.iter_pseudo(alloc)),
+        "files" => show_all(store.loose_iter_prefixed(alloc, prefix.as_bytes()), page),
+        "loose_iter" => show_all(store.loose_iter(alloc), page),
+        "iter_pseudo" => show_all(store.iter_pseudo(alloc), page),
         "iter_packed" | "iter_prefixed_packed" | "iter_within_packed" => {
-            of_packed(alloc, store, operation, prefix.as_bytes())
+            of_packed(alloc, store, operation, prefix.as_bytes(), page)
         }
-        _ => of_platform_now(alloc, store, operation, prefix),
+        "all" | "prefixed" | "within" | "pseudo" => {
+            of_platform_now(alloc, store, operation, prefix, page)
+        }
+        _ => page.text("no operation"),
     }
 }

@@ -1,4 +1,4 @@
-//! Answers cases of stores of references, a line each, as the README's table has them; lines of `bench` time listings and lookups.
+//! Answers cases of stores of references and of transactions, a line each; lines of `bench` time listings and lookups.
 #![tactic(auto)]
 
 mod bench;
@@ -10,16 +10,28 @@ mod logs;
 mod names;
 mod objects;
 mod packed;
+mod transaction;
 mod tries;
 
+use case_page::Page;
+use std::alloc::{AllocError, Global};
 use std::io;
+
+fn answer(alloc: Global, line: &str) -> Result<String, AllocError> {
+    let mut page = Page::new(alloc);
+    match line.strip_prefix("transaction ") {
+        Some(case) => transaction::put_answer(alloc, case, &mut page),
+        None => cases::put_answer(alloc, line, &mut page),
+    }
+    page.finish()
+}
 
 fn main(rt: HostRuntime) -> io::Result<()> {
     for line in rt.lines(rt.alloc()) {
         let line = line?;
         let text = match line.as_str().strip_prefix("bench ") {
             Some(case) => bench::answer(&rt, case)?,
-            None => cases::answer(rt.alloc(), line.as_str())?,
+            None => answer(rt.alloc(), line.as_str())?,
         };
         println!(rt; "{text}")?;
     }

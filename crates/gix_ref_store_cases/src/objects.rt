@@ -1,18 +1,22 @@
 //! The objects of a line, as a store of references is asked to peel with.
 
-use case_store::{Store, read_loose};
+use case_store::{Store, Stored, read_loose};
 use gix_hash::Kind;
-use std::alloc::{AllocError, Global};
+use std::alloc::Global;
 
-/// Loose objects in hexadecimal digits, with `;` between them; those that don't read are left out.
-pub fn read(alloc: Global, text: &str) -> Result<Store, AllocError> {
+/// Loose objects in hexadecimal digits, with `;` between them; those that don't read are left out. `None` where no memory is left.
+pub fn read(alloc: Global, text: &str) -> Option<Store> {
     let mut store = Store::new(alloc);
     for digits in text.split(';') {
-        if let Ok(loose) = hex::decode(alloc, digits) {
-            if let Some(object) = read_loose(alloc, Kind::Sha1, loose.as_slice()) {
-                store.put(object)?;
-            }
+        if let Some(object) = read_object(alloc, digits) {
+            store.put(object).ok()?;
         }
     }
-    Ok(store)
+    Some(store)
+}
+
+/// A loose object in hexadecimal digits.
+pub fn read_object(alloc: Global, digits: &str) -> Option<Stored> {
+    let loose = hex::decode(alloc, digits).ok()?;
+    read_loose(alloc, Kind::Sha1, loose.as_slice())
 }

@@ -1,28 +1,28 @@
 //! What full and partial names are, by their bytes.
 
+use case_page::Page;
 use gix_ref_name::compose::precompose_unicode;
 use gix_ref_name::namespace::expand;
-use gix_ref_name::{Category, FullNameRef, PartialNameRef};
-use std::alloc::{AllocError, Global};
-
-const REFUSED: &str = "refused";
+use gix_ref_name::{Category, FullName, FullNameRef, Namespace, PartialNameRef};
+use std::alloc::Global;
 
 /// Whether it is a partial name, and whether a full one.
-pub fn name(alloc: Global, bytes: &[u8]) -> Result<String, AllocError> {
-    let partial = PartialNameRef::new(bytes).is_ok();
-    let full = FullNameRef::new(bytes).is_ok();
-    format!(in alloc; "{partial} {full}")
+pub fn name(bytes: &[u8], page: &mut Page) -> Option<()> {
+    page.put(PartialNameRef::new(bytes).is_ok());
+    page.value(FullNameRef::new(bytes).is_ok());
+    Some(())
 }
 
 /// The category and the short name.
-pub fn category(alloc: Global, bytes: &[u8]) -> Result<String, AllocError> {
-    let Ok(name) = FullNameRef::new(bytes) else {
-        return format!(in alloc; "{REFUSED}");
-    };
-    match name.category_and_short_name() {
-        Some((category, short)) => format!(in alloc; "{} {short}", word(category)),
-        None => format!(in alloc; "none"),
+pub fn category(bytes: &[u8], page: &mut Page) -> Option<()> {
+    match FullNameRef::new(bytes).ok()?.category_and_short_name() {
+        Some((category, short)) => {
+            page.text(word(category));
+            page.value(short);
+        },
+        None => page.text("none"),
     }
+    Some(())
 }
 
 /// The word for a category.
@@ -44,57 +44,59 @@ pub fn word(category: Category<'_>) -> &'static str {
 }
 
 /// The name again, from its category and its short name.
-pub fn again(alloc: Global, bytes: &[u8]) -> Result<String, AllocError> {
-    let Ok(name) = FullNameRef::new(bytes) else {
-        return format!(in alloc; "{REFUSED}");
-    };
-    let Some((category, short)) = name.category_and_short_name() else {
-        return format!(in alloc; "none");
+pub fn again(alloc: Global, bytes: &[u8], page: &mut Page) -> Option<()> {
+    let Some((category, short)) = FullNameRef::new(bytes).ok()?.category_and_short_name() else {
+        page.text("none");
+        return Some(());
     };
     match category.to_full_name(alloc, short) {
-        Ok(name) => format!(in alloc; "{name}"),
-        Err(error) => format!(in alloc; "{error}"),
+        Ok(name) => page.put(name),
+        Err(error) => page.put(error),
     }
+    Some(())
 }
 
 /// The name as it is printed: a view and a name of its own, and both again where it is a full one.
-pub fn shown(alloc: Global, bytes: &[u8]) -> Result<String, AllocError> {
-    let Ok(partial) = PartialNameRef::new(bytes) else {
-        return format!(in alloc; "{REFUSED}");
-    };
-    let owned = partial.to_owned(alloc)?;
-    let Ok(full) = FullNameRef::new(bytes) else {
-        return format!(in alloc; "{partial} {owned}");
-    };
-    let whole = full.to_owned(alloc)?;
-    format!(in alloc; "{partial} {owned} {full} {whole}")
+pub fn shown(alloc: Global, bytes: &[u8], page: &mut Page) -> Option<()> {
+    let partial = PartialNameRef::new(bytes).ok()?;
+    page.put(partial);
+    page.value(partial.to_owned(alloc).ok()?);
+    if let Ok(full) = FullNameRef::new(bytes) {
+        page.value(full);
+        page.value(full.to_owned(alloc).ok()?);
+    }
+    Some(())
 }
 
 /// The namespace of the name, and `refs/heads/main` in it.
-pub fn namespace(alloc: Global, bytes: &[u8]) -> Result<String, AllocError> {
-    let Ok(name) = PartialNameRef::new(bytes) else {
-        return format!(in alloc; "{REFUSED}");
-    };
-    let namespace = expand(alloc, name)?;
-    let Ok(main) = FullNameRef::new(b"refs/heads/main") else {
-        return format!(in alloc; "{REFUSED}");
-    };
-    match main.to_owned(alloc)?.prefix_namespace(alloc, &namespace) {
-        Ok(name) => format!(in alloc; "{} {name}", namespace.as_bstr()),
-        Err(error) => format!(in alloc; "{error}"),
+pub fn namespace(alloc: Global, bytes: &[u8], page: &mut Page) -> Option<()> {
+    let namespace = expand(alloc, PartialNameRef::new(bytes).ok()?).ok()?;
+    let main = FullName::from_bytes(alloc, b"refs/heads/main").ok()?;
+    show_main(alloc, main, &namespace, page);
+    Some(())
+}
+
+fn show_main(alloc: Global, main: FullName, namespace: &Namespace, page: &mut Page) {
+    match main.prefix_namespace(alloc, namespace) {
+        Ok(name) => {
+            page.put(namespace.as_bstr());
+            page.value(name);
+        }
+        Err(error) => page.put(error),
     }
 }
 
 /// The bytes with their characters composed.
-pub fn composed(alloc: Global, bytes: &[u8]) -> Result<String, AllocError> {
-    let bytes = precompose_unicode(alloc, bytes)?;
-    hex::encode(alloc, bytes.as_bytes())
+pub fn composed(alloc: Global, bytes: &[u8], page: &mut Page) -> Option<()> {
+    page.hex(precompose_unicode(alloc, bytes).ok()?.as_bytes());
+    Some(())
 }
 
 /// The last component.
-pub fn last(alloc: Global, bytes: &[u8]) -> Result<String, AllocError> {
+pub fn last(bytes: &[u8], page: &mut Page) -> Option<()> {
     match FullNameRef::new(bytes) {
-        Ok(name) => format!(in alloc; "{}", name.file_name()),
-        Err(error) => format!(in alloc; "{error}"),
+        Ok(name) => page.put(name.file_name()),
+        Err(error) => page.put(error),
     }
+    Some(())
 }

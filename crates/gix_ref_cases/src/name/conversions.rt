@@ -1,12 +1,12 @@
 //! Conversions of names that take no memory.
 
 use bstr::BStr;
+use case_page::{Page, text_of};
 use gix_object_lines::ByteString;
 use gix_ref_name::name::InvalidName;
 use gix_ref_name::{FullName, FullNameRef, PartialName, PartialNameRef};
-use std::alloc::{AllocError, Global};
+use std::alloc::Global;
 use std::convert::TryFrom;
-use std::str;
 
 const REFUSED: &[u8] = b"refused";
 
@@ -39,72 +39,70 @@ fn full_name(name: &Result<FullName, InvalidName>) -> BStr<'_> {
 }
 
 /// Partial names: views of bytes, of a byte text and of an owned string, and the name that takes such a string over.
-pub fn partial_bytes(alloc: Global, bytes: &[u8]) -> Result<String, AllocError> {
-    let string = ByteString::from_slice(alloc, bytes)?;
-    let taken = PartialName::try_from(ByteString::from_slice(alloc, bytes)?);
-    let of_bytes = partial_view(PartialNameRef::try_from(bytes));
-    let of_text = partial_view(PartialNameRef::try_from(BStr::new(bytes)));
-    let of_string = partial_view(PartialNameRef::try_from(&string));
-    format!(in alloc; "{of_bytes} {of_text} {of_string} {}", partial_name(&taken))
+pub fn partial_bytes(alloc: Global, bytes: &[u8], page: &mut Page) -> Option<()> {
+    let string = ByteString::from_slice(alloc, bytes).ok()?;
+    page.put(partial_view(PartialNameRef::try_from(bytes)));
+    page.value(partial_view(PartialNameRef::try_from(BStr::new(bytes))));
+    page.value(partial_view(PartialNameRef::try_from(&string)));
+    page.value(partial_name(&PartialName::try_from(string)));
+    Some(())
 }
 
 /// Partial names: views of a text and of an owned one, and the name that takes such a text over.
-pub fn partial_text(alloc: Global, bytes: &[u8]) -> Result<String, AllocError> {
-    let Ok(text) = str::from_utf8(bytes) else {
-        return format!(in alloc; "no text");
+pub fn partial_text(alloc: Global, bytes: &[u8], page: &mut Page) -> Option<()> {
+    let Some(text) = text_of(bytes) else {
+        page.text("no text");
+        return Some(());
     };
-    let string = format!(in alloc; "{text}")?;
-    let taken = PartialName::try_from(format!(in alloc; "{text}")?);
-    let of_text = partial_view(PartialNameRef::try_from(text));
-    let of_string = partial_view(PartialNameRef::try_from(&string));
-    format!(in alloc; "{of_text} {of_string} {}", partial_name(&taken))
+    let string = String::from_str(alloc, text).ok()?;
+    page.put(partial_view(PartialNameRef::try_from(text)));
+    page.value(partial_view(PartialNameRef::try_from(&string)));
+    page.value(partial_name(&PartialName::try_from(string)));
+    Some(())
 }
 
 /// Full names: views of bytes and of a byte text, and the name that takes an owned string over.
-pub fn full_bytes(alloc: Global, bytes: &[u8]) -> Result<String, AllocError> {
-    let taken = FullName::try_from(ByteString::from_slice(alloc, bytes)?);
-    let of_bytes = full_view(FullNameRef::try_from(bytes));
-    let of_text = full_view(FullNameRef::try_from(BStr::new(bytes)));
-    format!(in alloc; "{of_bytes} {of_text} {}", full_name(&taken))
+pub fn full_bytes(alloc: Global, bytes: &[u8], page: &mut Page) -> Option<()> {
+    let string = ByteString::from_slice(alloc, bytes).ok()?;
+    page.put(full_view(FullNameRef::try_from(bytes)));
+    page.value(full_view(FullNameRef::try_from(BStr::new(bytes))));
+    page.value(full_name(&FullName::try_from(string)));
+    Some(())
 }
 
 /// Full names: views of a text and of an owned one, and the name that takes such a text over.
-pub fn full_text(alloc: Global, bytes: &[u8]) -> Result<String, AllocError> {
-    let Ok(text) = str::from_utf8(bytes) else {
-        return format!(in alloc; "no text");
+pub fn full_text(alloc: Global, bytes: &[u8], page: &mut Page) -> Option<()> {
+    let Some(text) = text_of(bytes) else {
+        page.text("no text");
+        return Some(());
     };
-    let string = format!(in alloc; "{text}")?;
-    let taken = FullName::try_from(format!(in alloc; "{text}")?);
-    let of_text = full_view(FullNameRef::try_from(text));
-    let of_string = full_view(FullNameRef::try_from(&string));
-    format!(in alloc; "{of_text} {of_string} {}", full_name(&taken))
+    let string = String::from_str(alloc, text).ok()?;
+    page.put(full_view(FullNameRef::try_from(text)));
+    page.value(full_view(FullNameRef::try_from(&string)));
+    page.value(full_name(&FullName::try_from(string)));
+    Some(())
 }
 
 /// A full name as a partial one, by its view and by itself, each by its call and by its conversion; a partial one's view;
 /// and the bytes of the full one, by its view and taken out.
-pub fn between(alloc: Global, bytes: &[u8]) -> Result<String, AllocError> {
-    let Ok(view) = FullNameRef::new(bytes) else {
-        return format!(in alloc; "refused");
-    };
-    let full = view.to_owned(alloc)?;
-    let partial = partial_views(alloc, &full)?;
-    let others = others(alloc, &full)?;
-    format!(in alloc; "{partial} {others}")
+pub fn between(alloc: Global, bytes: &[u8], page: &mut Page) -> Option<()> {
+    let full = FullNameRef::new(bytes).ok()?.to_owned(alloc).ok()?;
+    show_partial(&full, page);
+    show_others(alloc, &full, page)
 }
 
-fn partial_views(alloc: Global, full: &FullName) -> Result<String, AllocError> {
+fn show_partial(full: &FullName, page: &mut Page) {
     let view = full.as_ref();
-    let by_view = view.as_partial_name();
-    let of_view = PartialNameRef::from(view);
-    let by_name = full.as_partial_name();
-    let of_name = PartialNameRef::from(full);
-    format!(in alloc; "{by_view} {of_view} {by_name} {of_name}")
+    page.put(view.as_partial_name());
+    page.value(PartialNameRef::from(view));
+    page.value(full.as_partial_name());
+    page.value(PartialNameRef::from(full));
 }
 
-fn others(alloc: Global, full: &FullName) -> Result<String, AllocError> {
-    let partial = full.as_partial_name().to_owned(alloc)?;
-    let view = PartialNameRef::from(&partial);
-    let text = BStr::from(full.as_ref());
-    let taken = ByteString::from(full.try_clone()?);
-    format!(in alloc; "{view} {text} {}", taken.as_bstr())
+fn show_others(alloc: Global, full: &FullName, page: &mut Page) -> Option<()> {
+    let partial = full.as_partial_name().to_owned(alloc).ok()?;
+    page.value(PartialNameRef::from(&partial));
+    page.value(BStr::from(full.as_ref()));
+    page.value(ByteString::from(full.try_clone().ok()?).as_bstr());
+    Some(())
 }

@@ -1,15 +1,15 @@
 //! Edits of references.
 
 use crate::name::targets::read;
+use case_page::{Page, text_of};
 use gix_object_lines::ByteString;
 use gix_ref_edit::{Change, LogChange, PreviousValue, RefEdit, RefLog};
 use gix_ref_name::{FullName, TargetRef};
-use std::alloc::{AllocError, Global};
-use std::str;
+use std::alloc::Global;
 
 /// What is asked of a reference, by its word and the text of its target. `None` where they are none or no memory is left.
 pub fn expectation(alloc: Global, word: &[u8], target: &[u8]) -> Option<PreviousValue> {
-    match str::from_utf8(word).ok()? {
+    match text_of(word)? {
         "any" => Some(PreviousValue::Any),
         "stands" => Some(PreviousValue::MustExist),
         "lacks" => Some(PreviousValue::MustNotExist),
@@ -21,7 +21,7 @@ pub fn expectation(alloc: Global, word: &[u8], target: &[u8]) -> Option<Previous
 
 /// What an edit concerns, by its word.
 pub fn concern(word: &[u8]) -> Option<RefLog> {
-    match str::from_utf8(word).ok()? {
+    match text_of(word)? {
         "both" => Some(RefLog::AndReference),
         "log" => Some(RefLog::Only),
         _ => None,
@@ -51,47 +51,37 @@ fn change(alloc: Global, expected: PreviousValue, new: &[u8]) -> Option<Change> 
 
 /// What an edit makes of its reference, what it must point to before, and whether the edit is the deletion of
 /// `refs/heads/main` that asks nothing.
-pub fn edit(alloc: Global, fields: [&[u8]; 3]) -> Result<String, AllocError> {
-    match read_edit(alloc, fields) {
-        Some(edit) => values(alloc, &edit),
-        None => format!(in alloc; "refused"),
-    }
+pub fn edit(alloc: Global, fields: [&[u8]; 3], page: &mut Page) -> Option<()> {
+    show(alloc, &read_edit(alloc, fields)?, page)
 }
 
-fn values(alloc: Global, edit: &RefEdit) -> Result<String, AllocError> {
-    let new = told(alloc, edit.change.new_value())?;
-    let previous = told(alloc, edit.change.previous_value())?;
-    let is_plain = is_plain_deletion(alloc, edit);
-    format!(in alloc; "{}; {new}; {previous}; {is_plain}", edit.name)
+fn show(alloc: Global, edit: &RefEdit, page: &mut Page) -> Option<()> {
+    page.put_between("", &edit.name, "; ");
+    show_target(alloc, edit.change.new_value(), page)?;
+    show_target(alloc, edit.change.previous_value(), page)?;
+    page.put(*edit == read_edit(alloc, [b"any", b"", b""])?);
+    Some(())
 }
 
-fn is_plain_deletion(alloc: Global, edit: &RefEdit) -> bool {
-    match read_edit(alloc, [b"any", b"", b""]) {
-        Some(deletion) => *edit == deletion,
-        None => false,
-    }
-}
-
-fn told(alloc: Global, target: Option<TargetRef<'_>>) -> Result<String, AllocError> {
+fn show_target(alloc: Global, target: Option<TargetRef<'_>>, page: &mut Page) -> Option<()> {
     match target {
-        Some(target) => format!(in alloc; "{}", target.into_owned(alloc)?),
-        None => format!(in alloc; "none"),
+        Some(target) => page.put_between("", target.into_owned(alloc).ok()?, "; "),
+        None => page.text("none; "),
     }
+    Some(())
 }
 
 /// The usual change of a log, and whether that with this message is the same.
-pub fn log(alloc: Global, message: &[u8]) -> Result<String, AllocError> {
-    let usual = LogChange::new(alloc);
+pub fn log(alloc: Global, message: &[u8], page: &mut Page) -> Option<()> {
     let other = LogChange {
         mode: RefLog::AndReference,
         force_create_reflog: false,
-        message: ByteString::from_slice(alloc, message)?,
+        message: ByteString::from_slice(alloc, message).ok()?,
     };
-    let message = usual.message.as_bstr();
-    let is_forced = usual.force_create_reflog;
-    format!(in alloc;
-        "{:?} {is_forced} [{message}] {}",
-        usual.mode,
-        usual == other
-    )
+    let usual = LogChange::new(alloc);
+    page.name(usual.mode);
+    page.value(usual.force_create_reflog);
+    page.put_between(" [", usual.message.as_bstr(), "] ");
+    page.put(usual == other);
+    Some(())
 }

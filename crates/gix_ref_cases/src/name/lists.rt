@@ -3,14 +3,14 @@
 ghost use Rattle.std.specs.Prelude.{⊤, None};
 
 use crate::name::targets;
-use case_page::text_of;
+use case_page::{Page, text_of};
 use gix_hash::ObjectId;
 use gix_ref_edit::{
     Change, FindTarget, FindTargetError, LogChange, PreProcessError, PreviousValue, RefEdit,
     RefEditsExt, RefLog, SplitError, TwiceError,
 };
 use gix_ref_name::{FullName, FullNameRef, Target};
-use std::alloc::{AllocError, Global};
+use std::alloc::Global;
 
 // References: their names and what they point to.
 #[derive(Drop)]
@@ -96,59 +96,54 @@ fn deletion(log: RefLog) -> Change {
 
 /// The edits of the second field's lines over the references of the first's, made ready: each by its name, what it concerns and
 /// what it asks; then the places of those that were split. Or why they aren't made ready.
-pub fn ready(alloc: Global, references: &[u8], edits: &[u8]) -> Result<String, AllocError> {
-    let (Some(references), Some(edits)) = (text_of(references), text_of(edits)) else {
-        return format!(in alloc; "refused");
-    };
-    let (Some(table), Some(mut edits)) = (read_table(alloc, references), read_edits(alloc, edits))
-    else {
-        return format!(in alloc; "refused");
-    };
-    match edits.pre_process(alloc, &table) {
-        Ok(places) => told(alloc, &edits, &places),
-        Err(PreProcessError::Twice(error)) => twice(alloc, &error),
-        Err(PreProcessError::Split(SplitError::Cycle)) => format!(in alloc; "too far"),
-        Err(PreProcessError::Split(error)) => format!(in alloc; "{error}"),
+pub fn ready(alloc: Global, references: &[u8], edits: &[u8], page: &mut Page) -> Option<()> {
+    let table = read_table(alloc, text_of(references)?)?;
+    let mut edits = read_edits(alloc, text_of(edits)?)?;
+    make_ready(alloc, &table, &mut edits, page);
+    Some(())
+}
+
+fn make_ready(alloc: Global, table: &Table, edits: &mut Vec<RefEdit>, page: &mut Page) {
+    match edits.pre_process(alloc, table) {
+        Ok(places) => show_ready(edits.as_slice(), places.as_slice(), page),
+        Err(PreProcessError::Twice(error)) => show_twice(&error, page),
+        Err(PreProcessError::Split(SplitError::Cycle)) => page.text("too far"),
+        Err(PreProcessError::Split(error)) => page.put(error),
     }
 }
 
-fn told(alloc: Global, edits: &[RefEdit], places: &[usize]) -> Result<String, AllocError> {
-    let mut text = String::new(alloc);
+fn show_ready(edits: &[RefEdit], places: &[usize], page: &mut Page) {
     for edit in edits {
-        let part = of_edit(alloc, edit)?;
-        text.push_str(part.as_str())?;
+        show_edit(edit, page);
     }
     for place in places {
-        let part = format!(in alloc; " {place}")?;
-        text.push_str(part.as_str())?;
+        page.put_between(" ", *place, "");
     }
-    Ok(text)
 }
 
-fn of_edit(alloc: Global, edit: &RefEdit) -> Result<String, AllocError> {
+fn show_edit(edit: &RefEdit, page: &mut Page) {
     let (word, mode, asked) = match &edit.change {
-        Change::Update { log, expected, .. } => ("move", log.mode, expected),
-        Change::Delete { expected, log } => ("drop", *log, expected),
+        Change::Update { log, expected, .. } => ("move ", log.mode, expected),
+        Change::Delete { expected, log } => ("drop ", *log, expected),
     };
-    let part = if mode == RefLog::Only { "log" } else { "both" };
-    let asks = if *asked == PreviousValue::MustExist {
-        "asks"
+    page.put_between(word, &edit.name, " ");
+    page.text(if mode == RefLog::Only { "log" } else { "both" });
+    page.text(if *asked == PreviousValue::MustExist {
+        " asks"
     } else {
-        "free"
-    };
-    let leads = if edit.deref { "leads" } else { "stays" };
-    format!(in alloc; "{word} {} {part} {asks} {leads};", edit.name)
+        " free"
+    });
+    page.text(if edit.deref { " leads;" } else { " stays;" });
 }
 
 /// Whether each name of the text's words has one edit.
-pub fn once(alloc: Global, names: &[u8]) -> Result<String, AllocError> {
-    let Some(edits) = one_a_name(alloc, names) else {
-        return format!(in alloc; "refused");
-    };
+pub fn once(alloc: Global, names: &[u8], page: &mut Page) -> Option<()> {
+    let edits = one_a_name(alloc, names)?;
     match edits.assure_one_name_has_one_edit(alloc) {
-        Ok(()) => format!(in alloc; "once"),
-        Err(error) => twice(alloc, &error),
+        Ok(()) => page.text("once"),
+        Err(error) => show_twice(&error, page),
     }
+    Some(())
 }
 
 fn one_a_name(alloc: Global, names: &[u8]) -> Option<Vec<RefEdit>> {
@@ -159,24 +154,22 @@ fn one_a_name(alloc: Global, names: &[u8]) -> Option<Vec<RefEdit>> {
     Some(edits)
 }
 
-fn twice(alloc: Global, error: &TwiceError) -> Result<String, AllocError> {
+fn show_twice(error: &TwiceError, page: &mut Page) {
     match error {
-        TwiceError::Name(name) => format!(in alloc; "twice {}", name.as_bstr()),
-        TwiceError::Memory => format!(in alloc; "{error}"),
+        TwiceError::Name(name) => page.put_between("twice ", name.as_bstr(), ""),
+        TwiceError::Memory => page.put(error),
     }
 }
 
 /// The edit of the word and the name, whether its `try_clone` is equal to it, and whether that of the next word and name is.
-pub fn copied(alloc: Global, word: &[u8], name: &[u8]) -> Result<String, AllocError> {
-    let (Some(word), Some(name)) = (text_of(word), text_of(name)) else {
-        return format!(in alloc; "refused");
-    };
-    let (Some(edit), Some(other)) = (
-        read_edit(alloc, word, name),
-        read_edit(alloc, "move", "HEAD"),
-    ) else {
-        return format!(in alloc; "refused");
-    };
-    let copy = edit.try_clone()?;
-    format!(in alloc; "{} {}", copy == edit, copy == other)
+pub fn copied(alloc: Global, word: &[u8], name: &[u8], page: &mut Page) -> Option<()> {
+    let edit = read_edit(alloc, text_of(word)?, text_of(name)?)?;
+    compare(&edit, &read_edit(alloc, "move", "HEAD")?, page)
+}
+
+fn compare(edit: &RefEdit, other: &RefEdit, page: &mut Page) -> Option<()> {
+    let copy = edit.try_clone().ok()?;
+    page.put(copy == *edit);
+    page.value(copy == *other);
+    Some(())
 }

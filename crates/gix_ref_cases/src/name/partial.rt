@@ -1,45 +1,49 @@
 //! Partial names that own their bytes, and what namespaces make of bytes.
 
 use bstr::BStr;
+use case_page::Page;
 use gix_ref_name::namespace::expand;
-use gix_ref_name::{PartialName, PartialNameRef};
-use std::alloc::{AllocError, Global};
+use gix_ref_name::{Namespace, PartialName, PartialNameRef};
+use std::alloc::Global;
 
 /// The name of a copy of the bytes, told by its path, its text and the bytes of a copy of it.
-pub fn partial(alloc: Global, bytes: &[u8]) -> Result<String, AllocError> {
+pub fn partial(alloc: Global, bytes: &[u8], page: &mut Page) -> Option<()> {
     match PartialName::from_bytes(alloc, bytes) {
-        Ok(name) => told(alloc, &name),
-        Err(error) => format!(in alloc; "{error}"),
+        Ok(name) => show(&name, page),
+        Err(error) => {
+            page.put(error);
+            Some(())
+        }
     }
 }
 
-fn told(alloc: Global, name: &PartialName) -> Result<String, AllocError> {
-    let path = BStr::new(name.as_ref().to_partial_path());
-    let text = name.as_bstr();
-    let bytes = name.try_clone()?.into_inner();
-    format!(in alloc; "{path} {text} {}", bytes.as_bstr())
+fn show(name: &PartialName, page: &mut Page) -> Option<()> {
+    page.put(BStr::new(name.as_ref().to_partial_path()));
+    page.value(name.as_bstr());
+    page.value(name.try_clone().ok()?.into_inner().as_bstr());
+    Some(())
 }
 
 /// The name, a slash and the component.
-pub fn join(alloc: Global, name: &[u8], component: &[u8]) -> Result<String, AllocError> {
-    let Ok(name) = PartialName::from_bytes(alloc, name) else {
-        return format!(in alloc; "refused");
-    };
+pub fn join(alloc: Global, name: &[u8], component: &[u8], page: &mut Page) -> Option<()> {
+    let name = PartialName::from_bytes(alloc, name).ok()?;
     match name.join(BStr::new(component)) {
-        Ok(name) => format!(in alloc; "{name}"),
-        Err(error) => format!(in alloc; "{error}"),
+        Ok(name) => page.put(name),
+        Err(error) => page.put(error),
     }
+    Some(())
 }
 
 /// The prefix behind the front of the name's namespace, and the front that a copy keeps, as a path and taken out.
-pub fn prefixed(alloc: Global, name: &[u8], prefix: &[u8]) -> Result<String, AllocError> {
-    let Ok(name) = PartialNameRef::new(name) else {
-        return format!(in alloc; "refused");
-    };
-    let namespace = expand(alloc, name)?;
-    let copy = namespace.try_clone()?;
-    let whole = namespace.into_namespaced_prefix(prefix)?;
-    let path = format!(in alloc; "{}", BStr::new(copy.to_path()))?;
-    let front = copy.into_bstring();
-    format!(in alloc; "{} {path} {}", whole.as_bstr(), front.as_bstr())
+pub fn prefixed(alloc: Global, name: &[u8], prefix: &[u8], page: &mut Page) -> Option<()> {
+    let namespace = expand(alloc, PartialNameRef::new(name).ok()?).ok()?;
+    let copy = namespace.try_clone().ok()?;
+    page.put(namespace.into_namespaced_prefix(prefix).ok()?.as_bstr());
+    show_front(copy, page);
+    Some(())
+}
+
+fn show_front(namespace: Namespace, page: &mut Page) {
+    page.value(BStr::new(namespace.to_path()));
+    page.value(namespace.into_bstring().as_bstr());
 }

@@ -1,6 +1,7 @@
 //! Files of repositories with many references.
 
-use gix_ref::{FileError, Files, MemoryFiles, Place};
+use crate::files::put_file;
+use gix_ref::{FileError, Files, MemoryFiles};
 use std::alloc::{AllocError, Global};
 
 const ID: &str = "27d1440828e7b84763f257953e4808b8af441243";
@@ -14,37 +15,47 @@ pub fn name(alloc: Global, number: u32) -> Result<String, AllocError> {
     }
 }
 
-// Makes the folders that a path stands in, as far as they don't stand.
-fn make_folders(alloc: Global, files: &mut MemoryFiles, path: &[u8]) -> Result<(), FileError> {
-    for (i, byte) in path.iter().enumerate() {
-        if *byte == b'/' && files.kind_of(&path[..i])? == Place::Absent {
-            files.make_folder(alloc, &path[..i])?;
-        }
-    }
-    Ok(())
-}
-
 /// Files in which each of so many references has its own.
 pub fn loose(alloc: Global, count: u32) -> Result<MemoryFiles, FileError> {
     let mut files = MemoryFiles::new(alloc);
     let text = format!(in alloc; "{ID}\n")?;
     for number in 0..count {
-        let name = name(alloc, number)?;
-        make_folders(alloc, &mut files, name.as_bytes())?;
-        files.write(alloc, name.as_bytes(), text.as_bytes())?;
+        add_file(alloc, &mut files, number, text.as_bytes())?;
     }
     Ok(files)
 }
 
+fn add_file(
+    alloc: Global,
+    files: &mut MemoryFiles,
+    number: u32,
+    text: &[u8],
+) -> Result<(), FileError> {
+    let name = name(alloc, number)?;
+    put_file(alloc, files, name.as_bytes(), text).ok_or(FileError::Failed)
+}
+
 /// Files in which each of so many references has a packed record, in no order.
 pub fn packed(alloc: Global, count: u32) -> Result<MemoryFiles, FileError> {
+    let text = records(alloc, count)?;
     let mut files = MemoryFiles::new(alloc);
+    files.write(alloc, b"packed-refs", text.as_bytes())?;
+    Ok(files)
+}
+
+fn records(alloc: Global, count: u32) -> Result<String, AllocError> {
     let mut text = String::new(alloc);
     text.push_str("# pack-refs with: peeled fully-peeled \n")?;
     for number in 0..count {
-        let name = name(alloc, number)?;
-        text.push_str(format!(in alloc; "{ID} {name}\n")?.as_str())?;
+        add_record(alloc, &mut text, number)?;
     }
-    files.write(alloc, b"packed-refs", text.as_bytes())?;
-    Ok(files)
+    Ok(text)
+}
+
+fn add_record(alloc: Global, text: &mut String, number: u32) -> Result<(), AllocError> {
+    let name = name(alloc, number)?;
+    text.push_str(ID)?;
+    text.push_str(" ")?;
+    text.push_str(name.as_str())?;
+    text.push_str("\n")
 }

@@ -51,24 +51,40 @@ fn counted(mut references: LooseThenPacked<'_, '_, MemoryFiles>) -> Option<usize
     None
 }
 
-// How many of so many references are found by what stands behind this front.
-fn found(
+// Whether the reference of a number is found by what stands behind this front.
+fn is_found(
     alloc: Global,
     store: &Store<MemoryFiles>,
     packed: Option<&Buffer>,
-    count: u32,
+    number: u32,
     front: &str,
-) -> Option<usize> {
+) -> Option<bool> {
+    let name = name(alloc, number).ok()?;
+    let word = name.as_str().strip_prefix(front).unwrap_or(name.as_str());
+    let word = PartialNameRef::new(word.as_bytes()).ok()?;
+    Some(store.try_find_packed(alloc, word, packed).ok()?.is_some())
+}
+
+// How many of so many references are found by what stands behind this front.
+fn found(alloc: Global, store: &Store<MemoryFiles>, count: u32, front: &str) -> Option<usize> {
+    let packed = store.open_packed_buffer(alloc).ok()?;
     let mut found = 0_usize;
     for number in 0..count {
-        let name = name(alloc, number).ok()?;
-        let word = name.as_str().strip_prefix(front).unwrap_or(name.as_str());
-        let word = PartialNameRef::new(word.as_bytes()).ok()?;
-        if store.try_find_packed(alloc, word, packed).ok()?.is_some() {
+        if is_found(alloc, store, packed.as_ref(), number, front)? {
             found = found.saturating_add(1);
         }
     }
     Some(found)
+}
+
+fn listed(alloc: Global, store: &Store<MemoryFiles>) -> Option<usize> {
+    let platform = store.iter(alloc).ok()?;
+    counted(platform.all(alloc).ok()?)
+}
+
+fn prefixed(alloc: Global, store: &Store<MemoryFiles>) -> Option<usize> {
+    let platform = store.iter(alloc).ok()?;
+    counted(platform.prefixed(alloc, b"refs/tags/v1").ok()?)
 }
 
 /// Reads from a store of so many references, and answers how many came. `None` where one can't be read or no memory is left.
@@ -78,12 +94,10 @@ pub fn read(
     count: u32,
     reading: Reading,
 ) -> Option<usize> {
-    let platform = store.iter(alloc).ok()?;
-    let packed = store.open_packed_buffer(alloc).ok()?;
     match reading {
-        Reading::Listing => counted(platform.all(alloc).ok()?),
-        Reading::Prefix => counted(platform.prefixed(alloc, b"refs/tags/v1").ok()?),
-        Reading::Lookups => found(alloc, store, packed.as_ref(), count, ""),
-        Reading::Words => found(alloc, store, packed.as_ref(), count, "refs/tags/"),
+        Reading::Listing => listed(alloc, store),
+        Reading::Prefix => prefixed(alloc, store),
+        Reading::Lookups => found(alloc, store, count, ""),
+        Reading::Words => found(alloc, store, count, "refs/tags/"),
     }
 }

@@ -1,5 +1,5 @@
 use Rattle.std.proofs.Common.{◌≡◌}
-use Rattle.gix_ref_transaction_cases.proofs.trees.+add_below.Given as goal
+use Rattle.gix_ref_store_cases.proofs.transaction.trees.+add_below.Given as goal
 
 -- how many folders deep it still goes
 abbrev pub decreases-add_below : goal.decreases-add_below

@@ -1,4 +1,4 @@
-"""Rows of transactions of references' own files, for rows.py: the files before and after are those that git leaves.
+"""Rows of transactions of references' own files, for transaction_rows.py: the files before and after are those that git leaves.
 
 git makes a repository, its references and logs; its files are the case's. Then `git update-ref --stdin` or `git symbolic-ref` makes the same
 edits, or refuses them, and the files that stand then are the answer. What a stop or a failed call leaves comes from the order of the calls,

@@ -1,4 +1,4 @@
-"""Writes ../stdin and ../stdout: transactions of files `packed-refs`, whole, refused and stopped.
+"""Rows of transactions of files `packed-refs`, whole, refused and stopped, for rows.py.
 
 The files and what edits make of them are those that git writes (`gix_ref_cases` asks it in the same way). What a stop or a failed call
 leaves comes from the order of the calls, which the documents of the crate tell: the lock is made (call 1), the file is read (2), the text is
@@ -106,10 +106,3 @@ rows.append((f"commit - {header.hex()} {b'lose refs/heads/a'.hex()}".replace(" -
 rows.append((f"commit {b'burn 1'.hex()} {header.hex()} ", "no fuse"))
 
 rows += loose_rows.rows()
-
-here = os.path.dirname(os.path.dirname(os.path.abspath(__file__)))
-with open(os.path.join(here, "stdin"), "w") as out:
-    out.write("".join(row + "\n" for row, _ in rows))
-with open(os.path.join(here, "stdout"), "w") as out:
-    out.write("".join(answer + "\n" for _, answer in rows))
-print(len(rows), "rows")
