@@ -488,9 +488,9 @@ def packs(kind):
     row(kind, ("names:write:packed-refs:%23x%0a", "done"), ("read-packed", "HeaderParsing"))
     row(kind, ("names:folder:packed-refs.lock", "done"), makes[2], (f"pack:{five[2]}={commit}", "failed"), (f"find-name:{five[2]}", f"at:{commit}"))
     one = (PACKED.splitlines(True)[0] + "%s %s\n" % (commit, five[2])).encode()
-    each(9, kind, f"{makes[2][0]} names:fail:#:- pack:{five[2]}={commit} names:sound read-packed find:{five[2]} names:read:packed-refs",
+    each(9, kind, f"{makes[2][0]} names:fail:#:- pack:{five[2]}={commit} names:sound read-packed find-name:{five[2]} names:read:packed-refs",
          f"moved failed kept at:{commit} {read(None)}", f"moved failed kept at:{commit} {read(one)}", f"moved packed kept at:{commit} {read(one)}")
-    each(9, kind, f"names:write:packed-refs:{word(packed)} names:fail:#:- read-packed take:{five[1]} names:sound read-packed find:{five[1]}",
+    each(9, kind, f"names:write:packed-refs:{word(packed)} names:fail:#:- read-packed take:{five[1]} names:sound read-packed find-name:{five[1]}",
          f"done Io taken kept at:{commit}", f"done kept failed kept at:{commit}", "done kept failed kept none", "done kept taken kept none")
 
 
