@@ -1,5 +1,5 @@
 -- A graft in a file map is a put of what its source's entry leads to.
-use Rattle.std.proofs.Common.{◌≡◌, ◌≢◌, ℕ, ◌⊎◌, Bool, true, false, cond, not, ◌||◌, List, [], ◌∷◌, ◌++◌, length, refl, sym, ◌∙◌, ap, subst, arith, inl, inr, Option, Some, None, is_some, option_map, bytes_eq, codes, IfSome}
+use Rattle.std.proofs.Common.{◌≡◌, ◌≢◌, ℕ, ◌⊎◌, Bool, true, false, cond, not, ◌||◌, List, [], ◌∷◌, ◌++◌, ◌+◌, length, drop, refl, sym, ◌∙◌, ap, subst, arith, inl, inr, Option, Some, None, is_some, option_map, bytes_eq, codes, IfSome}
 use Rattle.std.specs.List.{filter_map, cons_option}
 use Rattle.std.specs.FinMap.{entries, keys, get, insert, contains_key}
 use Rattle.gix_hash_id.specs.Id.{Id, id_of, null_id}
@@ -88,7 +88,7 @@ source_file [] files = None
 source_file (b ∷ source) files = get files (b ∷ source)
 
 rest_itself : (b : ℕ) (source : Bytes) → rest_behind (b ∷ source) (b ∷ source) ≡ Some []
-rest_itself b source = ap (λ t. cond t (Some []) (cond (is_below (b ∷ source) (b ∷ source)) (Some _) None)) (text_itself (b ∷ source))
+rest_itself b source = ap (λ t. cond t (Some []) (cond (is_below (b ∷ source) (b ∷ source)) (Some (drop (length (b ∷ source) + 1) (b ∷ source))) None)) (text_itself (b ∷ source))
 
 not_itself : (p r : Bytes) → bytes_eq p (p ++ 47 ∷ r) ≡ false
 not_itself p r = elim (either (bytes_eq p (p ++ 47 ∷ r))) [
@@ -101,8 +101,8 @@ not_itself p r = elim (either (bytes_eq p (p ++ 47 ∷ r))) [
 
 rest_below : (b : ℕ) (source r : Bytes) → rest_behind (b ∷ source) ((b ∷ source) ++ 47 ∷ r) ≡ Some r
 rest_below b source r =
-    ap (λ t. cond t (Some []) (cond (is_below (b ∷ source) ((b ∷ source) ++ 47 ∷ r)) (Some _) None)) (not_itself (b ∷ source) r)
-    ∙ ap (λ t. cond t (Some _) None) (below_front (b ∷ source) r)
+    ap (λ t. cond t (Some []) (cond (is_below (b ∷ source) ((b ∷ source) ++ 47 ∷ r)) (Some (drop (length (b ∷ source) + 1) ((b ∷ source) ++ 47 ∷ r))) None)) (not_itself (b ∷ source) r)
+    ∙ ap (λ t. cond t (Some (drop (length (b ∷ source) + 1) ((b ∷ source) ++ 47 ∷ r))) None) (below_front (b ∷ source) r)
     ∙ ap Some (drop_below (b ∷ source) r)
 
 no_path : {A : Type 0} → is_path [] ≡ true → A

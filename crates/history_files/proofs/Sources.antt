@@ -50,11 +50,11 @@ no_keys m h q = none_if (get m q) (λ c e. go (keys m) h (in_map (λ (x : Entry)
 -- ---- what a source's entry says
 
 -- the source is a folder with files, or a file, or nothing
-pub data Source (kind : Kind) (source : Bytes) (other : FileMap) : Option Found → Type 0 where
-  Nothing : (found : Option Found) → found ≡ None → source_file source other ≡ None → ((q : Bytes) → get (source_files source other) q ≡ None) → Source kind source other found
-  AFile : (found : Option Found) (file : FileKind) (id : ObjectId) (content : Content) → found ≡ Some (File file id) → file ≡ content.kind → id_of id ≡ blob_id kind content.bytes → get other source ≡ Some content
+pub data Source (kind : Kind) (source : Bytes) (other : FileMap) (found : Option Found) : Type 0 where
+  Nothing : found ≡ None → source_file source other ≡ None → ((q : Bytes) → get (source_files source other) q ≡ None) → Source kind source other found
+  AFile : (file : FileKind) (id : ObjectId) (content : Content) → found ≡ Some (File file id) → file ≡ content.kind → id_of id ≡ blob_id kind content.bytes → get other source ≡ Some content
       → source_file source other ≡ Some content → ((q : Bytes) → get (source_files source other) q ≡ None) → Source kind source other found
-  AFolder : (found : Option Found) (id : ObjectId) → found ≡ Some (Folder id) → id_of id ≡ folder_id kind (source_files source other) → source_file source other ≡ None → HasFile (source_files source other) → Source kind source other found
+  AFolder : (id : ObjectId) → found ≡ Some (Folder id) → id_of id ≡ folder_id kind (source_files source other) → source_file source other ≡ None → HasFile (source_files source other) → Source kind source other found
 
 none_found : (found : Option Found) → option_map entry_of found ≡ None → found ≡ None
 none_found None e = refl
@@ -104,14 +104,14 @@ by_entry : (kind : Kind) (source : Bytes) (other : FileMap) → IsFileMap other 
 by_entry kind [] other map found e = go (is_empty (keys other)) refl e
   where
     go : (b : Bool) → is_empty (keys other) ≡ b → option_map entry_of found ≡ cond b None (Some (codes "40000", folder_id kind other)) → Source kind [] other found
-    go true h k = Nothing found (none_found found k) refl (no_keys other h)
-    go false h k = let one = folder_found found (folder_id kind other) k in AFolder found one.0 one.1 one.2 refl (some_file other h)
+    go true h k = Nothing (none_found found k) refl (no_keys other h)
+    go false h k = let one = folder_found found (folder_id kind other) k in AFolder one.0 one.1 one.2 refl (some_file other h)
 by_entry kind (b ∷ s) other map found e = go (has_below other (b ∷ s)) refl e
   where
     in_folder : (h : has_below other (b ∷ s) ≡ true) → (found : Option Found) → (x : ObjectId) × (found ≡ Some (Folder x)) × (id_of x ≡ folder_id kind (inside (b ∷ s) other)) → Source kind (b ∷ s) other found
     in_folder h f (x, is, id) =
         let below = below_some other (b ∷ s) h in
-        AFolder f x is id
+        AFolder x is id
         (none_if (get other (b ∷ s)) (λ c g. clash (below_front (b ∷ s) below.0) (map.apart (b ∷ s) ((b ∷ s) ++ 47 ∷ below.0) (ap is_some g) (ap is_some below.2))))
         (below.0, below.1, get_inside (b ∷ s) other below.0 ∙ below.2)
 
@@ -119,10 +119,10 @@ by_entry kind (b ∷ s) other map found e = go (has_below other (b ∷ s)) refl 
     none_in h q = get_inside (b ∷ s) other q ∙ none_if (get other ((b ∷ s) ++ 47 ∷ q)) (λ c g. clash (some_below other (b ∷ s) q c g) h)
 
     one_file : has_below other (b ∷ s) ≡ false → (o : Option Content) → get other (b ∷ s) ≡ o → option_map entry_of found ≡ option_map (λ content. (mode_of content.kind, blob_id kind content.bytes)) o → Source kind (b ∷ s) other found
-    one_file h None g k = Nothing found (none_found found k) g (none_in h)
+    one_file h None g k = Nothing (none_found found k) g (none_in h)
     one_file h (Some content) g k =
         let one = file_found found content.kind (blob_id kind content.bytes) k in
-        AFile found one.0 one.1 content one.2 one.3 one.4 g g (none_in h)
+        AFile one.0 one.1 content one.2 one.3 one.4 g g (none_in h)
 
     go : (t : Bool) → has_below other (b ∷ s) ≡ t
         → option_map entry_of found ≡ cond t (Some (codes "40000", folder_id kind (inside (b ∷ s) other))) (option_map (λ content. (mode_of content.kind, blob_id kind content.bytes)) (get other (b ∷ s)))
@@ -148,29 +148,29 @@ folder_stands table kind (b ∷ s) other map has (rest, content, at) = record {
 }
 
 module _ (table : Table) (kind : Kind) (trees : Trees) (stored : HasStored table trees) where
+  abbrev folder_leaf : ObjectId → Leaf
+  folder_leaf id = found_leaf (Some (Folder id))
+
   folder_has : (id : ObjectId) (below : FileMap) → FolderStands table kind below → id_of id ≡ folder_id kind below → LeafHas kind trees (found_leaf (Some (Folder id))) None below
   folder_has id below stands same = record {
-    itself = ap (λ b. cond b None (unless_tree (tree_under trees leaf) leaf)) isnt_null ∙ ap (λ o. unless_tree o leaf) leads;
+    itself = ap (λ b. cond b None (unless_tree (tree_under trees (folder_leaf id)) (folder_leaf id))) isnt_null ∙ ap (λ o. unless_tree o (folder_leaf id)) leads;
     inside_it = λ r. let some = some_parts r in
-        ap (λ ps. files_of_entry trees ps leaf) some.2 ∙ into some.0 some.1 ∙ ap (files_of_tree trees (items kind below)) (sym some.2) ∙ unfolds.at r;
+        ap (λ ps. files_of_entry trees ps (folder_leaf id)) some.2 ∙ into some.0 some.1 ∙ ap (files_of_tree trees (items kind below)) (sym some.2) ∙ unfolds.at r;
     only = λ name rest found e. unfolds.only (name ∷ rest) found (sym (into name rest) ∙ e);
   }
     where
-      leaf : Leaf
-      leaf = found_leaf (Some (Folder id))
-
       unfolds : IsUnfolded kind below (files_of_tree trees (items kind below))
       unfolds = root_unfolds kind table trees stored below stands.map (all_values (IsInTable table kind) below stands.has)
 
       isnt_null : is_null (id_of id) ≡ false
       isnt_null = ap is_null same ∙ (stands.has).itself.isnt_null
 
-      leads : tree_under trees leaf ≡ Some (items kind below)
+      leads : tree_under trees (folder_leaf id) ≡ Some (items kind below)
       leads = ap trees same ∙ tree_there kind table trees stored below stands.map (stands.has).itself
 
-      into : (name : Bytes) (rest : Path) → files_of_entry trees (name ∷ rest) leaf ≡ files_of_tree trees (items kind below) (name ∷ rest)
+      into : (name : Bytes) (rest : Path) → files_of_entry trees (name ∷ rest) (folder_leaf id) ≡ files_of_tree trees (items kind below) (name ∷ rest)
       into name rest =
-          ap (λ b. cond b None (through (tree_under trees leaf) (λ found. through (named name found) (λ item. files_of_entry trees rest (leaf_of item))))) isnt_null
+          ap (λ b. cond b None (through (tree_under trees (folder_leaf id)) (λ found. through (named name found) (λ item. files_of_entry trees rest (leaf_of item))))) isnt_null
           ∙ ap (λ o. through o (λ found. through (named name found) (λ item. files_of_entry trees rest (leaf_of item)))) leads
 
   file_has : (content : Content) (below : FileMap) → is_null (blob_id kind content.bytes) ≡ false → ((q : Bytes) → get below q ≡ None) → LeafHas kind trees (file_leaf kind content) (Some content) below
@@ -195,16 +195,16 @@ module _ (table : Table) (kind : Kind) (trees : Trees) (stored : HasStored table
       whole = has_all (IsInTable table kind) other is.trees
 
       go : Source kind source other found → LeafHas kind trees (found_leaf found) (source_file source other) (source_files source other)
-      go (Nothing f e file none) =
+      go (Nothing e file none) =
           subst (λ x. LeafHas kind trees (found_leaf x) (source_file source other) (source_files source other)) (sym e)
           (subst (λ o. LeafHas kind trees (found_leaf None) o (source_files source other)) (sym file) (nothing_has (source_files source other) none))
-      go (AFile f k id content e file_kind same at file none) =
+      go (AFile k id content e file_kind same at file none) =
           let leaf : found_leaf (Some (File k id)) ≡ file_leaf kind content = λ i. record { mode = record { value = kind_value (entry_kind (file_kind i)); padded = false }; id = same i } in
           subst (λ x. LeafHas kind trees (found_leaf x) (source_file source other) (source_files source other)) (sym e)
           (subst (λ l. LeafHas kind trees l (source_file source other) (source_files source other)) (sym leaf)
           (subst (λ o. LeafHas kind trees (file_leaf kind content) o (source_files source other)) (sym file)
           (file_has content (source_files source other) (whole.bytes source content (get_in other source content at)).isnt_null none)))
-      go (AFolder f id e same file some) =
+      go (AFolder id e same file some) =
           subst (λ x. LeafHas kind trees (found_leaf x) (source_file source other) (source_files source other)) (sym e)
           (subst (λ o. LeafHas kind trees (found_leaf (Some (Folder id))) o (source_files source other)) (sym file)
           (folder_has id (source_files source other) (folder_stands table kind source other is.map whole some) same))

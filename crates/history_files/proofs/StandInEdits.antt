@@ -82,7 +82,7 @@ put_one a b key c same q = ap is_some (get-with a key c q) ∙ go (bytes_eq q ke
     go true = refl
     go false = same q
 
-put_keys_all : (es : List (Bytes × Content)) (a b : FileMap) → SameKeys a b → SameKeys (with_all es a) (with_all es b)
+pub put_keys_all : (es : List (Bytes × Content)) (a b : FileMap) → SameKeys a b → SameKeys (with_all es a) (with_all es b)
 put_keys_all [] a b same = same
 put_keys_all (e ∷ es) a b same = put_keys_all es (insert a e.0 e.1) (insert b e.0 e.1) (put_one a b e.0 e.1 same)
 

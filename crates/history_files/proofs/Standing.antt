@@ -177,9 +177,9 @@ module _ (table : Table) (kind : Kind) where
           contains_in stands (source_files source other) (all_in (Contains stands) (folders_of other) those (source_files source other) (among source file))
 
       go : Source kind source other (Some (Folder id)) → AllByRecursion (Contains stands) (cond (is_empty (keys other)) [] (folders_of other)) → (g : FileMap) × In g stands × (id_of id ≡ folder_id kind g)
-      go (Nothing f bad file none) all = cc
-      go (AFile f k x content bad same_kind same at file none) all = cc
-      go (AFolder f x is_it same file some) all = let one_id : id ≡ x = cc in (source_files source other, there some all, ap id_of one_id ∙ same)
+      go (Nothing bad file none) all = cc
+      go (AFile k x content bad same_kind same at file none) all = cc
+      go (AFolder x is_it same file some) all = let one_id : id ≡ x = cc in (source_files source other, there some all, ap id_of one_id ∙ same)
 
   -- nor is it the tree without entries
   pub isnt_empty_tree : (path : Bytes) (found : Option Found) (one : model.Edit) → IsGraft table kind path found one → IsEmptyTree (found_leaf found).id → ⊥
@@ -213,11 +213,10 @@ emptied_stand stands (one ∷ made) all = (go one all.0, emptied_stand stands ma
 -- ---- more folders stand
 
 module _ (kind : Kind) (xs ys : List FileMap) (within : (g : FileMap) → In g xs → In g ys) (name : Bytes) (leaf : Leaf) where
-  test : FileMap → Bool
+  abbrev test : FileMap → Bool
   test folder = id_eq leaf.id (folder_id kind folder)
 
   more_names : names_only kind xs name leaf ≡ true → names_only kind ys name leaf ≡ true
-  unfolding test
   more_names h =
       let parts = and_parts (is_filename name) (is_file_mode leaf.mode || (is_folder_mode leaf.mode && (is_null leaf.id || list_any test xs))) h in
       and_from (is_filename name) (is_file_mode leaf.mode || (is_folder_mode leaf.mode && (is_null leaf.id || list_any test ys))) parts.0
