@@ -6,12 +6,12 @@ use Rattle.gix_hash_id.specs.Id.{Id, id_of}
 use Rattle.gix_hash_id.specs.declared.object_id.ObjectId.{ObjectId}
 use Rattle.history_model.specs.Bytes.{Bytes}
 use Rattle.history_model.specs.FileMap as model
-use Rattle.history_model.specs.FileMap.{grafted_paths, some_refused}
+use Rattle.history_model.specs.FileMap.{FileMap, grafted_paths, some_refused}
 use Rattle.history_model.specs.Causes.{is_bad_path}
 use Rattle.history_model.specs.Commands.{EditLine, GraftLine}
 use Rattle.history_model.specs.Words.{commit_of}
 use Rattle.history_model.specs.Meaning.{files_at, first_files, put_bytes, word_files}
-use Rattle.history_model.specs.Objects.{StoredFolder}
+use Rattle.history_model.specs.Objects.{StoredFolder, folder_id}
 use Rattle.history_model.specs.Repository as plain
 use Rattle.history_model.specs.declared.Cause.TheVariants as cause
 use Rattle.history_model.specs.declared.Fault.TheVariants as fault
@@ -67,6 +67,10 @@ AreChangesOf r = AllZip (IsChangeOf r)
 pub record AreReadAs (r : plain.Repository) (changes : Changes) (made : List model.Edit) : Type 0 where
   pub changes_are : AreChangesOf r changes.made.items made
   pub blobs_are : AreObjectsOf r.kind (flat_map put_bytes made) changes.blobs.items
+
+-- the files stand as a folder, or there are none
+abbrev pub StandsWithFolders : plain.Repository → FileMap → Type 0
+StandsWithFolders r files = get r.objects (folder_id r.kind files) ≡ Some (StoredFolder files)
 
 -- whether a graft would put something at a bad path
 abbrev pub grafts_badly : List model.Edit → Bool

@@ -232,17 +232,19 @@ impl<F: Files> Repository<F> {
         let expected = self.read_expected(alloc, &command.expect)?;
         let words = self.read_words(alloc, &command.parents)?;
         let sources = self.read_sources(alloc, &command.edits)?;
-        test_words(expected, &all_words(alloc, &words, &sources)?)?;
+        let all = all_words(alloc, &words, &sources)?;
+        test_words(expected, &all)?;
         let held = self.held(alloc, &name)?;
         expected.test(commit_held(held))?;
         self.test_place(alloc, &name, held)?;
         let parents = parents_of(alloc, commit_held(held), &words)?;
         test_parents(&parents)?;
+        let sources = source_ids(alloc, &sources)?;
         Ok(Base {
             name,
             held: id_held(held),
             parents,
-            sources: source_ids(alloc, &sources)?,
+            sources,
         })
     }
 }

@@ -1,16 +1,25 @@
 //! What a commit's edits put, and what they make of its first parent's files.
 
-ghost use Rattle.std.specs.Prelude.{◌≡◌, IfOk, List, map, option_map, option_to_list};
-ghost use Rattle.std.specs.List.{AllByRecursion, AllZip, flat_map};
+ghost use Rattle.std.specs.Prelude.{◌≡◌, ◌∷◌, [], ◌+◌, ⊤, IfOk, IsFalse, List, None, get_or, length, map, nat_lt, option_map, option_to_list};
+ghost use Rattle.std.specs.List.{AllByRecursion, AllZip, flat_map, list_any};
 ghost use Rattle.gix_hash_id.specs.Id.{id_of};
+ghost use Rattle.history_model.specs.Bytes.{Bytes};
+ghost use Rattle.history_model.specs.Causes.{is_bad_path};
+ghost use Rattle.history_model.specs.CommandParts.{edit_paths};
+ghost use Rattle.history_model.specs.Commands.{EditLine};
 ghost use Rattle.history_model.specs.FileMap as model;
-ghost use Rattle.history_model.specs.Meaning.{first_files, put_bytes};
+ghost use Rattle.history_model.specs.FileMap.{FileMap, grafts_nothing};
+ghost use Rattle.history_model.specs.Forms.{max_path};
+ghost use Rattle.history_model.specs.Meaning.{files_at, first_files, put_bytes};
 ghost use Rattle.history_model.specs.Repository as plain;
 ghost use Rattle.history_model.specs.Repository.{HoldsCommit};
 ghost use Rattle.history_files.specs.Editing.{HavePaths};
+ghost use Rattle.history_files.specs.Edits.{IsSource};
+ghost use Rattle.history_files.specs.Laws.{table_of};
+ghost use Rattle.history_word.specs.Commands.{AreEdits, IsEdit};
 ghost use Rattle.history_store.specs.Stores.{AreObjectsOf};
 ghost use Rattle.history.specs.Acts.{GivesMeant};
-ghost use Rattle.history.specs.Files.{AreChangesOf, AreReadAs, TellsEdited, IsChangeOf, IsTreeBefore, change_parts, edit_parts, kept_edit, unmade};
+ghost use Rattle.history.specs.Files.{AreChangesOf, AreReadAs, HasSource, IsFoundFor, StandsWithFolders, TellsEdited, TellsRead, IsChangeOf, IsTreeBefore, change_parts, edit_parts, kept_edit, unmade};
 ghost use Rattle.history.specs.Serving.{Serves};
 
 use crate::fields::{into_kept, kept};
@@ -135,6 +144,16 @@ fn unmade(error: EditError) -> Result<Option<EditedFiles>, Stopped>
     }
 }
 
+/// The commit of the word of the edit at a place, if it has one.
+fn source_at(sources: &[Option<ObjectId>], at: usize) -> Option<ObjectId>
+    ensures { result ≡ get_or sources.now at None }
+{
+    match sources.get(at) {
+        Some(source) => *source,
+        None => None,
+    }
+}
+
 impl<F: Files> Repository<F> {
     /// What a stored commit's files have at or below a source; all of them at an empty one.
     fn found_in(
@@ -163,7 +182,7 @@ impl<F: Files> Repository<F> {
         ensures { (r : plain.Repository) (source : Bytes) (other : FileMap)
             → Serves F.is_honest F.history self.now r → IsFalse (is_bad_path path.now)
             → IsSource (table_of r) r.kind source other found
-            → StandsBelow r source other
+            → StandsWithFolders r other
             → TellsRead F.reading_may_fail (model.Graft path.now source other ∷ []) (λ _. ⊤) result }
     {
         if let Some(Found::Folder { id }) = found {
@@ -213,7 +232,7 @@ impl<F: Files> Repository<F> {
         let mut made = Vec::with_capacity(alloc, edits.len())?;
         let mut blobs = Vec::new(alloc);
         for edit in edits {
-            let source = sources.get(made.len()).copied().flatten();
+            let source = source_at(sources, made.len());
             let found = self.found_for(alloc, &edit, source)?;
             let (change, blob) = read_edit(self.objects.kind(), edit, found);
             made.push(change)?;

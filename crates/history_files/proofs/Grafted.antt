@@ -135,14 +135,14 @@ module _ (path source : Bytes) (other : FileMap) (map : IsFileMap other) where
   got q c a = in_get other a.from c a.stands
 
   -- at the path itself
-  itself_to : (c : Content) → source_file source other ≡ Some c → In (path, c) (carried path source other)
+  pub itself_to : (c : Content) → source_file source other ≡ Some c → In (path, c) (carried path source other)
   itself_to c e = go source e
     where
       go : (s : Bytes) → source_file s other ≡ Some c → In (path, c) (carried path s other)
       go [] e = none_is_some c e
       go (b ∷ s) e = to_carried path (b ∷ s) other (b ∷ s) [] c e (rest_itself b s)
 
-  itself_from : (c : Content) → In (path, c) (carried path source other) → source_file source other ≡ Some c
+  pub itself_from : (c : Content) → In (path, c) (carried path source other) → source_file source other ≡ Some c
   itself_from c i =
       let a = of_carried path source other path c i in
       let f = as_there path c a in
@@ -154,7 +154,7 @@ module _ (path source : Bytes) (other : FileMap) (map : IsFileMap other) where
       go (b ∷ s) e named = e
 
   -- below it
-  below_to : (r : Bytes) (c : Content) → get (source_files source other) r ≡ Some c → In (path ++ 47 ∷ r, c) (carried path source other)
+  pub below_to : (r : Bytes) (c : Content) → get (source_files source other) r ≡ Some c → In (path ++ 47 ∷ r, c) (carried path source other)
   below_to r c e = go source r e
     where
       named : (m : FileMap) → get m [] ≡ Some c → IsFileMap m → ⊥
@@ -166,7 +166,7 @@ module _ (path source : Bytes) (other : FileMap) (map : IsFileMap other) where
       go (b ∷ s) [] e = absurd (named (inside (b ∷ s) other) e (inside_map (b ∷ s) other map))
       go (b ∷ s) (d ∷ r) e = to_carried path (b ∷ s) other ((b ∷ s) ++ 47 ∷ d ∷ r) (d ∷ r) c (sym (get_inside (b ∷ s) other (d ∷ r)) ∙ e) (rest_below b s (d ∷ r))
 
-  below_from : (r : Bytes) (c : Content) → In (path ++ 47 ∷ r, c) (carried path source other) → get (source_files source other) r ≡ Some c
+  pub below_from : (r : Bytes) (c : Content) → In (path ++ 47 ∷ r, c) (carried path source other) → get (source_files source other) r ≡ Some c
   below_from r c i =
       let a = of_carried path source other (path ++ 47 ∷ r) c i in
       let f = as_there (path ++ 47 ∷ r) c a in

@@ -10,7 +10,7 @@ use Rattle.gix_object_find.specs.Table.{Table}
 use Rattle.gix_object_editor.specs.Files.{Path, Leaf, Trees, HasStored, files_of_entry, files_of_tree, is_null, leaf_of, named, through, tree_under, unless_tree}
 use Rattle.history_model.specs.Bytes.{Bytes, is_empty}
 use Rattle.history_model.specs.FileMap.{FileMap, Content, IsFileMap, components, has_below, inside}
-use Rattle.history_model.specs.Objects.{blob_id, entry_at, folder_id, mode_of}
+use Rattle.history_model.specs.Objects.{StoredFolder, Value, blob_id, folder_id, mode_of}
 use Rattle.history_model.specs.declared.FileKind.{FileKind}
 use Rattle.history_model.specs.declared.FileKind.TheVariants.{File as PlainFile, Exec, Link}
 use Rattle.history_model.proofs.IdLemmas.{id_itself}
@@ -100,7 +100,7 @@ some_file m h =
     some_key [] e = cc
     some_key (k ∷ ks) e = (k, inl refl)
 
-by_entry : (kind : Kind) (source : Bytes) (other : FileMap) → IsFileMap other → (found : Option Found) → option_map entry_of found ≡ source_entry kind other source → Source kind source other found
+pub by_entry : (kind : Kind) (source : Bytes) (other : FileMap) → IsFileMap other → (found : Option Found) → option_map entry_of found ≡ source_entry kind other source → Source kind source other found
 by_entry kind [] other map found e = go (is_empty (keys other)) refl e
   where
     go : (b : Bool) → is_empty (keys other) ≡ b → option_map entry_of found ≡ cond b None (Some (codes "40000", folder_id kind other)) → Source kind [] other found
@@ -146,6 +146,12 @@ folder_stands table kind (b ∷ s) other map has (rest, content, at) = record {
   map = inside_map (b ∷ s) other map;
   has = inside_has (IsInTable table kind) other has ((b ∷ s) ++ 47 ∷ rest) content (b ∷ s) (get_in other ((b ∷ s) ++ 47 ∷ rest) content (sym (get_inside (b ∷ s) other rest) ∙ at)) (is_beginning (b ∷ s) rest);
 }
+
+-- where all of the files have a property, so has the folder that the source is
+pub folder_stored : (P : Value → Type 0) (source : Bytes) (other : FileMap) → HasAll P other → HasFile (source_files source other) → P (StoredFolder (source_files source other))
+folder_stored P [] other has file = has.itself
+folder_stored P (b ∷ s) other has (rest, content, at) =
+    has.folders ((b ∷ s) ++ 47 ∷ rest) content (b ∷ s) (get_in other ((b ∷ s) ++ 47 ∷ rest) content (sym (get_inside (b ∷ s) other rest) ∙ at)) (is_beginning (b ∷ s) rest)
 
 module _ (table : Table) (kind : Kind) (trees : Trees) (stored : HasStored table trees) where
   abbrev folder_leaf : ObjectId → Leaf

@@ -1,0 +1,65 @@
+-- What a stored commit's files have at a source is what an edit of files may graft.
+use Rattle.std.proofs.Common.{◌≡◌, refl, sym, ◌∙◌, ap, subst, Option, Some, None, option_map, codes, IfSome, [], ◌∷◌}
+use Rattle.std.specs.Fmt.{digits}
+use Rattle.std.specs.FinMap.{empty, entries, get, get-empty}
+use Rattle.gix_hash_id.specs.Hasher.{empty_tree_text, id_of_message}
+use Rattle.gix_hash_id.specs.Id.{Id, id_of}
+use Rattle.gix_hash_id.specs.declared.kind.Kind.{Kind}
+use Rattle.gix_object_editor.specs.Files.{IsEmptyTree}
+use Rattle.history_model.specs.Bytes.{Bytes, by_bytes}
+use Rattle.history_model.specs.FileMap.{FileMap, Content, IsFileMap}
+use Rattle.history_model.specs.Objects.{StoredBytes, StoredFolder, Value, blob_id, digest, empty_tree_id, folder_id, tree_text}
+use Rattle.history_model.specs.Objects.{id_of as value_id}
+use Rattle.history_model.specs.Repository.{HoldsCommit, IsStored, IsWholeStore, Repository}
+use Rattle.history_model.proofs.WholeGrowth.{has_stored}
+use Rattle.history_model.proofs.WholeLists.{none_is_some}
+use Rattle.history_model.proofs.WholeRoots.{HasAll}
+use Rattle.history_model.proofs.WholeStores.{get_in}
+use Rattle.history_files.specs.Edits.{IsSource, source_entry}
+use Rattle.history_files.specs.Laws.{table_of}
+use Rattle.history_files.specs.Reading.{entry_of}
+use Rattle.history_files.specs.declared.found.Found.{Found}
+use Rattle.history_files.specs.declared.found.Found.TheVariants.{File, Folder}
+use Rattle.history_files.proofs.Grafted.{source_files}
+use Rattle.history_files.proofs.Inside.{HasFile}
+use Rattle.history_files.proofs.Items.{digest_kind}
+use Rattle.history_files.proofs.Sources.{AFile, AFolder, Nothing, Source, by_entry, folder_stored}
+use Rattle.history_files.proofs.Stores.{has_trees}
+
+-- the empty tree's id
+empty_is : (kind : Kind) → empty_tree_id kind ≡ id_of_message kind empty_tree_text
+unfolding digest digits
+empty_is kind = refl
+
+module _ (r : Repository) (whole : IsWholeStore r) (files : FileMap) (map : IsFileMap files) (stands : get r.objects (folder_id r.kind files) ≡ Some (StoredFolder files)) where
+  all : HasAll (IsStored r) files
+  all = has_stored r whole (folder_id r.kind files) files stands
+
+  -- no other value has the empty tree's id
+  not_empty_tree : (value : Value) (id : Id) → id ≡ value_id r.kind value → id.kind ≡ r.kind → get r.objects (value_id r.kind value) ≡ Some value → (value ≡ StoredFolder empty → ⊥) → IsEmptyTree id → ⊥
+  not_empty_tree value id is kind at other tree =
+      other (whole.empty_tree value (ap (get r.objects) (empty_is r.kind ∙ sym (ap (λ k. id_of_message k empty_tree_text) kind) ∙ sym tree ∙ is) ∙ at))
+
+  no_file : (m : FileMap) → HasFile m → StoredFolder m ≡ StoredFolder empty → ⊥
+  no_file m (path, content, at) e = none_is_some content (sym (get-empty {X = Content} by_bytes path) ∙ ap (λ n. get n path) (sym (same e)) ∙ at)
+    where
+      same : {a b : FileMap} → StoredFolder a ≡ StoredFolder b → a ≡ b
+      same e = cc
+
+  pub source_is : (source : Bytes) (found : Option Found) → option_map entry_of found ≡ source_entry r.kind files source → IsSource (table_of r) r.kind source files found
+  source_is source found told = record {
+    map = map;
+    trees = has_trees r whole (folder_id r.kind files) files stands;
+    is = told;
+    isnt_empty = go (by_entry r.kind source files map found told);
+  }
+    where
+      go : Source r.kind source files found → IfSome found (λ it. IsEmptyTree (entry_of it).1 → ⊥)
+      go (Nothing e file none) = subst (λ f. IfSome f (λ it. IsEmptyTree (entry_of it).1 → ⊥)) (sym e) tt
+      go (AFile k id content e same_kind same at file none) =
+          subst (λ f. IfSome f (λ it. IsEmptyTree (entry_of it).1 → ⊥)) (sym e)
+          (not_empty_tree (StoredBytes content.bytes) (id_of id) same (ap (λ (i : Id). i.kind) same ∙ digest_kind r.kind _) (all.bytes source content (get_in files source content at)) (λ bad. cc))
+      go (AFolder id e same file some) =
+          subst (λ f. IfSome f (λ it. IsEmptyTree (entry_of it).1 → ⊥)) (sym e)
+          (not_empty_tree (StoredFolder (source_files source files)) (id_of id) same (ap (λ (i : Id). i.kind) same ∙ digest_kind r.kind _)
+          (folder_stored (IsStored r) source files all some) (no_file (source_files source files) some))
