@@ -19,7 +19,14 @@ use Rattle.history_files.proofs.Inside.{HasFile}
 use Rattle.history_files.proofs.Sources.{AFile, AFolder, Nothing, Source, source_of}
 use Rattle.std.proofs.lemmas.Bool.{or_parts, or_cases, or_from}
 use Rattle.std.proofs.lemmas.List.{length-append}
-use Rattle.history.specs.Files.{grafts_badly}
+use Rattle.history_model.specs.FileMap as model
+use Rattle.history_model.specs.Repository.{Repository}
+use Rattle.history_files.specs.Editing.{Names}
+use Rattle.history_files.specs.Laws.{table_of}
+use Rattle.history_files.specs.declared.edits.Change.{Change}
+use Rattle.history_files.specs.declared.edits.Change.TheVariants as change
+use Rattle.history.specs.Files.{AreChangesOf, grafts_badly, grafts_none}
+use Rattle.history.specs.declared.editing.PathChange.{PathChange}
 
 abbrev Entry : Type 0
 Entry = Bytes × Content
@@ -122,3 +129,19 @@ nothing_told table kind path source other found is = go (source_of table kind so
     go (AFile k id content e same_kind same at file none) = some_carried (carried path source other) (path, content) (itself_to path source other is.map content file) ∙ sym (ap is_none e)
     go (AFolder id e same file (rest, content, at)) =
         some_carried (carried path source other) (path ++ 47 ∷ rest, content) (below_to path source other is.map rest content at) ∙ sym (ap is_none e)
+
+pub nothing_in : (r : Repository) (changes : List PathChange) (made : List model.Edit) → AreChangesOf r changes made → list_any (λ (c : PathChange). grafts_none c.change) changes ≡ list_any grafts_nothing made
+nothing_in r [] [] are = refl
+nothing_in r [] (one ∷ made) are = absurd are
+nothing_in r (c ∷ changes) [] are = absurd are
+nothing_in r (c ∷ changes) (one ∷ made) are = λ i. by_change c.path.items c.change are.0 i || nothing_in r changes made are.1 i
+  where
+    told : (found : Option Found) → is_none found ≡ grafts_none (change.Graft found)
+    told None = refl
+    told (Some f) = refl
+
+    by_change : (path : Bytes) (ch : Change) → Names (table_of r) r.kind path ch one → grafts_none ch ≡ grafts_nothing one
+    by_change path (change.Put k id) (bytes, e, same) = sym (ap grafts_nothing e)
+    by_change path change.Remove e = sym (ap grafts_nothing e)
+    by_change path change.RemoveFile e = sym (ap grafts_nothing e)
+    by_change path (change.Graft found) (source, other, e, is) = sym (told found) ∙ sym (nothing_told (table_of r) r.kind path source other found is) ∙ sym (ap grafts_nothing e)

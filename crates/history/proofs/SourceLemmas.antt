@@ -1,5 +1,5 @@
 -- The commits of the words of edits.
-use Rattle.std.proofs.Common.{◌≡◌, ◌∙◌, sym, ap, refl, Bool, true, false, cond, List, [], ◌∷◌, ◌++◌, map, find, Option, Some, None, option_map, inl, inr, ◌⊎◌}
+use Rattle.std.proofs.Common.{◌≡◌, ℕ, ◌+◌, ◌<◌, length, take, get_or, ◌∙◌, sym, ap, subst, refl, Bool, true, false, cond, List, [], ◌∷◌, ◌++◌, map, find, Option, Some, None, option_map, inl, inr, ◌⊎◌}
 use Rattle.std.specs.Prelude.{IsSome, is_none}
 use Rattle.std.specs.List.{AllZip, flat_map, list_any}
 use Rattle.gix_hash_id.specs.Id.{Id, id_of}
@@ -13,7 +13,13 @@ use Rattle.history_model.specs.declared.Cause.TheVariants.{UnknownWord, Ambiguou
 use Rattle.history_model.specs.Commands.{Commit, CommitCommand, EditLine, PutLine, RemoveLine, RemoveFileLine, GraftLine}
 use Rattle.history_model.specs.CommandParts.{at_word, edit_words, words_in}
 use Rattle.history_model.proofs.WholeLists.{In, in_left, in_right, none_passes}
-use Rattle.history.specs.Bases.{source_id}
+use Rattle.std.proofs.lemmas.List.{map-append, take_more}
+use Rattle.history_word.specs.Commands.{AreEdits, IsEdit}
+use Rattle.history_word.specs.declared.command.Edit.{Edit}
+use Rattle.history.specs.Bases.{line_word, source_id}
+use Rattle.history.specs.Meanings.{commit_or_cause, meaning_of}
+use Rattle.history.specs.declared.words.WordMeaning as own
+use Rattle.history.proofs.Zipped.{zip_get, zip_length}
 use Rattle.history.specs.CommitCauses.{first_among, name_causes}
 use Rattle.history.specs.Files.{HasSource}
 
@@ -80,3 +86,17 @@ module _ (r : Repository) (order : CommitCommand) (none : first_among name_cause
   pub sources_told : (sources : List (Option ObjectId)) → map (option_map id_of) sources ≡ map (source_id r) order.edits → AllZip (HasSource r) order.edits sources
   sources_told sources same = all_read r order.edits sources same (λ word i.
       word_reads word (in_right word (at_word order.expect) (order.parents ++ flat_map edit_words order.edits) (in_right word order.parents (flat_map edit_words order.edits) i)))
+
+-- ---- one edit after another
+
+pub source_added : (r : Repository) (edits : List Edit) (lines : List EditLine) → AreEdits edits lines → (i : ℕ) (edit : Edit) (source : Option own.WordMeaning) (sources more : List (Option own.WordMeaning)) → i < length edits → edit ≡ get_or edits i edit
+    → ((line : EditLine) → IsEdit edit line → option_map meaning_of source ≡ option_map (commit_or_cause r) (line_word line))
+    → map (option_map meaning_of) sources ≡ map (λ line. option_map (commit_or_cause r) (line_word line)) (take i lines) → more ≡ sources ++ source ∷ []
+    → map (option_map meaning_of) more ≡ map (λ line. option_map (commit_or_cause r) (line_word line)) (take (i + 1) lines)
+source_added r edits lines are i edit source sources more less is read so_far added =
+    let line : EditLine = get_or lines i (RemoveLine []) in
+    let this : IsEdit edit line = subst (λ e. IsEdit e line) (sym is) (zip_get IsEdit edits lines are i edit (RemoveLine []) less) in
+    let within : i < length lines = subst (λ n. i < n) (zip_length IsEdit edits lines are) less in
+    ap (map (option_map meaning_of)) added ∙ map-append (option_map meaning_of) sources (source ∷ []) ∙ (λ j. so_far j ++ read line this j ∷ [])
+    ∙ sym (ap (map (λ line. option_map (commit_or_cause r) (line_word line))) (take_more lines i (RemoveLine []) within)
+    ∙ map-append (λ line. option_map (commit_or_cause r) (line_word line)) (take i lines) (line ∷ []))

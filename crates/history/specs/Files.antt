@@ -1,5 +1,5 @@
 -- The files of a commit, as its parent's and its edits make them.
-use Rattle.std.specs.Prelude.{◌≡◌, ⊤, Bool, List, [], ◌∷◌, Option, Some, None, Result, Ok, Err, IsTrue, IsFalse}
+use Rattle.std.specs.Prelude.{◌≡◌, ⊤, Bool, true, false, List, [], ◌∷◌, Option, Some, None, Result, Ok, Err, IsTrue, IsFalse}
 use Rattle.std.specs.List.{AllZip, flat_map, list_any}
 use Rattle.std.specs.FinMap.{get}
 use Rattle.gix_hash_id.specs.Id.{Id, id_of}
@@ -20,6 +20,7 @@ use Rattle.history_files.specs.Edits.{IsSource}
 use Rattle.history_files.specs.Laws.{table_of}
 use Rattle.history_files.specs.declared.found.Found.{Found}
 use Rattle.history_files.specs.declared.edits.Change.{Change}
+use Rattle.history_files.specs.declared.edits.Change.TheVariants as change
 use Rattle.history_files.specs.declared.edits.Edit as files
 use Rattle.history_files.specs.declared.edits.EditError.{EditError}
 use Rattle.history_files.specs.declared.edits.EditError.TheVariants as refused
@@ -71,6 +72,11 @@ pub record AreReadAs (r : plain.Repository) (changes : Changes) (made : List mod
 -- the files stand as a folder, or there are none
 abbrev pub StandsWithFolders : plain.Repository → FileMap → Type 0
 StandsWithFolders r files = get r.objects (folder_id r.kind files) ≡ Some (StoredFolder files)
+
+-- whether the change grafts what isn't there
+abbrev pub grafts_none : Change → Bool
+grafts_none (change.Graft None) = true
+grafts_none _ = false
 
 -- whether a graft would put something at a bad path
 abbrev pub grafts_badly : List model.Edit → Bool

@@ -8,7 +8,7 @@ ghost use Rattle.history_model.specs.Causes.{is_bad_path};
 ghost use Rattle.history_model.specs.CommandParts.{edit_paths};
 ghost use Rattle.history_model.specs.Commands.{EditLine};
 ghost use Rattle.history_model.specs.FileMap as model;
-ghost use Rattle.history_model.specs.FileMap.{FileMap, grafts_nothing};
+ghost use Rattle.history_model.specs.FileMap.{FileMap};
 ghost use Rattle.history_model.specs.Forms.{max_path};
 ghost use Rattle.history_model.specs.Meaning.{files_at, first_files, put_bytes};
 ghost use Rattle.history_model.specs.Repository as plain;
@@ -19,7 +19,7 @@ ghost use Rattle.history_files.specs.Laws.{table_of};
 ghost use Rattle.history_word.specs.Commands.{AreEdits, IsEdit};
 ghost use Rattle.history_store.specs.Stores.{AreObjectsOf};
 ghost use Rattle.history.specs.Acts.{GivesMeant};
-ghost use Rattle.history.specs.Files.{AreChangesOf, AreReadAs, HasSource, IsFoundFor, StandsWithFolders, TellsEdited, TellsRead, IsChangeOf, IsTreeBefore, change_parts, edit_parts, kept_edit, unmade};
+ghost use Rattle.history.specs.Files.{AreChangesOf, AreReadAs, HasSource, IsFoundFor, StandsWithFolders, grafts_none, TellsEdited, TellsRead, IsChangeOf, IsTreeBefore, change_parts, edit_parts, kept_edit, unmade};
 ghost use Rattle.history.specs.Serving.{Serves};
 
 use crate::fields::{into_kept, kept};
@@ -89,13 +89,16 @@ fn read_edit(
 }
 
 /// Whether a change grafts what isn't there.
-pub(crate) fn grafts_nothing(changes: &[PathChange]) -> bool
-    ensures { (r : plain.Repository) (made : List model.Edit) → AreChangesOf r changes.now made
-        → result ≡ list_any grafts_nothing made }
+pub(crate) fn graft_nothing(changes: &[PathChange]) -> bool
+    ensures { result ≡ list_any (λ change. grafts_none change.change) changes.now }
 {
-    changes
-        .iter()
-        .any(|change| matches!(change.change, Change::Graft(None)))
+    changes.iter().any(|change| grafts_none(&change.change))
+}
+
+fn grafts_none(change: &Change) -> bool
+    ensures { result ≡ grafts_none change.now }
+{
+    matches!(change, Change::Graft(None))
 }
 
 /// Whether a file would come at a path over the limit, as many bytes below a path of as many bytes.

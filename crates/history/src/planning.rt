@@ -25,7 +25,7 @@ ghost use Rattle.history.specs.declared.stopped.Stopped.TheVariants as why;
 use crate::actors::actor_at;
 use crate::base::Base;
 use crate::causes::{have_long_content, read_times, test_paths};
-use crate::editing::grafts_nothing;
+use crate::editing::graft_nothing;
 use crate::fields::into_kept;
 use crate::repository::Repository;
 use crate::stopped::Stopped;
@@ -260,7 +260,7 @@ impl<F: Files> Repository<F> {
         let has_long_content = have_long_content(&edits);
         let changes = self.read_edits(alloc, edits, sources)?;
         let edited = self.edited(alloc, parents, &changes.made)?;
-        if grafts_nothing(&changes.made) {
+        if graft_nothing(&changes.made) {
             return Err(Stopped::Refused(Cause::NoSuchPath));
         }
         Ok(NewFiles {

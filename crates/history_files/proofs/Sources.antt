@@ -40,7 +40,7 @@ null_none trees [] = ap (λ b. cond b None (unless_tree (tree_under trees (found
 null_none trees (name ∷ rest) =
     ap (λ b. cond b None (through (tree_under trees (found_leaf None)) (λ found. through (named name found) (λ item. files_of_entry trees rest (leaf_of item))))) (id_itself (null_id Sha1))
 
-no_keys : (m : FileMap) → is_empty (keys m) ≡ true → (q : Bytes) → get m q ≡ None
+pub no_keys : (m : FileMap) → is_empty (keys m) ≡ true → (q : Bytes) → get m q ≡ None
 no_keys m h q = none_if (get m q) (λ c e. go (keys m) h (in_map (λ (x : Entry). x.0) (q, c) (entries m) (get_in m q c e)))
   where
     go : (ks : List Bytes) → is_empty ks ≡ true → In q ks → ⊥

@@ -23,6 +23,7 @@ use Rattle.history.specs.declared.stopped.Stopped.{Stopped}
 use Rattle.history.specs.declared.stopped.Stopped.TheVariants.{Refused}
 use Rattle.history.proofs.Edits.{edits_same, have_paths}
 use Rattle.history.proofs.Planned.{path_refused, reading_refused, edits_planned, nothing_refused, edits_pass, edits_meant}
+use Rattle.history.proofs.GraftPaths.{nothing_in}
 use Rattle.history.proofs.SourceLemmas.{sources_told}
 use Rattle.history.proofs.repository.Repository.new_files.Goals as goal
 
@@ -65,8 +66,8 @@ returns-in_err-edited g c = λ r order asked.
     subst (Gives g.F.Files.reading_may_fail r order) (sym (stopped.1 ∙ ap Err stopped.2))
     (edits_planned r order asked.unrefused good edits asked.edits_are read.0 ids asked.parents_are g.F.Files.reading_may_fail c.in_err-edited.field-0.0 told)
 
-pub returns-then-grafts_nothing : goal.returns-then-grafts_nothing
-returns-then-grafts_nothing g c = λ r order asked.
+pub returns-then-graft_nothing : goal.returns-then-graft_nothing
+returns-then-graft_nothing g c = λ r order asked.
     let h = asked.serves in
     let edits = c.args.edits.items in
     let paths_of : AreEdits c.deref.result.now order.edits = subst (λ (es : List Edit). AreEdits es order.edits) (sym c.deref.ensures.value) asked.edits_are in
@@ -79,8 +80,8 @@ returns-then-grafts_nothing g c = λ r order asked.
     let are : AreChangesOf r c.deref-3.result.now made = subst (λ (cs : List PathChange). AreChangesOf r cs made) (sym c.deref-3.ensures.value) changes.changes_are in
     let given : TellsEdited g.F.Files.reading_may_fail r ids made (Ok c.in_ok-edited.edited) = c.in_ok-edited.ensures r made h hold are (have_paths r edits order.edits asked.edits_are good) in
     let there : AreChangesOf r c.deref-4.result.now made = subst (λ (cs : List PathChange). AreChangesOf r cs made) (sym c.deref-4.ensures.value) changes.changes_are in
-    let nothing = sym (c.grafts_nothing.ensures r made there) in
-    nothing_refused r order asked.unrefused good edits asked.edits_are read.0 ids asked.parents_are g.F.Files.reading_may_fail c.in_ok-edited.edited given (nothing ∙ c.if-grafts_nothing.true)
+    let nothing = sym (nothing_in r c.deref-4.result.now made there) ∙ sym c.graft_nothing.ensures in
+    nothing_refused r order asked.unrefused good edits asked.edits_are read.0 ids asked.parents_are g.F.Files.reading_may_fail c.in_ok-edited.edited given (nothing ∙ c.if-graft_nothing.true)
 
 pub returns : goal.returns
 returns g c = λ r order asked.
@@ -96,9 +97,9 @@ returns g c = λ r order asked.
     let are : AreChangesOf r c.deref-3.result.now made = subst (λ (cs : List PathChange). AreChangesOf r cs made) (sym c.deref-3.ensures.value) changes.changes_are in
     let given : TellsEdited g.F.Files.reading_may_fail r ids made (Ok c.in_ok-edited.edited) = c.in_ok-edited.ensures r made h hold are (have_paths r edits order.edits asked.edits_are good) in
     let there : AreChangesOf r c.deref-4.result.now made = subst (λ (cs : List PathChange). AreChangesOf r cs made) (sym c.deref-4.ensures.value) changes.changes_are in
-    let nothing = sym (c.grafts_nothing.ensures r made there) in
+    let nothing = sym (nothing_in r c.deref-4.result.now made there) ∙ sym c.graft_nothing.ensures in
     record {
-      paths = edits_pass r order asked.unrefused good edits asked.edits_are read.0 ids asked.parents_are g.F.Files.reading_may_fail c.in_ok-edited.edited given (nothing ∙ c.if-grafts_nothing.false);
+      paths = edits_pass r order asked.unrefused good edits asked.edits_are read.0 ids asked.parents_are g.F.Files.reading_may_fail c.in_ok-edited.edited given (nothing ∙ c.if-graft_nothing.false);
       long = c.have_long_content-has_long_content.ensures order.edits (subst (λ (es : List Edit). AreEdits es order.edits) (sym c.deref-2.ensures.value) asked.edits_are);
       blobs = λ short. subst (λ (es : List model.Edit). AreObjectsOf r.kind (flat_map put_bytes es) c.in_ok-changes.changes.blobs.items) (edits_same r edits order.edits asked.edits_are good short) changes.blobs_are;
       edited = λ short. edits_meant r order g.F.Files.reading_may_fail edits asked.edits_are good short ids asked.parents_are c.in_ok-edited.edited given;
