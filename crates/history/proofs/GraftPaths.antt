@@ -4,16 +4,24 @@ use Rattle.std.specs.Prelude.{is_none}
 use Rattle.std.specs.List.{list_any}
 use Rattle.std.specs.FinMap.{entries, get}
 use Rattle.gix_object_find.specs.Table.{Table}
+use Rattle.gix_hash_id.specs.Id.{id_of}
 use Rattle.gix_hash_id.specs.declared.kind.Kind.{Kind}
+use Rattle.gix_hash_id.specs.declared.object_id.ObjectId.{ObjectId}
 use Rattle.history_model.specs.Bytes.{Bytes, is_empty}
 use Rattle.history_model.specs.FileMap.{Content, FileMap, Graft, IsFileMap, carried, grafted_paths, grafts_nothing, is_path, with_rest}
 use Rattle.history_model.specs.Causes.{is_bad_path}
+use Rattle.history_model.specs.Answers.{FileLine, file_line}
 use Rattle.history_model.specs.Forms.{max_path}
+use Rattle.history_model.specs.Objects.{folder_id}
+use Rattle.history_model.proofs.PartLemmas.{head_same, tail_same}
 use Rattle.history_model.proofs.GraftLemmas.{IsCarried, follows_there, of_carried, with_rest_path}
 use Rattle.history_model.proofs.WholeLists.{In, clash, in_map, none_is_some, of_map, one_passes, passes_one}
 use Rattle.history_model.proofs.WholeStores.{get_in, in_get}
 use Rattle.history_files.specs.Edits.{IsSource}
+use Rattle.history_files.specs.Reading.{line_of}
 use Rattle.history_files.specs.declared.found.Found.{Found}
+use Rattle.history_files.specs.declared.found.Found.TheVariants.{Folder}
+use Rattle.history_files.specs.declared.listing.File as listing
 use Rattle.history_files.proofs.Grafted.{below_from, below_to, itself_from, itself_to, source_file, source_files}
 use Rattle.history_files.proofs.Inside.{HasFile}
 use Rattle.history_files.proofs.Sources.{AFile, AFolder, Nothing, Source, source_of}
@@ -145,3 +153,42 @@ nothing_in r (c ∷ changes) (one ∷ made) are = λ i. by_change c.path.items c
     by_change path change.Remove e = sym (ap grafts_nothing e)
     by_change path change.RemoveFile e = sym (ap grafts_nothing e)
     by_change path (change.Graft found) (source, other, e, is) = sym (told found) ∙ sym (nothing_told (table_of r) r.kind path source other found is) ∙ sym (ap grafts_nothing e)
+
+-- ---- the files that are listed below a folder
+
+-- whether one of the files would come at a path over the limit
+pub long_listed : (kind : Kind) (size : ℕ) (found : List listing.File) (es : List Entry) → map line_of found ≡ map (file_line kind) es
+    → list_any (λ (file : listing.File). nat_lt max_path (size + 1 + length file.path.items)) found ≡ list_any (λ (e : Entry). nat_lt max_path (size + 1 + length e.0)) es
+long_listed kind size [] [] same = refl
+long_listed kind size [] (e ∷ es) same = absurd (cc same)
+long_listed kind size (file ∷ found) [] same = absurd (cc same)
+long_listed kind size (file ∷ found) (e ∷ es) same = λ i. nat_lt max_path (size + 1 + length (ap (λ (line : FileLine). line.path) (head_same same) i)) || long_listed kind size found es (tail_same same) i
+
+module _ (MayFail : Type 0) (table : Table) (kind : Kind) (path source : Bytes) (other : FileMap) (found : Option Found) (good : is_bad_path path ≡ false) (is : IsSource table kind source other found) where
+  abbrev one : List model.Edit
+  one = Graft path source other ∷ []
+
+  -- where what is found is no folder, no path is longer than the target
+  pub no_folder_passes : ((id : ObjectId) → found ≡ Some (Folder id) → ⊥) → grafts_badly one ≡ false
+  no_folder_passes no = go (source_of table kind source other found is)
+    where
+      go : Source kind source other found → grafts_badly one ≡ false
+      go (Nothing e file none) = none_badly path source other is.map good none
+      go (AFile k id content e same_kind same at file none) = none_badly path source other is.map good none
+      go (AFolder id e same file some) = absurd (no id e)
+
+  -- the folder that is found
+  pub folder_there : (id : ObjectId) → found ≡ Some (Folder id) → id_of id ≡ folder_id kind (source_files source other)
+  folder_there id e = go (source_of table kind source other found is)
+    where
+      same_id : {a b : ObjectId} → Some (Folder a) ≡ Some (Folder b) → a ≡ b
+      same_id k = cc
+
+      go : Source kind source other found → id_of id ≡ folder_id kind (source_files source other)
+      go (Nothing k file none) = cc
+      go (AFile k x content f same_kind same at file none) = cc
+      go (AFolder x f same file some) = ap id_of (same_id (sym e ∙ f)) ∙ same
+
+  pub by_listed : (files : List listing.File) → map line_of files ≡ map (file_line kind) (entries (source_files source other))
+      → list_any (λ (file : listing.File). nat_lt max_path (length path + 1 + length file.path.items)) files ≡ grafts_badly one
+  by_listed files same = long_listed kind (length path) files (entries (source_files source other)) same ∙ sym (badly_by_files path source other is.map good)

@@ -37,7 +37,7 @@ use Rattle.history_word.specs.declared.place.Place.TheVariants as place
 use Rattle.history_word.specs.declared.draft.Draft.{Draft}
 use Rattle.history_word.specs.declared.draft.Draft.TheVariants as draft
 use Rattle.history_word.proofs.ProgressLemmas.{leads_line, leads_field}
-use Rattle.history_word.proofs.LineEndLemmas.{one_text, first_number, second_number}
+use Rattle.history_word.proofs.LineEndLemmas.{heading_sizes_are, one_text, first_number, second_number}
 
 abbrev Word : Type 0
 Word = Option (Vec ℕ Global)
