@@ -35,7 +35,7 @@ empty_is : (kind : Kind) → empty_tree_id kind ≡ id_of_message kind empty_tre
 unfolding digest digits
 empty_is kind = refl
 
-module _ (r : Repository) (whole : IsWholeStore r) (files : FileMap) (map : IsFileMap files) (stands : get r.objects (folder_id r.kind files) ≡ Some (StoredFolder files)) where
+module _ (r : Repository) (whole : IsWholeStore r) (files : FileMap) (map_is : IsFileMap files) (stands : get r.objects (folder_id r.kind files) ≡ Some (StoredFolder files)) where
   all : HasAll (IsStored r) files
   all = has_stored r whole (folder_id r.kind files) files stands
 
@@ -52,10 +52,10 @@ module _ (r : Repository) (whole : IsWholeStore r) (files : FileMap) (map : IsFi
 
   pub source_is : (source : Bytes) (found : Option Found) → option_map entry_of found ≡ source_entry r.kind files source → IsSource (table_of r) r.kind source files found
   source_is source found told = record {
-    map = map;
+    map = map_is;
     trees = has_trees r whole (folder_id r.kind files) files stands;
     is = told;
-    isnt_empty = go (by_entry r.kind source files map found told);
+    isnt_empty = go (by_entry r.kind source files map_is found told);
   }
     where
       go : Source r.kind source files found → IfSome found (λ it. IsEmptyTree (entry_of it).1 → ⊥)

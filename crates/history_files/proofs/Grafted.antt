@@ -64,13 +64,13 @@ by_list es m q (Some c) to from none =
 
 in_filter : {X Y : Type 0} (f : X → Option Y) (x : X) (y : Y) (xs : List X) → In x xs → f x ≡ Some y → In y (filter_map f xs)
 in_filter f x y [] i e = absurd i
-in_filter {Y = Y} f x y (z ∷ zs) i e = go (f z) refl i
+in_filter {Y = Y} f x y (z ∷ zs) i e = go (f z) refl i (λ j. in_filter f x y zs j e)
   where
-    go : (o : Option Y) → f z ≡ o → (x ≡ z) ⊎ In x zs → In y (cons_option o (filter_map f zs))
-    go None g (inl s) = none_is_some y (sym g ∙ sym (ap f s) ∙ e)
-    go None g (inr j) = in_filter f x y zs j e
-    go (Some w) g (inl s) = inl (same_Some y w (sym e ∙ ap f s ∙ g))
-    go (Some w) g (inr j) = inr (in_filter f x y zs j e)
+    go : (o : Option Y) → f z ≡ o → (x ≡ z) ⊎ In x zs → (In x zs → In y (filter_map f zs)) → In y (cons_option o (filter_map f zs))
+    go None g (inl s) rest = none_is_some y (sym g ∙ sym (ap f s) ∙ e)
+    go None g (inr j) rest = rest j
+    go (Some w) g (inl s) rest = inl (same_Some y w (sym e ∙ ap f s ∙ g))
+    go (Some w) g (inr j) rest = inr (rest j)
 
 to_carried : (path source : Bytes) (files : FileMap) (q rest : Bytes) (c : Content) → get files q ≡ Some c → rest_behind source q ≡ Some rest → In (with_rest path rest, c) (carried path source files)
 to_carried path source files q rest c at behind =

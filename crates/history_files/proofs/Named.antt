@@ -1,5 +1,6 @@
 -- Entries of the trees of a file map name files and its folders alone.
-use Rattle.std.proofs.Common.{◌≡◌, Bool, true, false, cond, not, ◌&&◌, ◌||◌, List, [], ◌∷◌, ◌++◌, refl, sym, ◌∙◌, ap, subst, inl, inr, ◌⊎◌, Some, None, ◌==◌, ⊤}
+use Rattle.std.proofs.Common.{◌≡◌, Bool, true, false, cond, not, ◌&&◌, ◌||◌, List, [], ◌∷◌, ◌++◌, refl, sym, ◌∙◌, ap, subst, inl, inr, ◌⊎◌, Some, None, ◌==◌}
+use Rattle.std.specs.Prelude.{⊤}
 use Rattle.std.specs.List.{AllByRecursion, flat_map, list_any, list_all, onto_first}
 use Rattle.std.specs.FinMap.{entries, keys, get}
 use Rattle.gix_hash_id.specs.Id.{Id, id_of, null_id}

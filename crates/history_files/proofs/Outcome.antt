@@ -43,7 +43,7 @@ pub no_paths : (table : Table) (kind : Kind) (edits : List Edit) (made : List mo
 no_paths table kind edits made named bad = sym (same_paths table kind edits made named) ∙ bad
 
 module _ {S : Type 0} (kind : Kind) (table : Table) (files : FileMap) (made : List model.Edit) (edits : List Edit) (named : NameEdits table kind edits made)
-    (fine : list_all (λ (edit : Edit). is_path edit.path.now) edits ≡ true) (opened : Editor S) (map : IsFileMap files) (base : EditsFiles table kind (standing files made) files opened) where
+    (fine : list_all (λ (edit : Edit). is_path edit.path.now) edits ≡ true) (opened : Editor S) (map_is : IsFileMap files) (base : EditsFiles table kind (standing files made) files opened) where
   here : IsUnfolded kind files (files_of (trees_in table) opened)
   here = base.unfolds (trees_in table) (has_stored table)
 
@@ -76,7 +76,7 @@ module _ {S : Type 0} (kind : Kind) (table : Table) (files : FileMap) (made : Li
     accepted = passes (trees_in table) kind files made (has_stored table) are here
 
     fits : IsFileMap (edited_by files made)
-    fits = keeps files made map paths (come_from table kind edits made named)
+    fits = keeps files made map_is paths (come_from table kind edits made named)
 
     among_stands : (change : Change) (path : Bytes) (one : model.Edit) → Names table kind path change one → In one made → GraftIn kind (standing files made) change
     among_stands (Put k id) path one e i = tt

@@ -1,5 +1,5 @@
 -- What the entry of a graft's source leads to.
-use Rattle.std.proofs.Common.{◌≡◌, ℕ, Bool, true, false, cond, List, [], ◌∷◌, ◌++◌, refl, sym, ◌∙◌, ap, subst, inl, inr, Option, Some, None, is_some, option_map, codes}
+use Rattle.std.proofs.Common.{◌≡◌, ℕ, Bool, true, false, cond, List, [], ◌∷◌, ◌++◌, refl, sym, ◌∙◌, ap, subst, inl, inr, Option, Some, None, is_some, option_map, codes, get_or}
 use Rattle.std.specs.FinMap.{entries, keys, get}
 use Rattle.gix_hash_id.specs.Id.{Id, id_of, null_id}
 use Rattle.gix_hash_id.specs.declared.kind.Kind.{Kind}
@@ -67,15 +67,25 @@ folder_found (Some (File PlainFile x)) id e = let bad = ap (λ (p : Bytes × Id)
 folder_found (Some (File Exec x)) id e = let bad = ap (λ (p : Bytes × Id). p.0) (same_Some (codes "100755", id_of x) (codes "40000", id) e) in cc
 folder_found (Some (File Link x)) id e = let bad = ap (λ (p : Bytes × Id). p.0) (same_Some (codes "120000", id_of x) (codes "40000", id) e) in cc
 
+-- the modes of two kinds differ in a byte
+same_at : (i a b : ℕ) (x y : Bytes) → x ≡ y → get_or x i 0 ≡ a → get_or y i 0 ≡ b → a ≡ b
+same_at i a b x y e at_x at_y = sym at_x ∙ ap (λ m. get_or m i 0) e ∙ at_y
+
+no_exec : 54 ≡ 55 → ⊥
+no_exec e = cc
+
+no_link : 48 ≡ 50 → ⊥
+no_link e = cc
+
 same_mode : (a b : FileKind) → mode_of a ≡ mode_of b → a ≡ b
 same_mode PlainFile PlainFile e = refl
-same_mode PlainFile Exec e = cc
-same_mode PlainFile Link e = cc
-same_mode Exec PlainFile e = cc
+same_mode PlainFile Exec e = absurd (no_exec (same_at 3 54 55 (mode_of PlainFile) (mode_of Exec) e refl refl))
+same_mode PlainFile Link e = absurd (no_link (same_at 1 48 50 (mode_of PlainFile) (mode_of Link) e refl refl))
+same_mode Exec PlainFile e = absurd (no_exec (same_at 3 54 55 (mode_of PlainFile) (mode_of Exec) (sym e) refl refl))
 same_mode Exec Exec e = refl
-same_mode Exec Link e = cc
-same_mode Link PlainFile e = cc
-same_mode Link Exec e = cc
+same_mode Exec Link e = absurd (no_link (same_at 1 48 50 (mode_of Exec) (mode_of Link) e refl refl))
+same_mode Link PlainFile e = absurd (no_link (same_at 1 48 50 (mode_of PlainFile) (mode_of Link) (sym e) refl refl))
+same_mode Link Exec e = absurd (no_link (same_at 1 48 50 (mode_of Exec) (mode_of Link) (sym e) refl refl))
 same_mode Link Link e = refl
 
 no_folder_mode : (k : FileKind) → codes "40000" ≡ mode_of k → ⊥

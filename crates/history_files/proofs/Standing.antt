@@ -11,6 +11,7 @@ use Rattle.gix_hash_id.specs.declared.kind.Kind.TheVariants.{Sha1}
 use Rattle.gix_hash_id.proofs.EmptyObjects.{sha1-empty_tree}
 use Rattle.gix_hash_id.specs.declared.object_id.ObjectId.{ObjectId}
 use Rattle.gix_object_find.specs.Table.{Table}
+use Rattle.gix_object_editor.specs.Nodes.{leaf_in}
 use Rattle.gix_object_editor.specs.Files.{IsEmptyTree, Leaf, is_null}
 use Rattle.gix_object_editor.specs.declared.tree.editor.state.Editor.{Editor}
 use Rattle.history_model.specs.Bytes.{Bytes, is_empty}
@@ -234,7 +235,7 @@ pub opened_among : {S : Type 0} (table : Table) (kind : Kind) (files : FileMap) 
 opened_among table kind files more editor can all = record {
   standing = all;
   unfolds = can.unfolds;
-  each = λ i name s at. more_names kind (own_folders files) (own_folders files ++ more) (λ g j. in_left g (own_folders files) more j) name _ (can.each i name s at);
+  each = λ i name s at. more_names kind (own_folders files) (own_folders files ++ more) (λ g j. in_left g (own_folders files) more j) name (leaf_in s) (can.each i name s at);
 }
 
 pub opened_with : {S : Type 0} (table : Table) (kind : Kind) (files : FileMap) (editor : Editor S) → EditsFiles table kind (own_folders files) files editor → (edits : List Edit) (made : List model.Edit) → NameEdits table kind edits made

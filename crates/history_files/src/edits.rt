@@ -241,6 +241,7 @@ fn make_edit<S: Find>(
 }
 
 // What a tree's entry says.
+#[derive(Drop)]
 struct NewEntry {
     kind: EntryKind,
     id: ObjectId,

@@ -170,7 +170,7 @@ returns-clause-files g c = λ honest trees kind files made stored edit is.
     let after = c.in_ok-graft-in-Graft.ensures.put honest trees stored in
     graft_made (g.S.Lookup.table c.args.editor.now.store) kind files old is path made new trees c.in-Graft.found stored
     (subst (λ change. IsChange (g.S.Lookup.table c.args.editor.now.store) kind path change made) c.in-Graft.is edit)
-    (λ q. after q ∙ (λ i. unfolded.put trees (names i) (c.entry_for.ensures i) old q))
+    (λ q. after q ∙ (λ i. unfolded.put trees (names i) (c.entry_for-entry.ensures i) old q))
 
 pub returns-clause-accepted : goal.returns-clause-accepted
 returns-clause-accepted g c = λ honest trees kind files made stored edit is.
@@ -182,13 +182,13 @@ pub returns-in_err-graft-in-Graft-clause-each : goal.returns-in_err-graft-in-Gra
 returns-in_err-graft-in-Graft-clause-each g c = λ honest has down may each.
     let names = ap names_of c.as_slice-in-Graft.ensures.value ∙ c.in_ok-names.ensures in
     let put = subst (MayPut has c.args.edit.now.path.now) c.in-Graft.is may in
-    c.graft.ensures.each honest has down (λ some. subst (MayStand has (names_of c.as_slice-in-Graft.result.now)) (sym c.entry_for.ensures) (subst (λ ps. MayStand has ps (found_leaf c.in-Graft.found)) (sym names) put)) each
+    c.graft.ensures.each honest has down (λ some. subst (MayStand has (names_of c.as_slice-in-Graft.result.now)) (sym c.entry_for-entry.ensures) (subst (λ ps. MayStand has ps (found_leaf c.in-Graft.found)) (sym names) put)) each
 
 pub returns-clause-each : goal.returns-clause-each
 returns-clause-each g c = λ honest has down may each.
     let names = ap names_of c.as_slice-in-Graft.ensures.value ∙ c.in_ok-names.ensures in
     let put = subst (MayPut has c.args.edit.now.path.now) c.in-Graft.is may in
-    c.graft.ensures.each honest has down (λ some. subst (MayStand has (names_of c.as_slice-in-Graft.result.now)) (sym c.entry_for.ensures) (subst (λ ps. MayStand has ps (found_leaf c.in-Graft.found)) (sym names) put)) each
+    c.graft.ensures.each honest has down (λ some. subst (MayStand has (names_of c.as_slice-in-Graft.result.now)) (sym c.entry_for-entry.ensures) (subst (λ ps. MayStand has ps (found_leaf c.in-Graft.found)) (sym names) put)) each
 
 pub returns-in_err-graft-in-Graft-clause-refused : goal.returns-in_err-graft-in-Graft-clause-refused
 returns-in_err-graft-in-Graft-clause-refused g c = λ honest kind stands files made can fine edit lies.
@@ -198,11 +198,11 @@ returns-in_err-graft-in-Graft-clause-refused g c = λ honest kind stands files m
     let each = (returns-in_err-graft-in-Graft-clause-each g c) honest (names_only kind stands) down
     (may_put kind stands path c.args.edit.now.change fine (change_in table kind stands path c.args.edit.now.change made edit lies)) can.each in
     let is = subst (λ change. IsChange table kind path change made) c.in-Graft.is edit in
-    let id = ap (λ (l : Leaf). l.id) c.entry_for.ensures in
+    let id = ap (λ (l : Leaf). l.id) c.entry_for-entry.ensures in
     let p = err_from_is_err_and c.from_residual-in_err-graft-in-Graft.result c.from_residual-in_err-graft-in-Graft.ensures.1 in
     rw (p.1, p.2) (graft_fault (g.S.Lookup.is_honest c.args.editor.now.store) (g.S.Lookup.may_fail c.args.editor.now.store) honest kind table stands files (made ∷ []) c.args.editor.now c.graft.new.self can each
     path fine (names_of c.as_slice-in-Graft.result.now) (ap names_of c.as_slice-in-Graft.ensures.value ∙ c.in_ok-names.ensures)
-    (id_of c.entry_for.result.id) (λ empty. isnt_empty_tree table kind path c.in-Graft.found made is (subst IsEmptyTree id empty)) _ c.in_err-graft-in-Graft.ensures.refused)
+    (id_of c.entry_for-entry.result.id) (λ empty. isnt_empty_tree table kind path c.in-Graft.found made is (subst IsEmptyTree id empty)) _ c.in_err-graft-in-Graft.ensures.refused)
 
 pub returns-clause-asked : goal.returns-clause-asked
 returns-clause-asked g c = λ honest trees stored.
@@ -217,4 +217,4 @@ returns-in_err-graft-in-Graft-clause-broken g c =
     let store = c.args.editor.now.store in
     let names = names_of c.as_slice-in-Graft.result.now in
     let p = err_from_is_err_and c.from_residual-in_err-graft-in-Graft.result c.from_residual-in_err-graft-in-Graft.ensures.1 in
-    rw (p.1, p.2) (graft_broken (g.S.Lookup.is_honest store) (g.S.Lookup.may_fail store) (g.S.Lookup.table store) names (id_of c.entry_for.result.id) (LeadsThrough (λ trees. files_of trees c.graft.new.self) names) _ c.in_err-graft-in-Graft.ensures.refused)
+    rw (p.1, p.2) (graft_broken (g.S.Lookup.is_honest store) (g.S.Lookup.may_fail store) (g.S.Lookup.table store) names (id_of c.entry_for-entry.result.id) (LeadsThrough (λ trees. files_of trees c.graft.new.self) names) _ c.in_err-graft-in-Graft.ensures.refused)
