@@ -125,9 +125,11 @@ module _ (MayFail : Type 0) (r : plain.Repository) (edits : List Edit) (edit : E
 -- what stops one of the edits stops them
 pub one_stopped : (MayFail : Type 0) (r : plain.Repository) (edits : List Edit) (i : ℕ) (edit : Edit) → i < length edits → edit ≡ get_or edits i edit
     → (IsRead : Option Found → Type 0) (AreRead : Changes → Type 0) (stopped : Stopped) → TellsRead MayFail (kept_edit r edit ∷ []) IsRead (Err stopped) → TellsRead MayFail (map (kept_edit r) edits) AreRead (Err stopped)
-one_stopped MayFail r edits i edit less is IsRead AreRead (Refused reason) (same, bad) =
-    (same, badly_at (map (kept_edit r) edits) i (kept_edit r edit) (subst (λ n. i < n) (sym (length-map edits (kept_edit r))) less)
-    (ap (λ (m : model.Edit). grafts_badly (m ∷ [])) (get_mapped (kept_edit r) edits i edit ∙ sym (ap (kept_edit r) is)) ∙ bad))
+one_stopped MayFail r edits i edit less is IsRead AreRead (Refused reason) (same, bad) = (
+  same,
+  badly_at (map (kept_edit r) edits) i (kept_edit r edit) (subst (λ n. i < n) (sym (length-map edits (kept_edit r))) less)
+      (ap (λ (m : model.Edit). grafts_badly (m ∷ [])) (get_mapped (kept_edit r) edits i edit ∙ sym (ap (kept_edit r) is)) ∙ bad),
+)
 one_stopped MayFail r edits i edit less is IsRead AreRead (Fault reason) told = told
 
 -- all of them are read

@@ -92,7 +92,6 @@ edited_alike a b (Remove path) (RemoveFile place) same alike q = absurd alike
 edited_alike a b (RemoveFile path) (Put other place more) same alike q = absurd alike
 edited_alike a b (RemoveFile path) (Remove place) same alike q = absurd alike
 edited_alike a b (RemoveFile path) (RemoveFile place) same alike q = retained a b same (λ q. not (is_within path q)) q ∙ ap (λ p. contains_key (edited b (RemoveFile p)) q) alike
-
 edited_alike a b (Put kind path bytes) (Graft place source other) same alike q = absurd alike
 edited_alike a b (Remove path) (Graft place source other) same alike q = absurd alike
 edited_alike a b (RemoveFile path) (Graft place source other) same alike q = absurd alike
@@ -113,7 +112,6 @@ one_alike a b (Remove path) (RemoveFile place) same alike = absurd alike
 one_alike a b (RemoveFile path) (Put other place more) same alike = absurd alike
 one_alike a b (RemoveFile path) (Remove place) same alike = absurd alike
 one_alike a b (RemoveFile path) (RemoveFile place) same alike = below_alike a b same path ∙ ap (has_below b) alike
-
 one_alike a b (Put kind path bytes) (Graft place source other) same alike = absurd alike
 one_alike a b (Remove path) (Graft place source other) same alike = absurd alike
 one_alike a b (RemoveFile path) (Graft place source other) same alike = absurd alike

@@ -87,7 +87,10 @@ fn source_ids(
 ) -> Result<Vec<Option<ObjectId>>, AllocError>
     ensures { IfOk result (λ ids. ids.items ≡ map (option_and_then commit_in) sources.now) }
 {
-    sources.iter().map(|source| source_id(*source)).collect(alloc)
+    sources
+        .iter()
+        .map(|source| source_id(*source))
+        .collect(alloc)
 }
 
 fn source_id(source: Option<WordMeaning>) -> Option<ObjectId>

@@ -50,11 +50,7 @@ pub(crate) struct Changes {
 
 /// What an edit changes, for which this was found, and the object of its content, if it has one. Each content is hashed here, and
 /// nowhere else.
-fn read_edit(
-    kind: Kind,
-    edit: Edit,
-    found: Option<Found>,
-) -> (PathChange, Option<NewObject>)
+fn read_edit(kind: Kind, edit: Edit, found: Option<Found>) -> (PathChange, Option<NewObject>)
     ensures change { (r : plain.Repository) → kind ≡ r.kind → IsFoundFor r edit found
         → IsChangeOf r result.0 (kept_edit r edit) }
     ensures blob { (r : plain.Repository) → kind ≡ r.kind
