@@ -1,5 +1,5 @@
 -- What the entry of a graft's source leads to.
-use Rattle.std.proofs.Common.{◌≡◌, ℕ, Bool, true, false, cond, List, [], ◌∷◌, ◌++◌, refl, sym, ◌∙◌, ap, subst, inl, inr, Option, Some, None, is_some, option_map, codes, get_or}
+use Rattle.std.proofs.Common.{◌≡◌, ℕ, Bool, true, false, cond, List, [], ◌∷◌, ◌++◌, refl, sym, ◌∙◌, ap, subst, inl, inr, Option, Some, None, is_some, option_map, codes, get_or, arith}
 use Rattle.std.specs.FinMap.{entries, keys, get}
 use Rattle.gix_hash_id.specs.Id.{Id, id_of, null_id}
 use Rattle.gix_hash_id.specs.declared.kind.Kind.{Kind}
@@ -71,10 +71,10 @@ folder_found (Some (File Link x)) id e = let bad = ap (λ (p : Bytes × Id). p.0
 same_at : (i a b : ℕ) (x y : Bytes) → x ≡ y → get_or x i 0 ≡ a → get_or y i 0 ≡ b → a ≡ b
 same_at i a b x y e at_x at_y = sym at_x ∙ ap (λ m. get_or m i 0) e ∙ at_y
 
-no_exec : 54 ≡ 55 → ⊥
-no_exec e = cc
+no_exec : ◌≡◌ {A = ℕ} 54 55 → ⊥
+no_exec e = absurd (omega arith)
 
-no_link : 48 ≡ 50 → ⊥
+no_link : ◌≡◌ {A = ℕ} 48 50 → ⊥
 no_link e = cc
 
 same_mode : (a b : FileKind) → mode_of a ≡ mode_of b → a ≡ b
