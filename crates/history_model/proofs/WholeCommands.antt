@@ -68,7 +68,7 @@ module _ (r : Repository) (whole : IsWholeStore r) (written : IsWritten r) where
     line_comes (RemoveFileLine path) i = tt
     line_comes (GraftLine path word source) i = (word_fine (GraftLine path word source) i word (inl refl)).1.map
 
-    edits_come : (e : Edit) → In e (edits_of r c) → ComesFromFiles e
+    pub edits_come : (e : Edit) → In e (edits_of r c) → ComesFromFiles e
     edits_come e i = let from = of_map (read_edit r) e c.edits i in subst ComesFromFiles (sym from.2) (line_comes from.0 from.1)
 
     -- what is grafted is stored
@@ -80,7 +80,7 @@ module _ (r : Repository) (whole : IsWholeStore r) (written : IsWritten r) where
         let one = of_carried at source (word_files r word) path content j in
         (word_fine (GraftLine at word source) i word (inl refl)).0 one.from content (in_get (word_files r word) one.from content one.stands)
 
-    graft_stored : (e : Edit) → In e (edits_of r c) → (path : Bytes) (content : Content) → In (path, content) (grafted e) → IsStored r (StoredBytes content.bytes)
+    pub graft_stored : (e : Edit) → In e (edits_of r c) → (path : Bytes) (content : Content) → In (path, content) (grafted e) → IsStored r (StoredBytes content.bytes)
     graft_stored e i path content j =
         let from = of_map (read_edit r) e c.edits i in
         line_stored from.0 from.1 path content (subst (λ f. In (path, content) (grafted f)) from.2 j)
