@@ -20,14 +20,13 @@ wrong-bodies:
 	planted/try $(CRATES)
 
 # Runs the program on a stream of several commands and prints its replies: the proved program where it stands and is of these
-# sources, else the sources as they are, by rt try, which proves nothing: from a fresh checkout it takes some 100 seconds of each of two
-# processors.
+# sources, else the sources of the program without words as they are, by rt try, which proves nothing.
 demo:
 	@if [ -x $(PROGRAM) ] && [ -z "$$($(NEWER))" ]; then \
 	  $(PROGRAM) < demo/first.stream; \
 	else \
 	  echo 'This run is not the proved build, which make program makes.' >&2; \
-	  cd crates/history_program && rt try --steps 60000000 < ../../demo/first.stream; \
+	  cd crates/history_demo && rt try --steps 60000000 < ../../demo/first.stream; \
 	fi
 
 # Shows the proved program on a real folder, which is removed again: made, run on, checked, refused, recovered. It fails where anything

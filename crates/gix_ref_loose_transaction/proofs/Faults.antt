@@ -4,11 +4,10 @@ use Rattle.gix_ref_file.specs.Tree.{Tree}
 use Rattle.gix_ref_edit.specs.declared.change.RefEdit.{RefEdit}
 use Rattle.gix_ref_store.specs.Places.{Base}
 use Rattle.gix_ref_transaction.specs.declared.packed.Transaction.{Transaction}
-use Rattle.gix_ref_moves.specs.Committing.{commit_paths}
 use Rattle.gix_ref_moves.specs.declared.act.Move.{Move}
 use Rattle.gix_ref_loose_transaction.specs.Causes.{LockFault, RepackFault, SomeEditFault}
 use Rattle.gix_ref_loose_transaction.specs.LogLines.{Logging}
-use Rattle.gix_ref_loose_transaction.specs.Paths.{has_twice}
+use Rattle.gix_ref_loose_transaction.specs.Paths.{paths_apart, has_twice}
 use Rattle.gix_ref_loose_transaction.specs.declared.error.PrepareError.{PrepareError}
 use Rattle.gix_ref_loose_transaction.specs.declared.error.PrepareError.TheVariants as fault
 
@@ -41,6 +40,6 @@ module _ (l : Logging) (b : Base) (tree : Tree) (may : Type 0) (edits : List Ref
   by_edit (fault.ReferenceDecode e) h = h
   by_edit (fault.CreateOrUpdateRefLog e) h = h
 
-  pub by_paths : (t : Option Transaction) (moves : List Move) (error : PrepareError) → (error ≡ fault.Memory) ⊎ ((error ≡ fault.SamePlace) × (has_twice (commit_paths t moves) ≡ true)) → LockFault l b tree may edits error
+  pub by_paths : (t : Option Transaction) (moves : List Move) (error : PrepareError) → (error ≡ fault.Memory) ⊎ ((error ≡ fault.SamePlace) × (has_twice (paths_apart b t moves) ≡ true)) → LockFault l b tree may edits error
   by_paths t moves error (inl is) = subst (LockFault l b tree may edits) (sym is) tt
   by_paths t moves error (inr (is, twice)) = subst (LockFault l b tree may edits) (sym is) (t, moves, twice)

@@ -9,3 +9,5 @@ mod Readings
 mod ReadingWays
 mod Plannings
 mod Faults
+mod RecordKinds
+mod Prepares

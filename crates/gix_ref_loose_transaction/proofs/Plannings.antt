@@ -215,3 +215,7 @@ module _ (options other : Options) (b base : Base) (old x : Tree) (records : Lis
 pub ok_four : {T E : Type 0} (P Q R S : T → Type 0) (r : Result T E) → ((t : T) → P t → Q t → R t → S t) → IfOk r P → IfOk r Q → IfOk r R → IfOk r S
 ok_four P Q R S (Ok t) f p q w = f t p q w
 ok_four P Q R S (Err e) f p q w = tt
+
+pub ok_five : {T E : Type 0} (P Q R S U V : T → Type 0) (r : Result T E) → ((t : T) → P t → Q t → R t → S t → U t → V t) → IfOk r P → IfOk r Q → IfOk r R → IfOk r S → IfOk r U → IfOk r V
+ok_five P Q R S U V (Ok t) f p q w x y = f t p q w x y
+ok_five P Q R S U V (Err e) f p q w x y = tt

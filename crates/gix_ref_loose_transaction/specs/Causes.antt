@@ -20,7 +20,6 @@ use Rattle.gix_ref_edit.specs.declared.log.LogChange.{LogChange}
 use Rattle.gix_ref_format.specs.PackedBuffer.{FileFault}
 use Rattle.gix_ref_format.specs.declared.log.line.Line.{Line}
 use Rattle.gix_ref_format.specs.declared.packed.buffer.Error.TheVariants as opening
-use Rattle.gix_ref_moves.specs.Committing.{commit_paths}
 use Rattle.gix_ref_moves.specs.declared.act.LogError.{LogError}
 use Rattle.gix_ref_moves.specs.declared.act.Move.{Move}
 use Rattle.gix_ref_moves.specs.declared.act.LogError.TheVariants.{CreateLeadingDirectories, Append, MessageWithNewlines, MissingCommitter, Unspellable}
@@ -38,7 +37,7 @@ use Rattle.gix_ref_way.specs.Ways.{Bytes}
 use Rattle.gix_ref_loose_transaction.specs.Asked.{MeetsOf, points_of}
 use Rattle.gix_ref_loose_transaction.specs.Found.{points_at}
 use Rattle.gix_ref_loose_transaction.specs.LogLines.{Logging, adds_line, has_log}
-use Rattle.gix_ref_loose_transaction.specs.Paths.{has_twice, places_of}
+use Rattle.gix_ref_loose_transaction.specs.Paths.{has_twice, paths_apart, places_of}
 use Rattle.gix_ref_loose_transaction.specs.Plans.{AreSplit}
 use Rattle.gix_ref_loose_transaction.specs.declared.asked.Refusal.{Refusal}
 use Rattle.gix_ref_loose_transaction.specs.declared.asked.Refusal.TheVariants.{DeleteReferenceMustExist, DeleteMustNotExist, MustExist, MustNotExist, ReferenceOutOfDate}
@@ -237,7 +236,7 @@ LockFault l b tree may_fail edits (PackedTransactionAcquire error) = Unit {0}
 LockFault l b tree may_fail edits (PackedTransactionPrepare error) = Unit {0}
 LockFault l b tree may_fail edits (Resolve error) = Unit {0}
 LockFault l b tree may_fail edits SamePlace =
-    (t : Option Transaction) × (moves : List Move) × (has_twice (commit_paths t moves) ≡ true)
+    (t : Option Transaction) × (moves : List Move) × (has_twice (paths_apart b t moves) ≡ true)
 LockFault l b tree may_fail edits (Refused why) =
     SomeEditFault l b tree may_fail edits (Refused why)
 LockFault l b tree may_fail edits (ReferenceDecode error) =

@@ -53,11 +53,27 @@ ReadsChanged packs removes name (Delete expected log) before now = ReadsDeleted 
 
 -- ---- all names
 
+-- the id that an edit gives is of the hash function
+abbrev pub IsOfKind : Kind → Points → Type 0
+IsOfKind kind (ToObject id) = id.kind ≡ kind
+IsOfKind kind (ToName name) = Unit {0}
+
+abbrev pub GivesKind : Kind → Change → Type 0
+GivesKind kind (Update log expected new) = IsOfKind kind (target_view new)
+GivesKind kind (Delete expected log) = Unit {0}
+
+-- the ids that edits give are
+abbrev pub AllGiveKind : Kind → List RefEdit → Type 0
+AllGiveKind kind edits = AllByRecursion (λ edit. GivesKind kind edit.change) edits
+
 -- what is written of a target is read as it, as of each name and of each id of the hash function
 abbrev pub IsReadBack : Kind → Change → Type 0
 IsReadBack kind (Update log expected new) =
     loose_target kind (loose_text (target_view new)) ≡ Some (target_view new)
 IsReadBack kind (Delete expected log) = Unit {0}
+
+abbrev pub AllReadBack : Kind → List RefEdit → Type 0
+AllReadBack kind edits = AllByRecursion (λ edit. IsReadBack kind edit.change) edits
 
 -- the records that were written are read as they are, as where all their ids are of the hash function
 abbrev pub AreReadBack : (b : Base) (old new : Tree) (lines : List Line) (t : Option Packed)
@@ -72,6 +88,9 @@ pub record Prepared : Type 0 where
   pub moves : List Move
   pub packed : Option Packed
 
+abbrev pub prepared_of : List RefEdit → List Move → Option Packed → Prepared
+prepared_of edits moves packed = record { edits = edits; moves = moves; packed = packed }
+
 -- What was prepared in the tree before still stands.
 pub record IsAsPrepared (b : Base) (packs : Option Table) (removes : Bool) (before now : Tree)
     (t : Prepared) : Type 0 where
@@ -83,7 +102,7 @@ pub record IsAsPrepared (b : Base) (packs : Option Table) (removes : Bool) (befo
   pub say : SayOfRecords packs t.edits lines
   pub holds : HoldsIf b before now lines t.packed
   -- what is written is read back
-  pub files : AllByRecursion (λ edit. IsReadBack b.kind edit.change) t.edits
+  pub files : AllReadBack b.kind t.edits
   pub records : AreReadBack b before now lines t.packed holds
   -- no file of the edits stands where packed records do
   pub apart : IsNone (packed_place b) (all_paths t.moves)

@@ -9,6 +9,7 @@ mod once;
 mod packed_refs;
 mod plan;
 mod records;
+mod targets;
 pub mod transaction;
 
 pub use crate::asked::Refusal;

@@ -1,7 +1,6 @@
 //! Whether paths are all different.
 
 ghost use Rattle.std.specs.Prelude.{◌≡◌, ◌++◌, IfOk, OnOk, map};
-ghost use Rattle.gix_ref_moves.specs.Committing.{commit_paths, packed_paths};
 ghost use Rattle.gix_ref_moves.specs.Moves.{all_paths};
 ghost use Rattle.gix_ref_loose_transaction.specs.Paths as spec;
 ghost use Rattle.gix_ref_loose_transaction.specs.Paths.{bytes_of, has_twice};
@@ -43,27 +42,37 @@ fn places_of<F: Files>(
     Ok(places)
 }
 
-// Whether two of the paths that a commit concerns are one.
-pub(crate) fn stand_twice(
+// Whether two of the paths that a commit concerns are one, or one of the moves' is that of packed records.
+pub(crate) fn stand_twice<F: Files>(
     alloc: Global,
+    store: &Store<F>,
     moves: &[Move],
     packed: &Option<Transaction>,
 ) -> Result<bool, AllocError>
-    ensures { IfOk result (λ twice. twice ≡ has_twice (commit_paths packed.now moves.now)) }
+    ensures { IfOk result (λ twice.
+        twice ≡ has_twice (spec.paths_apart (base_of store.now) packed.now moves.now)) }
 {
-    let mut paths = paths_of_records(alloc, packed)?;
+    let mut paths = paths_of_records(alloc, store, packed)?;
     add_paths(alloc, moves, &mut paths)?;
     have_twice(alloc, &paths)
 }
 
-// The paths of packed records.
-fn paths_of_records(alloc: Global, packed: &Option<Transaction>) -> Result<Vec<Vec<u8>>, AllocError>
-    ensures { IfOk result (λ paths. map bytes_of paths.items ≡ packed_paths packed.now) }
+// Where packed records stand, and their lock where it is held.
+fn paths_of_records<F: Files>(
+    alloc: Global,
+    store: &Store<F>,
+    packed: &Option<Transaction>,
+) -> Result<Vec<Vec<u8>>, AllocError>
+    ensures { IfOk result (λ paths.
+        map bytes_of paths.items ≡ spec.records_paths (base_of store.now) packed.now) }
 {
     let mut paths = Vec::new(alloc);
-    if let Some(packed) = packed {
-        paths.push(packed.lock().place.to_vec(alloc)?)?;
-        paths.push(packed.lock().path.to_vec(alloc)?)?;
+    match packed {
+        Some(packed) => {
+            paths.push(packed.lock().place.to_vec(alloc)?)?;
+            paths.push(packed.lock().path.to_vec(alloc)?)?;
+        }
+        None => paths.push(store.packed_refs_path(alloc)?)?,
     }
     Ok(paths)
 }

@@ -16,9 +16,9 @@ ghost use Rattle.gix_ref_loose_transaction.specs.Alike.{ReadsAlike};
 ghost use Rattle.gix_ref_loose_transaction.specs.Causes.{LockFault, PrepareFault, ReadyFault, SomeEditFault};
 ghost use Rattle.gix_ref_loose_transaction.specs.LogLines.{AllLined, logging};
 ghost use Rattle.gix_ref_loose_transaction.specs.Modes.{objects_in, removes};
-ghost use Rattle.gix_ref_loose_transaction.specs.Paths.{has_twice};
+ghost use Rattle.gix_ref_loose_transaction.specs.Paths.{has_twice, paths_apart};
 ghost use Rattle.gix_ref_loose_transaction.specs.Plans.{AllHold, AllPlanned, AllTested, AreSplit, KeepsFiles, LocksGone};
-ghost use Rattle.gix_ref_loose_transaction.specs.Reads.{IsAsPrepared, ReadsEdited, ReadsOnWay};
+ghost use Rattle.gix_ref_loose_transaction.specs.Reads.{AllGiveKind, AllReadBack, IsAsPrepared, prepared_of, ReadsEdited, ReadsOnWay};
 ghost use Rattle.gix_ref_loose_transaction.specs.Repacking.{AreRepacked};
 ghost use Rattle.gix_ref_loose_transaction.specs.declared.error.PrepareError.TheVariants.{Memory, SamePlace};
 
@@ -28,6 +28,7 @@ use crate::once::{share_place, stand_twice};
 use crate::packed_refs::PackedRefs;
 use crate::plan::plan;
 use crate::records::repack;
+use crate::targets::targets_are_read;
 use gix_object_find::Find;
 use gix_object_lines::lines::ActorRef;
 use gix_ref_edit::{RefEdit, RefEditsExt};
@@ -49,13 +50,16 @@ pub struct Transaction {
 }
 
 /// Prepares edits: those of symbolic references are split, each reference is locked, read and tested, and its new text is written into the
-/// lock; packed records that are to go are left out of the packed references' lock. `committer` is who log lines tell of.
+/// lock. `committer` is who log lines tell of. The new packed references are written into theirs, as `packed_refs` asks: without the records
+/// of what is deleted, and in the two modes of packing with a record of each reference that is updated to an object; a tag's tells also what
+/// the tag leads to. In the last mode the own files of these go with [`Transaction::commit`].
 ///
-/// `PreprocessingFailed` where symbolic references lead too far or a name has two edits, `SamePlace` where two edits concern one file,
-/// `LockAcquire` where a lock stands or a file is in its way, `Refused` where a reference isn't as its edit asks, `ReferenceDecode` where it
-/// can't be read, `CreateOrUpdateRefLog` where a line for its log can't be made, `Packed`, `PackedTransactionAcquire` and
-/// `PackedTransactionPrepare` where packed references can't be opened, locked or written, and `Io` where a lock can't be written. At each
-/// moment each file but locks is as before, and after an error the locks have gone, as far as that succeeds.
+/// `PreprocessingFailed` where symbolic references lead too far or a name has two edits, `SamePlace` where two edits concern one file, or
+/// one concerns that of packed references, `LockAcquire` where a lock stands or a file is in its way, `Refused` where a reference isn't as
+/// its edit asks, `ReferenceDecode` where it can't be read, `CreateOrUpdateRefLog` where a line for its log can't be made, `Packed`,
+/// `PackedTransactionAcquire` and `PackedTransactionPrepare` where packed references can't be opened, locked or written, `Resolve` where of
+/// an object that is to be packed isn't found what it leads to, and `Io` where a lock can't be written. At each moment each file but locks
+/// is as before, and after an error the locks have gone, as far as that succeeds.
 pub fn prepare<F: Files, O: Find>(
     alloc: Global,
     store: &mut Store<F>,
@@ -85,6 +89,12 @@ pub fn prepare<F: Files, O: Find>(
         → IfOk result (λ t. AreRepacked (base_of store.old)
         (option_map O.table (objects_in packed_refs.entry)) (F.history store.old.files).tree
         (F.history store.new.files).tree t.edits.items t.packed) }
+    // What is prepared can be committed as its edits say, where their ids are of the store's hash function.
+    ensures prepared { F.is_honest store.old.files → IfSome (objects_in packed_refs.entry) O.is_honest
+        → IfOk result (λ t. AllGiveKind (base_of store.old).kind t.edits.items
+        → IsAsPrepared (base_of store.old) (option_map O.table (objects_in packed_refs.entry))
+        (removes packed_refs.entry) (F.history store.old.files).tree
+        (F.history store.new.files).tree (prepared_of t.edits.items t.moves.items t.packed)) }
     ensures causes { F.is_honest store.old.files → let tree = (F.history store.old.files).tree in
         let b = base_of store.old in
         let l = logging store.old.options (ref_state b tree) committer.entry in
@@ -117,6 +127,10 @@ fn prepared<F: Files, O: Find>(
         let b = base_of store.old in
         let l = logging store.old.options (ref_state b tree) committer.entry in
         IfOk result (λ t. AllLined l b tree t.edits.items t.moves.items) }
+    ensures apart { IfOk result (λ t.
+        has_twice (paths_apart (base_of store.old) t.packed t.moves.items) ≡ false) }
+    ensures back { IfOk result (λ t. let kind = (base_of store.old).kind in
+        AllGiveKind kind t.edits.items → AllReadBack kind t.edits.items) }
     ensures repacked { F.is_honest store.old.files → IfSome (objects_in packed_refs.now) O.is_honest
         → IfOk result (λ t. AreRepacked (base_of store.old)
         (option_map O.table (objects_in packed_refs.now)) (F.history store.old.files).tree
@@ -184,6 +198,10 @@ fn locked<F: Files, O: Find>(
         let b = base_of store.old in
         let l = logging store.old.options (reads_with store.old tree packed.entry) committer.entry in
         IfOk result (λ t. AllLined l b tree t.edits.items t.moves.items) }
+    ensures apart { IfOk result (λ t.
+        has_twice (paths_apart (base_of store.old) t.packed t.moves.items) ≡ false) }
+    ensures back { IfOk result (λ t. let kind = (base_of store.old).kind in
+        AllGiveKind kind t.edits.items → AllReadBack kind t.edits.items) }
     ensures repacked { F.is_honest store.old.files → IfSome (objects_in packed_refs.now) O.is_honest
         → let b = base_of store.old in let old = (F.history store.old.files).tree in
         is_some packed.entry ≡ is_some (packed_text_in b old)
@@ -267,11 +285,17 @@ fn finish<F: Files>(
     ensures moves { IfOk result (λ t. t.moves ≡ moves) }
     ensures packed { IfOk result (λ t. t.packed ≡ packed) }
     ensures causes { IfErr result (λ error. (error ≡ Memory)
-        ⊎ ((error ≡ SamePlace) × (has_twice (commit_paths packed moves.items) ≡ true))) }
+        ⊎ ((error ≡ SamePlace)
+        × (has_twice (paths_apart (base_of store.old) packed moves.items) ≡ true))) }
+    ensures apart { IfOk result (λ t.
+        has_twice (paths_apart (base_of store.old) t.packed t.moves.items) ≡ false) }
+    ensures back { IfOk result (λ t. let kind = (base_of store.old).kind in
+        AllGiveKind kind t.edits.items → AllReadBack kind t.edits.items) }
     ensures still { IfOk result (λ _. store.new ≡ store.old) }
     ensures moments { Passes F.is_honest F.history store.old.files store.new.files SameButLocks }
 {
-    match stand_twice(alloc, &moves, &packed) {
+    targets_are_read(&edits, store.options().object_hash);
+    match stand_twice(alloc, store, &moves, &packed) {
         Ok(false) => Ok(Transaction {
             edits,
             moves,

@@ -19,7 +19,7 @@ use Rattle.history_model.specs.Causes.{first_cause}
 use Rattle.history_model.specs.Replies.{Switched, reply_text}
 use Rattle.history_model.specs.Spelling.{Line as TextLine, part_text}
 use Rattle.history_model.specs.Steps.{Accepts}
-use Rattle.history_model.specs.Places.{Pair, file_at, head_place, packed_place, is_lock_file, is_name_folder}
+use Rattle.history_model.specs.Places.{Pair, file_at, head_place, is_lock_file, is_name_folder}
 use Rattle.history_model.specs.Moments.{LeavesStopped}
 use Rattle.history_model.specs.Recovery.{recovered_objects}
 use Rattle.history_model.specs.StandsFor.{head_text}
@@ -38,6 +38,7 @@ use Rattle.history_steps.proofs.PassedNames.{moving_stops, nothing_stops, values
 use Rattle.history_steps.proofs.TreePuts.{halves_stand}
 use Rattle.history_store.specs.Creation.{SameFolders, head_lock}
 use Rattle.history_store.specs.Face.{ids_of_objects}
+use Rattle.history_store.specs.Packing.{KeepsRecords}
 use Rattle.history_store.specs.References.{HasHeadRoom, MayBeWritten, PutsBeside}
 use Rattle.history.specs.Acts.{Acts}
 use Rattle.gix_traverse_commit.specs.Told.{rows_of}
@@ -47,8 +48,7 @@ use Rattle.history.specs.Indexed.{AgreeRows}
 use Rattle.history.specs.Faults.{file_fault}
 use Rattle.history.specs.Halves.{names_tree, objects_tree}
 use Rattle.history.specs.Moments.{GoesLater, StoodOnTheWay}
-use Rattle.history.specs.Serving.{Serves}
-use Rattle.history.specs.Stands.{pair_of}
+use Rattle.history.specs.Stands.{Stands, pair_of}
 use Rattle.history.specs.declared.repository.Repository.{Repository}
 use Rattle.history.specs.declared.stopped.Stopped.{Stopped}
 use Rattle.history.specs.declared.stopped.Stopped.TheVariants.{Refused, Fault}
@@ -115,15 +115,15 @@ folders_now old new adds = by_now (adds_now _ old new adds)
     by_now (inl same) = λ path. ap (λ t. is_folder (get t path)) same
     by_now (inr folders) = folders
 
-module _ {F : Type 0} (IsHonest : F → Type 0) (history : F → History) (failures : F → ℕ) (old : Repository F) (r : plain.Repository) (h : Serves IsHonest history old r) where
+module _ {F : Type 0} (IsHonest : F → Type 0) (history : F → History) (failures : F → ℕ) (old : Repository F) (r : plain.Repository) (h : Stands IsHonest history old r) where
   sound : IsSound r
-  sound = record { whole = h.stands.whole.whole; written = h.stands.whole.written }
+  sound = record { whole = h.whole.whole; written = h.whole.written }
 
   holds : HoldsNames (names_tree history old) r
-  holds = ((halves_stand r.kind (pair_of history old) r).0 h.stands.whole.stands).2
+  holds = ((halves_stand r.kind (pair_of history old) r).0 h.whole.stands).2
 
   values_old : HoldsValues r.kind (objects_tree history old) r.objects
-  values_old = ((halves_stand r.kind (pair_of history old) r).0 h.stands.whole.stands).1
+  values_old = ((halves_stand r.kind (pair_of history old) r).0 h.whole.stands).1
 
   -- no folder is in HEAD's place, or in its lock file's
   pub head_room : HasHeadRoom (names_tree history old)
@@ -150,17 +150,17 @@ module _ {F : Type 0} (IsHonest : F → Type 0) (history : F → History) (failu
         (folders : Adds (SameFolders (names_tree history old)) (history (names_part old)) (history (names_part new))) where
       pass : Adds (HoldsBetween r (Switch name)) (history (names_part old)) (history (names_part new))
       pass = adds_weaker (history (names_part old)) (history (names_part new)) (adds_both (history (names_part old)) (history (names_part new)) moments folders)
-          (λ tree both. switches_pass (pair_of history old) tree r name sound h.stands.whole.stands none (on_the_way tree both.0 both.1))
+          (λ tree both. switches_pass (pair_of history old) tree r name sound h.whole.stands none (on_the_way tree both.0 both.1))
 
       objects_stay : Adds (λ t. ⊥) (history (objects_part old)) (history (objects_part new))
       objects_stay = adds_same _ _ (ap (λ o. history o.files) objects)
 
       nothing : (pair : Pair) → pair.objects ≡ objects_tree history old → pair.names ≡ names_tree history old → LeavesStopped r (Switch name) pair
-      nothing pair same_objects same_names = subst (LeavesStopped r (Switch name)) (λ i. record { objects = sym same_objects i; names = sym same_names i }) (nothing_stops r (Switch name) (pair_of history old) h.stands.whole)
+      nothing pair same_objects same_names = subst (LeavesStopped r (Switch name)) (λ i. record { objects = sym same_objects i; names = sym same_names i }) (nothing_stops r (Switch name) (pair_of history old) h.whole)
 
       moving : (pair : Pair) → pair.objects ≡ objects_tree history old → HoldsBetween r (Switch name) pair.names → LeavesStopped r (Switch name) pair
       moving pair same_objects held = moving_stops r (Switch name) pair sound refl none refl
-          (subst (λ tree. HoldsValues r.kind (recovered_objects tree) r.objects) (sym same_objects) (values_recover r.kind (objects_tree history old) r.objects (h.stands.whole.whole.store).own_ids values_old)) held
+          (subst (λ tree. HoldsValues r.kind (recovered_objects tree) r.objects) (sym same_objects) (values_recover r.kind (objects_tree history old) r.objects (h.whole.whole.store).own_ids values_old)) held
 
       or_never : {A : Type 0} → A ⊎ ⊥ → A
       or_never (inl a) = a
@@ -189,7 +189,7 @@ module _ {F : Type 0} (IsHonest : F → Type 0) (history : F → History) (failu
     -- ---- at the end
 
     unlocked : file_at (names_tree history old) head_lock ≡ None
-    unlocked = no_lock_stands r (names_tree history old) holds (λ other stood. name_formed r h.stands.whole.written other stood) head_lock refl
+    unlocked = no_lock_stands r (names_tree history old) holds (λ other stood. name_formed r h.whole.written other stood) head_lock refl
 
     named : PutsBeside head_place (head_text name) (names_tree history old) (names_tree history new) → SameFolders (names_tree history old) (names_tree history new) → NamesBranch name (names_tree history old) (names_tree history new)
     named puts same = record {
@@ -201,28 +201,26 @@ module _ {F : Type 0} (IsHonest : F → Type 0) (history : F → History) (failu
       folders = folders_stay (names_tree history new) same;
     }
 
-    pub switch_serves : IsHonest (names_part new) → new.names.kind ≡ old.names.kind → new.branch.items ≡ name → rows_in new ≡ rows_in old → PutsBeside head_place (head_text name) (names_tree history old) (names_tree history new)
-        → SameFolders (names_tree history old) (names_tree history new) → Serves IsHonest history new (after r (Switch name))
-    switch_serves honest kind branch same_rows puts same = record {
-      stands = record {
-        honest_objects = subst (λ o. IsHonest o.files) (sym objects) h.stands.honest_objects;
-        honest_names = honest;
-        whole = record {
-          stands = (halves_stand r.kind (pair_of history new) (after r (Switch name))).1 (
-            refl,
-            values_new,
-            switches_stand (names_tree history old) (names_tree history new) r name holds (named puts same),
-          );
-          written = (sound_after r name sound none).written;
-          whole = (sound_after r name sound none).whole;
-        };
-        objects_kind = ap (λ o. o.kind) objects ∙ h.stands.objects_kind;
-        names_kind = kind ∙ h.stands.names_kind;
-        branch = branch;
-        known = λ id. ap (λ o. contains_key (ids_of_objects o) id) objects ∙ h.stands.known id;
-        rows = subst (λ (rows : Option (List Row)). AgreeRows r.kind r.objects (rows_of rows)) (sym same_rows) h.stands.rows;
+    pub switch_serves : IsHonest (names_part new) → new.names.kind ≡ old.names.kind → KeepsRecords new.names (names_tree history new) → new.branch.items ≡ name → rows_in new ≡ rows_in old → PutsBeside head_place (head_text name) (names_tree history old) (names_tree history new)
+        → SameFolders (names_tree history old) (names_tree history new) → Stands IsHonest history new (after r (Switch name))
+    switch_serves honest kind records branch same_rows puts same = record {
+      honest_objects = subst (λ o. IsHonest o.files) (sym objects) h.honest_objects;
+      honest_names = honest;
+      whole = record {
+        stands = (halves_stand r.kind (pair_of history new) (after r (Switch name))).1 (
+          refl,
+          values_new,
+          switches_stand (names_tree history old) (names_tree history new) r name holds (named puts same),
+        );
+        written = (sound_after r name sound none).written;
+        whole = (sound_after r name sound none).whole;
       };
-      stage = record { unpacked = puts.others packed_place (λ same. cc) (λ same. cc) ∙ h.stage.unpacked };
+      objects_kind = ap (λ o. o.kind) objects ∙ h.objects_kind;
+      names_kind = kind ∙ h.names_kind;
+      branch = branch;
+      known = λ id. ap (λ o. contains_key (ids_of_objects o) id) objects ∙ h.known id;
+      records = records;
+      rows = subst (λ (rows : Option (List Row)). AgreeRows r.kind r.objects (rows_of rows)) (sym same_rows) h.rows;
     }
 
 -- where HEAD isn't written, the command stops

@@ -21,17 +21,16 @@ use Rattle.history_model.specs.Meaning.{branch_or_name, new_commit, new_tag, sto
 use Rattle.history_model.specs.Causes.{holds, first_cause}
 use Rattle.history_model.specs.declared.Cause.TheVariants.{BadName, PrivateName, Collides}
 use Rattle.history_model.specs.Steps.{Accepts}
-use Rattle.history_model.specs.Places.{file_at, packed_place}
 use Rattle.history_model.specs.StandsFor.{StandsFor}
 use Rattle.history_steps.specs.TreeHalves.{HoldsValues, HoldsNames}
 use Rattle.history_steps.specs.OneNameSteps.{NameMove, MovesOneName, commit_move, entry_of_move, tag_move}
 use Rattle.history_model.specs.Wholeness.{IsSound}
-use Rattle.history_steps.proofs.OneNameStands.{one_name_stands}
+use Rattle.history_steps.proofs.OneNameStands.{one_name_moves}
 use Rattle.history_model.proofs.WholeReads.{no_cause, tests_collides}
-use Rattle.history_steps.proofs.TreeMoves.{packed_apart, packed_no_log}
 use Rattle.history_steps.proofs.TreePuts.{halves_stand}
 use Rattle.history_model.proofs.WholeSteps.{steps_keep_sound}
 use Rattle.history_store.specs.Face.{ids_of_objects}
+use Rattle.history_store.specs.Packing.{KeepsRecords}
 use Rattle.gix_traverse_commit.specs.Told.{rows_of}
 use Rattle.gix_traverse_commit.specs.declared.rows.Row.{Row}
 use Rattle.history.specs.Face.{objects_part, names_part, rows_in, KeepsAllButObjects, KeepsAllButNames}
@@ -41,7 +40,6 @@ use Rattle.history.proofs.RowsKept.{agree_grown}
 use Rattle.history.specs.Halves.{objects_tree, names_tree, ObjectsStand, NamesStand, FitsAmong, KnowsIds}
 use Rattle.history.specs.Plans.{IsMove}
 use Rattle.history.specs.Stands.{pair_of, Stands}
-use Rattle.history.specs.Serving.{Serves}
 use Rattle.history.specs.declared.planning.Moves.{Moves}
 use Rattle.history.specs.declared.repository.Repository.{Repository}
 use Rattle.history.proofs.Collisions.{fits_so}
@@ -106,21 +104,22 @@ module _ {F : Type 0} (IsHonest : F → Type 0) (history : F → History) where
         own_ids = subst (λ kind. HaveOwnIds kind r.objects) same (h.whole.whole.store).own_ids;
       }
 
-  pub names_stand : (old mid : Repository F) (r : plain.Repository) → Serves IsHonest history old r → KeepsAllButObjects old mid → NamesStand IsHonest history mid r
+  pub names_stand : (old mid : Repository F) (r : plain.Repository) → Stands IsHonest history old r → KeepsAllButObjects old mid → NamesStand IsHonest history mid r
   names_stand old mid r h kept =
       let same = sym kept.names in record {
-        honest = subst (λ names. IsHonest names.files) same h.stands.honest_names;
-        holds = subst (λ names. HoldsNames (history names.files).tree r) same ((halves_stand r.kind (pair_of history old) r).0 (h.stands.whole).stands).2;
-        named = λ name stood. name_formed r h.stands.whole.written name stood;
-        unpacked = subst (λ names. file_at (history names.files).tree packed_place ≡ None) same h.stage.unpacked;
+        honest = subst (λ names. IsHonest names.files) same h.honest_names;
+        holds = subst (λ names. HoldsNames (history names.files).tree r) same ((halves_stand r.kind (pair_of history old) r).0 (h.whole).stands).2;
+        named = λ name stood. name_formed r h.whole.written name stood;
+        kind = ap (λ names. names.kind) kept.names ∙ h.names_kind;
+        records = subst (λ names. KeepsRecords names (history names.files).tree) same h.records;
       }
 
   -- The values are put, the names stay; then the name moves, and the objects stay.
-  module _ (old mid new : Repository F) (r : plain.Repository) (command : Command) (move : NameMove) (so : MovesOneName r command move) (is_one : is_name move.name ≡ true) (h : Serves IsHonest history old r)
+  module _ (old mid new : Repository F) (r : plain.Repository) (command : Command) (move : NameMove) (so : MovesOneName r command move) (is_one : is_name move.name ≡ true) (h : Stands IsHonest history old r)
       (sound_after : IsSound (after r command)) (kept : KeepsAllButObjects old mid) (honest : IsHonest (objects_part mid)) (kind : mid.objects.kind ≡ old.objects.kind)
       (held : HoldsValues r.kind (objects_tree history mid) (after r command).objects)
       (known : KnowsIds mid (store_all r.kind r.objects (stored_by r command)))
-      (kept_then : KeepsAllButNames mid new) (honest_then : IsHonest (names_part new)) (kind_then : new.names.kind ≡ mid.names.kind)
+      (kept_then : KeepsAllButNames mid new) (honest_then : IsHonest (names_part new)) (kind_then : new.names.kind ≡ mid.names.kind) (records_then : KeepsRecords new.names (names_tree history new))
       (moves : Moves) (is : IsMove r move moves) (moved : MovesName moves.name.items (entry_of moves.entry) (names_tree history mid) (names_tree history new)) where
     from_old : MovesName move.name (entry_of_move r move) (names_tree history old) (names_tree history new)
     from_old = subst (λ names. MovesName move.name (entry_of_move r move) (history names.files).tree (names_tree history new)) kept.names
@@ -130,31 +129,29 @@ module _ {F : Type 0} (IsHonest : F → Type 0) (history : F → History) where
     to_new = subst (λ objects. HoldsValues r.kind (history objects.files).tree (after r command).objects) (sym kept_then.objects) held
 
     stands_after : StandsFor r.kind (pair_of history new) (after r command)
-    stands_after = one_name_stands r.kind (pair_of history old) (pair_of history new) r command move so (h.stands.whole).stands is_one h.stage.unpacked to_new from_old
+    stands_after = one_name_moves r.kind (pair_of history old) (pair_of history new) r command move so (h.whole).stands is_one to_new from_old
 
-    pub move_stands : Serves IsHonest history new (after r command)
+    pub move_stands : Stands IsHonest history new (after r command)
     move_stands = record {
-      stands = record {
-        honest_objects = subst (λ objects. IsHonest objects.files) (sym kept_then.objects) honest;
-        honest_names = honest_then;
-        whole = record { stands = stands_after; written = sound_after.written; whole = sound_after.whole };
-        objects_kind = ap (λ objects. objects.kind) kept_then.objects ∙ kind ∙ h.stands.objects_kind;
-        names_kind = kind_then ∙ ap (λ names. names.kind) kept.names ∙ h.stands.names_kind;
-        branch = ap (λ branch. branch.items) (kept_then.branch ∙ kept.branch) ∙ h.stands.branch ∙ sym so.branch;
-        known = λ id. ap (λ objects. contains_key (ids_of_objects objects) id) kept_then.objects ∙ known id;
-        rows = subst (λ (rows : Option (List Row)). AgreeRows r.kind (after r command).objects (rows_of rows)) (sym (kept_then.rows ∙ kept.rows))
-            (agree_grown r.kind r.objects (after r command).objects (rows_of (rows_in old)) (λ id value at. all_keep r.kind r.objects (stored_by r command) id value at) h.stands.rows);
-      };
-      stage = record { unpacked = from_old.others packed_place (packed_apart move.name is_one) (packed_no_log move.name) ∙ h.stage.unpacked };
+      honest_objects = subst (λ objects. IsHonest objects.files) (sym kept_then.objects) honest;
+      honest_names = honest_then;
+      whole = record { stands = stands_after; written = sound_after.written; whole = sound_after.whole };
+      objects_kind = ap (λ objects. objects.kind) kept_then.objects ∙ kind ∙ h.objects_kind;
+      names_kind = kind_then ∙ ap (λ names. names.kind) kept.names ∙ h.names_kind;
+      branch = ap (λ branch. branch.items) (kept_then.branch ∙ kept.branch) ∙ h.branch ∙ sym so.branch;
+      known = λ id. ap (λ objects. contains_key (ids_of_objects objects) id) kept_then.objects ∙ known id;
+      records = records_then;
+      rows = subst (λ (rows : Option (List Row)). AgreeRows r.kind (after r command).objects (rows_of rows)) (sym (kept_then.rows ∙ kept.rows))
+          (agree_grown r.kind r.objects (after r command).objects (rows_of (rows_in old)) (λ id value at. all_keep r.kind r.objects (stored_by r command) id value at) h.rows);
     }
 
-  sound_of : (old : Repository F) (r : plain.Repository) → Serves IsHonest history old r → IsSound r
-  sound_of old r h = record { whole = (h.stands.whole).whole; written = (h.stands.whole).written }
+  sound_of : (old : Repository F) (r : plain.Repository) → Stands IsHonest history old r → IsSound r
+  sound_of old r h = record { whole = (h.whole).whole; written = (h.whole).written }
 
-  pub commit_sound : (old : Repository F) (r : plain.Repository) (order : CommitCommand) → Serves IsHonest history old r → first_cause r (Commit order) ≡ None → IsFalse (takes_id r (Commit order)) → IsSound (after r (Commit order))
+  pub commit_sound : (old : Repository F) (r : plain.Repository) (order : CommitCommand) → Stands IsHonest history old r → first_cause r (Commit order) ≡ None → IsFalse (takes_id r (Commit order)) → IsSound (after r (Commit order))
   commit_sound old r order h none free = steps_keep_sound r (after r (Commit order)) (Commit order) (Committed (value_id r.kind (StoredCommit (new_commit r order)))) (accepted r order none free) (sound_of old r h)
 
-  pub tag_sound : (old : Repository F) (r : plain.Repository) (order : TagCommand) → Serves IsHonest history old r → first_cause r (Tag order) ≡ None → IsFalse (takes_id r (Tag order)) → IsSound (after r (Tag order))
+  pub tag_sound : (old : Repository F) (r : plain.Repository) (order : TagCommand) → Stands IsHonest history old r → first_cause r (Tag order) ≡ None → IsFalse (takes_id r (Tag order)) → IsSound (after r (Tag order))
   tag_sound old r order h none free = steps_keep_sound r (after r (Tag order)) (Tag order) (Tagged (value_id r.kind (StoredTag (new_tag r order)))) (tag_accepted r order none free) (sound_of old r h)
 
 -- the reply of a commit, to the id that its name moves to

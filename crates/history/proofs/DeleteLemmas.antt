@@ -1,42 +1,40 @@
 -- A name goes: what a `delete` is refused for, and what its files pass through.
-use Rattle.std.proofs.Common.{◌≡◌, ℕ, Bool, true, false, cond, not, ◌||◌, List, [], ◌∷◌, ◌++◌, map, refl, sym, ◌∙◌, ap, subst, Option, Some, None, option_map, is_some, unwrap_or}
-use Rattle.std.specs.Prelude.{Result, Err, Vec}
+use Rattle.std.proofs.Common.{◌≡◌, ◌≢◌, ◌⊎◌, inl, inr, ℕ, bytes_eq, Bool, true, false, cond, not, ◌||◌, List, [], ◌∷◌, ◌++◌, map, refl, sym, ◌∙◌, ap, subst, Option, Some, None, option_map, is_some}
+use Rattle.std.specs.Prelude.{IsTrue, MatchOption, Result, Err, Vec}
 use Rattle.std.specs.declared.alloc.Global.{Global}
-use Rattle.std.specs.FinMap.{get}
 use Rattle.gix_hash_id.specs.Id.{Id, id_of}
 use Rattle.gix_hash_id.specs.Order.{id_eq}
 use Rattle.gix_hash_id.specs.declared.kind.Kind.{Kind}
 use Rattle.gix_hash_id.specs.declared.object_id.ObjectId.{ObjectId}
 use Rattle.gix_ref_file.specs.Tree.{Tree}
-use Rattle.gix_ref_file.specs.Changes.{is_file_at}
 use Rattle.gix_ref_file.specs.History.{History, Adds}
 use Rattle.gix_ref_file.specs.declared.files.FileError.{FileError}
 use Rattle.gix_ref_file.specs.declared.files.FileError.TheVariants as files
 use Rattle.gix_ref_file.proofs.Histories.{adds_both, adds_weaker}
 use Rattle.history_model.specs.Bytes.{Bytes}
 use Rattle.history_model.specs.Repository as plain
-use Rattle.history_model.specs.Repository.{Reference, stands}
+use Rattle.history_model.specs.Repository.{stands}
 use Rattle.history_model.specs.Forms.{is_name, is_private}
 use Rattle.history_model.specs.Commands.{At, Command, Delete}
 use Rattle.history_model.specs.CommandParts.{option_expect}
 use Rattle.history_model.specs.Meaning.{after, name_commit}
 use Rattle.history_model.specs.Causes.{first_cause, holds, is_elsewhere, same_id}
 use Rattle.history_model.specs.Replies.{Deleted}
-use Rattle.history_model.specs.Places.{file_at, packed_place}
+use Rattle.history_model.specs.PackedNames.{PackedAgrees, PackedFile, is_packed_form, packed_file}
+use Rattle.history_model.specs.Places.{file_at, is_lock_file, packed_place}
 use Rattle.history_model.specs.Steps.{Accepts}
-use Rattle.history_model.specs.NameStates.{NameState, Holds, Absent, loose_state, name_state, packed_text_state}
 use Rattle.history_model.specs.StandsFor.{StandsFor}
 use Rattle.history_model.specs.declared.Cause.{Cause}
 use Rattle.history_model.specs.declared.Cause.TheVariants.{BadName, PrivateName, NoSuchName, NotExpected}
 use Rattle.history_model.specs.declared.Fault.TheVariants.{Memory, File, IdTaken}
-use Rattle.history_steps.specs.DeleteSteps.{DeletesName, DeletesOnTheWay}
+use Rattle.history_steps.specs.TakeSteps.{TakesName, TakesOnTheWay}
 use Rattle.history_steps.specs.Passing.{HoldsBetween}
 use Rattle.history_steps.specs.TreeHalves.{HoldsNames}
-use Rattle.history_steps.proofs.Deletions.{deletions_pass, deletions_stand}
+use Rattle.history_steps.proofs.Takings.{takings_pass, takings_stand}
 use Rattle.history_steps.proofs.PassedStates.{names_pass}
-use Rattle.history_steps.proofs.TreeMoves.{packed_apart, packed_no_log}
 use Rattle.history_steps.proofs.TreePuts.{halves_stand}
-use Rattle.history_store.specs.References.{IsGone, MayGo, SameFolders}
+use Rattle.history_store.specs.Packing.{HasPackedRoom, IsPackedForm, IsTaken, MayTake}
+use Rattle.history_store.specs.References.{SameFolders, lock_place}
 use Rattle.history.specs.Acts.{Acts, IsReadingFault}
 use Rattle.history.specs.Bases.{IsExpected, expected_meanings, reads_as, words_cause}
 use Rattle.history.specs.CommitCauses.{first_among, form_cause, held_causes, name_form_causes, word_causes}
@@ -46,8 +44,7 @@ use Rattle.history.specs.Faults.{file_fault}
 use Rattle.history.specs.Halves.{NamesStand, names_tree}
 use Rattle.history.specs.Held.{IsHeld, held_commit}
 use Rattle.history.specs.Meanings.{commit_in, commit_or_cause, meaning_of}
-use Rattle.history.specs.Serving.{Serves}
-use Rattle.history.specs.Stands.{pair_of}
+use Rattle.history.specs.Stands.{Stands, pair_of}
 use Rattle.history.specs.declared.base.Expected.{Expected}
 use Rattle.history.specs.declared.held.Held.{Held}
 use Rattle.history.specs.declared.base.Expected.TheVariants as expected
@@ -61,6 +58,8 @@ use Rattle.history.proofs.FirstCauses.{find_after_none, find_in_front}
 use Rattle.history.proofs.NamesAlone.{ChangesNames}
 use Rattle.history.proofs.WordCauses.{any_map, commit_told, words_told as all_words_told}
 use Rattle.history.proofs.HeldLemmas.{commit_stands}
+use Rattle.history.proofs.MovedNames.{no_lock_stands}
+use Rattle.history_model.proofs.WholeLists.{either, same_text}
 
 -- ---- what the name, the word and the files tell of the causes
 
@@ -170,39 +169,65 @@ acts_tested MayFail C StandsNow may r command result ends stopped was is_end h =
 
 -- ---- the name's files
 
-read_so : Kind → Bytes → Bool → Option Bytes → Option Bytes → NameState
-read_so kind name named own packed = cond named (unwrap_or (option_map (loose_state kind) own) (unwrap_or (option_map (packed_text_state kind name) packed) Absent)) Absent
-
--- a name that stands has a file
-pub file_there : (r : plain.Repository) (tree : Tree) (name : Bytes) → HoldsNames tree r → file_at tree packed_place ≡ None → stands r name ≡ true → is_file_at tree name ≡ true
-unfolding read_so
-file_there r tree name holds unpacked stood = by_ref (get r.names name) refl stood
+-- a path that isn't that of the lock file of `packed-refs` is as it was, and of that one no file stands
+others_stay : (r : plain.Repository) (old new : Tree) → HoldsNames old r → ((name : Bytes) → stands r name ≡ true → is_name name ≡ true)
+    → (file_at new (lock_place packed_place) ≡ None) ⊎ (file_at new (lock_place packed_place) ≡ file_at old (lock_place packed_place))
+    → (path : Bytes) → (path ≢ lock_place packed_place → file_at new path ≡ file_at old path) → file_at new path ≡ file_at old path
+others_stay r old new holds named lock path others = elim (either (bytes_eq path (lock_place packed_place))) [
+  | inl e ↦ let is = same_text path (lock_place packed_place) e in ap (file_at new) is ∙ gone lock ∙ ap (file_at old) (sym is)
+  | inr e ↦ others (λ is. absurd (cc (e, ap (λ p. bytes_eq p (lock_place packed_place)) is)))
+]
   where
-    by_file : (id : Id) → name_state r.kind tree name ≡ Holds id → (o : Option Bytes) → file_at tree name ≡ o → is_some o ≡ true
-    by_file id reads (Some text) e = refl
-    by_file id reads None e = by_name (is_name name) ((λ i. read_so r.kind name (is_name name) (sym e i) (sym unpacked i)) ∙ reads)
-      where
-        by_name : (b : Bool) → cond b Absent Absent ≡ Holds id → false ≡ true
-        by_name true wrong = cc
-        by_name false wrong = cc
+    none : file_at old (lock_place packed_place) ≡ None
+    none = no_lock_stands r old holds named (lock_place packed_place) refl
 
-    by_ref : (o : Option Reference) → get r.names name ≡ o → is_some o ≡ true → is_file_at tree name ≡ true
-    by_ref None e h = cc
-    by_ref (Some ref) e h = by_file ref.id ((holds.names name ref.id).1 (ap (option_map (λ (x : Reference). x.id)) e)) (file_at tree name) refl
+    gone : (file_at new (lock_place packed_place) ≡ None) ⊎ (file_at new (lock_place packed_place) ≡ file_at old (lock_place packed_place)) → file_at new (lock_place packed_place) ≡ file_at old (lock_place packed_place)
+    gone (inl e) = e ∙ sym none
+    gone (inr e) = e
 
-pub goes_on_the_way : (r : plain.Repository) (name : Bytes) (old new : History) → HoldsNames old.tree r → Adds (MayGo name old.tree) old new → Adds (SameFolders old.tree) old new → Adds (DeletesOnTheWay name old.tree) old new
-goes_on_the_way r name old new holds may same = adds_weaker old new (adds_both old new may same) (λ tree both.
-    record { log = (both.0).log; here = (both.0).here; others = (both.0).others; folders = λ path is. holds.folders path ((both.1 path).0 is) })
+-- what is kept of a lock file's path isn't that of `packed-refs`
+no_packed_lock : (path : Bytes) → is_lock_file path ≡ false → path ≢ lock_place packed_place
+no_packed_lock path no_lock is = absurd (cc (no_lock, ap is_lock_file is))
 
-pub files_gone : (r : plain.Repository) (name : Bytes) (old new : Tree) → HoldsNames old r → IsGone name old new → SameFolders old new → DeletesName name old new
-files_gone r name old new holds gone same = record { here = gone.here; log = gone.log; others = gone.others; folders = λ path is. holds.folders path ((same path).0 is) }
+-- `packed-refs` has room
+pub packed_room : (r : plain.Repository) (tree : Tree) → HoldsNames tree r → HasPackedRoom tree
+packed_room r tree holds = record {
+  place = λ stood. absurd (cc (holds.folders packed_place stood));
+  lock = λ stood. absurd (cc (holds.folders (lock_place packed_place) stood));
+}
 
-stopped_delete : (C : Type 0) (old new : Tree) (name : Bytes) (error : FileError) → (error ≡ files.Failed → C) → DeletesFiles C old new name (Err (why.Fault (file_fault error)))
-stopped_delete C old new name files.Failed failed = failed refl
-stopped_delete C old new name files.Memory failed = tt
+-- what stands in it is such as a repository has
+pub packed_formed : (r : plain.Repository) (tree : Tree) → HoldsNames tree r → IsPackedForm r.kind tree
+packed_formed r tree holds = λ text is. by_file (packed_file r.kind text) (holds.packed text is)
+  where
+    by_file : (o : Option PackedFile) → MatchOption o ⊥ (PackedAgrees r) → MatchOption o ⊥ (λ packed. IsTrue (is_packed_form packed))
+    by_file None h = h
+    by_file (Some packed) h = h.0
 
-pub delete_stopped : (C : Type 0) (old new : Tree) (name : Bytes) (error : FileError) (ends : Result (Unit {0}) Stopped) → ends ≡ Err (why.Fault (file_fault error)) → (error ≡ files.Failed → C) → DeletesFiles C old new name ends
-delete_stopped C old new name error ends is_end failed = subst (DeletesFiles C old new name) (sym is_end) (stopped_delete C old new name error failed)
+pub goes_on_the_way : (r : plain.Repository) (name : Bytes) (old new : History) → HoldsNames old.tree r → Adds (MayTake r.kind name old.tree) old new → Adds (SameFolders old.tree) old new → Adds (TakesOnTheWay r.kind name old.tree) old new
+goes_on_the_way r name old new holds may same = adds_weaker old new (adds_both old new may same) (λ tree both. record {
+  log = (both.0).log;
+  packed = (both.0).packed;
+  here = (both.0).here;
+  others = λ path apart no_log no_packed no_lock. (both.0).others path apart no_log no_packed (no_packed_lock path no_lock);
+  folders = λ path is. holds.folders path ((both.1 path).0 is);
+})
+
+pub files_gone : (r : plain.Repository) (name : Bytes) (old new : Tree) → HoldsNames old r → ((name : Bytes) → stands r name ≡ true → is_name name ≡ true) → IsTaken r.kind name old new → SameFolders old new → TakesName r.kind name old new
+files_gone r name old new holds named gone same = record {
+  here = gone.here;
+  log = gone.log;
+  packed = gone.packed;
+  others = λ path apart no_log no_packed. others_stay r old new holds named gone.lock path (λ no_lock. gone.others path apart no_log no_packed no_lock);
+  folders = λ path is. holds.folders path ((same path).0 is);
+}
+
+stopped_delete : (C : Type 0) (kind : Kind) (old new : Tree) (name : Bytes) (error : FileError) → (error ≡ files.Failed → C) → DeletesFiles C kind old new name (Err (why.Fault (file_fault error)))
+stopped_delete C kind old new name files.Failed failed = failed refl
+stopped_delete C kind old new name files.Memory failed = tt
+
+pub delete_stopped : (C : Type 0) (kind : Kind) (old new : Tree) (name : Bytes) (error : FileError) (ends : Result (Unit {0}) Stopped) → ends ≡ Err (why.Fault (file_fault error)) → (error ≡ files.Failed → C) → DeletesFiles C kind old new name ends
+delete_stopped C kind old new name error ends is_end failed = subst (DeletesFiles C kind old new name) (sym is_end) (stopped_delete C kind old new name error failed)
 
 -- ---- the command
 
@@ -213,23 +238,24 @@ pub names_only : (r : plain.Repository) (name : Bytes) (at : Option Bytes) → f
 names_only r name at none = record { changes = refl; spoken = refl; free = refl; values = refl; branch = refl; accepts = accepted r name at none; steps = accepted r name at none }
 
 -- where the removal stops, so does the command
-pub acts_stopped : (C : Type 0) (old new : Tree) (StandsNow : plain.Repository → Type 0) (r : plain.Repository) (name place : Bytes) (at : Option Bytes) (result : Result (Unit {0}) Stopped) (ends : Result (Vec ℕ Global) Stopped) (stopped : Stopped)
-    → result ≡ Err stopped → ends ≡ Err stopped → DeletesFiles C old new place result → Acts C StandsNow r (Delete name at) ends
-acts_stopped C old new StandsNow r name place at result ends stopped was is_end h = subst (Acts C StandsNow r (Delete name at)) (sym is_end) (by_case stopped (subst (DeletesFiles C old new place) was h))
+pub acts_stopped : (C : Type 0) (kind : Kind) (old new : Tree) (StandsNow : plain.Repository → Type 0) (r : plain.Repository) (name place : Bytes) (at : Option Bytes) (result : Result (Unit {0}) Stopped) (ends : Result (Vec ℕ Global) Stopped) (stopped : Stopped)
+    → result ≡ Err stopped → ends ≡ Err stopped → DeletesFiles C kind old new place result → Acts C StandsNow r (Delete name at) ends
+acts_stopped C kind old new StandsNow r name place at result ends stopped was is_end h = subst (Acts C StandsNow r (Delete name at)) (sym is_end) (by_case stopped (subst (DeletesFiles C kind old new place) was h))
   where
-    by_case : (stopped : Stopped) → DeletesFiles C old new place (Err stopped) → Acts C StandsNow r (Delete name at) (Err stopped)
+    by_case : (stopped : Stopped) → DeletesFiles C kind old new place (Err stopped) → Acts C StandsNow r (Delete name at) (Err stopped)
     by_case (why.Refused cause) k = absurd k
     by_case (why.Fault Memory) k = tt
     by_case (why.Fault File) k = k
     by_case (why.Fault IdTaken) k = absurd k
 
-module _ {F : Type 0} (IsHonest : F → Type 0) (history : F → History) (old : own.Repository F) (r : plain.Repository) (h : Serves IsHonest history old r) where
+module _ {F : Type 0} (IsHonest : F → Type 0) (history : F → History) (old : own.Repository F) (r : plain.Repository) (h : Stands IsHonest history old r) where
   pub stand_now : NamesStand IsHonest history old r
   stand_now = record {
-    honest = h.stands.honest_names;
-    holds = ((halves_stand r.kind (pair_of history old) r).0 h.stands.whole.stands).2;
-    named = name_formed r h.stands.whole.written;
-    unpacked = h.stage.unpacked;
+    honest = h.honest_names;
+    holds = ((halves_stand r.kind (pair_of history old) r).0 h.whole.stands).2;
+    named = name_formed r h.whole.written;
+    kind = h.names_kind;
+    records = h.records;
   }
 
   module _ (name path : Bytes) (at : Option Bytes) (same : path ≡ name) (none : first_cause r (Delete name at) ≡ None) where
@@ -264,18 +290,15 @@ module _ {F : Type 0} (IsHonest : F → Type 0) (history : F → History) (old :
     formed : is_name name ≡ true
     formed = formed_name name no_cause.0
 
-    pub passes_names : (new : own.Repository F) → Adds (DeletesOnTheWay path (names_tree history old)) (history (names_part old)) (history (names_part new)) → Adds (HoldsBetween r (Delete name at)) (history (names_part old)) (history (names_part new))
+    pub passes_names : (new : own.Repository F) → Adds (TakesOnTheWay r.kind path (names_tree history old)) (history (names_part old)) (history (names_part new)) → Adds (HoldsBetween r (Delete name at)) (history (names_part old)) (history (names_part new))
     passes_names new pass = adds_weaker (history (names_part old)) (history (names_part new)) pass (λ tree may.
-        names_pass r (Delete name at) tree (record { whole = h.stands.whole.whole; written = h.stands.whole.written }) none
-        (deletions_pass r name at (pair_of history old) tree h.stands.whole.stands formed h.stage.unpacked (subst (λ n. DeletesOnTheWay n (names_tree history old) tree) same may)))
+        names_pass r (Delete name at) tree (record { whole = h.whole.whole; written = h.whole.written }) none
+        (takings_pass r name at (pair_of history old) tree h.whole.stands formed (subst (λ n. TakesOnTheWay r.kind n (names_tree history old) tree) same may)))
 
-    module _ (new : own.Repository F) (kept : KeepsAllButNames old new) (deleted : DeletesName path (names_tree history old) (names_tree history new)) where
-      gone_here : DeletesName name (names_tree history old) (names_tree history new)
-      gone_here = subst (λ n. DeletesName n (names_tree history old) (names_tree history new)) same deleted
+    module _ (new : own.Repository F) (kept : KeepsAllButNames old new) (deleted : TakesName r.kind path (names_tree history old) (names_tree history new)) where
+      gone_here : TakesName r.kind name (names_tree history old) (names_tree history new)
+      gone_here = subst (λ n. TakesName r.kind n (names_tree history old) (names_tree history new)) same deleted
 
       pub stands_after : StandsFor r.kind (pair_of history new) (after r (Delete name at))
       stands_after = subst (λ objects. StandsFor r.kind (record { objects = (history objects.files).tree; names = names_tree history new }) (after r (Delete name at))) (sym kept.objects)
-          (deletions_stand r name at (pair_of history old) (names_tree history new) h.stands.whole.stands formed h.stage.unpacked gone_here)
-
-      pub unpacked_after : file_at (names_tree history new) packed_place ≡ None
-      unpacked_after = gone_here.others packed_place (packed_apart name formed) (packed_no_log name) ∙ h.stage.unpacked
+          (takings_stand r name at (pair_of history old) (names_tree history new) h.whole.stands formed gone_here)

@@ -1,8 +1,9 @@
 -- What a log's words, its order and its walk tell.
-use Rattle.std.proofs.Common.{◌≡◌, ◌∙◌, ap, refl, sym, subst, ℕ, zero, suc, ℤ, pos, Bool, true, false, cond, not, ◌==◌, ◌||◌, List, [], ◌∷◌, ◌++◌, map, length, Option, Some, None, option_map, Vec, Ok, Err, arith, tests}
+use Rattle.std.proofs.Common.{◌≡◌, ◌∙◌, ap, refl, sym, subst, ℕ, zero, suc, ℤ, pos, Bool, true, false, cond, not, ◌==◌, ◌||◌, List, [], ◌∷◌, ◌++◌, filter, map, length, ◌<◌, Option, Some, None, option_map, Vec, Ok, Err, arith, tests}
 use Rattle.std.specs.declared.alloc.Global.{Global}
 use Rattle.std.specs.Prelude.{Contains, IsErrAnd, IsSome, Result, option_and_then}
-use Rattle.std.specs.List.{filter_map, list_any}
+use Rattle.std.specs.Bool.{MatchBool}
+use Rattle.std.specs.List.{filter_map, list_any, AllWithin, HoldsAt}
 use Rattle.std.proofs.lemmas.Bool.{or_parts}
 use Rattle.std.proofs.lemmas.List.Folds.{list_any-append}
 use Rattle.gix_hash_id.specs.Id.{Id, id_of}
@@ -13,7 +14,7 @@ use Rattle.gix_traverse_commit.proofs.Lists.{at_from_contains}
 use Rattle.gix_traverse_commit.specs.Walks.{InBreadth, ByNewest, ByOldest, InDate, InTopological}
 use Rattle.gix_traverse_commit.specs.declared.parents.Parents.{Parents}
 use Rattle.gix_traverse_commit.specs.declared.parents.Parents.TheVariants.{All}
-use Rattle.history_model.specs.Answers.{IsWalk, commits_of, hidden_word, kept, since_of, tip_word, walk_request}
+use Rattle.history_model.specs.Answers.{IsWalk, commits_of, differs_at, hidden_word, kept, since_of, tip_word, walk_request}
 use Rattle.history_model.specs.Bytes.{Bytes, digits_value}
 use Rattle.history_model.specs.Causes.{first_cause, is_ambiguous, is_bad_path, is_hidden, is_no_commit, is_unborn, is_unknown}
 use Rattle.history_model.specs.Commands.{Log, LogCommand, LogItem, Tip, Hidden, Order, Breadth, Newest, Oldest, NewestSince, OldestSince, Date, Topological}
@@ -30,7 +31,9 @@ use Rattle.history_walks.specs.Asking.{IsInOrder, walk_from}
 use Rattle.history_walks.specs.declared.listing.Request.{Request}
 use Rattle.history_walks.specs.declared.listing.Order as walks
 use Rattle.history_walks.specs.declared.listing.Order.TheVariants as walk
+use Rattle.history_model.specs.Forms.{max_path}
 use Rattle.history_word.specs.Commands.{ArePaths}
+use Rattle.history_word.specs.Fields.{Keeps}
 use Rattle.history_word.specs.declared.command.Field.{Field}
 use Rattle.history.specs.Acts.{GivesMeant, IsReadingFault, OnlyAnswers}
 use Rattle.history.specs.Bases.{words_cause}
@@ -213,18 +216,56 @@ module _ (r : Repository) (order : LogCommand) (ends : Ends) (are : AreEnds r or
   )
   walk_given MayFail request store written (Err stopped) read good suits is_order tips_are hidden_are hold fault = walk_fault MayFail r order stopped fault
 
--- ---- the path
+-- ---- the paths
 
-pub no_path : (paths : List Bytes) → ArePaths None paths → paths ≡ []
-no_path paths (None, same, keeps) = same
-no_path paths (Some path, same, keeps) = absurd keeps
+or_true : (a : Bool) → (a || true) ≡ true
+or_true true = refl
+or_true false = refl
 
--- a good path is kept whole
-pub one_path : (field : Field) (paths : List Bytes) → ArePaths (Some field) paths → list_any is_bad_path paths ≡ false → paths ≡ kept_bytes field ∷ []
-one_path field paths (None, same, keeps) good = absurd keeps
-one_path field paths (Some path, same, keeps) good =
-    let fine = (or_parts (is_bad_path path) false (sym (ap (list_any is_bad_path) same) ∙ good)).0 in
-    same ∙ ap (λ p. p ∷ []) (sym (whole_path field path keeps fine))
+-- what a test of a path says
+abbrev pub Tells : Bool → Field → Type 0
+Tells answer field = (path : Bytes) → Keeps max_path field path → answer ≡ is_bad_path path
+
+some_bad : (fields : List Field) (paths : List Bytes) → ArePaths fields paths → (k : ℕ) → k < length fields → HoldsAt (Tells true) fields k → list_any is_bad_path paths ≡ true
+some_bad [] paths are k less h = absurd (omega arith)
+some_bad (field ∷ fields) [] are k less h = absurd are
+some_bad (field ∷ fields) (path ∷ paths) are zero less h = ap (λ b. b || list_any is_bad_path paths) (sym (h field path are.0))
+some_bad (field ∷ fields) (path ∷ paths) are (suc k) less h = ap (λ b. is_bad_path path || b) (some_bad fields paths are.1 k (omega arith) h) ∙ or_true (is_bad_path path)
+
+none_bad : (fields : List Field) (paths : List Bytes) → ArePaths fields paths → AllWithin (Tells false) fields 0 (length fields) → list_any is_bad_path paths ≡ false
+none_bad [] [] are h = refl
+none_bad [] (path ∷ paths) are h = absurd are
+none_bad (field ∷ fields) [] are h = absurd are
+none_bad (field ∷ fields) (path ∷ paths) are h =
+    ap (λ b. b || list_any is_bad_path paths) (sym (h 0 field (omega arith) (omega arith) path are.0))
+    ∙ none_bad fields paths are.1 (λ k d low less. h (suc k) d (omega arith) (omega arith))
+
+-- whether a test of the fields finds one tells whether a path is none
+pub any_bad : (fields : List Field) (paths : List Bytes) → ArePaths fields paths → (answer : Bool)
+    → MatchBool answer ((k : ℕ) × (k < length fields) × HoldsAt (Tells true) fields k) (AllWithin (Tells false) fields 0 (length fields)) → answer ≡ list_any is_bad_path paths
+any_bad fields paths are true h = sym (some_bad fields paths are h.0 h.1 h.2)
+any_bad fields paths are false h = sym (none_bad fields paths are h)
+
+-- good paths are kept whole
+pub whole_paths : (fields : List Field) (paths : List Bytes) → ArePaths fields paths → list_any is_bad_path paths ≡ false → map kept_bytes fields ≡ paths
+whole_paths [] [] are good = refl
+whole_paths [] (path ∷ paths) are good = absurd are
+whole_paths (field ∷ fields) [] are good = absurd are
+whole_paths (field ∷ fields) (path ∷ paths) are good =
+    let both = or_parts (is_bad_path path) (list_any is_bad_path paths) good in
+    λ i. whole_path field path are.0 both.0 i ∷ whole_paths fields paths are.1 both.1 i
+
+-- without fields all commits are kept
+pub kept_all : (r : Repository) (fields : List Field) (paths : List Bytes) (ids : List Id) → ArePaths fields paths → (length fields == 0) ≡ true → kept r paths ids ≡ ids
+kept_all r [] [] ids are none = refl
+kept_all r [] (path ∷ paths) ids are none = absurd are
+kept_all r (field ∷ fields) paths ids are none = let z : ⊥ = grind (arith, tests, none) in absurd z
+
+-- and with some those that differ
+pub kept_some : (r : Repository) (fields : List Field) (paths : List Bytes) (ids : List Id) → ArePaths fields paths → (length fields == 0) ≡ false → kept r paths ids ≡ filter (differs_at r paths) ids
+kept_some r [] paths ids are some = cc
+kept_some r (field ∷ fields) [] ids are some = absurd are
+kept_some r (field ∷ fields) (path ∷ paths) ids are some = refl
 
 -- ---- the reply
 

@@ -12,18 +12,17 @@ use Rattle.history_model.specs.Meaning.{after}
 use Rattle.history_model.specs.Causes.{first_cause}
 use Rattle.history_model.specs.Replies.{Moved}
 use Rattle.history_model.specs.Steps.{Accepts}
-use Rattle.history_model.specs.Places.{file_at, packed_place}
 use Rattle.history_model.specs.StandsFor.{StandsFor}
 use Rattle.history_model.specs.Wholeness.{IsSound}
 use Rattle.history_model.specs.declared.Fault.TheVariants.{Memory, File, IdTaken}
 use Rattle.history_model.proofs.WholeSteps.{steps_keep_sound}
-use Rattle.history_steps.specs.MoveSteps.{FitsThen, IsAtLine, after_lines, line_entry}
+use Rattle.history_steps.specs.MoveSteps.{FitsThen, IsNextLine, after_lines, line_entry}
 use Rattle.history_steps.specs.Passing.{HoldsBetween, MovesOnTheWay}
 use Rattle.history_steps.specs.TreeSteps.{MovesName}
-use Rattle.history_steps.proofs.MoveLines.{lines_fit, lines_move, lines_pass}
-use Rattle.history_steps.proofs.TreeMoves.{packed_apart, packed_no_log}
+use Rattle.history_steps.proofs.MoveLines.{next_lines_fit, next_lines_move, next_lines_pass}
 use Rattle.history_steps.proofs.TreePuts.{halves_stand}
 use Rattle.history_store.specs.Formats.{entry_of}
+use Rattle.history_store.specs.Packing.{KeepsRecords}
 use Rattle.history.specs.Acts.{CountsRise, KeepsCounts}
 use Rattle.history.specs.Face.{names_part, KeepsAllButNames}
 use Rattle.history.specs.Halves.{FitsAmong, MovesNames, NamesStand, names_tree}
@@ -69,7 +68,7 @@ module _ {F : Type 0} (IsHonest : F → Type 0) (history : F → History) (failu
   -- what stands where the names of the lines so far have moved
   pub record MovedSo (old now : Repository F) (i : ℕ) (r : plain.Repository) (order : MoveCommand) : Type 0 where
     pub stands : StandsFor r.kind (pair_of history now) (after_lines r order (take i order.to))
-    pub unpacked : file_at (names_tree history now) packed_place ≡ None
+    pub records : KeepsRecords now.names (names_tree history now)
     pub passes : Adds (HoldsBetween r (Move order)) (history (names_part old)) (history (names_part now))
 
   -- the names of a loop's turns have moved, and all else is as it was
@@ -89,8 +88,8 @@ module _ {F : Type 0} (IsHonest : F → Type 0) (history : F → History) (failu
     honest = λ honest. honest;
     kind = refl;
     lines = λ r order asked. record {
-      stands = asked.serves.stands.whole.stands;
-      unpacked = asked.serves.stage.unpacked;
+      stands = asked.serves.whole.stands;
+      records = asked.serves.records;
       passes = adds_nothing (history (names_part old));
     };
   }
@@ -109,24 +108,24 @@ module _ {F : Type 0} (IsHonest : F → Type 0) (history : F → History) (failu
       so_far : MovedSo old mid i r order
       so_far = h.lines r order asked
 
-      line_at : IsAtLine r order (take i order.to) next.2 next.0 (pair_of history mid)
+      line_at : IsNextLine r order (take i order.to) next.2 next.0 (pair_of history mid)
       line_at = record {
-        sound = record { whole = asked.serves.stands.whole.whole; written = asked.serves.stands.whole.written };
+        sound = record { whole = asked.serves.whole.whole; written = asked.serves.whole.written };
         none = asked.none;
         lines = next.3;
         stands = so_far.stands;
-        unpacked = so_far.unpacked;
       }
 
       fits : FitsThen then (next.0).name
-      fits = lines_fit r order (take i order.to) next.2 next.0 (pair_of history mid) line_at
+      fits = next_lines_fit r order (take i order.to) next.2 next.0 (pair_of history mid) line_at
 
       pub stand_then : NamesStand IsHonest history mid then
       stand_then = record {
-        honest = h.honest asked.serves.stands.honest_names;
+        honest = h.honest asked.serves.honest_names;
         holds = ((halves_stand r.kind (pair_of history mid) then).0 so_far.stands).2;
         named = fits.all_named;
-        unpacked = so_far.unpacked;
+        kind = h.kind ∙ asked.serves.names_kind;
+        records = so_far.records;
       }
 
       pub fits_then : FitsAmong then one.name.items
@@ -138,35 +137,36 @@ module _ {F : Type 0} (IsHonest : F → Type 0) (history : F → History) (failu
 
       line_passes : NamesPass history one mid new → Adds (HoldsBetween r (Move order)) (history (names_part mid)) (history (names_part new))
       line_passes pass = adds_weaker (history (names_part mid)) (history (names_part new)) pass (λ tree may.
-          lines_pass r order (take i order.to) next.2 next.0 (pair_of history mid) tree line_at
+          next_lines_pass r order (take i order.to) next.2 next.0 (pair_of history mid) tree line_at
           (subst (λ entry. MovesOnTheWay (next.0).name entry (names_tree history mid) tree) (next.1).entry
           (subst (λ n. MovesOnTheWay n (entry_of one.entry) (names_tree history mid) tree) (next.1).name may)))
 
       pub passes_then : NamesPass history one mid new → Adds (HoldsBetween r (Move order)) (history (names_part old)) (history (names_part new))
       passes_then pass = adds_joined (history (names_part old)) (history (names_part mid)) (history (names_part new)) so_far.passes (line_passes pass)
 
-      pub line_moved : KeepsAllButNames mid new → MovesName one.name.items (entry_of one.entry) (names_tree history mid) (names_tree history new) → NamesPass history one mid new → MovedSo old new (i + 1) r order
-      line_moved kept moved pass =
+      pub line_moved : KeepsAllButNames mid new → KeepsRecords new.names (names_tree history new) → MovesName one.name.items (entry_of one.entry) (names_tree history mid) (names_tree history new) → NamesPass history one mid new → MovedSo old new (i + 1) r order
+      line_moved kept records moved pass =
           let moves_so = line_moves moved in
           record {
             stands = subst (λ lines. StandsFor r.kind (pair_of history new) (after_lines r order lines)) (sym (next.4 (i + 1) (omega arith)))
                 (subst (λ objects. StandsFor r.kind (record { objects = (history objects.files).tree; names = names_tree history new }) (after_lines r order (take i order.to ++ next.0 ∷ []))) (sym kept.objects)
-                (lines_move r order (take i order.to) next.2 next.0 (pair_of history mid) (names_tree history new) line_at moves_so));
-            unpacked = moves_so.others packed_place (packed_apart (next.0).name fits.named) (packed_no_log (next.0).name) ∙ so_far.unpacked;
+                (next_lines_move r order (take i order.to) next.2 next.0 (pair_of history mid) (names_tree history new) line_at moves_so));
+            records = records;
             passes = passes_then pass;
           }
 
     -- one name more has moved
     pub name_moved : KeepsAllButNames mid new → CountsRise failures mid new → KeepsCounts failures mid new → (IsHonest (names_part mid) → IsHonest (names_part new)) → new.names.kind ≡ mid.names.kind
+        → ((r : plain.Repository) → NamesStand IsHonest history mid r → FitsAmong r one.name.items → KeepsRecords new.names (names_tree history new))
         → ((r : plain.Repository) → NamesStand IsHonest history mid r → FitsAmong r one.name.items → MovesName one.name.items (entry_of one.entry) (names_tree history mid) (names_tree history new))
         → ((r : plain.Repository) → NamesStand IsHonest history mid r → FitsAmong r one.name.items → NamesPass history one mid new) → HasMovedSome moves (i + 1) old new
-    name_moved kept counts unfailed honest kind moved pass = record {
+    name_moved kept counts unfailed honest kind records moved pass = record {
       kept = kept_then old mid new h.kept kept;
       counts = counts_joined failures old mid new h.counts counts;
       unfailed = stay_joined failures old mid new h.unfailed unfailed;
       honest = λ first. honest (h.honest first);
       kind = kind ∙ h.kind;
-      lines = λ r order asked. line_moved r order asked kept (moved (then r order asked) (stand_then r order asked) (fits_then r order asked)) (pass (then r order asked) (stand_then r order asked) (fits_then r order asked));
+      lines = λ r order asked. line_moved r order asked kept (records (then r order asked) (stand_then r order asked) (fits_then r order asked)) (moved (then r order asked) (stand_then r order asked) (fits_then r order asked)) (pass (then r order asked) (stand_then r order asked) (fits_then r order asked));
     }
 
     -- or the move of a name stops, and so do all
@@ -195,9 +195,10 @@ module _ {F : Type 0} (IsHonest : F → Type 0) (history : F → History) (failu
 
     pub all_moved : NamesStand IsHonest history new (after r (Move order))
     all_moved = record {
-      honest = h.honest asked.serves.stands.honest_names;
+      honest = h.honest asked.serves.honest_names;
       holds = ((halves_stand r.kind (pair_of history new) (after r (Move order))).0 stands_after).2;
       named = λ name stood. name_formed (after r (Move order))
-          (sound_after r order (record { whole = asked.serves.stands.whole.whole; written = asked.serves.stands.whole.written }) asked.none).written name stood;
-      unpacked = (h.lines r order asked).unpacked;
+          (sound_after r order (record { whole = asked.serves.whole.whole; written = asked.serves.whole.written }) asked.none).written name stood;
+      kind = h.kind ∙ asked.serves.names_kind;
+      records = (h.lines r order asked).records;
     }

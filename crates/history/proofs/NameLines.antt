@@ -1,5 +1,5 @@
 -- What `names` answers, by what its folder lists.
-use Rattle.std.proofs.Common.{◌≡◌, ℕ, zero, suc, ◌<◌, arith, get_or, inl, inr, Bool, true, false, cond, not, ◌&&◌, ◌||◌, T, List, [], ◌∷◌, ◌++◌, map, drop, length, refl, sym, ◌∙◌, ap, subst, Option, Some, None, option_map, option_and_then, is_some, unwrap_or, filter, codes, bytes_eq, Vec, Ok}
+use Rattle.std.proofs.Common.{◌≡◌, ℕ, zero, suc, ◌<◌, arith, get_or, inl, inr, Bool, true, false, cond, not, ◌&&◌, ◌||◌, T, List, [], ◌∷◌, ◌++◌, map, length, refl, sym, ◌∙◌, ap, subst, Option, Some, None, option_map, is_some, unwrap_or, filter, codes, bytes_eq, Vec, Ok}
 use Rattle.std.specs.declared.alloc.Global.{Global}
 use Rattle.std.specs.Ordering.{eq_by_cmp, is_lt}
 use Rattle.std.specs.Cmp.Lexicographic.{nat_list_cmp_total}
@@ -15,13 +15,12 @@ use Rattle.gix_ref_file.specs.declared.files.FileError.{FileError}
 use Rattle.gix_ref_file.specs.declared.files.FileError.TheVariants.{Failed, Memory}
 use Rattle.gix_hash_id.specs.Id.{Id, id_of, null_id}
 use Rattle.gix_hash_id.specs.declared.kind.Kind.{Kind}
-use Rattle.history_model.specs.Bytes.{Bytes, by_bytes, begins}
+use Rattle.history_model.specs.Bytes.{Bytes, by_bytes}
 use Rattle.history_model.specs.FileMap.{is_below}
 use Rattle.history_model.specs.Forms.{is_name, is_private, is_reference, IsWritten}
 use Rattle.history_model.specs.Repository.{Repository, Reference, HasWholeNames, id_at, peeled}
-use Rattle.history_model.specs.PackedNames.{id_from_hex, whole_line}
-use Rattle.history_model.specs.Places.{Pair, file_at, packed_place}
-use Rattle.history_model.specs.NameStates.{Holds, Symbolic, Absent, Faulty, loose_state, loose_line}
+use Rattle.history_model.specs.Places.{Pair}
+use Rattle.history_model.specs.NameStates.{name_state}
 use Rattle.history_model.specs.StandsFor.{StandsFor}
 use Rattle.history_model.specs.Commands.{Names}
 use Rattle.history_model.specs.Causes.{first_cause}
@@ -31,12 +30,12 @@ use Rattle.history_model.specs.Spelling.{Part, Line}
 use Rattle.history_model.specs.Answers.{is_in_folder, names_shown}
 use Rattle.history_model.specs.declared.Cause.{Cause}
 use Rattle.history_model.specs.declared.Cause.TheVariants.{BadName, PrivateName}
-use Rattle.history_model.proofs.FormatLemmas.{holds_same}
-use Rattle.history_model.proofs.WholeLists.{In, same_text}
-use Rattle.history_model.proofs.WholePaths.{begins_front, begins_parts}
+use Rattle.history_model.proofs.WholeLists.{In}
 use Rattle.history_model.proofs.WholeStores.{in_get}
 use Rattle.history_files.proofs.Lines.{map_twice}
-use Rattle.history_store.specs.NameLists.{ListsNames, NameIds, held_id, id_below, name_entry, spelled_id}
+use Rattle.history_store.specs.AllNames.{ListsAll, id_read}
+use Rattle.history_store.specs.NameLists.{NameIds, name_entry}
+use Rattle.history_store.specs.Packing.{told_id}
 use Rattle.history_store.specs.declared.listed.NamedId.{NamedId}
 use Rattle.history.specs.Acts.{OnlyAnswers, IsReadingFault}
 use Rattle.history.specs.CommitCauses.{form_cause}
@@ -46,11 +45,10 @@ use Rattle.history.specs.Held as shown_held
 use Rattle.history.specs.Held.{held_commit}
 use Rattle.history.specs.NamesShown.{ArePeeled, folder_cause, shown_name, told_name}
 use Rattle.history.specs.declared.listed.Shown.{Shown}
-use Rattle.history.specs.Serving.{Serves}
-use Rattle.history.specs.Stands.{pair_of}
+use Rattle.history.specs.Stands.{Stands, pair_of}
 use Rattle.history.specs.declared.repository.Repository as own
 use Rattle.history.specs.declared.stopped.Stopped.TheVariants.{Fault}
-use Rattle.history.proofs.NameReads.{loose, reads, name_stands, refs_front}
+use Rattle.history.proofs.NameReads.{refs_front, state_told}
 
 -- ---- the folder
 
@@ -81,70 +79,6 @@ names_cause r (Some folder) = by_folder (bytes_eq folder (codes "refs"))
 
 pub not_root : (folder : Bytes) → folder_cause folder ≡ None → folder ≡ [] → ⊥
 not_root folder good none = let wrong : Some BadName ≡ None = ap folder_cause (sym none) ∙ good in absurd (cc wrong)
-
--- names below a folder that they can be asked of begin with `refs/`
-pub front_below : (folder name : Bytes) → folder_cause folder ≡ None → is_below folder name ≡ true → begins (codes "refs/") name ≡ true
-front_below folder name good below = by_folder (bytes_eq folder (codes "refs")) refl good
-  where
-    in_refs : (rest : Bytes) → folder ≡ codes "refs/" ++ rest → begins (codes "refs/") name ≡ true
-    in_refs rest is =
-        let parts = begins_parts (folder ++ 47 ∷ []) name below in
-        let back = drop (length (folder ++ 47 ∷ [])) name in
-        let whole : name ≡ codes "refs/" ++ ((rest ++ 47 ∷ []) ++ back) = parts ∙ ap (λ f. (f ++ 47 ∷ []) ++ back) is in
-        ap (begins (codes "refs/")) whole ∙ begins_front (codes "refs/") ((rest ++ 47 ∷ []) ++ back)
-
-    by_form : (b : Bool) → is_name folder ≡ b → cond (not b) (Some BadName) (cond (is_private folder) (Some PrivateName) None) ≡ None → begins (codes "refs/") name ≡ true
-    by_form false e h = cc
-    by_form true e h = in_refs (drop 5 folder) (begins_parts (codes "refs/") folder (refs_front folder e))
-
-    by_folder : (b : Bool) → bytes_eq folder (codes "refs") ≡ b → cond b None (form_cause folder) ≡ None → begins (codes "refs/") name ≡ true
-    by_folder true e h = subst (λ f. begins (f ++ 47 ∷ []) name ≡ true) (same_text folder (codes "refs") e) below
-    by_folder false e h = by_form (is_name folder) refl h
-
--- ---- what a name holds
-
--- what reads as an id spells it
-loose_spelled : (kind : Kind) (text : Bytes) (id : Id) → loose_state kind text ≡ Holds id → spelled_id kind text ≡ Some id
-loose_spelled kind text id reads = by_line (whole_line text) reads
-  where
-    by_id : (o : Option Id) → unwrap_or (option_map Holds o) Faulty ≡ Holds id → o ≡ Some id
-    by_id None e = cc
-    by_id (Some found) e = ap Some (holds_same e)
-
-    by_symbol : (digits : Bytes) (b : Bool) → cond b (Symbolic (drop 5 digits)) (unwrap_or (option_map Holds (id_from_hex kind digits)) Faulty) ≡ Holds id → id_from_hex kind digits ≡ Some id
-    by_symbol digits true e = cc
-    by_symbol digits false e = by_id (id_from_hex kind digits) e
-
-    by_line : (o : Option Bytes) → unwrap_or (option_map (loose_line kind) o) Faulty ≡ Holds id → option_and_then (id_from_hex kind) o ≡ Some id
-    by_line None e = cc
-    by_line (Some digits) e = by_symbol digits (begins (codes "ref: ") digits && is_name (drop 5 digits)) e
-
--- the id that a name's file holds is the one that the name holds
-pub held_told : (pair : Pair) (r : Repository) (stand : StandsFor r.kind pair r) (unpacked : file_at pair.names packed_place ≡ None) (name : Bytes) → begins (codes "refs/") name ≡ true → held_id r.kind pair.names name ≡ id_at r name
-held_told pair r stand unpacked name front = by_file (file_at pair.names name) refl
-  where
-    no_file : (b : Bool) (id : Id) → cond b Absent Absent ≡ Holds id → ⊥
-    no_file true id e = absurd cc
-    no_file false id e = absurd cc
-
-    of_name : (b : Bool) (text : Bytes) (id : Id) → cond b (loose_state r.kind text) Absent ≡ Holds id → loose_state r.kind text ≡ Holds id
-    of_name true text id e = e
-    of_name false text id e = absurd cc
-
-    reads_so : (o : Option Bytes) → file_at pair.names name ≡ o → (id : Id) → id_at r name ≡ Some id → loose pair r stand unpacked name o ≡ Holds id
-    reads_so o e id at = ap (loose pair r stand unpacked name) (sym e) ∙ reads pair r stand unpacked name id at
-
-    none_held : file_at pair.names name ≡ None → (o : Option Id) → id_at r name ≡ o → None ≡ o
-    none_held e None at = refl
-    none_held e (Some id) at = absurd (no_file (is_name name) id (reads_so None e id at))
-
-    one_held : (text : Bytes) → file_at pair.names name ≡ Some text → (o : Option Reference) → get r.names name ≡ o → is_some o ≡ true → spelled_id r.kind text ≡ option_map (λ (ref : Reference). ref.id) o
-    one_held text e None at there = cc
-    one_held text e (Some ref) at there = loose_spelled r.kind text ref.id (of_name (is_name name) text ref.id (reads_so (Some text) e ref.id (ap (option_map (λ (ref : Reference). ref.id)) at)))
-
-    by_file : (o : Option Bytes) → file_at pair.names name ≡ o → option_and_then (spelled_id r.kind) o ≡ id_at r name
-    by_file None e = none_held e (id_at r name) refl
-    by_file (Some text) e = one_held text e (get r.names name) refl (name_stands pair r stand unpacked name text front e)
 
 -- ---- the lines
 
@@ -189,14 +123,13 @@ named_peeled : (r : Repository) (names : List NamedId) → EntriesPeeled r (map 
 named_peeled r [] all = tt
 named_peeled r (named ∷ names) all = (all.0, named_peeled r names all.1)
 
-module _ (pair : Pair) (r : Repository) (stand : StandsFor r.kind pair r) (written : IsWritten r) (unpacked : file_at pair.names packed_place ≡ None) (folder : Option Bytes) (good : folder_cause (asked_folder folder) ≡ None) where
-  -- a name in the folder holds what its file does, and no other name is listed
-  asked_holds : (q : Bytes) → id_below r.kind pair.names (asked_folder folder) q ≡ cond (is_in_folder folder q) (id_at r q) None
-  asked_holds q = by_folder folder good
+module _ (pair : Pair) (r : Repository) (stand : StandsFor r.kind pair r) (written : IsWritten r) (folder : Option Bytes) where
+  -- a name in the folder is listed with what it holds, and no other name is listed
+  asked_holds : (q : Bytes) → id_read r.kind pair.names (asked_folder folder) q ≡ cond (is_in_folder folder q) (id_at r q) None
+  asked_holds q = by_folder folder
     where
-      told : (f : Bytes) → folder_cause f ≡ None → (b : Bool) → is_below f q ≡ b → cond b (held_id r.kind pair.names q) None ≡ cond b (id_at r q) None
-      told f good true below = held_told pair r stand unpacked q (front_below f q good below)
-      told f good false apart = refl
+      told : (b : Bool) → cond b (told_id (name_state r.kind pair.names q)) None ≡ cond b (id_at r q) None
+      told b = ap (λ o. cond b o None) (state_told pair r stand q)
 
       no_name : (o : Option Reference) → get r.names q ≡ o → is_below (codes "refs") q ≡ false → None ≡ option_map (λ (ref : Reference). ref.id) o
       no_name None e apart = refl
@@ -209,9 +142,9 @@ module _ (pair : Pair) (r : Repository) (stand : StandsFor r.kind pair r) (writt
       all_named true below = refl
       all_named false apart = no_name (get r.names q) refl apart
 
-      by_folder : (folder : Option Bytes) → folder_cause (asked_folder folder) ≡ None → id_below r.kind pair.names (asked_folder folder) q ≡ cond (is_in_folder folder q) (id_at r q) None
-      by_folder None good = told (codes "refs") good (is_below (codes "refs") q) refl ∙ all_named (is_below (codes "refs") q) refl
-      by_folder (Some f) good = told f good (is_below f q) refl
+      by_folder : (folder : Option Bytes) → id_read r.kind pair.names (asked_folder folder) q ≡ cond (is_in_folder folder q) (id_at r q) None
+      by_folder None = told (is_below (codes "refs") q) ∙ all_named (is_below (codes "refs") q) refl
+      by_folder (Some f) = told (is_below f q)
 
   abbrev shown : List (Bytes × Reference)
   shown = filter (λ e. is_in_folder folder e.0) (entries r.names)
@@ -226,19 +159,19 @@ module _ (pair : Pair) (r : Repository) (stand : StandsFor r.kind pair r) (writt
       by_test true = ap (option_map (λ (ref : Reference). ref.id)) (sym (get-entries r.names q))
       by_test false = refl
 
-  ids_are : (ids : NameIds) → ((name : Bytes) → get ids name ≡ id_below r.kind pair.names (asked_folder folder) name) → entries ids ≡ map held_entry shown
+  ids_are : (ids : NameIds) → ((name : Bytes) → get ids name ≡ id_read r.kind pair.names (asked_folder folder) name) → entries ids ≡ map held_entry shown
   ids_are ids each =
       same_entries by_bytes nat_list_cmp_total (slice_cmp-IsAntisymmetric nat_cmp-IsAntisymmetric) (entries ids) (map held_entry shown) (entries_sorted ids)
       (subst T (sym (sorted_held shown)) (is_sorted-where_key by_bytes (is_in_folder folder) (entries r.names) (entries_sorted r.names)))
       (λ q. sym (get-entries ids q) ∙ each q ∙ asked_holds q ∙ sym (find_shown q))
 
   -- what is listed is what is shown
-  pub names_are : (names : List NamedId) → ListsNames r.kind pair.names (asked_folder folder) names → map (told_name r) names ≡ names_shown r folder
+  pub names_are : (names : List NamedId) → ListsAll r.kind pair.names (asked_folder folder) names → map (told_name r) names ≡ names_shown r folder
   names_are names lists =
       sym (map_twice (entry_line r) name_entry names) ∙ ap (map (entry_line r)) (lists.are ∙ ids_are lists.ids lists.each) ∙ map_twice (entry_line r) held_entry shown
 
   -- and each of its ids stands for a commit
-  pub names_peeled : HasWholeNames r → (names : List NamedId) → ListsNames r.kind pair.names (asked_folder folder) names → ArePeeled r names
+  pub names_peeled : HasWholeNames r → (names : List NamedId) → ListsAll r.kind pair.names (asked_folder folder) names → ArePeeled r names
   names_peeled w names lists =
       named_peeled r names (subst (EntriesPeeled r) (sym (lists.are ∙ ids_are lists.ids lists.each)) (peeled_kept r (is_in_folder folder) (entries r.names)
       (λ e is. w.held e.0 (e.1).id (ap (option_map (λ (ref : Reference). ref.id)) (in_get r.names e.0 e.1 is)))))
@@ -250,23 +183,27 @@ pub listing_fault : (MayFail : Type 0) (error : FileError) → (error ≡ Failed
 listing_fault MayFail Failed failed = failed refl
 listing_fault MayFail Memory failed = tt
 
-module _ {F : Type 0} (IsHonest : F → Type 0) (history : F → History) (repository : own.Repository F) (r : Repository) (serves : Serves IsHonest history repository r) (kind : Kind) (same : kind ≡ r.kind) (folder : Option Bytes)
-    (names : List NamedId) (good : folder_cause (asked_folder folder) ≡ None) (lists : ListsNames kind (history (names_part repository)).tree (asked_folder folder) names) where
-  of_kind : ListsNames r.kind (history (names_part repository)).tree (asked_folder folder) names
-  of_kind = subst (λ k. ListsNames k (history (names_part repository)).tree (asked_folder folder) names) same lists
+module _ {F : Type 0} (IsHonest : F → Type 0) (history : F → History) (repository : own.Repository F) (r : Repository) (serves : Stands IsHonest history repository r) (kind : Kind) (same : kind ≡ r.kind) (folder : Option Bytes)
+    (names : List NamedId) (good : folder_cause (asked_folder folder) ≡ None) (lists : ListsAll kind (history (names_part repository)).tree (asked_folder folder) names) where
+  of_kind : ListsAll r.kind (history (names_part repository)).tree (asked_folder folder) names
+  of_kind = subst (λ k. ListsAll k (history (names_part repository)).tree (asked_folder folder) names) same lists
 
   pub listed_peeled : ArePeeled r names
   listed_peeled =
-      let whole = serves.stands.whole in
-      names_peeled (pair_of history repository) r whole.stands whole.written serves.stage.unpacked folder good whole.whole.names names of_kind
+      let whole = serves.whole in
+      names_peeled (pair_of history repository) r whole.stands whole.written folder whole.whole.names names of_kind
+
+  pub listed_are : map (told_name r) names ≡ names_shown r folder
+  listed_are =
+      let whole = serves.whole in
+      names_are (pair_of history repository) r whole.stands whole.written folder names of_kind
 
   pub names_answered : (MayFail : Type 0) (shown : List Shown) (text : Vec ℕ Global) → map shown_name shown ≡ map (told_name r) names
       → text.items ≡ reply_text (NamesAre repository.branch.items (map shown_name shown)) → OnlyAnswers MayFail r (Names folder) (Ok text)
   names_answered MayFail shown text told written =
-      let whole = serves.stands.whole in
-      let are = told ∙ names_are (pair_of history repository) r whole.stands whole.written serves.stage.unpacked folder good names of_kind in (
+      let are = told ∙ listed_are in (
         NamesAre r.branch (names_shown r folder),
-        written ∙ (λ i. reply_text (NamesAre (serves.stands.branch i) (are i))),
+        written ∙ (λ i. reply_text (NamesAre (serves.branch i) (are i))),
         names_cause r folder ∙ good,
         refl,
       )

@@ -14,7 +14,7 @@ use Rattle.history_model.specs.Spelling.{Line as TextLine, part_text, parts_text
 use Rattle.history_model.specs.Stage.{is_spoken}
 use Rattle.history_model.specs.Steps.{Accepts, Step}
 use Rattle.history_model.specs.Stops.{is_changing}
-use Rattle.history_model.specs.Places.{Pair, file_at, packed_place}
+use Rattle.history_model.specs.Places.{Pair}
 use Rattle.history_model.specs.Moments.{LeavesStopped}
 use Rattle.history_model.specs.Recovery.{recovered_objects}
 use Rattle.history_model.specs.StandsFor.{StandsFor}
@@ -26,6 +26,7 @@ use Rattle.history_steps.specs.TreeHalves.{HoldsValues}
 use Rattle.history_steps.proofs.PassedNames.{moving_stops, nothing_stops, values_recover}
 use Rattle.history_steps.proofs.TreePuts.{halves_stand}
 use Rattle.history_store.specs.Face.{ids_of_objects}
+use Rattle.history_store.specs.Packing.{KeepsRecords}
 use Rattle.gix_traverse_commit.specs.Told.{rows_of}
 use Rattle.gix_traverse_commit.specs.declared.rows.Row.{Row}
 use Rattle.history.specs.Acts.{Acts}
@@ -34,8 +35,7 @@ use Rattle.history.specs.Indexed.{AgreeRows}
 use Rattle.history.specs.Halves.{NamesStand, names_tree, objects_tree}
 use Rattle.history.specs.Moments.{GoesLater, StoodOnTheWay}
 use Rattle.history.specs.Moving.{LeavesMoved}
-use Rattle.history.specs.Serving.{Serves}
-use Rattle.history.specs.Stands.{pair_of}
+use Rattle.history.specs.Stands.{Stands, pair_of}
 use Rattle.history.specs.declared.repository.Repository.{Repository}
 use Rattle.history.specs.declared.stopped.Stopped.{Stopped}
 use Rattle.history.specs.declared.stopped.Stopped.TheVariants.{Refused, Fault}
@@ -52,30 +52,28 @@ pub record ChangesNames (r : plain.Repository) (order : Command) (reply : Reply)
   pub steps : Step r order reply (after r order)
 
 module _ {F : Type 0} (IsHonest : F → Type 0) (history : F → History) (failures : F → ℕ) (old new : Repository F) (r : plain.Repository) (order : Command) (reply : Reply)
-    (h : Serves IsHonest history old r) (c : ChangesNames r order reply) (kept : KeepsAllButNames old new) where
+    (h : Stands IsHonest history old r) (c : ChangesNames r order reply) (kept : KeepsAllButNames old new) where
   sound : IsSound r
-  sound = record { whole = h.stands.whole.whole; written = h.stands.whole.written }
+  sound = record { whole = h.whole.whole; written = h.whole.written }
 
   sound_after : IsSound (after r order)
   sound_after = steps_keep_sound r (after r order) order reply c.steps sound
 
   values_old : HoldsValues r.kind (objects_tree history old) r.objects
-  values_old = ((halves_stand r.kind (pair_of history old) r).0 h.stands.whole.stands).1
+  values_old = ((halves_stand r.kind (pair_of history old) r).0 h.whole.stands).1
 
-  -- what the new names stand for is served
-  pub names_serve : IsHonest (names_part new) → StandsFor r.kind (pair_of history new) (after r order) → file_at (names_tree history new) packed_place ≡ None → new.names.kind ≡ old.names.kind → Serves IsHonest history new (after r order)
-  names_serve honest stands unpacked kind = record {
-    stands = record {
-      honest_objects = subst (λ objects. IsHonest objects.files) (sym kept.objects) h.stands.honest_objects;
-      honest_names = honest;
-      whole = record { stands = stands; written = sound_after.written; whole = sound_after.whole };
-      objects_kind = ap (λ objects. objects.kind) kept.objects ∙ h.stands.objects_kind;
-      names_kind = kind ∙ h.stands.names_kind;
-      branch = ap (λ branch. branch.items) kept.branch ∙ h.stands.branch ∙ sym c.branch;
-      rows = subst (λ (kept_rows : Option (List Row)). AgreeRows r.kind (after r order).objects (rows_of kept_rows)) (sym kept.rows) (subst (λ (values : plain.Values). AgreeRows r.kind values (rows_of (rows_in old))) (sym c.values) h.stands.rows);
-      known = λ id. ap (λ objects. contains_key (ids_of_objects objects) id) kept.objects ∙ h.stands.known id ∙ ap (λ (values : plain.Values). contains_key values id) (sym c.values);
-    };
-    stage = record { unpacked = unpacked };
+  -- the repository stands for what the new names stand for
+  pub names_serve : IsHonest (names_part new) → StandsFor r.kind (pair_of history new) (after r order) → KeepsRecords new.names (names_tree history new) → new.names.kind ≡ old.names.kind → Stands IsHonest history new (after r order)
+  names_serve honest stands records kind = record {
+    honest_objects = subst (λ objects. IsHonest objects.files) (sym kept.objects) h.honest_objects;
+    honest_names = honest;
+    whole = record { stands = stands; written = sound_after.written; whole = sound_after.whole };
+    objects_kind = ap (λ objects. objects.kind) kept.objects ∙ h.objects_kind;
+    names_kind = kind ∙ h.names_kind;
+    branch = ap (λ branch. branch.items) kept.branch ∙ h.branch ∙ sym c.branch;
+    rows = subst (λ (kept_rows : Option (List Row)). AgreeRows r.kind (after r order).objects (rows_of kept_rows)) (sym kept.rows) (subst (λ (values : plain.Values). AgreeRows r.kind values (rows_of (rows_in old))) (sym c.values) h.rows);
+    records = records;
+    known = λ id. ap (λ objects. contains_key (ids_of_objects objects) id) kept.objects ∙ h.known id ∙ ap (λ (values : plain.Values). contains_key values id) (sym c.values);
   }
 
   values_new : HoldsValues r.kind (objects_tree history new) (after r order).objects
@@ -83,20 +81,20 @@ module _ {F : Type 0} (IsHonest : F → Type 0) (history : F → History) (failu
       (subst (λ objects. HoldsValues r.kind (history objects.files).tree r.objects) (sym kept.objects) values_old)
 
   -- so are names that stand
-  pub stand_serves : NamesStand IsHonest history new (after r order) → new.names.kind ≡ old.names.kind → Serves IsHonest history new (after r order)
-  stand_serves stand kind = names_serve stand.honest ((halves_stand r.kind (pair_of history new) (after r order)).1 (refl, values_new, stand.holds)) stand.unpacked kind
+  pub stand_serves : NamesStand IsHonest history new (after r order) → new.names.kind ≡ old.names.kind → Stands IsHonest history new (after r order)
+  stand_serves stand kind = names_serve stand.honest ((halves_stand r.kind (pair_of history new) (after r order)).1 (refl, values_new, stand.holds)) stand.records kind
 
   module _ (pass : Adds (HoldsBetween r order) (history (names_part old)) (history (names_part new))) where
     objects_stay : Adds (λ t. ⊥) (history (objects_part old)) (history (objects_part new))
     objects_stay = adds_same _ _ (ap (λ o. history o.files) kept.objects)
 
     nothing : (pair : Pair) → pair.objects ≡ objects_tree history old → pair.names ≡ names_tree history old → LeavesStopped r order pair
-    nothing pair objects names = subst (LeavesStopped r order) (λ i. record { objects = sym objects i; names = sym names i }) (nothing_stops r order (pair_of history old) h.stands.whole)
+    nothing pair objects names = subst (LeavesStopped r order) (λ i. record { objects = sym objects i; names = sym names i }) (nothing_stops r order (pair_of history old) h.whole)
 
     on_the_way : (pair : Pair) → pair.objects ≡ objects_tree history old → HoldsBetween r order pair.names → LeavesStopped r order pair
     on_the_way pair objects held = moving_stops r order pair sound c.changes (c.accepts).no_cause c.free
         (subst (λ (values : plain.Values). HoldsValues r.kind (recovered_objects pair.objects) values) (sym c.values)
-        (subst (λ tree. HoldsValues r.kind (recovered_objects tree) r.objects) (sym objects) (values_recover r.kind (objects_tree history old) r.objects (h.stands.whole.whole.store).own_ids values_old))) held
+        (subst (λ tree. HoldsValues r.kind (recovered_objects tree) r.objects) (sym objects) (values_recover r.kind (objects_tree history old) r.objects (h.whole.whole.store).own_ids values_old))) held
 
     or_never : {A : Type 0} → A ⊎ ⊥ → A
     or_never (inl a) = a

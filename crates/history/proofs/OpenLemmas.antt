@@ -3,20 +3,19 @@ use Rattle.std.proofs.Common.{◌≡◌, sym, ap, subst, ◌∙◌, List, Option
 use Rattle.std.specs.FinMap.{contains_key}
 use Rattle.gix_hash_id.specs.declared.kind.Kind.{Kind}
 use Rattle.gix_ref_file.specs.History.{History}
-use Rattle.gix_ref_file.specs.Tree.{Tree}
 use Rattle.gix_traverse_commit.specs.Told.{rows_of}
 use Rattle.gix_traverse_commit.specs.declared.rows.Row.{Row}
-use Rattle.history_model.specs.Places.{Pair, packed_place}
+use Rattle.history_model.specs.Places.{Pair}
 use Rattle.history_model.specs.Repository as plain
 use Rattle.history_model.specs.StandsFor.{StandsWhole}
 use Rattle.history_opening.specs.Opened.{IsOpenedAs, trees_of}
 use Rattle.history_opening.specs.declared.folder.OpenedFolder.{OpenedFolder}
-use Rattle.history_steps.specs.Offered.{IsOfStage}
-use Rattle.history_store.specs.Creation.{IsNew}
 use Rattle.history_store.specs.Face.{files_of_names, files_of_objects, ids_of_objects, kind_of_names, kind_of_objects}
+use Rattle.history_store.specs.Packing.{KeepsRecords}
+use Rattle.history_store.specs.declared.names.Names.{Names}
 use Rattle.history_store.specs.declared.objects.Objects.{Objects}
 use Rattle.history.specs.declared.repository.Repository.{Repository}
-use Rattle.history.specs.Face.{rows_in}
+use Rattle.history.specs.Face.{names_part, rows_in}
 use Rattle.history.specs.Indexed.{AgreeRows}
 use Rattle.history.specs.Stands.{Stands, pair_of}
 use Rattle.history.proofs.RowsKept.{none_agree}
@@ -35,9 +34,6 @@ module _ {F : Type 0} (IsHonest : F → Type 0) (history : F → History) (opene
   same_pair : trees_of history objects names ≡ pair_of history repository
   same_pair = λ i. record { objects = (history (sym own_objects i)).tree; names = (history (sym own_names i)).tree }
 
-  pub opened_stage : IsOfStage (trees_of history objects names) → IsOfStage (pair_of history repository)
-  opened_stage stage = subst IsOfStage same_pair stage
-
   -- stands for the one that the folder is
   pub opened_stands : IsHonest objects → IsHonest names → (r : plain.Repository) → IsOpenedAs kind (trees_of history objects names) opened r → Stands IsHonest history repository r
   opened_stands honest_objects honest_names r is = record {
@@ -47,13 +43,11 @@ module _ {F : Type 0} (IsHonest : F → Type 0) (history : F → History) (opene
     objects_kind = ap kind_of_objects objects_are ∙ objects_kind ∙ sym of_kind;
     names_kind = ap kind_of_names names_are ∙ names_kind ∙ sym of_kind;
     branch = ap (λ branch. branch.items) branch_is ∙ is.branch;
+    records = subst (λ (own : Names F). KeepsRecords own (history (names_part repository)).tree) (sym names_are)
+        (subst (λ (files : F). KeepsRecords opened.names (history files).tree) (sym own_names) is.records);
     known = λ id. ap (λ (own : Objects F). contains_key (ids_of_objects own) id) objects_are ∙ is.known id;
     rows = subst (λ (rows : Option (List Row)). AgreeRows r.kind r.objects (rows_of rows)) (sym unrowed) (none_agree r.kind r.objects);
   }
     where
       of_kind : r.kind ≡ kind
       of_kind = (is.stands).stands.of_kind
-
--- a new repository is one of this stage
-pub opened_of_stage : (objects names : Tree) → IsNew objects names → IsOfStage (record { objects = objects; names = names })
-opened_of_stage objects names new = record { unpacked = new.no_other packed_place (λ e. cc) }

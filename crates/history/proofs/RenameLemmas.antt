@@ -1,6 +1,6 @@
 -- A rename: why not, what its files pass through, and what it leaves.
 use Rattle.std.proofs.Common.{◌≡◌, inl, inr, Bool, true, false, cond, not, ◌||◌, List, [], ◌∷◌, refl, sym, ◌∙◌, ap, subst, Option, Some, None, option_map, unwrap_or, is_some, bytes_eq, codes}
-use Rattle.std.specs.Prelude.{Result, Ok, Err, Vec, ℕ}
+use Rattle.std.specs.Prelude.{OnOk, Result, Ok, Err, Vec, ℕ}
 use Rattle.std.specs.declared.alloc.Global.{Global}
 use Rattle.std.specs.List.{list_any}
 use Rattle.std.specs.FinMap.{get, keys}
@@ -18,7 +18,7 @@ use Rattle.history_model.specs.Meaning.{after, history_actor}
 use Rattle.history_model.specs.Causes.{do_collide, first_cause, some_collide}
 use Rattle.history_model.specs.Replies.{Renamed}
 use Rattle.history_model.specs.Steps.{Accepts}
-use Rattle.history_model.specs.Places.{Pair, packed_place}
+use Rattle.history_model.specs.Places.{Pair}
 use Rattle.history_model.specs.Wholeness.{IsSound}
 use Rattle.history_model.specs.declared.Cause.{Cause}
 use Rattle.history_model.specs.declared.Cause.TheVariants.{BadName, PrivateName, NameTwice, NoSuchName, Taken, Collides}
@@ -26,16 +26,16 @@ use Rattle.history_model.specs.declared.Fault.TheVariants.{Memory, File, IdTaken
 use Rattle.history_model.proofs.WholeLists.{either, none_passes, same_text}
 use Rattle.history_model.proofs.WholeReads.{no_cause, tests_no_such_name}
 use Rattle.history_model.proofs.WholeSteps.{steps_keep_sound}
-use Rattle.history_steps.specs.DeleteSteps.{DeletesName, DeletesOnTheWay}
 use Rattle.history_steps.specs.MoveSteps.{FitsThen}
 use Rattle.history_steps.specs.Passing.{HoldsBetween, MovesOnTheWay}
-use Rattle.history_steps.specs.RenameSteps.{IsRenaming, held_id, rename_entry, with_both}
+use Rattle.history_steps.specs.RenameSteps.{IsOnItsWay, held_id, rename_entry, with_both}
+use Rattle.history_steps.specs.TakeSteps.{TakesName, TakesOnTheWay}
 use Rattle.history_steps.specs.TreeSteps.{MovesName}
-use Rattle.history_steps.proofs.Renames.{going_passes, making_passes, renames_fit, renames_make, renames_stand}
-use Rattle.history_steps.proofs.TreeMoves.{packed_apart, packed_no_log, stands_moved}
+use Rattle.history_steps.proofs.Renames.{bringing_passes, renames_bring, renames_end, renames_fit, taking_passes}
+use Rattle.history_steps.proofs.TreeMoves.{stands_moved}
 use Rattle.history_steps.proofs.TreePuts.{halves_stand}
 use Rattle.history_store.specs.Formats.{actor_of, entry_of}
-use Rattle.history_store.specs.References.{NameHolds}
+use Rattle.history_store.specs.Packing.{KeepsRecords, NameReads}
 use Rattle.history_store.specs.declared.log_entry.LogEntry.{LogEntry}
 use Rattle.history.specs.Acts.{Acts}
 use Rattle.history.specs.Deleting.{DeletesFiles}
@@ -44,8 +44,7 @@ use Rattle.history.specs.Halves.{FitsAmong, MovesNames, NamesStand, names_tree}
 use Rattle.history.specs.Moments.{NamesPass}
 use Rattle.history.specs.Moving.{LeavesMoved, names_cause}
 use Rattle.history.specs.Renaming.{AskedRename, MakesName, PlansRename, TestsRename}
-use Rattle.history.specs.Serving.{Serves}
-use Rattle.history.specs.Stands.{pair_of}
+use Rattle.history.specs.Stands.{Stands, pair_of}
 use Rattle.history.specs.declared.planning.Moves.{Moves}
 use Rattle.history.specs.declared.repository.Repository.{Repository}
 use Rattle.history.specs.declared.stopped.Stopped.{Stopped}
@@ -55,8 +54,8 @@ use Rattle.history.proofs.Commits.{name_formed}
 use Rattle.history.proofs.DeleteLemmas.{stand_now}
 use Rattle.history.proofs.LineLemmas.{all_named}
 use Rattle.history.proofs.NamesAlone.{ChangesNames}
-use Rattle.history.proofs.NameReads.{held, refs_front}
-use Rattle.history.proofs.WordReads.{of_one_kind, stands_so}
+use Rattle.history.proofs.NameReads.{held}
+use Rattle.history.proofs.WordReads.{stands_so}
 
 -- ---- what the names and the files tell of the causes
 
@@ -118,11 +117,11 @@ module _ (r : plain.Repository) (from to : Bytes) where
           past_old ∙ ap (λ s. cond s (Some Taken) (cond (some_collide r (Rename from to)) (Some Collides) None)) free
           ∙ ap (λ b. cond b (Some Collides) None) (new_collides r to free ∙ told)
 
--- what the file of a name tells is what it holds
-module _ {F : Type 0} (IsHonest : F → Type 0) (history : F → History) (old : Repository F) (r : plain.Repository) (h : Serves IsHonest history old r) where
-  pub held_at : (name path : Bytes) → path ≡ name → is_name name ≡ true → (found : Option ObjectId) → NameHolds old.names.kind (history (names_part old)).tree path found → id_at r name ≡ option_map id_of found
+-- what is read of a name is what it holds
+module _ {F : Type 0} (IsHonest : F → Type 0) (history : F → History) (old : Repository F) (r : plain.Repository) (h : Stands IsHonest history old r) where
+  pub held_at : (name path : Bytes) → path ≡ name → is_name name ≡ true → (found : Option ObjectId) → NameReads old.names.kind (history (names_part old)).tree path found → id_at r name ≡ option_map id_of found
   held_at name path same formed found tells =
-      ap (id_at r) (sym same) ∙ sym (held IsHonest history old r h path (refs_front path (ap is_name same ∙ formed)) found (of_one_kind IsHonest history old r h path found tells))
+      ap (id_at r) (sym same) ∙ sym (held IsHonest history old r h path found tells)
 
 -- whether it stands, by that
 pub stands_told : (held : Option Id) (found : Option ObjectId) → held ≡ option_map id_of found → is_some found ≡ true → is_some held ≡ true
@@ -196,7 +195,7 @@ module _ {F : Type 0} (IsHonest : F → Type 0) (history : F → History) (old :
   new = after r (Rename from to)
 
   sound : IsSound r
-  sound = record { whole = asked.serves.stands.whole.whole; written = asked.serves.stands.whole.written }
+  sound = record { whole = asked.serves.whole.whole; written = asked.serves.whole.written }
 
   fits : FitsThen r to
   fits = renames_fit r from to sound asked.none
@@ -209,12 +208,12 @@ module _ {F : Type 0} (IsHonest : F → Type 0) (history : F → History) (old :
   pub fits_first : FitsAmong r moves.name.items
   fits_first = subst (FitsAmong r) (sym asked.makes.name) (record { named = fits.named; apart = fits.apart })
 
-  first : IsRenaming r from to r (pair_of history old)
-  first = record { sound = sound; none = asked.none; stands = asked.serves.stands.whole.stands; unpacked = asked.serves.stage.unpacked }
+  first : IsOnItsWay r from to r (pair_of history old)
+  first = record { sound = sound; none = asked.none; stands = asked.serves.whole.stands }
 
   pub first_passes : (mid : Repository F) → NamesPass history moves old mid → Adds (HoldsBetween r (Rename from to)) (history (names_part old)) (history (names_part mid))
   first_passes mid pass = adds_weaker (history (names_part old)) (history (names_part mid)) pass (λ tree may.
-      making_passes r from to (pair_of history old) tree first
+      bringing_passes r from to (pair_of history old) tree first
       (subst (λ entry. MovesOnTheWay to entry (names_tree history old) tree) asked.makes.entry
       (subst (λ n. MovesOnTheWay n (entry_of moves.entry) (names_tree history old) tree) asked.makes.name may)))
 
@@ -230,12 +229,12 @@ module _ {F : Type 0} (IsHonest : F → Type 0) (history : F → History) (old :
 
   -- ---- the old name goes
 
-  module _ (mid : Repository F) (honest : IsHonest (names_part mid)) (moved : MovesName moves.name.items (entry_of moves.entry) (names_tree history old) (names_tree history mid)) where
+  module _ (mid : Repository F) (honest : IsHonest (names_part mid)) (kind : mid.names.kind ≡ old.names.kind) (records : KeepsRecords mid.names (names_tree history mid)) (moved : MovesName moves.name.items (entry_of moves.entry) (names_tree history old) (names_tree history mid)) where
     abbrev pair_then : Pair
     pair_then = record (pair_of history old) { names = names_tree history mid }
 
-    second : IsRenaming r from to both pair_then
-    second = renames_make r from to (pair_of history old) (names_tree history mid) first
+    second : IsOnItsWay r from to both pair_then
+    second = renames_bring r from to (pair_of history old) (names_tree history mid) first
         (subst (λ entry. MovesName to entry (names_tree history old) (names_tree history mid)) asked.makes.entry
         (subst (λ n. MovesName n (entry_of moves.entry) (names_tree history old) (names_tree history mid)) asked.makes.name moved))
 
@@ -250,7 +249,8 @@ module _ {F : Type 0} (IsHonest : F → Type 0) (history : F → History) (old :
       honest = honest;
       holds = ((halves_stand r.kind pair_then both).0 second.stands).2;
       named = named_then;
-      unpacked = second.unpacked;
+      kind = kind ∙ asked.serves.names_kind;
+      records = records;
     }
 
     -- the old name stands still
@@ -261,32 +261,33 @@ module _ {F : Type 0} (IsHonest : F → Type 0) (history : F → History) (old :
         or_true true = refl
         or_true false = refl
 
-    pub second_passes : (last : Repository F) → Adds (DeletesOnTheWay from (names_tree history mid)) (history (names_part mid)) (history (names_part last)) → Adds (HoldsBetween r (Rename from to)) (history (names_part mid)) (history (names_part last))
-    second_passes last pass = adds_weaker (history (names_part mid)) (history (names_part last)) pass (λ tree may. going_passes r from to pair_then tree second may)
+    pub second_passes : (last : Repository F) → Adds (TakesOnTheWay r.kind from (names_tree history mid)) (history (names_part mid)) (history (names_part last)) → Adds (HoldsBetween r (Rename from to)) (history (names_part mid)) (history (names_part last))
+    second_passes last pass = adds_weaker (history (names_part mid)) (history (names_part last)) pass (λ tree may. taking_passes r from to pair_then tree second may)
 
-    pub both_pass : (last : Repository F) → NamesPass history moves old mid → Adds (DeletesOnTheWay from (names_tree history mid)) (history (names_part mid)) (history (names_part last)) → Adds (HoldsBetween r (Rename from to)) (history (names_part old)) (history (names_part last))
+    pub both_pass : (last : Repository F) → NamesPass history moves old mid → Adds (TakesOnTheWay r.kind from (names_tree history mid)) (history (names_part mid)) (history (names_part last)) → Adds (HoldsBetween r (Rename from to)) (history (names_part old)) (history (names_part last))
     both_pass last came went = adds_joined (history (names_part old)) (history (names_part mid)) (history (names_part last)) (first_passes mid came) (second_passes last went)
 
-    module _ (last : Repository F) (honest_last : IsHonest (names_part last)) where
-      stand_last : DeletesName from (names_tree history mid) (names_tree history last) → NamesStand IsHonest history last new
-      stand_last gone = record {
+    module _ (last : Repository F) (honest_last : IsHonest (names_part last)) (kind_last : last.names.kind ≡ mid.names.kind) where
+      stand_last : KeepsRecords last.names (names_tree history last) → TakesName r.kind from (names_tree history mid) (names_tree history last) → NamesStand IsHonest history last new
+      stand_last records_last gone = record {
         honest = honest_last;
-        holds = ((halves_stand r.kind (record pair_then { names = names_tree history last }) new).0 (renames_stand r from to pair_then (names_tree history last) second gone)).2;
+        holds = ((halves_stand r.kind (record pair_then { names = names_tree history last }) new).0 (renames_end r from to pair_then (names_tree history last) second gone)).2;
         named = name_formed new (steps_keep_sound r new (Rename from to) Renamed (names_only r from to asked.none).steps sound).written;
-        unpacked = gone.others packed_place (packed_apart from (fits.all_named from (is_there r from to asked.none))) (packed_no_log from) ∙ second.unpacked;
+        kind = kind_last ∙ kind ∙ asked.serves.names_kind;
+        records = records_last;
       }
 
-      pub rename_ends : (C D : Type 0) → (C → D) → (result : Result (Unit {0}) Stopped) → DeletesFiles C (names_tree history mid) (names_tree history last) from result → LeavesMoved D (NamesStand IsHonest history last new) result
-      rename_ends C D keep (Ok done) gone = stand_last gone
-      rename_ends C D keep (Err (Refused cause)) k = absurd k
-      rename_ends C D keep (Err (Fault Memory)) k = tt
-      rename_ends C D keep (Err (Fault File)) k = keep k
-      rename_ends C D keep (Err (Fault IdTaken)) k = absurd k
+      pub rename_ends : (C D : Type 0) → (C → D) → (result : Result (Unit {0}) Stopped) → OnOk result (KeepsRecords last.names (names_tree history last)) → DeletesFiles C r.kind (names_tree history mid) (names_tree history last) from result → LeavesMoved D (NamesStand IsHonest history last new) result
+      rename_ends C D keep (Ok done) kept gone = stand_last kept gone
+      rename_ends C D keep (Err (Refused cause)) kept k = absurd k
+      rename_ends C D keep (Err (Fault Memory)) kept k = tt
+      rename_ends C D keep (Err (Fault File)) kept k = keep k
+      rename_ends C D keep (Err (Fault IdTaken)) kept k = absurd k
 
 -- ---- the old name as it is passed on
 
 module _ {F : Type 0} (IsHonest : F → Type 0) (history : F → History) (r : plain.Repository) (from to place : Bytes) (same : place ≡ from) where
-  pub asked_so : (old : Repository F) (moves : Moves) → Serves IsHonest history old r → (first_cause r (Rename from to) ≡ None) × MakesName r from to moves → AskedRename IsHonest history old moves r place to
+  pub asked_so : (old : Repository F) (moves : Moves) → Stands IsHonest history old r → (first_cause r (Rename from to) ≡ None) × MakesName r from to moves → AskedRename IsHonest history old moves r place to
   asked_so old moves h plan = subst (λ n. AskedRename IsHonest history old moves r n to) (sym same) (record { serves = h; none = plan.0; makes = plan.1 })
 
   pub passes_so : (a b : History) → Adds (HoldsBetween r (Rename place to)) a b → Adds (HoldsBetween r (Rename from to)) a b

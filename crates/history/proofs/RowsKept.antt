@@ -35,7 +35,7 @@ use Rattle.history.specs.Faults.{rows_fault}
 use Rattle.history.specs.Indexed.{AgreeRows, FollowsRows, KeepsRows, LeavesRows, TellsRow}
 use Rattle.history.specs.Face.{rows_in}
 use Rattle.history.specs.declared.repository.Repository as own
-use Rattle.history.specs.Serving.{Serves}
+use Rattle.history.specs.Stands.{Stands}
 use Rattle.history.specs.declared.stopped.Stopped.{Stopped}
 use Rattle.history.specs.declared.stopped.Stopped.TheVariants.{Refused, Fault}
 use Rattle.history.proofs.Answered.{handed_on, reading_fault}
@@ -219,19 +219,17 @@ index_leaves r (Err stopped) old new keeps same = ap rows_in same
 
 -- ---- other rows
 
-pub rows_serve : {F : Type 0} (IsHonest : F → Type 0) (history : F → History) (old : own.Repository F) (r : Repository) (rows : List Row) → Serves IsHonest history old r → AgreeRows r.kind r.objects rows → Serves IsHonest history (record old { rows = Some rows }) r
+pub rows_serve : {F : Type 0} (IsHonest : F → Type 0) (history : F → History) (old : own.Repository F) (r : Repository) (rows : List Row) → Stands IsHonest history old r → AgreeRows r.kind r.objects rows → Stands IsHonest history (record old { rows = Some rows }) r
 rows_serve IsHonest history old r rows h agree = record {
-  stands = record {
-    honest_objects = h.stands.honest_objects;
-    honest_names = h.stands.honest_names;
-    whole = h.stands.whole;
-    objects_kind = h.stands.objects_kind;
-    names_kind = h.stands.names_kind;
-    branch = h.stands.branch;
-    known = h.stands.known;
-    rows = agree;
-  };
-  stage = h.stage;
+  honest_objects = h.honest_objects;
+  honest_names = h.honest_names;
+  whole = h.whole;
+  objects_kind = h.objects_kind;
+  names_kind = h.names_kind;
+  branch = h.branch;
+  known = h.known;
+  records = h.records;
+  rows = agree;
 }
 
 -- the reply of an `index` that made these rows

@@ -19,7 +19,7 @@ use Rattle.history.specs.Acts.{Acts}
 use Rattle.history.specs.Face.{objects_part}
 use Rattle.history.specs.Halves.{KnowsIds, ObjectsStand, StoresValues}
 use Rattle.history.specs.Moments.{ObjectsPass}
-use Rattle.history.specs.Serving.{Serves}
+use Rattle.history.specs.Stands.{Stands}
 use Rattle.history.specs.Tagging.{IsTagged, PlansTag}
 use Rattle.history.specs.declared.repository.Repository.{Repository}
 use Rattle.history.specs.declared.stopped.Stopped.{Stopped}
@@ -38,35 +38,35 @@ plan_acts MayFail CallFailed StandsNow keep r order result ends stopped was is_e
     by_case (Fault File) k = keep k
     by_case (Fault IdTaken) k = absurd k
 
-module _ {F : Type 0} (IsHonest : F → Type 0) (history : F → History) (old : Repository F) (r : plain.Repository) (order : TagCommand) (tagged : Tagged) (h : Serves IsHonest history old r) (is : IsTagged r order tagged) where
+module _ {F : Type 0} (IsHonest : F → Type 0) (history : F → History) (old : Repository F) (r : plain.Repository) (order : TagCommand) (tagged : Tagged) (h : Stands IsHonest history old r) (is : IsTagged r order tagged) where
   abbrev value : Value
   value = StoredTag (new_tag r order)
 
   sound : IsSound r
-  sound = record { whole = (h.stands.whole).whole; written = (h.stands.whole).written }
+  sound = record { whole = (h.whole).whole; written = (h.whole).written }
 
   pub object_is : IsObjectOf old.objects.kind value tagged.object
-  object_is = subst (λ kind. IsObjectOf kind value tagged.object) (sym h.stands.objects_kind) (record { id = (is.object).id; kind = (is.object).kind_is; content = (is.object).content_is })
+  object_is = subst (λ kind. IsObjectOf kind value tagged.object) (sym h.objects_kind) (record { id = (is.object).id; kind = (is.object).kind_is; content = (is.object).content_is })
 
   abbrev PutsSo : Type 0 → Tree → Result (Unit {0}) Stopped → Type 0
   PutsSo C new result = (values : Values) (value : Value) → ObjectsStand IsHonest history old values → IsObjectOf old.objects.kind value tagged.object → StoresValues C old.objects.kind values (value ∷ []) new result
 
   pub tag_stored : (C : Type 0) (new : Tree) (result : Result (Unit {0}) Stopped) → PutsSo C new result → StoresValues C r.kind r.objects (stored_by r (Tag order)) new result
   tag_stored C new result put =
-      subst (λ kind. StoresValues C kind r.objects (value ∷ []) new result) h.stands.objects_kind (put r.objects value (objects_stand IsHonest history old r h.stands) object_is)
+      subst (λ kind. StoresValues C kind r.objects (value ∷ []) new result) h.objects_kind (put r.objects value (objects_stand IsHonest history old r h) object_is)
 
   pub tag_known : (new : Repository F) (result : Result (Unit {0}) Stopped)
       → ((values : Values) (value : Value) → KnowsIds old values → IsObjectOf old.objects.kind value tagged.object → OnOk result (KnowsIds new (store_one old.objects.kind values value)))
       → OnOk result (KnowsIds new (store_all r.kind r.objects (stored_by r (Tag order))))
-  tag_known new result put = subst (λ kind. OnOk result (KnowsIds new (store_one kind r.objects value))) h.stands.objects_kind (put r.objects value h.stands.known object_is)
+  tag_known new result put = subst (λ kind. OnOk result (KnowsIds new (store_one kind r.objects value))) h.objects_kind (put r.objects value h.known object_is)
 
   pub tag_passes : (new : Repository F)
       → ((values : Values) (value : Value) → ObjectsStand IsHonest history old values → IsObjectOf old.objects.kind value tagged.object → Adds (HoldsFirst old.objects.kind values (value ∷ [])) (history (objects_part old)) (history (objects_part new)))
       → ObjectsPass history r (Tag order) old new
   tag_passes new put =
       adds_weaker (history (objects_part old)) (history (objects_part new))
-      (subst (λ kind. Adds (HoldsFirst kind r.objects (value ∷ [])) (history (objects_part old)) (history (objects_part new))) h.stands.objects_kind
-      (put r.objects value (objects_stand IsHonest history old r h.stands) object_is))
+      (subst (λ kind. Adds (HoldsFirst kind r.objects (value ∷ [])) (history (objects_part old)) (history (objects_part new))) h.objects_kind
+      (put r.objects value (objects_stand IsHonest history old r h) object_is))
       (λ tree first. (is.none, first_are_some r (stored_by r (Tag order)) tree (tags_store_whole r order sound is.none) first))
 
   -- where the put stops, so does the command

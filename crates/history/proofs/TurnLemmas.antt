@@ -352,12 +352,12 @@ run_then Took Comes Reads Wrote Writes Writing Stood StandsNow RecoversNow First
   recovers = k.recovers;
 }
 
--- what was acted on, read, written and left, where this is told; and what is said of what stands, in two parts
-pub run_told : (Reads Writes : Bytes → Type 0) (StandsNow Stood Staged RecoversNow : Repository → Type 0) (Traced : List Command → List Reply → Repository → Type 0) (AtEnd L C : Type 0) (r : Repository) (told result : Result End RunError) (failed : Bool)
-    → ((new : Repository) → StandsNow new → Stood new × Staged new) → told ≡ result → EndsHere Reads Writes StandsNow RecoversNow Traced AtEnd L C r result failed
+-- what was acted on, read, written and left, where this is told
+pub run_told : (Reads Writes : Bytes → Type 0) (StandsNow RecoversNow : Repository → Type 0) (Traced : List Command → List Reply → Repository → Type 0) (AtEnd L C : Type 0) (r : Repository) (told result : Result End RunError) (failed : Bool)
+    → told ≡ result → EndsHere Reads Writes StandsNow RecoversNow Traced AtEnd L C r result failed
     → (commands : List Command) × (replies : List Reply) × (read written : Bytes) × (new : Repository) × Reads read × Writes written × EndsRun AtEnd L C r commands replies read written told failed new
-    × Traced commands replies new × (failed ≡ false → Stood new × Staged new) × (failed ≡ true → RecoversNow new)
-run_told Reads Writes StandsNow Stood Staged RecoversNow Traced AtEnd L C r told result failed parted e h = (
+    × Traced commands replies new × (failed ≡ false → StandsNow new) × (failed ≡ true → RecoversNow new)
+run_told Reads Writes StandsNow RecoversNow Traced AtEnd L C r told result failed e h = (
   h.commands,
   h.replies,
   h.read,
@@ -367,6 +367,6 @@ run_told Reads Writes StandsNow Stood Staged RecoversNow Traced AtEnd L C r told
   h.writes,
   subst (λ x. EndsRun AtEnd L C r h.commands h.replies h.read h.written x failed h.new) (sym e) h.ends,
   h.traced,
-  λ whole. parted h.new (h.stands whole),
+  h.stands,
   h.recovers,
 )

@@ -8,15 +8,14 @@ use Rattle.history_model.specs.Repository.{Repository, Reference, id_at, stands}
 use Rattle.history_model.specs.Words.{ReadsAs, word_meaning, name_meaning, id_meaning, candidates, head_word}
 use Rattle.history_model.specs.declared.Cause.TheVariants.{UnbornHead}
 use Rattle.gix_ref_file.specs.History.{History}
-use Rattle.history_store.specs.References.{NameHolds}
+use Rattle.history_store.specs.Packing.{NameReads}
 use Rattle.gix_hash_id.specs.declared.object_id.ObjectId.{ObjectId}
 use Rattle.history.specs.Meanings.{commit_or_cause, stands_for}
-use Rattle.history.specs.Serving.{Serves}
+use Rattle.history.specs.Stands.{Stands}
 use Rattle.history.specs.Face.{names_part}
 use Rattle.history.specs.declared.repository.Repository as own
-use Rattle.history.proofs.NameReads.{held, branch_is_name, refs_front}
+use Rattle.history.proofs.NameReads.{held}
 use Rattle.gix_hash_id.specs.Id.{Id, id_of}
-use Rattle.std.proofs.lemmas.Bool.{and_parts}
 
 -- what stands before and behind a word
 abbrev pub Ends : Type 0
@@ -119,38 +118,35 @@ stands_so r name held e = by_ref (get r.names name) ∙ ap is_some e
 
 -- ---- a repository with its files
 
-module _ {F : Type 0} (IsHonest : F → Type 0) (history : F → History) (repository : own.Repository F) (r : Repository) (stand : Serves IsHonest history repository r) where
-  pub of_one_kind : (place : Bytes) (found : Option ObjectId) → NameHolds repository.names.kind (history (names_part repository)).tree place found → NameHolds r.kind (history (names_part repository)).tree place found
-  of_one_kind place found holds = subst (λ kind. NameHolds kind (history (names_part repository)).tree place found) stand.stands.names_kind holds
-
-  -- what the file of a candidate tells is what the candidate holds
-  pub candidate_held : (place name : Bytes) → place ≡ name → may_mean name ≡ true → (found : Option ObjectId) → NameHolds repository.names.kind (history (names_part repository)).tree place found → id_at r name ≡ option_map id_of found
+module _ {F : Type 0} (IsHonest : F → Type 0) (history : F → History) (repository : own.Repository F) (r : Repository) (stand : Stands IsHonest history repository r) where
+  -- what is read of a candidate is what it holds
+  pub candidate_held : (place name : Bytes) → place ≡ name → may_mean name ≡ true → (found : Option ObjectId) → NameReads repository.names.kind (history (names_part repository)).tree place found → id_at r name ≡ option_map id_of found
   candidate_held place name same e found holds =
-      sym (held IsHonest history repository r stand name (and_parts (begins (codes "refs/") name) (not (is_private name)) e).0 found (subst (λ p. NameHolds r.kind (history (names_part repository)).tree p found) same (of_one_kind place found holds)))
+      sym (held IsHonest history repository r stand name found (subst (λ p. NameReads repository.names.kind (history (names_part repository)).tree p found) same holds))
 
-  -- a name stands where its file tells an id
-  pub name_stands : (name : Bytes) → is_name name ≡ true → (found : Option ObjectId) → NameHolds repository.names.kind (history (names_part repository)).tree name found → stands r name ≡ is_some found
+  -- a name stands where it reads as an id
+  pub name_stands : (name : Bytes) → is_name name ≡ true → (found : Option ObjectId) → NameReads repository.names.kind (history (names_part repository)).tree name found → stands r name ≡ is_some found
   name_stands name formed found holds =
-      stands_so r name (option_map id_of found) (sym (held IsHonest history repository r stand name (refs_front name formed) found (of_one_kind name found holds))) ∙ same_there found
+      stands_so r name (option_map id_of found) (sym (held IsHonest history repository r stand name found holds)) ∙ same_there found
     where
       same_there : (o : Option ObjectId) → is_some (option_map id_of o) ≡ is_some o
       same_there None = refl
       same_there (Some id) = refl
 
-  -- HEAD stands for what its branch's file tells
-  branch_held : (place : Bytes) → place ≡ repository.branch.items → (found : Option ObjectId) → NameHolds repository.names.kind (history (names_part repository)).tree place found → id_at r r.branch ≡ option_map id_of found
+  -- HEAD stands for what its branch reads as
+  branch_held : (place : Bytes) → place ≡ repository.branch.items → (found : Option ObjectId) → NameReads repository.names.kind (history (names_part repository)).tree place found → id_at r r.branch ≡ option_map id_of found
   branch_held place same found holds =
-      sym (held IsHonest history repository r stand place (ap (begins (codes "refs/")) same ∙ branch_is_name IsHonest history repository r stand) found (of_one_kind place found holds)
-      ∙ ap (id_at r) (same ∙ stand.stands.branch))
+      sym (held IsHonest history repository r stand place found holds
+      ∙ ap (id_at r) (same ∙ stand.branch))
 
-  pub branch_at : (place : Bytes) → place ≡ repository.branch.items → (found : Option ObjectId) → NameHolds repository.names.kind (history (names_part repository)).tree place found
+  pub branch_at : (place : Bytes) → place ≡ repository.branch.items → (found : Option ObjectId) → NameReads repository.names.kind (history (names_part repository)).tree place found
       → (id : ObjectId) → found ≡ Some id → id_at r r.branch ≡ Some (id_of id)
   branch_at place same found holds id there = branch_held place same found holds ∙ ap (option_map id_of) there
 
   pub branch_reads : (word : Bytes) (id : Id) → bytes_eq word head_word ≡ true → id_at r r.branch ≡ Some id → stands_for r (ReadsAs id) ≡ commit_or_cause r word
   branch_reads word id is at = sym (ap (stands_for r) (reads_branch r word is ∙ ap name_meaning at))
 
-  pub branch_unborn : (word place : Bytes) → bytes_eq word head_word ≡ true → place ≡ repository.branch.items → (found : Option ObjectId) → NameHolds repository.names.kind (history (names_part repository)).tree place found
+  pub branch_unborn : (word place : Bytes) → bytes_eq word head_word ≡ true → place ≡ repository.branch.items → (found : Option ObjectId) → NameReads repository.names.kind (history (names_part repository)).tree place found
       → found ≡ None → Err UnbornHead ≡ commit_or_cause r word
   branch_unborn word place is same found holds none =
       let at : id_at r r.branch ≡ None = branch_held place same found holds ∙ ap (option_map id_of) none in

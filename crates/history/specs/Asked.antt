@@ -13,14 +13,14 @@ use Rattle.history_word.specs.declared.command.Edit.{Edit}
 use Rattle.history_word.specs.declared.reader.Received.{Received}
 use Rattle.history.specs.Bases.{source_id}
 use Rattle.history.specs.CommitCauses.{first_among, name_causes}
-use Rattle.history.specs.Serving.{Serves}
+use Rattle.history.specs.Stands.{Stands}
 use Rattle.history.specs.declared.repository.Repository.{Repository}
 
 -- A repository is asked for what was read: this command, which is offered.
 pub record Asked {F : Type 0} (IsHonest : F → Type 0) (history : F → History)
     (repository : Repository F) (received : Received)
     (r : plain.Repository) (order : orders.Command) : Type 0 where
-  pub serves : Serves IsHonest history repository r
+  pub serves : Stands IsHonest history repository r
   pub reads : IsReceived received order
   pub offered : IsTrue (is_spoken order)
 
@@ -28,7 +28,7 @@ pub record Asked {F : Type 0} (IsHonest : F → Type 0) (history : F → History
 pub record AskedCommit {F : Type 0} (IsHonest : F → Type 0) (history : F → History)
     (repository : Repository F) (command : CommitCommand)
     (r : plain.Repository) (order : orders.CommitCommand) : Type 0 where
-  pub serves : Serves IsHonest history repository r
+  pub serves : Stands IsHonest history repository r
   pub reads : IsCommit command order
 
 -- A repository is asked for the files of a commit with these edits on these parents, and with the commits that are those of the edits'
@@ -37,7 +37,7 @@ pub record AskedFiles {F : Type 0} (IsHonest : F → Type 0) (history : F → Hi
     (repository : Repository F) (parents : List ObjectId) (sources : List (Option ObjectId))
     (edits : List Edit)
     (r : plain.Repository) (order : orders.CommitCommand) : Type 0 where
-  pub serves : Serves IsHonest history repository r
+  pub serves : Stands IsHonest history repository r
   pub unrefused : first_among name_causes r (orders.Commit order) ≡ None
   pub parents_are : map id_of parents ≡ parents_of r order
   pub sources_are : map (option_map id_of) sources ≡ map (source_id r) order.edits

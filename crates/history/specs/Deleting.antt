@@ -1,6 +1,7 @@
--- What a `delete` asks of its name, and what it does to the name's files.
+-- What a `delete` asks of its name, and what it does to the name's files and its record.
 use Rattle.std.specs.Prelude.{◌≡◌, ⊤, List, ◌++◌, Option, Some, None, Result, Ok, Err}
 use Rattle.gix_hash_id.specs.Id.{Id}
+use Rattle.gix_hash_id.specs.declared.kind.Kind.{Kind}
 use Rattle.gix_ref_file.specs.Tree.{Tree}
 use Rattle.history_model.specs.Bytes.{Bytes}
 use Rattle.history_model.specs.Causes.{first_cause}
@@ -9,7 +10,7 @@ use Rattle.history_model.specs.Repository as plain
 use Rattle.history_model.specs.declared.Cause.{Cause}
 use Rattle.history_model.specs.declared.Cause.TheVariants.{NoSuchName}
 use Rattle.history_model.specs.declared.Fault.TheVariants.{Memory, File, IdTaken}
-use Rattle.history_steps.specs.DeleteSteps.{DeletesName}
+use Rattle.history_steps.specs.TakeSteps.{TakesName}
 use Rattle.history.specs.Acts.{IsReadingFault}
 use Rattle.history.specs.Bases.{held_cause}
 use Rattle.history.specs.CommitCauses.{held_causes, name_form_causes, word_causes}
@@ -32,10 +33,10 @@ TestsAll MayFail r command (Ok done) = first_cause r command ≡ None
 TestsAll MayFail r command (Err (Refused cause)) = first_cause r command ≡ Some cause
 TestsAll MayFail r command (Err (Fault fault)) = IsReadingFault MayFail (Fault fault)
 
--- The name's files are gone, or a fault was met.
-abbrev pub DeletesFiles : Type 0 → Tree → Tree → Bytes → Result (Unit {0}) Stopped → Type 0
-DeletesFiles CallFailed old new name (Ok done) = DeletesName name old new
-DeletesFiles CallFailed old new name (Err (Refused cause)) = ⊥
-DeletesFiles CallFailed old new name (Err (Fault Memory)) = ⊤
-DeletesFiles CallFailed old new name (Err (Fault File)) = CallFailed
-DeletesFiles CallFailed old new name (Err (Fault IdTaken)) = ⊥
+-- The name's files and its record are gone, or a fault was met.
+abbrev pub DeletesFiles : Type 0 → Kind → Tree → Tree → Bytes → Result (Unit {0}) Stopped → Type 0
+DeletesFiles CallFailed kind old new name (Ok done) = TakesName kind name old new
+DeletesFiles CallFailed kind old new name (Err (Refused cause)) = ⊥
+DeletesFiles CallFailed kind old new name (Err (Fault Memory)) = ⊤
+DeletesFiles CallFailed kind old new name (Err (Fault File)) = CallFailed
+DeletesFiles CallFailed kind old new name (Err (Fault IdTaken)) = ⊥

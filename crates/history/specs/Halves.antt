@@ -1,5 +1,5 @@
 -- What stands in each of the two parts, and what storing values and moving a name make of it.
-use Rattle.std.specs.Prelude.{◌≡◌, ⊤, List, None, Result, Ok, Err, IsTrue, IsFalse}
+use Rattle.std.specs.Prelude.{◌≡◌, ⊤, List, Result, Ok, Err, IsTrue, IsFalse}
 use Rattle.gix_ref_file.specs.History.{History}
 use Rattle.gix_ref_file.specs.Tree.{Tree}
 use Rattle.history_model.specs.Objects.{Value}
@@ -9,7 +9,6 @@ use Rattle.history_model.specs.Bytes.{Bytes}
 use Rattle.history_model.specs.Forms.{is_name}
 use Rattle.history_model.specs.Causes.{do_collide}
 use Rattle.history_model.specs.Meaning.{some_taken, store_all}
-use Rattle.history_model.specs.Places.{file_at, packed_place}
 use Rattle.history_steps.specs.TreeHalves.{HoldsValues, HoldsNames}
 use Rattle.history_steps.specs.TreeSteps.{MovesName}
 use Rattle.gix_hash_id.specs.declared.kind.Kind.{Kind}
@@ -20,8 +19,9 @@ use Rattle.history.specs.Face.{objects_part, names_part, known_ids}
 use Rattle.history.specs.declared.repository.Repository.{Repository}
 use Rattle.history.specs.declared.stopped.Stopped.{Stopped}
 use Rattle.history.specs.declared.stopped.Stopped.TheVariants.{Refused, Fault}
-use Rattle.history_store.specs.Face.{kind_of_objects}
+use Rattle.history_store.specs.Face.{kind_of_names, kind_of_objects}
 use Rattle.history_store.specs.Formats.{entry_of}
+use Rattle.history_store.specs.Packing.{KeepsRecords}
 use Rattle.history.specs.declared.planning.Moves.{Moves}
 
 -- the tree that stands in a part
@@ -44,13 +44,14 @@ abbrev pub KnowsIds : {F : Type 0} → Repository F → Values → Type 0
 KnowsIds repository values =
     (id : Id) → contains_key (known_ids repository) id ≡ contains_key values id
 
--- The names part is honest and holds the names of this repository, and no packed ones.
+-- The names part is honest and holds the names of this repository, and the records that are kept are those of its `packed-refs`.
 pub record NamesStand {F : Type 0} (IsHonest : F → Type 0) (history : F → History)
     (repository : Repository F) (r : plain.Repository) : Type 0 where
   pub honest : IsHonest (names_part repository)
   pub holds : HoldsNames (names_tree history repository) r
   pub named : (name : Bytes) → IsTrue (stands r name) → IsTrue (is_name name)
-  pub unpacked : file_at (names_tree history repository) packed_place ≡ None
+  pub kind : kind_of_names repository.names ≡ r.kind
+  pub records : KeepsRecords repository.names (names_tree history repository)
 
 -- No id is taken, and the tree holds these values beside those that stood; or one is taken, or a fault was met.
 abbrev pub StoresValues : Type 0 → Kind → Values → List Value → Tree → Result (Unit {0}) Stopped

@@ -27,7 +27,7 @@ use Rattle.history.specs.CommitCauses.{first_among, held_causes, place_causes, w
 use Rattle.history.specs.Fields.{kept_bytes}
 use Rattle.history.specs.Held.{IsHeld, held_commit, held_id}
 use Rattle.history.specs.Meanings.{commit_in, commit_or_cause, meaning_of}
-use Rattle.history.specs.Serving.{Serves}
+use Rattle.history.specs.Stands.{Stands}
 use Rattle.history.specs.declared.base.Expected.{Expected}
 use Rattle.history.specs.declared.base.Expected.TheVariants.{Any, New, At}
 use Rattle.history.specs.declared.moving.Line.{Line}
@@ -164,7 +164,7 @@ PlansMoves MayFail r order (Err (Fault fault)) = IsReadingFault MayFail (Fault f
 pub record AskedMoves {F : Type 0} (IsHonest : F → Type 0) (history : F → History)
     (repository : Repository F) (moves : List Moves)
     (r : plain.Repository) (order : MoveCommand) : Type 0 where
-  pub serves : Serves IsHonest history repository r
+  pub serves : Stands IsHonest history repository r
   pub none : first_cause r (Move order) ≡ None
   pub moves_are : AreMoves r order order.to moves
 

@@ -11,7 +11,7 @@ use Rattle.history_model.specs.Repository.{id_at}
 use Rattle.history_steps.specs.RenameSteps.{rename_entry}
 use Rattle.history_store.specs.Formats.{entry_of}
 use Rattle.history.specs.Acts.{IsReadingFault}
-use Rattle.history.specs.Serving.{Serves}
+use Rattle.history.specs.Stands.{Stands}
 use Rattle.history.specs.declared.planning.Moves.{Moves}
 use Rattle.history.specs.declared.repository.Repository.{Repository}
 use Rattle.history.specs.declared.stopped.Stopped.{Stopped}
@@ -41,6 +41,6 @@ PlansRename MayFail r from to (Err (Fault fault)) = IsReadingFault MayFail (Faul
 pub record AskedRename {F : Type 0} (IsHonest : F → Type 0) (history : F → History)
     (repository : Repository F) (moves : Moves)
     (r : plain.Repository) (from to : Bytes) : Type 0 where
-  pub serves : Serves IsHonest history repository r
+  pub serves : Stands IsHonest history repository r
   pub none : first_cause r (Rename from to) ≡ None
   pub makes : MakesName r from to moves

@@ -39,6 +39,7 @@ changes_files (command.Show show) = false
 changes_files (command.Names folder) = false
 changes_files (command.Past word) = false
 changes_files (command.Switch name) = true
+changes_files command.Pack = true
 changes_files command.Index = false
 changes_files (command.Log log) = false
 

@@ -12,6 +12,7 @@ use Rattle.gix_hash_id.specs.Id.{Id}
 use Rattle.history.specs.Face.{objects_part, names_part, known_ids, rows_in}
 use Rattle.history.specs.Indexed.{AgreeRows}
 use Rattle.history_store.specs.Face.{kind_of_names, kind_of_objects}
+use Rattle.history_store.specs.Packing.{KeepsRecords}
 
 -- the two trees that stand
 abbrev pub pair_of : {F : Type 0} → (F → History) → Repository F → Pair
@@ -34,6 +35,8 @@ pub record Stands {F : Type 0} (IsHonest : F → Type 0) (history : F → Histor
   pub branch : repository.branch.items ≡ r.branch
   -- the ids that are known are those of what is stored
   pub known : (id : Id) → contains_key (known_ids repository) id ≡ contains_key r.objects id
+  -- the records that are kept are those of `packed-refs`
+  pub records : KeepsRecords repository.names (pair_of history repository).names
   -- the rows that are kept tell stored commits, as they are stored
   pub rows : AgreeRows r.kind r.objects (rows_of (rows_in repository))
 

@@ -13,7 +13,7 @@ ghost use Rattle.history.specs.Bases.{IsCommitBase, IsExpected, expected_meaning
 ghost use Rattle.history.specs.CommitCauses.{Tests, name_causes, place_causes};
 ghost use Rattle.history.specs.Held.{IsHeld};
 ghost use Rattle.history.specs.Meanings.{commit_in, commit_or_cause, meaning_of};
-ghost use Rattle.history.specs.Serving.{Serves};
+ghost use Rattle.history.specs.Stands.{Stands};
 ghost use Rattle.gix_hash_id.specs.Id.{id_of};
 
 use crate::held::{Held, commit_held, id_held};
@@ -149,7 +149,7 @@ impl<F: Files> Repository<F> {
     /// What is expected of a name, its word read.
     pub(crate) fn read_expected(&self, alloc: Global, expect: &Expect) -> Result<Expected, Stopped>
         ensures { (r : plain.Repository) (order : orders.Expect)
-            → Serves F.is_honest F.history self.now r → IsExpect expect.now order
+            → Stands F.is_honest F.history self.now r → IsExpect expect.now order
             → GivesMeant F.reading_may_fail (IsExpected r order) result }
     {
         Ok(match expect {
@@ -161,7 +161,7 @@ impl<F: Files> Repository<F> {
 
     /// What words read as.
     fn read_words(&self, alloc: Global, words: &[Vec<u8>]) -> Result<Vec<WordMeaning>, Stopped>
-        ensures { (r : plain.Repository) → Serves F.is_honest F.history self.now r
+        ensures { (r : plain.Repository) → Stands F.is_honest F.history self.now r
             → GivesMeant F.reading_may_fail (λ meanings. map meaning_of meanings.items
             ≡ map (λ word. commit_or_cause r word.items) words.now) result }
     {
@@ -175,7 +175,7 @@ impl<F: Files> Repository<F> {
     /// What the word of an edit reads as, if it has one.
     fn read_source(&self, alloc: Global, edit: &Edit) -> Result<Option<WordMeaning>, Stopped>
         ensures { (r : plain.Repository) (line : orders.EditLine)
-            → Serves F.is_honest F.history self.now r → IsEdit edit.now line
+            → Stands F.is_honest F.history self.now r → IsEdit edit.now line
             → GivesMeant F.reading_may_fail (λ source. option_map meaning_of source
             ≡ option_map (commit_or_cause r) (line_word line)) result }
     {
@@ -194,7 +194,7 @@ impl<F: Files> Repository<F> {
         edits: &[Edit],
     ) -> Result<Vec<Option<WordMeaning>>, Stopped>
         ensures { (r : plain.Repository) (lines : List orders.EditLine)
-            → Serves F.is_honest F.history self.now r → AreEdits edits.now lines
+            → Stands F.is_honest F.history self.now r → AreEdits edits.now lines
             → GivesMeant F.reading_may_fail (λ sources. map (option_map meaning_of) sources.items
             ≡ map (λ line. option_map (commit_or_cause r) (line_word line)) lines) result }
     {
@@ -208,7 +208,7 @@ impl<F: Files> Repository<F> {
     /// Tests that the name holds a commit, or may come to stand beside the others.
     fn test_place(&self, alloc: Global, name: &[u8], held: Option<Held>) -> Result<(), Stopped>
         ensures { (r : plain.Repository) (order : orders.CommitCommand)
-            → Serves F.is_honest F.history self.now r
+            → Stands F.is_honest F.history self.now r
             → name.now ≡ branch_or_name r order.name → IsTrue (is_name name.now)
             → IsHeld r (branch_or_name r order.name) held
             → Tests F.reading_may_fail place_causes r order (λ _. ⊤) result }
@@ -219,7 +219,7 @@ impl<F: Files> Repository<F> {
             }
             return Ok(());
         }
-        if self.names.collides(alloc, name)? {
+        if self.names.collides_any(alloc, name)? {
             return Err(Stopped::Refused(Cause::Collides));
         }
         Ok(())

@@ -1,4 +1,4 @@
-//! The command `delete`: a name goes, with its log.
+//! The command `delete`: a name goes, with its log and its record.
 
 ghost use Rattle.std.specs.Prelude.{◌≡◌, None, Option, Some, IfErr, IsTrue, MatchResult, OnOk, option_map};
 ghost use Rattle.gix_hash_id.specs.Id.{id_of};
@@ -9,8 +9,9 @@ ghost use Rattle.history_model.specs.Moments.{LeavesStopped};
 ghost use Rattle.history_model.specs.Places.{Pair};
 ghost use Rattle.history_model.specs.Repository as plain;
 ghost use Rattle.history_model.specs.Repository.{stands};
-ghost use Rattle.history_steps.specs.DeleteSteps.{DeletesOnTheWay};
+ghost use Rattle.history_steps.specs.TakeSteps.{TakesOnTheWay};
 ghost use Rattle.history_store.specs.Face.{kind_of_names};
+ghost use Rattle.history_store.specs.Packing.{KeepsRecords};
 ghost use Rattle.history_word.specs.Commands.{IsDelete};
 ghost use Rattle.history.specs.Acts.{Acts, CountsFailure, CountsRise, KeepsCounts};
 ghost use Rattle.history.specs.Deleting.{DeletesFiles, TestsAll, gone_cause};
@@ -18,7 +19,7 @@ ghost use Rattle.history.specs.Face.{KeepsAllButNames, has_failed, names_part, r
 ghost use Rattle.history.specs.Faults.{IsFault, IsRefusal};
 ghost use Rattle.history.specs.Halves.{NamesStand, names_tree};
 ghost use Rattle.history.specs.Moments.{GoesLater, StoodOnTheWay};
-ghost use Rattle.history.specs.Serving.{Serves};
+ghost use Rattle.history.specs.Stands.{Stands};
 
 use crate::base::{Expected, test_words};
 use crate::held::commit_held;
@@ -47,7 +48,7 @@ impl<F: Files> Repository<F> {
     /// Tests every cause. It changes nothing.
     fn test_delete(&self, alloc: Global, command: &Delete) -> Result<(), Stopped>
         ensures { (r : plain.Repository) (name : Bytes) (at : Option Bytes)
-            → Serves F.is_honest F.history self.now r → IsDelete command.now name at
+            → Stands F.is_honest F.history self.now r → IsDelete command.now name at
             → TestsAll F.reading_may_fail r (orders.Delete name at) result }
     {
         test_name(&command.name)?;
@@ -58,7 +59,7 @@ impl<F: Files> Repository<F> {
         Ok(())
     }
 
-    /// Removes a name's log and then the name. The objects stay as they are.
+    /// Removes a name's log, then its record, and then its own file. The objects stay as they are.
     pub(crate) fn delete_name(&mut self, alloc: Global, name: &[u8]) -> Result<(), Stopped>
         ensures kept { KeepsAllButNames self.old self.new }
         ensures honest { F.is_honest (names_part self.old) → F.is_honest (names_part self.new) }
@@ -67,14 +68,18 @@ impl<F: Files> Repository<F> {
         ensures unfailed { OnOk result (KeepsCounts F.failures self.old self.new) }
         ensures fault { IfErr result IsFault }
         ensures passes { (r : plain.Repository) → NamesStand F.is_honest F.history self.old r
-            → Adds (DeletesOnTheWay name.now (names_tree F.history self.old))
+            → IsTrue (stands r name.now)
+            → Adds (TakesOnTheWay r.kind name.now (names_tree F.history self.old))
             (F.history (names_part self.old)) (F.history (names_part self.new)) }
         ensures deletes { (r : plain.Repository) → NamesStand F.is_honest F.history self.old r
             → IsTrue (stands r name.now)
-            → DeletesFiles (CountsFailure F.failures F.reading_may_fail self.old self.new)
+            → DeletesFiles (CountsFailure F.failures F.reading_may_fail self.old self.new) r.kind
             (names_tree F.history self.old) (names_tree F.history self.new) name.now result }
+        ensures records { (r : plain.Repository) → NamesStand F.is_honest F.history self.old r
+            → IsTrue (stands r name.now)
+            → OnOk result (KeepsRecords self.new.names (names_tree F.history self.new)) }
     {
-        self.names.remove_name(alloc, name)?;
+        self.names.take_name(alloc, name)?;
         Ok(())
     }
 
@@ -86,17 +91,17 @@ impl<F: Files> Repository<F> {
         ensures counts { CountsRise F.failures self.old self.new }
         ensures unfailed { OnOk result (KeepsCounts F.failures self.old self.new) }
         ensures later { (r : plain.Repository) (name : Bytes) (at : Option Bytes)
-            → Serves F.is_honest F.history self.old r → IsDelete command.now name at
+            → Stands F.is_honest F.history self.old r → IsDelete command.now name at
             → GoesLater F.history F.failures self.old self.new }
         // A stop at any moment on the way, once recovered, leaves what it may.
         ensures stops { (r : plain.Repository) (name : Bytes) (at : Option Bytes)
-            → Serves F.is_honest F.history self.old r → IsDelete command.now name at
+            → Stands F.is_honest F.history self.old r → IsDelete command.now name at
             → (pair : Pair) → StoodOnTheWay F.history F.failures self.old self.new pair
             → LeavesStopped r (orders.Delete name at) pair }
         ensures acts { (r : plain.Repository) (name : Bytes) (at : Option Bytes)
-            → Serves F.is_honest F.history self.old r → IsDelete command.now name at
+            → Stands F.is_honest F.history self.old r → IsDelete command.now name at
             → Acts (CountsFailure F.failures F.reading_may_fail self.old self.new)
-            (Serves F.is_honest F.history self.new) r (orders.Delete name at) result }
+            (Stands F.is_honest F.history self.new) r (orders.Delete name at) result }
     {
         self.test_delete(alloc, command)?;
         let mut text = Vec::new(alloc);

@@ -30,7 +30,6 @@ fn nothing_at(alloc: Global, paths: usize) -> Result<Vec<Option<Found>>, AllocEr
 impl<F: Files> Repository<F> {
     ghost use Rattle.history_model.specs.Repository as plain;
     ghost use Rattle.history.specs.Acts.{GivesMeant};
-    ghost use Rattle.history.specs.Serving.{Serves};
     ghost use Rattle.history.specs.Stands.{Stands};
     ghost use Rattle.history.specs.Walked.{AllHold};
 
@@ -61,7 +60,7 @@ impl<F: Files> Repository<F> {
         paths: &[&[u8]],
         state: &mut EntriesState,
     ) -> Result<Vec<Option<Found>>, Stopped>
-        ensures { (r : plain.Repository) → Serves F.is_honest F.history self.now r
+        ensures { (r : plain.Repository) → Stands F.is_honest F.history self.now r
             → AllByRecursion (HoldsCommit r) (map id_of parents.now)
             → GivesMeant F.reading_may_fail (λ found. map (option_map entry_of) found.items
             ≡ map (λ path. entry_at r.kind (first_files r (map id_of parents.now)) path.now)
@@ -84,7 +83,7 @@ impl<F: Files> Repository<F> {
         paths: &[&[u8]],
         state: &mut EntriesState,
     ) -> Result<bool, Stopped>
-        ensures { (r : plain.Repository) → Serves F.is_honest F.history self.now r
+        ensures { (r : plain.Repository) → Stands F.is_honest F.history self.now r
             → HoldsCommit r (id_of id.now) → GivesMeant F.reading_may_fail (λ differs.
             differs ≡ differs_at r (map (λ path. path.now) paths.now) (id_of id.now)) result }
     {
@@ -103,7 +102,7 @@ impl<F: Files> Repository<F> {
         ids: &[ObjectId],
         paths: &[&[u8]],
     ) -> Result<Vec<ObjectId>, Stopped>
-        ensures { (r : plain.Repository) → Serves F.is_honest F.history self.now r
+        ensures { (r : plain.Repository) → Stands F.is_honest F.history self.now r
             → AllHold r ids.now → GivesMeant F.reading_may_fail
             (λ differing. map id_of differing.items
             ≡ filter (differs_at r (map (λ path. path.now) paths.now)) (map id_of ids.now)) result }

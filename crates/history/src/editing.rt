@@ -20,7 +20,7 @@ ghost use Rattle.history_word.specs.Commands.{AreEdits, IsEdit};
 ghost use Rattle.history_store.specs.Stores.{AreObjectsOf};
 ghost use Rattle.history.specs.Acts.{GivesMeant};
 ghost use Rattle.history.specs.Files.{AreChangesOf, AreReadAs, HasSource, IsFoundFor, StandsWithFolders, grafts_none, TellsEdited, TellsRead, IsChangeOf, IsTreeBefore, change_parts, edit_parts, kept_edit, unmade};
-ghost use Rattle.history.specs.Serving.{Serves};
+ghost use Rattle.history.specs.Stands.{Stands};
 
 use crate::fields::{into_kept, kept};
 use crate::repository::Repository;
@@ -161,7 +161,7 @@ impl<F: Files> Repository<F> {
         commit: &ObjectId,
         source: &[u8],
     ) -> Result<Option<Found>, Stopped>
-        ensures { (r : plain.Repository) → Serves F.is_honest F.history self.now r
+        ensures { (r : plain.Repository) → Stands F.is_honest F.history self.now r
             → HoldsCommit r (id_of commit.now)
             → GivesMeant F.reading_may_fail
             (IsSource (table_of r) r.kind source.now (files_at r (id_of commit.now))) result }
@@ -179,7 +179,7 @@ impl<F: Files> Repository<F> {
     /// Tests that a graft at a path would put each file at one within the limit. Each tree below a folder is read.
     fn test_graft(&self, alloc: Global, path: &[u8], found: Option<Found>) -> Result<(), Stopped>
         ensures { (r : plain.Repository) (source : Bytes) (other : FileMap)
-            → Serves F.is_honest F.history self.now r → IsFalse (is_bad_path path.now)
+            → Stands F.is_honest F.history self.now r → IsFalse (is_bad_path path.now)
             → IsSource (table_of r) r.kind source other found
             → StandsWithFolders r other
             → TellsRead F.reading_may_fail (model.Graft path.now source other ∷ []) (λ _. ⊤) result }
@@ -201,7 +201,7 @@ impl<F: Files> Repository<F> {
         source: Option<ObjectId>,
     ) -> Result<Option<Found>, Stopped>
         ensures { (r : plain.Repository) (line : EditLine)
-            → Serves F.is_honest F.history self.now r → IsEdit edit.now line
+            → Stands F.is_honest F.history self.now r → IsEdit edit.now line
             → IsFalse (list_any is_bad_path (edit_paths line)) → HasSource r line source
             → TellsRead F.reading_may_fail (kept_edit r edit.now ∷ []) (IsFoundFor r edit.now) result }
     {
@@ -222,7 +222,7 @@ impl<F: Files> Repository<F> {
         sources: &[Option<ObjectId>],
     ) -> Result<Changes, Stopped>
         ensures { (r : plain.Repository) (lines : List EditLine)
-            → Serves F.is_honest F.history self.now r → AreEdits edits.items lines
+            → Stands F.is_honest F.history self.now r → AreEdits edits.items lines
             → IsFalse (list_any is_bad_path (flat_map edit_paths lines))
             → AllZip (HasSource r) lines sources.now
             → TellsRead F.reading_may_fail (map (kept_edit r) edits.items)
@@ -246,7 +246,7 @@ impl<F: Files> Repository<F> {
         alloc: Global,
         parents: &[ObjectId],
     ) -> Result<Option<ObjectId>, Stopped>
-        ensures { (r : plain.Repository) → Serves F.is_honest F.history self.now r
+        ensures { (r : plain.Repository) → Stands F.is_honest F.history self.now r
             → AllByRecursion (HoldsCommit r) (map id_of parents.now)
             → GivesMeant F.reading_may_fail (IsTreeBefore r (map id_of parents.now)) result }
     {
@@ -264,7 +264,7 @@ impl<F: Files> Repository<F> {
         changes: &[PathChange],
     ) -> Result<Option<EditedFiles>, Stopped>
         ensures { (r : plain.Repository) (made : List model.Edit)
-            → Serves F.is_honest F.history self.now r
+            → Stands F.is_honest F.history self.now r
             → AllByRecursion (HoldsCommit r) (map id_of parents.now)
             → AreChangesOf r changes.now made → HavePaths made
             → TellsEdited F.reading_may_fail r (map id_of parents.now) made result }

@@ -6,8 +6,8 @@ ghost use Rattle.gix_hash_id.specs.Order.{id_eq};
 ghost use Rattle.history_model.specs.Forms.{is_name};
 ghost use Rattle.history_model.specs.Repository as plain;
 ghost use Rattle.history.specs.Acts.{GivesMeant};
-ghost use Rattle.history.specs.Held.{IsHeld, held_commit, held_id};
-ghost use Rattle.history.specs.Serving.{Serves};
+ghost use Rattle.history.specs.Held.{IsHeld, held_commit, held_id, tagged_commit};
+ghost use Rattle.history.specs.Stands.{Stands};
 
 use crate::repository::Repository;
 use crate::stopped::Stopped;
@@ -29,6 +29,17 @@ impl Held {
         ensures { result ≡ not (id_eq (held_id self) (held_commit self)) }
     {
         self.id != self.commit
+    }
+
+    /// The commit of the tag that is held; none where a commit is.
+    pub(crate) fn tagged(self) -> Option<ObjectId>
+        ensures { option_map id_of result ≡ tagged_commit self }
+    {
+        if self.is_tag() {
+            Some(self.commit)
+        } else {
+            None
+        }
     }
 }
 
@@ -59,11 +70,11 @@ pub(crate) fn id_before(held: Option<Held>, kind: Kind) -> ObjectId
 impl<F: Files> Repository<F> {
     /// What a name holds, where it stands.
     pub(crate) fn held(&self, alloc: Global, name: &[u8]) -> Result<Option<Held>, Stopped>
-        ensures { (r : plain.Repository) → Serves F.is_honest F.history self.now r
+        ensures { (r : plain.Repository) → Stands F.is_honest F.history self.now r
             → IsTrue (is_name name.now)
             → GivesMeant F.reading_may_fail (IsHeld r name.now) result }
     {
-        let Some(id) = self.names.read(alloc, name)? else {
+        let Some(id) = self.names.find(alloc, name)? else {
             return Ok(None);
         };
         // In a whole repository each name stands for a commit.

@@ -14,7 +14,6 @@ ghost use Rattle.history.specs.Acts.{GivesMeant, OnlyAnswers};
 ghost use Rattle.history.specs.Face.{KeepsAllButRows, rows_in};
 ghost use Rattle.history.specs.Indexed.{KeepsRows};
 ghost use Rattle.history.specs.Indexing.{AreTheCommits, AreToldOf};
-ghost use Rattle.history.specs.Serving.{Serves};
 ghost use Rattle.history.specs.Stands.{Stands};
 ghost use Rattle.history.specs.Walked.{AllHold};
 
@@ -118,11 +117,11 @@ impl<F: Files> Repository<F> {
     pub(crate) fn index(&mut self, alloc: Global) -> Result<Vec<u8>, Stopped>
         ensures kept { KeepsAllButRows self.old self.new }
         ensures refused { OnErr result (self.new ≡ self.old) }
-        ensures answers { (r : plain.Repository) → Serves F.is_honest F.history self.old r
+        ensures answers { (r : plain.Repository) → Stands F.is_honest F.history self.old r
             → OnlyAnswers F.reading_may_fail r orders.Index result }
-        ensures serves { (r : plain.Repository) → Serves F.is_honest F.history self.old r
-            → Serves F.is_honest F.history self.new r }
-        ensures rows { (r : plain.Repository) → Serves F.is_honest F.history self.old r
+        ensures serves { (r : plain.Repository) → Stands F.is_honest F.history self.old r
+            → Stands F.is_honest F.history self.new r }
+        ensures rows { (r : plain.Repository) → Stands F.is_honest F.history self.old r
             → OnOk result (KeepsRows (Some (model.rows_of r)) (rows_in self.new)) }
     {
         let rows = self.all_rows(alloc)?;

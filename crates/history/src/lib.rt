@@ -22,6 +22,7 @@ mod log;
 mod moving;
 mod naming;
 mod open;
+mod packing;
 mod past;
 mod planning;
 mod renaming;

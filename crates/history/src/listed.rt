@@ -16,7 +16,7 @@ use history_store::{NamedId, hex_digits};
 use std::alloc::{AllocError, Global};
 
 /// The folder of all names.
-const ALL_NAMES: &[u8] = b"refs";
+pub(crate) const ALL_NAMES: &[u8] = b"refs";
 
 /// Tests that the folder is that of all names, or a name that a repository may hold.
 fn test_folder(folder: &[u8]) -> Result<(), Cause>
@@ -31,9 +31,9 @@ fn test_folder(folder: &[u8]) -> Result<(), Cause>
 
 /// A name that stands, and what it holds.
 #[derive(Drop)]
-struct Shown {
-    name: Vec<u8>,
-    held: Held,
+pub(crate) struct Shown {
+    pub(crate) name: Vec<u8>,
+    pub(crate) held: Held,
 }
 
 /// The text that lists names.
@@ -65,12 +65,12 @@ fn names_text(alloc: Global, branch: &[u8], names: &[Shown]) -> Result<Vec<u8>, 
 impl<F: Files> Repository<F> {
     ghost use Rattle.history_model.specs.Repository as plain;
     ghost use Rattle.history_model.specs.Commands as model;
-    ghost use Rattle.history.specs.Serving.{Serves};
+    ghost use Rattle.history.specs.Stands.{Stands};
     ghost use Rattle.history.specs.Acts.{GivesMeant, OnlyAnswers};
 
     /// The names with what they hold.
-    fn shown(&self, alloc: Global, names: Vec<NamedId>) -> Result<Vec<Shown>, Stopped>
-        ensures { (r : plain.Repository) → Serves F.is_honest F.history self.now r
+    pub(crate) fn shown(&self, alloc: Global, names: Vec<NamedId>) -> Result<Vec<Shown>, Stopped>
+        ensures { (r : plain.Repository) → Stands F.is_honest F.history self.now r
             → ArePeeled r names.items → GivesMeant F.reading_may_fail
             (λ shown. map shown_name shown.items ≡ map (told_name r) names.items) result }
     {
@@ -93,12 +93,12 @@ impl<F: Files> Repository<F> {
         alloc: Global,
         folder: Option<&[u8]>,
     ) -> Result<Vec<u8>, Stopped>
-        ensures { (r : plain.Repository) → Serves F.is_honest F.history self.now r
+        ensures { (r : plain.Repository) → Stands F.is_honest F.history self.now r
             → OnlyAnswers F.reading_may_fail r (model.Names (option_copied folder.entry)) result }
     {
         let folder = folder.unwrap_or(ALL_NAMES);
         test_folder(folder)?;
-        let names = self.names.list(alloc, folder)?;
+        let names = self.names.list_all(alloc, folder)?;
         let shown = self.shown(alloc, names)?;
         Ok(names_text(alloc, &self.branch, &shown)?)
     }

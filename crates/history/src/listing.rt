@@ -46,12 +46,12 @@ fn files_text(alloc: Global, files: &[File]) -> Result<Vec<u8>, AllocError>
 impl<F: Files> Repository<F> {
     ghost use Rattle.history_model.specs.Repository as plain;
     ghost use Rattle.history_model.specs.Commands as model;
-    ghost use Rattle.history.specs.Serving.{Serves};
+    ghost use Rattle.history.specs.Stands.{Stands};
     ghost use Rattle.history.specs.Acts.{OnlyAnswers};
 
     /// The reply to `files`: the files of the commit that the word stands for, their paths ascending.
     pub(crate) fn list_files(&self, alloc: Global, word: &[u8]) -> Result<Vec<u8>, Stopped>
-        ensures { (r : plain.Repository) → Serves F.is_honest F.history self.now r
+        ensures { (r : plain.Repository) → Stands F.is_honest F.history self.now r
             → OnlyAnswers F.reading_may_fail r (model.Files word.now) result }
     {
         let id = self.commit_of(alloc, word)?;

@@ -9,6 +9,7 @@ ghost use Rattle.history_model.specs.Commands as model;
 ghost use Rattle.history_model.specs.Replies.{reply_text, LogIs};
 ghost use Rattle.history_word.specs.Commands.{ArePaths, IsOrder};
 ghost use Rattle.history.specs.Bases.{words_cause};
+ghost use Rattle.history.specs.Fields.{kept_bytes};
 ghost use Rattle.history.specs.Logs.{IsOrderOf, IsSince, meanings_in, order_cause, since_cause};
 ghost use Rattle.history.specs.Meanings.{commit_in};
 
@@ -22,7 +23,7 @@ use gix_ref_file::Files;
 use history_model::Cause;
 use history_store::{hex_digits, parse_time};
 use history_walks::{self as walks, Parents, Request};
-use history_word::{LogCommand, LogItem, Order};
+use history_word::{Field, LogCommand, LogItem, Order};
 use std::alloc::{AllocError, Global};
 
 /// What the words of a log's items read as.
@@ -104,12 +105,25 @@ fn order_of(order: &Order, first_parents: bool, hides: bool) -> Result<walks::Or
     })
 }
 
-/// Whether the path that a log tells is none.
-fn tells_bad_path(command: &LogCommand) -> bool
-    ensures { (paths : List Bytes) → ArePaths command.now.path paths
-        → result ≡ list_any is_bad_path paths }
+/// Whether one of the paths that a log tells is none.
+fn tells_bad_path(paths: &[Field]) -> bool
+    ensures { (told : List Bytes) → ArePaths paths.now told → result ≡ list_any is_bad_path told }
 {
-    matches!(&command.path, Some(path) if is_bad_path(path))
+    paths.iter().any(|path| is_bad_path(path))
+}
+
+/// The bytes that are kept of each of some fields.
+fn kept_each<'a>(alloc: Global, fields: &'a [Field]) -> Result<Vec<&'a [u8]>, AllocError>
+    ensures { IfOk result (λ each. map (λ bytes. bytes.now) each.items
+        ≡ map kept_bytes fields.now) }
+{
+    let mut each = Vec::new(alloc);
+    let mut rest = fields;
+    while let Some((field, others)) = rest.split_first() {
+        each.push(kept(field))?;
+        rest = others;
+    }
+    Ok(each)
 }
 
 /// The text that lists commits.
@@ -139,7 +153,7 @@ impl<F: Files> Repository<F> {
     ghost use Rattle.history_word.specs.Commands.{IsLog, IsLogItem};
     ghost use Rattle.history.specs.Acts.{OnlyAnswers, GivesMeant};
     ghost use Rattle.history.specs.Logs.{AreEnds};
-    ghost use Rattle.history.specs.Serving.{Serves};
+    ghost use Rattle.history.specs.Stands.{Stands};
     ghost use Rattle.history.specs.Walked.{Walks};
 
     /// What the words of a log's items read as: those of the tips, and those of the hidden commits.
@@ -147,7 +161,7 @@ impl<F: Files> Repository<F> {
     /// All of the words are read, and none is refused. It is a fault where a call of the files failed, or where no memory is left.
     fn read_ends(&self, alloc: Global, items: &[LogItem]) -> Result<Ends, Stopped>
         ensures { (r : plain.Repository) (lines : List model.LogItem)
-            → Serves F.is_honest F.history self.now r → AllZip IsLogItem items.now lines
+            → Stands F.is_honest F.history self.now r → AllZip IsLogItem items.now lines
             → GivesMeant F.reading_may_fail (AreEnds r lines) result }
     {
         let mut tips = Vec::new(alloc);
@@ -161,20 +175,20 @@ impl<F: Files> Repository<F> {
         Ok(Ends { tips, hidden })
     }
 
-    /// The commits of a log's walk, which its path doesn't tell: those that its tips reach and no hidden one reaches, in its order.
+    /// The commits of a log's walk, which its paths don't tell: those that its tips reach and no hidden one reaches, in its order.
     ///
     /// It is refused, and the first of these that holds is told: `UnknownWord`, `AmbiguousWord`, `UnbornHead` or `NotACommit` where a
-    /// word stands for no commit, `BadPath` where the path is none, `BadTime` where the cutoff isn't a number of seconds, and
+    /// word stands for no commit, `BadPath` where a path is none, `BadTime` where the cutoff isn't a number of seconds, and
     /// `OrderWithParents` where the first parents alone are to be followed in an order that wants all. It is a fault where a call of
     /// the files failed, or where no memory is left.
     fn walked(&self, alloc: Global, command: &LogCommand) -> Result<Vec<ObjectId>, Stopped>
         ensures { (r : plain.Repository) (order : model.LogCommand)
-            → Serves F.is_honest F.history self.now r → IsLog command.now order
+            → Stands F.is_honest F.history self.now r → IsLog command.now order
             → Walks F.reading_may_fail r order result }
     {
         let ends = self.read_ends(alloc, &command.items)?;
         ends.test()?;
-        if tells_bad_path(command) {
+        if tells_bad_path(&command.paths) {
             return Err(Stopped::Refused(Cause::BadPath));
         }
         let hides = !ends.hidden.is_empty();
@@ -186,23 +200,24 @@ impl<F: Files> Repository<F> {
         self.commits(alloc, request)
     }
 
-    /// The reply to `log`: the commits of its walk, and with a path those alone that differ there from their first parents, each on
-    /// a line.
+    /// The reply to `log`: the commits of its walk, and with paths those alone that differ at one of them from their first parents,
+    /// each on a line.
     ///
     /// It is refused, and the first of these that holds is told: `UnknownWord`, `AmbiguousWord`, `UnbornHead` or `NotACommit` where a
-    /// word stands for no commit, `BadPath` where the path is none, `BadTime` where the cutoff isn't a number of seconds, and
+    /// word stands for no commit, `BadPath` where a path is none, `BadTime` where the cutoff isn't a number of seconds, and
     /// `OrderWithParents` where the first parents alone are to be followed in an order that wants all. It is a fault where a call of
     /// the files failed, or where no memory is left.
     pub(crate) fn log(&self, alloc: Global, command: &LogCommand) -> Result<Vec<u8>, Stopped>
         ensures { (r : plain.Repository) (order : model.LogCommand)
-            → Serves F.is_honest F.history self.now r → IsLog command.now order
+            → Stands F.is_honest F.history self.now r → IsLog command.now order
             → OnlyAnswers F.reading_may_fail r (model.Log order) result }
     {
         let walked = self.walked(alloc, command)?;
-        let listed = match &command.path {
-            Some(path) => self.differing(alloc, &walked, &[kept(path)])?,
-            None => walked,
-        };
+        if command.paths.is_empty() {
+            return Ok(log_text(alloc, &walked)?);
+        }
+        let paths = kept_each(alloc, &command.paths)?;
+        let listed = self.differing(alloc, &walked, &paths)?;
         Ok(log_text(alloc, &listed)?)
     }
 }

@@ -25,7 +25,7 @@ ghost use Rattle.history.specs.Moments.{GoesLater, StoodOnTheWay};
 ghost use Rattle.history.specs.Moving.{AreLines, AreMoves, AskedMoves, IsLine, IsLineMove, IsTeller, LeavesMoved, PlansMoves, TellsTeller, TestsNames, bars, is_elsewhere, is_missing, is_taken, is_there, line_meanings, lines_cause, to_name};
 ghost use Rattle.history.specs.CommitCauses.{TestsOf, place_causes};
 ghost use Rattle.history.specs.Halves.{NamesStand};
-ghost use Rattle.history.specs.Serving.{Serves};
+ghost use Rattle.history.specs.Stands.{Stands};
 
 use crate::actors::{actor_at, has_good_names, time_of};
 use crate::apart::{do_lines_collide, have_twice};
@@ -268,7 +268,7 @@ impl<F: Files> Repository<F> {
     /// A line, its words read, and what its name holds.
     fn read_line(&self, alloc: Global, to: To) -> Result<Line, Stopped>
         ensures { (r : plain.Repository) (order : orders.To)
-            → Serves F.is_honest F.history self.now r
+            → Stands F.is_honest F.history self.now r
             → IsTo to order → IsTrue (is_name order.name)
             → GivesMeant F.reading_may_fail (IsLine r order) result }
     {
@@ -285,7 +285,7 @@ impl<F: Files> Repository<F> {
 
     fn read_lines(&self, alloc: Global, to: Vec<To>) -> Result<Vec<Line>, Stopped>
         ensures { (r : plain.Repository) (tos : List orders.To)
-            → Serves F.is_honest F.history self.now r
+            → Stands F.is_honest F.history self.now r
             → AreTos to.items tos → IsTrue (list_all (λ to. is_name to.name) tos)
             → GivesMeant F.reading_may_fail (λ lines. AreLines r tos lines.items) result }
     {
@@ -299,20 +299,20 @@ impl<F: Files> Repository<F> {
     /// Whether a line's name is to be made, and collides with one that stands.
     fn is_barred(&self, alloc: Global, line: &Line) -> Result<bool, Stopped>
         ensures { (r : plain.Repository) (to : orders.To)
-            → Serves F.is_honest F.history self.now r
+            → Stands F.is_honest F.history self.now r
             → IsLine r to line.now → IsTrue (is_name to.name)
             → GivesMeant F.reading_may_fail (λ barred. barred ≡ bars r to) result }
     {
         if line.held.is_some() {
             return Ok(false);
         }
-        Ok(self.names.collides(alloc, &line.name)?)
+        Ok(self.names.collides_any(alloc, &line.name)?)
     }
 
     /// Whether one of the lines' names is to be made, and collides with one that stands.
     fn have_barred(&self, alloc: Global, lines: &[Line]) -> Result<bool, Stopped>
         ensures { (r : plain.Repository) (tos : List orders.To)
-            → Serves F.is_honest F.history self.now r → AreLines r tos lines.now
+            → Stands F.is_honest F.history self.now r → AreLines r tos lines.now
             → IsTrue (list_all (λ to. is_name to.name) tos)
             → GivesMeant F.reading_may_fail (λ barred. barred ≡ list_any (bars r) tos) result }
     {
@@ -327,7 +327,7 @@ impl<F: Files> Repository<F> {
     /// Tests that each line's name stands, or may come to stand beside the others.
     fn test_places(&self, alloc: Global, lines: &[Line]) -> Result<(), Stopped>
         ensures { (r : plain.Repository) (order : orders.MoveCommand)
-            → Serves F.is_honest F.history self.now r → AreLines r order.to lines.now
+            → Stands F.is_honest F.history self.now r → AreLines r order.to lines.now
             → IsTrue (list_all (λ to. is_name to.name) order.to)
             → TestsOf F.reading_may_fail place_causes r (orders.Move order) (λ _. ⊤) result }
     {
@@ -343,7 +343,7 @@ impl<F: Files> Repository<F> {
     /// Tests every cause, and makes the moves. It changes nothing.
     fn plan_moves(&self, alloc: Global, command: MoveCommand) -> Result<Vec<Moves>, Stopped>
         ensures { (r : plain.Repository) (order : orders.MoveCommand)
-            → Serves F.is_honest F.history self.now r → IsMove command order
+            → Stands F.is_honest F.history self.now r → IsMove command order
             → PlansMoves F.reading_may_fail r order result }
     {
         test_names(alloc, &command.to)?;
@@ -395,17 +395,17 @@ impl<F: Files> Repository<F> {
         ensures counts { CountsRise F.failures self.old self.new }
         ensures unfailed { OnOk result (KeepsCounts F.failures self.old self.new) }
         ensures later { (r : plain.Repository) (order : orders.MoveCommand)
-            → Serves F.is_honest F.history self.old r → IsMove command order
+            → Stands F.is_honest F.history self.old r → IsMove command order
             → GoesLater F.history F.failures self.old self.new }
         // A stop at any moment on the way, once recovered, leaves what it may.
         ensures stops { (r : plain.Repository) (order : orders.MoveCommand)
-            → Serves F.is_honest F.history self.old r → IsMove command order → (pair : Pair)
+            → Stands F.is_honest F.history self.old r → IsMove command order → (pair : Pair)
             → StoodOnTheWay F.history F.failures self.old self.new pair
             → LeavesStopped r (orders.Move order) pair }
         ensures acts { (r : plain.Repository) (order : orders.MoveCommand)
-            → Serves F.is_honest F.history self.old r → IsMove command order
+            → Stands F.is_honest F.history self.old r → IsMove command order
             → Acts (CountsFailure F.failures F.reading_may_fail self.old self.new)
-            (Serves F.is_honest F.history self.new) r (orders.Move order) result }
+            (Stands F.is_honest F.history self.new) r (orders.Move order) result }
     {
         let moves = self.plan_moves(alloc, command)?;
         let mut text = Vec::new(alloc);

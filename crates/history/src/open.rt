@@ -5,7 +5,6 @@ ghost use Rattle.history_model.specs.Repository as plain;
 ghost use Rattle.history_model.specs.StandsFor.{StandsWhole};
 ghost use Rattle.history_opening.specs.Causes.{IsOpenCause, IsOpenFault};
 ghost use Rattle.history_opening.specs.Opened.{trees_of};
-ghost use Rattle.history_steps.specs.Offered.{IsOfStage};
 ghost use Rattle.history_store.specs.Creation.{IsNew};
 
 use crate::repository::Repository;
@@ -17,7 +16,7 @@ use std::alloc::Global;
 impl<F: Files> Repository<F> {
     ghost use Rattle.history_model.specs.Repository.{fresh};
     ghost use Rattle.history.specs.Face.{objects_part, names_part, has_failed, rows_in};
-    ghost use Rattle.history.specs.Stands.{Stands, pair_of};
+    ghost use Rattle.history.specs.Stands.{Stands};
 
     /// Opens a folder whose two parts are those of one repository with ids of this kind: whole, in written form and within the limits,
     /// with no file and no folder besides. So are those that [`create`](crate::create) and [`run`](crate::run) leave, and, where a
@@ -37,7 +36,7 @@ impl<F: Files> Repository<F> {
         // What is opened stands for a repository of this kind, whole and in its written form.
         ensures stands { F.is_honest objects → F.is_honest names
             → IfOk result (λ opened. (r : plain.Repository) × (r.kind ≡ kind)
-            × Stands F.is_honest F.history opened r × IsOfStage (pair_of F.history opened)) }
+            × Stands F.is_honest F.history opened r) }
         // Whichever repository the two parts stand for, it is that one.
         ensures same { (r : plain.Repository) → F.is_honest objects → F.is_honest names
             → StandsWhole kind (trees_of F.history objects names) r
@@ -52,7 +51,6 @@ impl<F: Files> Repository<F> {
         // A repository's parts are refused for a fault alone.
         ensures accepted { (r : plain.Repository) → F.is_honest objects → F.is_honest names
             → StandsWhole kind (trees_of F.history objects names) r
-            → IsOfStage (trees_of F.history objects names)
             → IfErr result (λ refusal. IsOpenFault refusal.error) }
         ensures handed_back { IfErr result (λ refusal. (refusal.objects ≡ objects)
             × (refusal.names ≡ names)) }

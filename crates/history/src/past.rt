@@ -45,13 +45,13 @@ impl<F: Files> Repository<F> {
     ghost use Rattle.history_model.specs.Repository as plain;
     ghost use Rattle.history_model.specs.Commands as model;
     ghost use Rattle.history_model.specs.Meaning.{past_name};
-    ghost use Rattle.history.specs.Serving.{Serves};
+    ghost use Rattle.history.specs.Stands.{Stands};
     ghost use Rattle.history.specs.Acts.{OnlyAnswers, GivesMeant};
 
     /// The name that a word asks for: HEAD for its branch, a name for itself, and another word for the first that stands of the
     /// names that it may mean. A word that means none is left as it is.
     fn past_name(&self, alloc: Global, word: &[u8]) -> Result<Vec<u8>, Stopped>
-        ensures { (r : plain.Repository) → Serves F.is_honest F.history self.now r
+        ensures { (r : plain.Repository) → Stands F.is_honest F.history self.now r
             → GivesMeant F.reading_may_fail (λ name. name.items ≡ past_name r word.now) result }
     {
         if word == HEAD {
@@ -68,12 +68,12 @@ impl<F: Files> Repository<F> {
 
     /// The reply to `past`: the lines of a name's log, the newest first.
     pub(crate) fn past(&self, alloc: Global, word: &[u8]) -> Result<Vec<u8>, Stopped>
-        ensures { (r : plain.Repository) → Serves F.is_honest F.history self.now r
+        ensures { (r : plain.Repository) → Stands F.is_honest F.history self.now r
             → OnlyAnswers F.reading_may_fail r (model.Past word.now) result }
     {
         let name = self.past_name(alloc, word)?;
         test_name(&name)?;
-        if self.names.read(alloc, &name)?.is_none() {
+        if self.names.find(alloc, &name)?.is_none() {
             return Err(Stopped::Refused(Cause::NoSuchName));
         }
         let log = self.names.log(alloc, &name)?;

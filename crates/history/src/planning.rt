@@ -19,7 +19,7 @@ ghost use Rattle.history.specs.Asked.{AskedCommit, AskedFiles};
 ghost use Rattle.history.specs.Bases.{IsCommitBase};
 ghost use Rattle.history.specs.CommitCauses.{first_among, is_long, path_causes};
 ghost use Rattle.history.specs.Plans.{AreActors, AreAdded, AreNewFiles, GivesCommitted, GivesObjects, HasActors, IsMade, IsNotAdded, IsUnplanned, MakesCommit, Plans, Says, is_long_tree, object_parts, tree_parts};
-ghost use Rattle.history.specs.Serving.{Serves};
+ghost use Rattle.history.specs.Stands.{Stands};
 ghost use Rattle.history.specs.declared.stopped.Stopped.TheVariants as why;
 
 use crate::actors::actor_at;
@@ -231,7 +231,7 @@ impl<F: Files> Repository<F> {
         message: Vec<u8>,
     ) -> Result<Committed, Stopped>
         ensures { (r : plain.Repository) (order : orders.CommitCommand)
-            → Serves F.is_honest F.history self.now r → IsCommitBase r order base
+            → Stands F.is_honest F.history self.now r → IsCommitBase r order base
             → id_of root ≡ folder_id r.kind (new_commit r order).files
             → HasActors r order actors → message.items ≡ order.message
             → GivesCommitted r order result }

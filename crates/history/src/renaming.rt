@@ -21,7 +21,7 @@ ghost use Rattle.history.specs.Halves.{NamesStand};
 ghost use Rattle.history.specs.Moments.{GoesLater, StoodOnTheWay};
 ghost use Rattle.history.specs.Moving.{LeavesMoved, names_cause};
 ghost use Rattle.history.specs.Renaming.{AskedRename, MakesName, PlansRename, TestsRename};
-ghost use Rattle.history.specs.Serving.{Serves};
+ghost use Rattle.history.specs.Stands.{Stands};
 
 use crate::naming::is_private;
 use crate::planning::{Moves, moves_to};
@@ -83,17 +83,17 @@ impl<F: Files> Repository<F> {
     /// Tests every cause, and answers what the old name holds. It changes nothing.
     fn test_rename(&self, alloc: Global, command: &Rename) -> Result<ObjectId, Stopped>
         ensures { (r : plain.Repository) (from to : Bytes)
-            → Serves F.is_honest F.history self.now r → IsRename command.now from to
+            → Stands F.is_honest F.history self.now r → IsRename command.now from to
             → TestsRename F.reading_may_fail r from to result }
     {
         test_both(&command.from, &command.to)?;
-        let Some(id) = self.names.read(alloc, &command.from)? else {
+        let Some(id) = self.names.find(alloc, &command.from)? else {
             return Err(Stopped::Refused(Cause::NoSuchName));
         };
-        if self.names.read(alloc, &command.to)?.is_some() {
+        if self.names.find(alloc, &command.to)?.is_some() {
             return Err(Stopped::Refused(Cause::Taken));
         }
-        if self.names.collides(alloc, &command.to)? {
+        if self.names.collides_any(alloc, &command.to)? {
             return Err(Stopped::Refused(Cause::Collides));
         }
         Ok(id)
@@ -102,7 +102,7 @@ impl<F: Files> Repository<F> {
     /// Tests every cause, and says how the new name is made. It changes nothing.
     fn plan_rename(&self, alloc: Global, command: &Rename) -> Result<Moves, Stopped>
         ensures { (r : plain.Repository) (from to : Bytes)
-            → Serves F.is_honest F.history self.now r → IsRename command.now from to
+            → Stands F.is_honest F.history self.now r → IsRename command.now from to
             → PlansRename F.reading_may_fail r from to result }
     {
         let id = self.test_rename(alloc, command)?;
@@ -140,17 +140,17 @@ impl<F: Files> Repository<F> {
         ensures counts { CountsRise F.failures self.old self.new }
         ensures unfailed { OnOk result (KeepsCounts F.failures self.old self.new) }
         ensures later { (r : plain.Repository) (from to : Bytes)
-            → Serves F.is_honest F.history self.old r → IsRename command.now from to
+            → Stands F.is_honest F.history self.old r → IsRename command.now from to
             → GoesLater F.history F.failures self.old self.new }
         // A stop at any moment on the way, once recovered, leaves what it may.
         ensures stops { (r : plain.Repository) (from to : Bytes)
-            → Serves F.is_honest F.history self.old r → IsRename command.now from to
+            → Stands F.is_honest F.history self.old r → IsRename command.now from to
             → (pair : Pair) → StoodOnTheWay F.history F.failures self.old self.new pair
             → LeavesStopped r (orders.Rename from to) pair }
         ensures acts { (r : plain.Repository) (from to : Bytes)
-            → Serves F.is_honest F.history self.old r → IsRename command.now from to
+            → Stands F.is_honest F.history self.old r → IsRename command.now from to
             → Acts (CountsFailure F.failures F.reading_may_fail self.old self.new)
-            (Serves F.is_honest F.history self.new) r (orders.Rename from to) result }
+            (Stands F.is_honest F.history self.new) r (orders.Rename from to) result }
     {
         let moves = self.plan_rename(alloc, command)?;
         let mut text = Vec::new(alloc);

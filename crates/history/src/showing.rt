@@ -148,12 +148,11 @@ impl<F: Files> Repository<F> {
     ghost use Rattle.history_model.specs.Objects.{StoredBytes};
     ghost use Rattle.history.specs.Meanings.{commit_or_cause};
     ghost use Rattle.history.specs.Stands.{Stands};
-    ghost use Rattle.history.specs.Serving.{Serves};
     ghost use Rattle.history.specs.Acts.{OnlyAnswers, GivesMeant};
 
     /// The reply to `show` of a commit.
     fn show_commit(&self, alloc: Global, id: &ObjectId) -> Result<Vec<u8>, Stopped>
-        ensures { (r : plain.Repository) (word : Bytes) → Serves F.is_honest F.history self.now r
+        ensures { (r : plain.Repository) (word : Bytes) → Stands F.is_honest F.history self.now r
             → commit_or_cause r word ≡ Ok (id_of id.now)
             → OnlyAnswers F.reading_may_fail r (model.Show word None) result }
     {
@@ -175,7 +174,7 @@ impl<F: Files> Repository<F> {
     /// The reply to `show` of what a commit has at a path.
     fn show_content(&self, alloc: Global, id: &ObjectId, path: &Field) -> Result<Vec<u8>, Stopped>
         ensures { (r : plain.Repository) (word bytes : Bytes)
-            → Serves F.is_honest F.history self.now r
+            → Stands F.is_honest F.history self.now r
             → commit_or_cause r word ≡ Ok (id_of id.now) → Keeps max_path path.now bytes
             → OnlyAnswers F.reading_may_fail r (model.Show word (Some bytes)) result }
     {
@@ -193,7 +192,7 @@ impl<F: Files> Repository<F> {
     /// The reply to `show`: a commit, or what it has at a path.
     pub(crate) fn show(&self, alloc: Global, command: &Show) -> Result<Vec<u8>, Stopped>
         ensures { (r : plain.Repository) (path : Option Bytes)
-            → Serves F.is_honest F.history self.now r → IsPath command.now.path path
+            → Stands F.is_honest F.history self.now r → IsPath command.now.path path
             → OnlyAnswers F.reading_may_fail r (model.Show command.now.word.items path) result }
     {
         let id = self.commit_of(alloc, &command.word)?;

@@ -11,7 +11,7 @@ ghost use Rattle.history.specs.Acts.{Acts, CountsFailure, CountsRise, KeepsCount
 ghost use Rattle.history.specs.Face.{has_failed, rows_in};
 ghost use Rattle.history.specs.Faults.{IsRefusal};
 ghost use Rattle.history.specs.Moments.{GoesLater, StoodOnTheWay};
-ghost use Rattle.history.specs.Serving.{Serves};
+ghost use Rattle.history.specs.Stands.{Stands};
 
 use crate::reply::line;
 use crate::repository::Repository;
@@ -31,7 +31,7 @@ fn is_branch(name: &[u8]) -> bool
 impl<F: Files> Repository<F> {
     /// Tests every cause.
     fn test_switch(&self, name: &[u8]) -> Result<(), Cause>
-        ensures { (r : plain.Repository) → Serves F.is_honest F.history self.now r
+        ensures { (r : plain.Repository) → Stands F.is_honest F.history self.now r
             → MatchResult result (λ _. first_cause r (orders.Switch name.now) ≡ None)
             (λ cause. first_cause r (orders.Switch name.now) ≡ Some cause) }
     {
@@ -52,15 +52,15 @@ impl<F: Files> Repository<F> {
         ensures rows { rows_in self.new ≡ rows_in self.old }
         ensures counts { CountsRise F.failures self.old self.new }
         ensures unfailed { OnOk result (KeepsCounts F.failures self.old self.new) }
-        ensures later { (r : plain.Repository) → Serves F.is_honest F.history self.old r
+        ensures later { (r : plain.Repository) → Stands F.is_honest F.history self.old r
             → GoesLater F.history F.failures self.old self.new }
         // A stop at any moment on the way, once recovered, leaves HEAD's branch as before or after.
-        ensures stops { (r : plain.Repository) → Serves F.is_honest F.history self.old r
+        ensures stops { (r : plain.Repository) → Stands F.is_honest F.history self.old r
             → (pair : Pair) → StoodOnTheWay F.history F.failures self.old self.new pair
             → LeavesStopped r (orders.Switch name.items) pair }
-        ensures acts { (r : plain.Repository) → Serves F.is_honest F.history self.old r
+        ensures acts { (r : plain.Repository) → Stands F.is_honest F.history self.old r
             → Acts (CountsFailure F.failures F.reading_may_fail self.old self.new)
-            (Serves F.is_honest F.history self.new) r (orders.Switch name.items) result }
+            (Stands F.is_honest F.history self.new) r (orders.Switch name.items) result }
     {
         self.test_switch(&name)?;
         let mut text = Vec::new(alloc);

@@ -17,7 +17,7 @@ ghost use Rattle.history.specs.CommitCauses.{TestsOf};
 ghost use Rattle.history.specs.Face.{has_failed, rows_in};
 ghost use Rattle.history.specs.Faults.{IsRefusal};
 ghost use Rattle.history.specs.Moments.{GoesLater, StoodOnTheWay};
-ghost use Rattle.history.specs.Serving.{Serves};
+ghost use Rattle.history.specs.Stands.{Stands};
 ghost use Rattle.history.specs.Tagging.{IsTagBase, MakesTag, PlansTag, TellsTagger, is_tag_place, target_causes};
 
 use crate::actors::{actor_at, has_good_names, time_of};
@@ -97,7 +97,7 @@ impl<F: Files> Repository<F> {
         word: &[u8],
     ) -> Result<TagBase, Stopped>
         ensures { (r : plain.Repository) (order : orders.TagCommand)
-            → Serves F.is_honest F.history self.now r → name.now ≡ order.name
+            → Stands F.is_honest F.history self.now r → name.now ≡ order.name
             → IsExpect expect.now order.expect → word.now ≡ order.word
             → IsTrue (is_name order.name)
             → TestsOf F.reading_may_fail target_causes r (orders.Tag order)
@@ -108,7 +108,7 @@ impl<F: Files> Repository<F> {
         test_words(expected, &[meaning])?;
         let held = self.held(alloc, name)?;
         expected.test(commit_held(held))?;
-        if held.is_none() && self.names.collides(alloc, name)? {
+        if held.is_none() && self.names.collides_any(alloc, name)? {
             return Err(Stopped::Refused(Cause::Collides));
         }
         let commit = meaning.commit()?;
@@ -137,7 +137,7 @@ impl<F: Files> Repository<F> {
     /// Tests every cause, and makes the tag. It changes nothing.
     fn plan_tag(&self, alloc: Global, command: TagCommand) -> Result<Tagged, Stopped>
         ensures { (r : plain.Repository) (order : orders.TagCommand)
-            → Serves F.is_honest F.history self.now r → IsTag command order
+            → Stands F.is_honest F.history self.now r → IsTag command order
             → PlansTag F.reading_may_fail r order result }
     {
         let own = own_name(&command.name).ok_or(Cause::BadName)?;
@@ -165,17 +165,17 @@ impl<F: Files> Repository<F> {
         ensures counts { CountsRise F.failures self.old self.new }
         ensures unfailed { OnOk result (KeepsCounts F.failures self.old self.new) }
         ensures later { (r : plain.Repository) (order : orders.TagCommand)
-            → Serves F.is_honest F.history self.old r → IsTag command order
+            → Stands F.is_honest F.history self.old r → IsTag command order
             → GoesLater F.history F.failures self.old self.new }
         // A stop at any moment on the way, once recovered, leaves what it may.
         ensures stops { (r : plain.Repository) (order : orders.TagCommand)
-            → Serves F.is_honest F.history self.old r → IsTag command order → (pair : Pair)
+            → Stands F.is_honest F.history self.old r → IsTag command order → (pair : Pair)
             → StoodOnTheWay F.history F.failures self.old self.new pair
             → LeavesStopped r (orders.Tag order) pair }
         ensures acts { (r : plain.Repository) (order : orders.TagCommand)
-            → Serves F.is_honest F.history self.old r → IsTag command order
+            → Stands F.is_honest F.history self.old r → IsTag command order
             → Acts (CountsFailure F.failures F.reading_may_fail self.old self.new)
-            (Serves F.is_honest F.history self.new) r (orders.Tag order) result }
+            (Stands F.is_honest F.history self.new) r (orders.Tag order) result }
     {
         let tagged = self.plan_tag(alloc, command)?;
         let mut text = Vec::new(alloc);

@@ -208,7 +208,7 @@ pub(crate) fn test_all(some: &[WordMeaning], others: &[WordMeaning]) -> Result<(
 
 impl<F: Files> Repository<F> {
     ghost use Rattle.history_model.specs.Repository as plain;
-    ghost use Rattle.history.specs.Serving.{Serves};
+    ghost use Rattle.history.specs.Stands.{Stands};
     ghost use Rattle.history.specs.Acts.{GivesMeant, ReadsWord};
     ghost use Rattle.history_model.specs.Objects.{Value};
     ghost use Rattle.history_model.specs.Words.{id_meaning};
@@ -221,13 +221,13 @@ impl<F: Files> Repository<F> {
         alloc: Global,
         word: &[u8],
     ) -> Result<Option<Standing>, Stopped>
-        ensures { (r : plain.Repository) → Serves F.is_honest F.history self.now r
+        ensures { (r : plain.Repository) → Stands F.is_honest F.history self.now r
             → GivesMeant F.reading_may_fail (IsFirstStanding r word.now) result }
     {
         for (front, back) in CANDIDATES {
             let name = joined(alloc, front, word, back)?;
             if is_candidate(&name) {
-                if let Some(id) = self.names.read(alloc, &name)? {
+                if let Some(id) = self.names.find(alloc, &name)? {
                     return Ok(Some(Standing { name, id }));
                 }
             }
@@ -238,12 +238,12 @@ impl<F: Files> Repository<F> {
     /// What a word stands for: HEAD for its branch, another word for the first candidate that stands, and else for the stored object
     /// whose id alone begins with it.
     pub(crate) fn read_word(&self, alloc: Global, word: &[u8]) -> Result<WordMeaning, Stopped>
-        ensures { (r : plain.Repository) → Serves F.is_honest F.history self.now r
+        ensures { (r : plain.Repository) → Stands F.is_honest F.history self.now r
             → GivesMeant F.reading_may_fail (λ meaning.
             meaning_of meaning ≡ commit_or_cause r word.now) result }
     {
         if word == HEAD {
-            return match self.names.read(alloc, &self.branch)? {
+            return match self.names.find(alloc, &self.branch)? {
                 Some(id) => self.read_stored(alloc, id),
                 None => Ok(WordMeaning::Unborn),
             };
@@ -256,7 +256,7 @@ impl<F: Files> Repository<F> {
 
     /// What a word stands for that is no name: the stored object whose id alone begins with it, where it is a short id.
     fn read_short_id(&self, alloc: Global, word: &[u8]) -> Result<WordMeaning, Stopped>
-        ensures { (r : plain.Repository) → Serves F.is_honest F.history self.now r
+        ensures { (r : plain.Repository) → Stands F.is_honest F.history self.now r
             → GivesMeant F.reading_may_fail (λ meaning.
             meaning_of meaning ≡ stands_for r (id_meaning r word.now)) result }
     {
@@ -272,7 +272,7 @@ impl<F: Files> Repository<F> {
 
     /// What the id of a stored object stands for: a commit for itself, a tag for its commit, another object for none.
     fn read_stored(&self, alloc: Global, id: ObjectId) -> Result<WordMeaning, Stopped>
-        ensures { (r : plain.Repository) (value : Value) → Serves F.is_honest F.history self.now r
+        ensures { (r : plain.Repository) (value : Value) → Stands F.is_honest F.history self.now r
             → get r.objects (id_of id) ≡ Some value
             → GivesMeant F.reading_may_fail (λ meaning.
             meaning_of meaning ≡ stands_for r (ReadsAs (id_of id))) result }
@@ -285,7 +285,7 @@ impl<F: Files> Repository<F> {
 
     /// The commit that a word stands for.
     pub(crate) fn commit_of(&self, alloc: Global, word: &[u8]) -> Result<ObjectId, Stopped>
-        ensures { (r : plain.Repository) → Serves F.is_honest F.history self.now r
+        ensures { (r : plain.Repository) → Stands F.is_honest F.history self.now r
             → ReadsWord F.reading_may_fail r word.now result }
     {
         Ok(self.read_word(alloc, word)?.commit()?)

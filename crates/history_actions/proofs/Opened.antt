@@ -6,9 +6,8 @@ use Rattle.history_model.specs.Bytes.{Bytes}
 use Rattle.history_model.specs.Repository as plain
 use Rattle.history_model.specs.StandsFor.{StandsWhole}
 use Rattle.history_opening.specs.Opened.{trees_of}
-use Rattle.history_steps.specs.Offered.{IsOfStage}
 use Rattle.history.specs.Face.{names_part, objects_part}
-use Rattle.history.specs.Stands.{Stands, pair_of}
+use Rattle.history.specs.Stands.{Stands}
 use Rattle.history.specs.declared.repository.Repository.{Repository}
 use Rattle.history.specs.declared.running.RunError.{RunError}
 use Rattle.history_model.specs.declared.End.{End}
@@ -22,14 +21,12 @@ pub whole_parts : {F : Type 0} (IsHonest : F → Type 0) (history : F → Histor
     (objects names : F) (opened : Repository F) → objects_part opened ≡ objects
     → names_part opened ≡ names
     → (r : plain.Repository) × (r.kind ≡ kind) × Stands IsHonest history opened r
-    × IsOfStage (pair_of history opened)
     → AreWhole IsHonest history kind objects names
-whole_parts IsHonest history kind objects names opened same_objects same_names (r, of_kind, stands, stage) =
+whole_parts IsHonest history kind objects names opened same_objects same_names (r, of_kind, stands) =
     let parts = ap₂ (trees_of history) same_objects same_names in (
       r,
       subst (λ k. StandsWhole k (trees_of history objects names) r) of_kind
           (subst (λ pair. StandsWhole r.kind pair r) parts stands.whole),
-      subst IsOfStage parts stage,
     )
 
 -- what holds of an answer holds of the same one

@@ -13,12 +13,11 @@ use Rattle.history_model.specs.declared.End.TheVariants.{Input}
 use Rattle.history_opening.specs.Causes.{IsOpenCause, IsOpenFault}
 use Rattle.history_opening.specs.Opened.{trees_of}
 use Rattle.history_opening.specs.declared.error.OpenError.{OpenError}
-use Rattle.history_steps.specs.Offered.{IsOfStage}
 use Rattle.history.specs.Acts.{CountsFailure}
 use Rattle.history.specs.Face.{has_failed, names_part, objects_part}
 use Rattle.history.specs.Moments.{IsTraced}
 use Rattle.history.specs.Runs.{EndsRun, MadeLastReading, is_fault_end}
-use Rattle.history.specs.Stands.{RecoversTo, Stands, pair_of}
+use Rattle.history.specs.Stands.{RecoversTo, Stands}
 use Rattle.history.specs.declared.repository.Repository.{Repository}
 use Rattle.history.specs.declared.running.RunError.{RunError}
 use Rattle.history.specs.declared.running.RunError.TheVariants as run_errors
@@ -35,7 +34,7 @@ module _ {F : Type 0} (IsHonest : F → Type 0) (history : F → History) where
   -- the two parts are those of a repository of this kind, whole
   abbrev pub AreWhole : Kind → F → F → Type 0
   AreWhole kind objects names = (r : plain.Repository)
-      × StandsWhole kind (trees_of history objects names) r × IsOfStage (trees_of history objects names)
+      × StandsWhole kind (trees_of history objects names) r
 
   -- They aren't opened, for this cause, which holds of them; where they are a repository's, it is a fault.
   pub record IsUnopened (MayFail : Type 0) (kind : Kind) (objects names : F)
@@ -78,7 +77,7 @@ module _ {F R W : Type 0} (IsHonest : F → Type 0) (history : F → History) (f
           r commands replies read written end (has_failed ended) new
       pub traced : IsTraced history failures MayFail opened ended r commands replies new
       pub stands : has_failed ended ≡ false
-          → Stands IsHonest history ended new × IsOfStage (pair_of history ended)
+          → Stands IsHonest history ended new
       pub recovers : has_failed ended ≡ true → RecoversTo history ended new
 
     -- They were opened, and commands run on what was.
@@ -98,7 +97,6 @@ module _ {F R W : Type 0} (IsHonest : F → Type 0) (history : F → History) (f
       pub is_it : (r : plain.Repository) → IsHonest objects → IsHonest names
           → StandsWhole kind (trees_of history objects names) r → Stands IsHonest history opened r
       pub runs : (r : plain.Repository) → Stands IsHonest history opened r
-          → IsOfStage (pair_of history opened)
           → RunsFrom r opened ended reader reader' writer writer' end
       -- how the run may end
       pub input : end ≡ Ok Input → IsAtEnd (left reader')

@@ -53,8 +53,25 @@ fn write_place<E: Sink>(errors: &mut E, path: &[u8], number: usize) -> Result<()
         (values_text (path.now ∷ decimal number ∷ [])) result }
 {
     write_value(errors, path)?;
+    write_number(errors, number)
+}
+
+/// Writes the number of a line.
+fn write_number<E: Sink>(errors: &mut E, number: usize) -> Result<(), Broken>
+    ensures { Writes (E.contents errors.old) (E.contents errors.new) (E.has_failed errors.new)
+        (values_text (decimal number ∷ [])) result }
+{
     let mut digits = itoa::Buffer::new();
     write_value(errors, digits.format(number).as_bytes())
+}
+
+/// Writes two names.
+fn write_names<E: Sink>(errors: &mut E, name: &[u8], other: &[u8]) -> Result<(), Broken>
+    ensures { Writes (E.contents errors.old) (E.contents errors.new) (E.has_failed errors.new)
+        (values_text (name.now ∷ other.now ∷ [])) result }
+{
+    write_value(errors, name)?;
+    write_value(errors, other)
 }
 
 /// Writes the values of a cause.
@@ -70,16 +87,18 @@ pub(crate) fn write_cause_values<E: Sink>(errors: &mut E, cause: &OpenError) -> 
         | OpenError::Memory => Ok(()),
         OpenError::Stray(path)
         | OpenError::Unfinished(path)
-        | OpenError::NotYet(path)
         | OpenError::BadObject(path)
         | OpenError::WrongId(path)
         | OpenError::TooLarge(path)
         | OpenError::BadName(path)
         | OpenError::PrivateName(path)
         | OpenError::Symbolic(path)
+        | OpenError::BadPeeled(path)
         | OpenError::LogWithoutName(path) => write_value(errors, path),
         OpenError::BadTree(id) | OpenError::Cycle(id) => write_id(errors, id),
         OpenError::Missing(id, by) | OpenError::WrongKind(id, by) => write_named(errors, id, by),
+        OpenError::BadPacked(number) => write_number(errors, *number),
+        OpenError::Collides(name, other) => write_names(errors, name, other),
         OpenError::BadLog(path, number) | OpenError::LongLogLine(path, number) => {
             write_place(errors, path, *number)
         }

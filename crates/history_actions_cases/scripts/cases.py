@@ -160,6 +160,18 @@ def flaws(kind, first, log):
     unopened([b"BadName", b"refs/heads/x"], files("names", "write", b"refs/heads/x", b"hello\n"))
     unopened([b"BadName", b"refs/heads/a..b"], files("names", "write", b"refs/heads/a..b", kind.commit + b"\n"))
     unopened([b"PrivateName", b"refs/bisect/x"], files("names", "folder", b"refs/bisect"), files("names", "write", b"refs/bisect/x", kind.commit + b"\n"))
+    # Packed names.
+    header = b"# pack-refs with: peeled fully-peeled sorted \n"
+    packed, again = kind.commit + b" refs/heads/b\n", kind.commit + b" refs/heads/a\n"
+    for text in (b"", header, header + again + packed, packed + again, kind.commit.upper() + b" refs/heads/b\n", header + kind.blob + b" refs/heads/main\n"):
+        row(k, CREATE, first, files("names", "write", b"packed-refs", text), CHECK, RECOVER, CHECK)
+    row(k, CREATE, first, files("names", "write", b"packed-refs", header + kind.commit + b" refs/heads/main\n"), files("names", "remove", b"refs/heads/main"), CHECK, RECOVER, CHECK)
+    for number, text in ((b"1", b"hello\n"), (b"2", packed + packed), (b"3", header + packed + again), (b"2", packed + b"^" + kind.commit), (b"1", kind.commit + b" HEAD\n")):
+        unopened([b"BadPacked", number], files("names", "write", b"packed-refs", text))
+    unopened([b"PrivateName", b"refs/bisect/x"], files("names", "write", b"packed-refs", kind.commit + b" refs/bisect/x\n"))
+    unopened([b"BadPeeled", b"refs/heads/b"], files("names", "write", b"packed-refs", packed + b"^" + kind.commit + b"\n"))
+    unopened([b"Collides", b"refs/heads/main", b"refs/heads/main/x"], files("names", "write", b"packed-refs", kind.commit + b" refs/heads/main/x\n"))
+    unopened([b"Missing", kind.blob, b"refs/heads/b"], files("names", "write", b"packed-refs", kind.blob + b" refs/heads/b\n"))
     # Objects, and what names them.
     empty = kind.id(b"blob", b"")
     row(k, CREATE, first, *kind.put(b"blob", b""), CHECK)

@@ -99,8 +99,11 @@ def left(plain, objects=None, names=True):
     texts = list(plain.objects.items())[:objects]
     stored = {b"objects/" + digits[:2] + b"/" + digits[2:]: text for digits, text in texts}
     named = {b"HEAD": b"ref: %s\n" % plain.branch}
+    if names and plain.records is not None:
+        named[b"packed-refs"] = plain.packed_text()
     for name, digits in plain.names.items() if names else ():
-        named[name] = digits + b"\n"
+        if name not in plain.packed_alone:
+            named[name] = digits + b"\n"
         if name in plain.logs:
             named[b"logs/" + name] = plain.logs[name]
     return f"objects{listed(stored)} names{listed(named)}"
@@ -806,8 +809,8 @@ def asking(kind, made, commands):
     return objects, names
 
 
-def log_at(words, path):
-    return b"log %s path %d\n%s\n" % (words, len(path), path)
+def log_at(words, *paths):
+    return b"log %s%s\n" % (words, b"".join(b" path %d" % len(it) for it in paths)) + b"".join(it + b"\n" for it in paths)
 
 
 def path_logs():
@@ -828,12 +831,31 @@ def path_logs():
     listed_ = [(b"a", [15, 14, 12, 9, 3, 1]), (b"b", [15, 10, 2]), (b"c", []), (b"d", [15, 13, 9, 6, 5, 4]), (b"d/e", [13, 9, 6, 5, 4]),
                (b"d/f", [13, 9, 4]), (b"d/", None), (b"d/e/x", []), (b"a/x", [15, 14]), (b"a/x/y", []), (b"A", []), (b"aa", []),
                (b"d" * 4096, [])]
-    as_numbered(made, listed_)
+    as_numbered(made, [((path,), numbers) for path, numbers in listed_])
+    # At several paths: at one of them or below it, in any order, some twice or below others. In `git log --topo-order` 9 stands before 10.
+    several = [((b"a", b"b"), [15, 14, 12, 9, 10, 3, 2, 1]), ((b"b", b"a"), [15, 14, 12, 9, 10, 3, 2, 1]), ((b"a", b"nope"), [15, 14, 12, 9, 3, 1]),
+               ((b"nope", b"none"), []), ((b"b", b"b"), [15, 10, 2]), ((b"d", b"d/e"), [15, 13, 9, 6, 5, 4]), ((b"d/e", b"d/f"), [13, 9, 6, 5, 4]),
+               ((b"d/f", b"a/x"), [15, 14, 13, 9, 4]), ((b"b", b"d/f", b"b", b"c"), [15, 13, 9, 10, 4, 2]), ((b"d", b"d/"), None),
+               ((b"a", b"b", b"d"), [15, 14, 13, 12, 9, 10, 6, 5, 4, 3, 2, 1]), ((b"A", b"d" * 4096, b"a/x"), [15, 14])]
+    as_numbered(made, several)
     paths = [path for path, numbers in listed_ if numbers is not None]
     ways = [b"topological all +m", b"newest all +m", b"oldest all +m", b"date all +m", b"breadth first +m", b"topological first +m",
             b"breadth all +m -s", b"newest-since 5 all +m", b"breadth all +s +m"]
     runs((made,), *((log_at(b"topological all +m", path),) for path in paths), by_git_alone=False)
     runs((made,), *((log_at(way, path),) for way in ways for path in (b"a", b"d", b"b")), by_git_alone=False)
+    told_ = [paths for paths, numbers in several if numbers is not None]
+    runs((made,), *((log_at(b"topological all +m", *paths),) for paths in told_), by_git_alone=False)
+    runs((made,), *((log_at(way, *paths),) for way in ways for paths in told_[:3] + told_[8:9]), by_git_alone=False)
+    three = branch(m + b" new", 1, b"put file 1 1\na\nx\n") + branch(m + b" any", 2, b"put file 1 1\nb\ny\n") + branch(m + b" any", 3, b"put file 1 1\na\nz\n")
+    as_numbered(three, [((b"a", b"b"), [3, 2, 1]), ((b"a", b"nope"), [3, 1]), ((b"b",), [2])])
+    runs((three,), *((log_at(b"topological all +m", *paths),) for paths in [(b"a", b"b"), (b"a", b"nope"), (b"b",), (b"b", b"a", b"a"), ()]),
+         by_git_alone=False)
+    # Each path is tested, behind the words and before the cutoff and the parents; what stands behind the line goes on with the next command.
+    worse = [(b"breadth all +m", (b"a", b""), "BadPath"), (b"breadth all +m", (b"", b"a"), "BadPath"), (b"breadth all +m", (b"a", b"b", b"c//d"), "BadPath"),
+             (b"breadth all +m", (b"a", b"d" * 4097, b"b"), "BadPath"), (b"newest first +m", (b"a", b"/"), "BadPath"),
+             (b"breadth all +nosuch", (b"a", b""), "UnknownWord"), (b"newest first +m", (b"a", b"b"), "OrderWithParents"),
+             (b"newest-since x first +m", (b"a", b"b"), "BadTime")]
+    runs((made,), *((log_at(words, *paths) + b"names\n", cause) for words, paths, cause in worse), by_git_alone=False)
     bad = [b"", b"/", b"/a", b"a/", b"a//b", b"a\0", b"d" * 4097, b"d" * 5000]
     first = [(log_at(b"breadth all +nosuch", b""), "UnknownWord"), (log_at(b"breadth all +HEAD", b""), "UnbornHead"),
              (log_at(b"newest-since x first +m", b""), "BadPath"), (log_at(b"newest first +m", b"/"), "BadPath"),
@@ -925,10 +947,10 @@ def as_numbered(made, listed_):
     """Stops where a log with a path doesn't list the commits of these numbers."""
     plain = Plain("sha1")
     numbers = {reply.split()[-1]: number for number, (reply, _) in enumerate(plain.run(made)[1], 1)}
-    for path, wanted in listed_:
-        _, ((reply, _),) = plain.run(log_at(b"topological all +m", path))
+    for paths, wanted in listed_:
+        _, ((reply, _),) = plain.run(log_at(b"topological all +m", *paths))
         found = [numbers[it] for it in reply.split()[3:]] if reply.startswith(b"ok") else None
-        assert found == wanted, (path, found, wanted)
+        assert found == wanted, (paths, found, wanted)
 
 
 def removals():
@@ -1124,7 +1146,8 @@ def opening():
         ROWS.append((f"{kind} names:write:HEAD:{word(b'ref: refs/heads/other' + NEW_LINE)} open run:{word(b'commit HEAD new' + NEW_LINE + ONE + b'names' + NEW_LINE)} left",
                      f"done opened {told(ended, replies)} {left(plain)}"))
         ROWS.append((f"{kind} {head} names:folder:hooks open", "done done Stray:hooks"))
-        ROWS.append((f"{kind} {head} names:write:packed-refs:- open", "done done NotYet:packed-refs"))
+        ROWS.append((f"{kind} {head} names:write:packed-refs:- open", "done done opened"))
+        ROWS.append((f"{kind} {head} names:write:packed-refs:{word(NEW_LINE)} open", "done done BadPacked:1"))
         folders = ["refs", "refs/heads", "refs/heads/main", "refs/heads/main/x", "refs/heads/main/x/y", "refs/heads/main/z", "logs",
                    "logs/refs", "logs/refs/heads", "logs/refs/heads/main", "logs/refs/heads/main/x"]
         stream = b"commit refs/heads/main new\n" + ONE
@@ -1236,6 +1259,13 @@ def readings():
                                (b"log breadth all +v\n", 2)]:
             reading(kind, tagged, command, count)
         reading(kind, tagged + b"index\n", b"log breadth all +v\n", 1)
+        # A log with paths walks, and then reads each commit with its first parent, and of both each tree on the paths once.
+        three = branch(b"refs/heads/m new", 1, b"put file 1 1\na\nx\n") + branch(b"refs/heads/m any", 2, b"put file 3 1\nb/c\ny\n") \
+            + branch(b"refs/heads/m any", 3, b"put file 1 1\na\nz\n")
+        for paths, count in [((b"a",), 4 + 10), ((b"a", b"b"), 4 + 10), ((b"b/c", b"a", b"b/d"), 4 + 13), ((b"b/c", b"b", b"b/c"), 4 + 13),
+                             ((b"a/x", b"q/r"), 4 + 10), ((), 4)]:
+            reading(kind, three, log_at(b"breadth all +m", *paths), count)
+            reading(kind, three + b"index\n", log_at(b"breadth all +m", *paths), count - 3)
 
 
 def readers():
@@ -1273,7 +1303,8 @@ def log_faults():
     made = PUT_HELLO + b"commit refs/heads/main any\n" + SIGNED % (1, 1, 3, b"two")
     for kind in KINDS:
         orders = (b"breadth", b"newest", b"oldest-since 1", b"date", b"topological")
-        for line in [*(b"log %s all +main\n" % order for order in orders), log_at(b"breadth all +main", b"a")]:
+        for line in [*(b"log %s all +main\n" % order for order in orders), log_at(b"breadth all +main", b"a"),
+                     log_at(b"breadth all +main", b"b", b"a")]:
             stream = made + line * 2
             _, replies = Plain(kind).run(stream)
             one, two, first, second = (reply for reply, _ in replies)
@@ -1373,6 +1404,181 @@ def switch_stops():
             each(60, kind, f"create names:{how}:#:{kept} open run:{word(stream)} left", [closed, *states, whole])
 
 
+PACK = b"pack\n"
+
+
+def as_git_packs(kind, made, *commands):
+    """Stops where git packs other names, or another text, or where its transactions over packed names leave other names, logs or records."""
+    plain = Plain(kind)
+    plain.run(made)
+    git = Moved(plain)
+    plain.run(PACK)
+    git.pack()
+    assert git.holds(plain), made
+    for command in commands:
+        name, *parts = Reader(command).command()
+        before = b"" if name == "move" else plain.names[parts[0]]
+        _, ((reply, _),) = plain.run(command)
+        if name == "delete":
+            done = git.delete(parts[0], before)
+        elif name == "rename":
+            done = git.rename(*parts, before)
+        else:
+            lines, actor, message = parts
+            done = git.move([(it, b"", plain.names[it]) for it, _, _ in lines], actor, message)
+        assert done and reply.startswith(b"ok") and git.holds(plain), command
+
+
+def packs():
+    """Names that are packed, and what every command makes of them then, as `git pack-refs --all` and git's transactions do; no command
+    answers otherwise than before."""
+    main, x, y, v, w = b"refs/heads/main", b"refs/heads/x/y", b"refs/heads/y", b"refs/tags/v", b"refs/tags/w"
+    answer(PUT_HELLO + b"names\n" + PACK + b"names\n")
+    runs((PUT_HELLO,), (b"names\n",), (PACK,), (b"names\n",))
+    runs((PACK,), (b"names\n",), (PUT_HELLO,), (PACK,), (PACK,), by_git_alone=False)
+    made = (branch(main + b" new", 1) + branch(x + b" new", 2, b"parent main\n") + branch(main + b" any", 3) + branch(w + b" new", 4)
+            + tag(v + b" new main", 5))
+    asked = [b"names\n", b"names refs/heads\n", b"names refs/tags\n", b"past main\n", b"past x/y\n", b"past v\n", b"show HEAD\n",
+             b"show x/y\n", b"files v\n", b"log breadth all +v -x/y\n", b"log topological all +main +w\n"]
+    runs((made,), *((it,) for it in asked), (PACK,), *((it,) for it in asked), by_git_alone=False)
+    runs((made,), (PACK,), (PACK,), (b"names\n",), by_git_alone=False)
+    deleted = [b"delete %s any\n" % it for it in (main, x, v, w)]
+    renamed = [b"rename %s %s\n" % it for it in ((main, y), (x, b"refs/heads/z"), (v, b"refs/tags/x"), (y, main))]
+    moved = [move(main + b" at main x/y"), move(v + b" any w", b"refs/tags/new new main"), move(w + b" at w main")]
+    for command in [*deleted, *renamed[:3], *moved]:
+        runs((made,), (PACK,), (command,), *((it,) for it in asked[:3]), (PACK,), (b"names\n",), by_git_alone=False)
+        for kind in KINDS:
+            as_git_packs(kind, made, command)
+    for kind in KINDS:
+        as_git_packs(kind, made, *deleted)
+        as_git_packs(kind, made, renamed[0], renamed[3], *moved, *deleted[:3])
+    runs((made,), (PACK,), *((it,) for it in deleted), (b"names\n",), (made,), (b"names\n",), (PACK,), by_git_alone=False)
+    runs((made,), (PACK,), (renamed[0],), (b"past y\n",), (renamed[3],), (b"past main\n",), *((it,) for it in moved), (b"names\n",),
+         *((it,) for it in deleted[:3]), (b"names\n",), by_git_alone=False)
+    # A file of its own wins over a record, and goes behind it.
+    runs((made,), (PACK,), (branch(main + b" at main", 6),), (tag(v + b" at v x/y", 7),), (b"names\n",), (b"past main\n",),
+         (b"delete %s at main\n" % main,), (b"delete %s any\n" % v,), (b"names\n",), (PACK,), by_git_alone=False)
+    # Packed names stand in each other's way, and are expected, as any other; their folders are in nobody's.
+    refused = [(branch(main + b"/a any", 6), "Collides"), (branch(b"refs/heads/x any", 6), "Collides"), (branch(main + b" new", 6), "Taken"),
+               (tag(v + b"/a any main"), "Collides"), (tag(b"refs/tags/a at v main"), "NoSuchName"), (tag(v + b" new main"), "Taken"),
+               (branch(v + b" any", 6), "HoldsTag"), (branch(main + b" at w", 6), "NotExpected"), (move(main + b"/a new w"), "Collides"),
+               (move(b"refs/heads/x any main"), "Collides"), (move(main + b" any main"), "NothingMoves"), (move(main + b" new w"), "Taken"),
+               (b"rename %s %s\n" % (w, v), "Taken"), (b"rename %s %s/a\n" % (w, main), "Collides"),
+               (b"rename %s refs/heads/x\n" % w, "Collides"), (b"rename %s/a %s\n" % (main, y), "NoSuchName"),
+               (b"delete %s/a any\n" % main, "NoSuchName"), (b"delete refs/heads/x any\n", "NoSuchName"),
+               (b"delete %s at w\n" % main, "NotExpected"), (b"switch %s\n" % main, "NothingMoves")]
+    runs((made,), (PACK,), *refused, (b"names\n",), by_git_alone=False)
+    runs((made,), (PACK,), (b"delete %s any\n" % x,), (branch(b"refs/heads/x new", 6),), (b"names\n",), (PACK,), (b"names\n",), by_git_alone=False)
+    runs((made,), (PACK,), (b"switch %s\n" % x,), (branch(b"HEAD at x/y", 6),), (b"names\n",), (PACK,), (b"show HEAD\n",), by_git_alone=False)
+    for text in (b"pack refs/heads/main\n", b"pack \n", b" pack\n", b"packs\n", b"Pack\n"):
+        answer(PUT_HELLO + text, "Syntax", end="Refused")
+    answer(PUT_HELLO + b"pack", "Truncated", end="Refused")
+
+
+def reopened_packs():
+    """Folders with packed names are opened again, and go on."""
+    main, x, v = b"refs/heads/main", b"refs/heads/x", b"refs/tags/v"
+    streams = [PUT_HELLO, tag(v + b" new main", 3), PACK, b"names\npast main\nshow v\n", branch(x + b" new", 2, b"parent main\n"),
+               b"delete %s at main\n" % v, PACK, b"rename %s refs/heads/y\n" % x, b"delete %s any\n" % main, b"names\npast y\n", PACK, b"names\n"]
+    for kind in KINDS:
+        plain, words, answers = Plain(kind), ["create", "open"], ["created", "opened"]
+        for stream in streams:
+            ended, replies = plain.run(stream)
+            assert (ended, refusals(replies)) == ("Input", []), (stream, ended, replies)
+            words += [f"run:{word(stream)}", "close", "open"]
+            answers += [told(ended, replies), "opened"]
+        ROWS.append((" ".join([kind, *words, "left"]), " ".join([*answers, left(plain)])))
+
+
+def as_on_the_way(plain, alone, logs=None, records=None):
+    """The same names, of which these have records alone; with other logs or records."""
+    state = Plain(plain.kind)
+    state.objects, state.names, state.packed_alone = plain.objects, plain.names, set(alone)
+    state.logs = plain.logs if logs is None else logs
+    state.records = plain.records if records is None else records
+    return state
+
+
+def pack_stops():
+    """A run of two commits and a pack that is stopped at each call, or of which each call fails: `packed-refs` stands first, whole, and then
+    the names' own files go, one after another; each name reads as before all the while."""
+    main, x = b"refs/heads/main", b"refs/heads/x"
+    second = branch(x + b" new", 2, b"parent main\n")
+    fault = b"fault File\n"
+    for kind in KINDS:
+        plain, first, both = (Plain(kind) for _ in range(3))
+        _, replies = plain.run(PUT_HELLO + second + PACK)
+        for state, stream in ((first, PUT_HELLO), (both, PUT_HELLO + second)):
+            state.run(stream)
+        ends = [f"created opened Fault:{word(b''.join(reply for reply, _ in replies[:count]) + fault)} " for count in range(3)]
+        closed, whole = f"created File closed {left(plain, 0, False)}", f"created opened {told('Input', replies)} {left(plain)}"
+        for how, kept in [*(("stop", kept) for kept in ["-", 0, 3, 50, 1000]), ("fail", "-")]:
+            made = kept != "-"
+            states = [ends[0] + left(first, 0, False), ends[0] + left(first, 3, False), *([ends[0] + left(first)] if made else [])]
+            states += [ends[1] + left_with(both, first, 3), ends[1] + left_with(both, first, 4), *([ends[1] + left(both)] if made else [])]
+            states += [ends[2] + left(both), *(ends[2] + left(as_on_the_way(plain, alone)) for alone in ((), (main,)))]
+            states += [ends[2] + left(plain)] if made else []
+            each(120, kind, f"create names:{how}:#:{kept} open run:{word(PUT_HELLO + second + PACK)} left", [closed, *states, whole])
+
+
+def packed_delete_stops():
+    """The same of the deletion of a packed name, and of one with a file of its own besides: its log goes, then its record, then its file."""
+    main, x = b"refs/heads/main", b"refs/heads/x"
+    second, deleting = branch(x + b" new", 2, b"parent main\n"), b"delete refs/heads/x any\n"
+    fault = b"fault File\n"
+    for more in (b"", branch(x + b" any", 3)):
+        stream = PUT_HELLO + second + PACK + more + deleting
+        for kind in KINDS:
+            plain, first, both, packed, before = (Plain(kind) for _ in range(5))
+            _, replies = plain.run(stream)
+            for state, upto in ((first, PUT_HELLO), (both, PUT_HELLO + second), (packed, PUT_HELLO + second + PACK),
+                                (before, PUT_HELLO + second + PACK + more)):
+                state.run(upto)
+            logs = {name: log for name, log in before.logs.items() if name != x}
+            records = {name: digits for name, digits in before.records.items() if name != x}
+            unlogged = as_on_the_way(before, before.packed_alone, logs)
+            unpacked = as_on_the_way(before, before.packed_alone, logs, records)
+            logged = as_on_the_way(packed, packed.packed_alone, before.logs)
+            logged.objects = before.objects
+            ends = [f"created opened Fault:{word(b''.join(reply for reply, _ in replies[:count]) + fault)} " for count in range(len(replies))]
+            closed, whole = f"created File closed {left(plain, 0, False)}", f"created opened {told('Input', replies)} {left(plain)}"
+            for how, kept in [*(("stop", kept) for kept in ["-", 0, 50, 1000]), ("fail", "-")]:
+                made = kept != "-"
+                states = [ends[0] + left(first, 0, False), ends[0] + left(first, 3, False), *([ends[0] + left(first)] if made else [])]
+                states += [ends[1] + left_with(both, first, 3), ends[1] + left_with(both, first, 4), *([ends[1] + left(both)] if made else [])]
+                states += [ends[2] + left(both), *(ends[2] + left(as_on_the_way(packed, alone)) for alone in ((), (main,)))]
+                states += [ends[2] + left(packed)] if made else []
+                if more:
+                    states += [ends[3] + left_with(before, packed, 4), ends[3] + left_with(before, packed, 5), ends[3] + left(logged)]
+                    states += [ends[3] + left(before)] if made else []
+                states += [ends[-1] + left(before), ends[-1] + left(unlogged), *([ends[-1] + left(unpacked)] if more else [])]
+                states += [ends[-1] + left(plain)] if made or not more else []
+                each(200, kind, f"create names:{how}:#:{kept} open run:{word(stream)} left", [closed, *states, whole])
+
+
+def packed_rename_stops():
+    """The same of a rename of a packed name: the new name is made in a file of its own, and then the old one goes."""
+    main, trunk = b"refs/heads/main", b"refs/heads/trunk"
+    stream = PUT_HELLO + PACK + b"rename %s %s\n" % (main, trunk)
+    fault = b"fault File\n"
+    for kind in KINDS:
+        plain, first, packed = (Plain(kind) for _ in range(3))
+        _, replies = plain.run(stream)
+        first.run(PUT_HELLO)
+        packed.run(PUT_HELLO + PACK)
+        both = as_on_the_way(packed, packed.packed_alone, {**packed.logs, **plain.logs})
+        both.names = {**packed.names, **plain.names}
+        unlogged = as_on_the_way(both, both.packed_alone, plain.logs)
+        ends = [f"created opened Fault:{word(b''.join(reply for reply, _ in replies[:count]) + fault)} " for count in range(3)]
+        closed, whole = f"created File closed {left(first, 0, False)}", f"created opened {told('Input', replies)} {left(plain)}"
+        for how, kept in [*(("stop", kept) for kept in ["-", 0, 3, 20, 50, 1000]), ("fail", "-")]:
+            made = kept != "-"
+            states = [ends[0] + left(first, 0, False), ends[0] + left(first, 3, False), *([ends[0] + left(first)] if made else [])]
+            states += [ends[1] + left(first), ends[1] + left(as_on_the_way(packed, ())), *([ends[1] + left(packed)] if made else [])]
+            states += [ends[2] + left(packed), ends[2] + left(both), ends[2] + left(unlogged), ends[2] + left(plain)]
+            each(120, kind, f"create names:{how}:#:{kept} open run:{word(stream)} left", [closed, *states, whole])
+
+
 def left_with(plain, first, count):
     """The first so many objects of one repository, under the names of another."""
     return left(plain, count).partition(" names")[0] + " names" + left(first).partition(" names")[2]
@@ -1440,7 +1646,7 @@ def recoveries(kind):
     ROWS.append((" ".join([kind, *words_3, "recover", "left"]), " ".join([*["done"] * len(words_3), "recovered", f"objects names{listed(files)}"])))
 
 
-def by_chance(chance, kind):
+def by_chance(chance, kind, packs_too=False):
     """A few commands by chance, each in a run of its own, and all that stands then."""
     plain, words, answers = Plain(kind), ["create", "open"], ["created", "opened"]
     paths = [b"a", b"b", b"a/b", b"a/b/c", b"a.b", b"a0", b"d/e", b"\xff", b"a//b", b""]
@@ -1469,23 +1675,65 @@ def by_chance(chance, kind):
         number = chance.randrange(1, 10)
         return b"commit %s %s\n" % (chance.choice(names), expect) + parents + edits + SIGNED % (number, number, 1, b"%d" % number)
 
-    for _ in range(chance.randrange(3, 9)):
-        stream = command()
+    def with_packs():
+        how = chance.random()
+        if how < 0.25:
+            return PACK
+        if how < 0.35:
+            return b"delete %s any\n" % chance.choice(names[1:5])
+        if how < 0.45:
+            return b"rename %s %s\n" % (chance.choice(names[1:5]), chance.choice(names[1:5]))
+        return command()
+
+    for _ in range(chance.randrange(3, 9) + (6 if packs_too else 0)):
+        stream = with_packs() if packs_too else command()
         words.append(f"run:{word(stream)}")
         answers.append(told(*plain.run(stream)))
     ROWS.append((" ".join([kind, *words, "failed", "left"]), " ".join([*answers, "sound", left(plain)])))
 
 
+def logs_by_chance(chance, kind):
+    """Commits by chance, and logs at up to four paths of what they change."""
+    plain, words, answers = Plain(kind), ["create", "open"], ["created", "opened"]
+    paths = [b"a", b"b", b"a/b", b"a/b/c", b"a.b", b"d/e", b"d/f", b"a//b"]
+
+    def edit():
+        path, content = chance.choice(paths[:7]), chance.choice([b"", b"1", b"2"])
+        if chance.random() < 0.3:
+            return b"remove %d\n%s\n" % (len(path), path)
+        return b"put %s %d %d\n%s\n%s\n" % (chance.choice([b"file", b"file", b"exec"]), len(path), len(content), path, content)
+
+    def line():
+        some = [chance.choice(paths[:7] if chance.random() < 0.98 else paths) for _ in range(chance.randrange(5))]
+        order = chance.choice([b"breadth", b"date", b"topological"])
+        return log_at(b"%s all +%s" % (order, chance.choice([b"main", b"x", b"HEAD"])), *some)
+
+    numbers = range(1, chance.randrange(5, 11))
+    lines = [b"parent %s\n" % it for it in (b"main", b"x")]
+    commits = [branch(b"refs/heads/%s any" % chance.choice([b"main", b"main", b"x"]), number, (chance.choice(lines) if chance.random() < 0.4 else b"")
+                      + b"".join(edit() for _ in range(chance.randrange(3)))) for number in numbers]
+    for stream in commits + [b"".join(line() for _ in range(6)), b"index\n" + b"".join(line() for _ in range(3))]:
+        words.append(f"run:{word(stream)}")
+        answers.append(told(*plain.run(stream)))
+    ROWS.append((" ".join([kind, *words]), " ".join(answers)))
+
+
 if __name__ == "__main__":
     for part in (rows, first_causes, two_branches, of_names, moves, renames, deletions, switches, tags, renamed_tags, indexes, logs, path_logs,
                  short_ids, removals, nested, grafts, limits, opening, reopening, reopened_between, readings, readers, faults, index_faults, log_faults,
-                 move_stops, rename_stops, delete_stops, switch_stops, tag_stops, tag_rename_stops, stops, reopened_stops):
+                 move_stops, rename_stops, delete_stops, switch_stops, tag_stops, tag_rename_stops, stops, reopened_stops, packs, pack_stops,
+                 packed_delete_stops, packed_rename_stops, reopened_packs):
         part()
     for kind in KINDS:
         recoveries(kind)
     chance = random.Random(23)
     for number in range(200):
         by_chance(chance, list(KINDS)[number % 2])
+    for number in range(80):
+        by_chance(chance, list(KINDS)[number % 2], True)
+    chance = random.Random(41)
+    for number in range(60):
+        logs_by_chance(chance, list(KINDS)[number % 2])
     chance = random.Random(29)
     for number in range(80):
         grafts_by_chance(chance, list(KINDS)[number % 2])

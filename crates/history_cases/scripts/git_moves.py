@@ -1,7 +1,8 @@
 """Names and HEAD as git moves and deletes them: the rows of moves are held against `git update-ref --stdin`, one transaction for each
 command, and against the logs that git writes then; those of renames against one such transaction, which makes one name and
 deletes the other; those of deletions against `git update-ref -d`, those of switches against
-`git symbolic-ref HEAD`, and the tags of those of tags against `git tag -a` and `git mktag`."""
+`git symbolic-ref HEAD`, the tags of those of tags against `git tag -a` and `git mktag`, and `packed-refs` and the names' own files
+against `git pack-refs --all`."""
 import os
 import subprocess
 import sys
@@ -20,11 +21,14 @@ class Moved(Git):
         for text in plain.objects.values():
             header, _, content = text.partition(b"\0")
             self.run("hash-object", "-w", "-t", header.split()[0].decode(), "--stdin", data=content)
+        if plain.records is not None:
+            (self.folder / "packed-refs").write_bytes(plain.packed_text())
         for name, digits in plain.names.items():
             for front, text in ((b"", digits + b"\n"), (b"logs/", plain.logs[name])):
-                path = self.folder / (front + name).decode()
-                path.parent.mkdir(parents=True, exist_ok=True)
-                path.write_bytes(text)
+                if front or name not in plain.packed_alone:
+                    path = self.folder / (front + name).decode()
+                    path.parent.mkdir(parents=True, exist_ok=True)
+                    path.write_bytes(text)
 
     def by(self, actor):
         """The environment in which git signs as this actor."""
@@ -74,8 +78,15 @@ class Moved(Git):
         self.run("symbolic-ref", "HEAD", name.decode())
         return (self.folder / "HEAD").read_bytes()
 
+    def pack(self):
+        self.run("pack-refs", "--all")
+
     def holds(self, plain):
-        """Whether the names and logs are those of the plain repository."""
+        """Whether the names and logs are those of the plain repository, and `packed-refs` and the names with files of their own, too."""
         names = self.names()
         logs = {name: (self.folder / b"logs".decode() / name.decode()).read_bytes() for name in names}
-        return names == plain.names and logs == plain.logs
+        packed = self.folder / "packed-refs"
+        records = packed.read_bytes() if packed.exists() else None
+        own = {name for name in names if (self.folder / name.decode()).is_file()}
+        return (names == plain.names and logs == plain.logs and own == set(plain.names) - plain.packed_alone
+                and records == (None if plain.records is None else plain.packed_text()))

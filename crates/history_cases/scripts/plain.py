@@ -66,8 +66,8 @@ class Reader:
             return ("rename", *words[1:])
         if words[0] == b"switch" and len(words) == 2:
             return ("switch", words[1])
-        if words == [b"index"]:
-            return ("index",)
+        if words in ([b"pack"], [b"index"]):
+            return (words[0].decode(),)
         refuse_where(words[0] != b"commit" or len(words) not in (3, 4), "Syntax")
         refuse_where((len(words) == 4) != (words[2] == b"at") or words[2] not in (b"at", b"any", b"new"), "Syntax")
         return self.commit(words[1], words[2:])
@@ -96,17 +96,19 @@ class Reader:
         return ("past", words[0])
 
     def log(self, words):
-        """A log: its order, the seconds behind it or none, whether it follows first parents alone, its items, and its path or none."""
+        """A log: its order, the seconds behind it or none, whether it follows first parents alone, its items, and its paths."""
         order, words = words[0] if words else b"", words[1:]
         refuse_where(order not in ORDERS, "Syntax")
         since, words = (words[0] if words else None, words[1:]) if order.endswith(b"-since") else (None, words)
         refuse_where(not words or words[0] not in (b"all", b"first"), "Syntax")
-        size = words[-1:] if words[-2:-1] == [b"path"] else []
-        items = [(it[:1], it[1:]) for it in (words[1:-2] if size else words[1:])]
+        first = words[0] == b"first"
+        words, sizes = words[1:], []
+        while words[-2:-1] == [b"path"]:
+            words, sizes = words[:-2], [words[-1], *sizes]
+        items = [(it[:1], it[1:]) for it in words]
         refuse_where(any(sign not in (b"+", b"-") or not target for sign, target in items), "Syntax")
         refuse_where(all(sign != b"+" for sign, _ in items), "Syntax")
-        path = self.fields(size)[0] if size else None
-        return ("log", order.partition(b"-")[0], since, words[0] == b"first", items, path)
+        return ("log", order.partition(b"-")[0], since, first, items, self.fields(sizes))
 
     def commit(self, name, expect):
         parents, edits, words = [], [], self.line()
@@ -154,9 +156,9 @@ def is_path(path):
     return len(path) <= 4096 and b"\0" not in path and b"" not in path.split(b"/")
 
 
-def at_path(files, path):
-    """The files at a path or below it."""
-    return {it: file for it, file in files.items() if (it + b"/").startswith(path + b"/")}
+def at_paths(files, paths):
+    """The files at one of the paths or below it."""
+    return {it: file for it, file in files.items() if any((it + b"/").startswith(path + b"/") for path in paths)}
 
 
 def with_rest(path, rest):
@@ -165,7 +167,7 @@ def with_rest(path, rest):
 
 def carried(files, path, source):
     """What a graft puts at a path: what these files have at or below a source, or all of them at an empty one."""
-    found = at_path(files, source) if source else files
+    found = at_paths(files, [source]) if source else files
     return {with_rest(path, it[len(source):].lstrip(b"/")): file for it, file in found.items()}
 
 
@@ -228,11 +230,12 @@ class Walk:
 
 
 class Plain:
-    """A repository: objects by id, names, logs, and HEAD's branch. Its tags tell the commits that they are of."""
+    """A repository: objects by id, names, logs, and HEAD's branch. Its tags tell the commits that they are of. Of its files it knows which
+    names have a record alone, and the records of `packed-refs`, where that stands."""
 
     def __init__(self, kind):
         self.kind, self.objects, self.names, self.logs, self.commits, self.tags = kind, {}, {}, {}, {}, {}
-        self.branch = b"refs/heads/main"
+        self.branch, self.packed_alone, self.records = b"refs/heads/main", set(), None
         self.null = b"0" * (40 if kind == "sha1" else 64)
 
     def id(self, object, content):
@@ -373,6 +376,24 @@ class Plain:
             line = b"%s %s %s <%s> %s %s\t%s\n" % (before, digits, *actor, title)
             self.logs[name] = self.logs.get(name, b"") + line
         self.names[name] = digits
+        self.packed_alone.discard(name)
+
+    def forget(self, name):
+        """The name goes, with its log and its record."""
+        del self.names[name], self.logs[name]
+        self.packed_alone.discard(name)
+        (self.records or {}).pop(name, None)
+
+    def pack(self):
+        self.records, self.packed_alone = dict(self.names), set(self.names)
+        return b"ok pack\n"
+
+    def packed_text(self):
+        """What `packed-refs` has in it: a record for each name, and behind that of a tag the commit that it is of."""
+        text = b"# pack-refs with: peeled fully-peeled sorted \n"
+        for name, digits in sorted(self.records.items()):
+            text += b"%s %s\n" % (digits, name) + (b"^%s\n" % self.tags[digits] if digits in self.tags else b"")
+        return text
 
     def delete(self, name, expect):
         refuse_where(not is_name(name), "BadName")
@@ -380,7 +401,7 @@ class Plain:
         wanted = self.resolved(expect[1:])
         refuse_where(name not in self.names, "NoSuchName")
         refuse_where(wanted not in ([], [self.held(name)]), "NotExpected")
-        del self.names[name], self.logs[name]
+        self.forget(name)
         return b"ok delete\n"
 
     def rename(self, old, new):
@@ -391,7 +412,7 @@ class Plain:
         refuse_where(new in self.names, "Taken")
         refuse_where(self.in_the_way(new), "Collides")
         self.hold(new, self.names[old], (b"history", b"", b"0", b"+0000"), b"rename")
-        del self.names[old], self.logs[old]
+        self.forget(old)
         return b"ok rename\n"
 
     def move(self, lines, actor, message):
@@ -495,15 +516,15 @@ class Plain:
         moves = self.logs[name].splitlines(keepends=True)
         return b"ok past %d\n" % len(moves) + b"".join(reversed(moves))
 
-    def differs(self, digits, path):
-        """Whether a commit's files at a path or below it aren't those of its first parent; without one, whether it has some there."""
+    def differs(self, digits, paths):
+        """Whether a commit's files at some paths or below them aren't those of its first parent; without one, whether it has some there."""
         commit = self.commits[digits]
         before = self.commits[commit["parents"][0]]["files"] if commit["parents"] else {}
-        return at_path(commit["files"], path) != at_path(before, path)
+        return at_paths(commit["files"], paths) != at_paths(before, paths)
 
-    def log(self, order, since, first_parents, items, path):
+    def log(self, order, since, first_parents, items, paths):
         targets = self.resolved([target for _, target in items])
-        refuse_where(path is not None and not is_path(path), "BadPath")
+        refuse_where(any(not is_path(it) for it in paths), "BadPath")
         refuse_where(since is not None and not is_time(since, b"+0000"), "BadTime")
         hidden = [it for it, (sign, _) in zip(targets, items) if sign == b"-"]
         refuse_where(first_parents and order != b"breadth" and (hidden or order in (b"newest", b"oldest")), "OrderWithParents")
@@ -511,7 +532,7 @@ class Plain:
         walk = Walk(self.commits, first_parents)
         hides = Walk(self.commits, False).reached(hidden, 0)
         walked = walk.listed(order, tips, walk.reached(tips, int(since or 0)) - hides)
-        listed = [it for it in walked if path is None or self.differs(it, path)]
+        listed = [it for it in walked if not paths or self.differs(it, paths)]
         return b"ok log %d\n" % len(listed) + b"".join(it + b"\n" for it in listed)
 
     def run(self, data):

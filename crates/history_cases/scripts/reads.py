@@ -2,7 +2,8 @@
 against this.
 
 Each word asks once for the object that its name holds, or whose id it begins, since that may be a commit, a tag or neither. Besides, a
-command asks once for each commit, tree and content that its answer is made of, but for a commit that has a row."""
+command asks once for each commit, tree and content that its answer is made of, but for a commit that has a row. A log with paths asks for
+what it compares each time that it compares two commits."""
 
 from plain import Plain, Reader
 
@@ -14,10 +15,10 @@ def of_word(plain, word):
     return found if len(found) == 1 else []
 
 
-def of_folders(plain, files, path=None):
-    """The trees of these files, or those in which the names of a path are looked up."""
+def of_folders(plain, files, paths=None):
+    """The trees of these files, or those in which the names of some paths are looked up."""
     above = {it[:at].rstrip(b"/") for it in files for at in range(len(it)) if at == 0 or it[at - 1:at] == b"/"}
-    met = [it for it in above | {b""} if path is None or it == b"" or path.startswith(it + b"/")]
+    met = [it for it in above | {b""} if paths is None or it == b"" or any(path.startswith(it + b"/") for path in paths)]
     scratch, fronts = Plain(plain.kind), [it + b"/" if it else it for it in met]
     return [scratch.tree({it[len(front):]: file for it, file in files.items() if it.startswith(front)}) for front in fronts]
 
@@ -33,6 +34,15 @@ def of_walk(plain, rows, commits):
     return found
 
 
+def of_log(plain, command):
+    """The commits that a log with paths holds against their first parents, with these, and of both the trees on the paths."""
+    if not command[5]:
+        return []
+    walked = plain.log(*command[1:5], []).split()[3:]
+    pairs = [it for digits in walked for it in (digits, *plain.commits[digits]["parents"][:1])]
+    return [it for digits in pairs for it in (digits, *of_folders(plain, plain.commits[digits]["files"], command[5]))]
+
+
 def objects(plain, rows, command):
     """The objects that a command asks for, as often as it does."""
     name, *parts = command
@@ -41,12 +51,12 @@ def objects(plain, rows, command):
     words = [target for _, target in parts[3]] if name == "log" else [parts[0]]
     held = [it for word in words for it in of_word(plain, word)]
     if name == "log":
-        assert parts[4] is None
-        return held + of_walk(plain, rows, map(plain.peeled, held))
+        return held + of_walk(plain, rows, map(plain.peeled, held)) + of_log(plain, command)
     commit = plain.peeled(held[0])
     files, path = plain.commits[commit]["files"], parts[1] if name == "show" else None
     content = [files[path][1]] if path in files else []
-    return [*held, commit, *(of_folders(plain, files, path) if name == "files" or path else []), *content]
+    paths = [path] if path else None
+    return [*held, commit, *(of_folders(plain, files, paths) if name == "files" or path else []), *content]
 
 
 def names(command):

@@ -10,7 +10,6 @@ pub fn show_open_error(error: &OpenError, page: &mut Page) {
         OpenError::BadHead => page.word("BadHead"),
         OpenError::Stray(path) => page.named("Stray", path),
         OpenError::Unfinished(path) => page.named("Unfinished", path),
-        OpenError::NotYet(path) => page.named("NotYet", path),
         OpenError::BadObject(path) => page.named("BadObject", path),
         OpenError::WrongId(path) => page.named("WrongId", path),
         OpenError::TooLarge(path) => page.named("TooLarge", path),
@@ -22,6 +21,9 @@ pub fn show_open_error(error: &OpenError, page: &mut Page) {
         OpenError::BadName(path) => page.named("BadName", path),
         OpenError::PrivateName(name) => page.named("PrivateName", name),
         OpenError::Symbolic(name) => page.named("Symbolic", name),
+        OpenError::BadPacked(line) => show_number("BadPacked", *line, page),
+        OpenError::BadPeeled(name) => page.named("BadPeeled", name),
+        OpenError::Collides(name, other) => show_pair("Collides", name, other, page),
         OpenError::BadLog(path, line) => show_line("BadLog", path, *line, page),
         OpenError::LongLogLine(path, line) => show_line("LongLogLine", path, *line, page),
         OpenError::LogWithoutName(path) => page.named("LogWithoutName", path),
@@ -51,4 +53,18 @@ fn show_line(cause: &str, path: &[u8], line: usize, page: &mut Page) {
     page.named(cause, path);
     page.text(":");
     page.put(line);
+}
+
+// A line of the packed names.
+fn show_number(cause: &str, line: usize, page: &mut Page) {
+    page.word(cause);
+    page.text(":");
+    page.put(line);
+}
+
+// Two names.
+fn show_pair(cause: &str, name: &[u8], other: &[u8], page: &mut Page) {
+    page.named(cause, name);
+    page.text(":");
+    page.bytes(other);
 }

@@ -67,20 +67,29 @@ class Row:
         folders = 1 + sum(mode == "040000" for mode, _, _ in listed)
         self.say("files", "files", str(len(files)), *[f"{kind}:{oid}:{path.hex()}" for path, kind, oid in files], "asked", str(folders))
 
-    def ask_at(self, path):
-        """What stands at a path, with an asking for each folder on the way, as far as it goes."""
-        if is_path(path):
-            entry = self.git.entry(self.root, path)
-        else:
-            entry = None
-        asked = 1
+    def told(self, path):
+        """What stands at a path."""
+        entry = self.git.entry(self.root, path) if is_path(path) else None
+        return "none" if not entry else f"folder:{entry[1]}" if entry[0] == "040000" else f"{KINDS[entry[0]]}:{entry[1]}" if entry[0] in KINDS else "none"
+
+    def way(self, path):
+        """The folders on the way to a path, the root one of them, as far as it goes."""
+        found = [b""]
         for front in fronts(path):
-            found = self.git.entry(self.root, front) if is_path(front) else None
-            if not found or found[0] != "040000":
+            entry = self.git.entry(self.root, front) if is_path(front) else None
+            if not entry or entry[0] != "040000":
                 break
-            asked += 1
-        told = "none" if not entry else f"folder:{entry[1]}" if entry[0] == "040000" else f"{KINDS[entry[0]]}:{entry[1]}" if entry[0] in KINDS else "none"
-        self.say(f"at:{path.hex() or '-'}", told, "asked", str(asked))
+            found.append(front)
+        return found
+
+    def ask_at(self, path):
+        """What stands at a path, with an asking for each folder on the way."""
+        self.say(f"at:{path.hex() or '-'}", self.told(path), "asked", str(len(self.way(path))))
+
+    def ask_each(self, paths):
+        """What stands at each of some paths, with one asking for each folder on their ways."""
+        asked = str(len({folder for path in paths for folder in self.way(path)}))
+        self.say(":".join(["each", *[path.hex() or "-" for path in paths]]), *[self.told(path) for path in paths], "told", asked, "asked", asked)
 
 
 class Made:
@@ -214,6 +223,19 @@ def failing_row(git, chance):
         row.files, row.root = files, root
         row.say(f"root:{root}")
     row.edit(edits)
+    row.end()
+
+
+def several_row(git, chance):
+    """What stands at lists of paths: such as stand, what begins them, what is longer, and others, in any order, some of them twice."""
+    names = chance.sample(NAMES, chance.choice([2, 3, 5]))
+    row = begun(git, chance, names)
+    for _ in range(3):
+        stand = sorted(row.files) + [front for path in row.files for front in fronts(path)]
+        paths = [chance.choice(stand) + chance.choice([b"", b"", b"", b"/" + names[0], b"/"]) for _ in range(chance.randrange(5)) if stand]
+        paths += [some_path(chance, names) for _ in range(chance.randrange(1, 4))]
+        chance.shuffle(paths)
+        row.ask_each(paths)
     row.end()
 
 
@@ -370,6 +392,8 @@ def stored_rows(git):
     row.say(f"at:{b'g'.hex()}", f"file:{y}", "asked", "1")
     row.say(f"at:{b'a/d'.hex()}", f"Broken({a})", "asked", "2")
     row.say(f"at:{b'g/d'.hex()}", "none", "asked", "1")
+    row.say(f"each:{b'g/d'.hex()}:{b'a'.hex()}:{b'g'.hex()}", "none", f"folder:{a}", f"file:{y}", "told", "1", "asked", "1")
+    row.say(f"each:{b'g'.hex()}:{b'a/d'.hex()}:{b'e/f'.hex()}", f"Broken({a})", "told", "2", "asked", "2")
     row.words += [put.format(b"g".hex()), put.format(b"e/n".hex())]
     row.say("edit", f"Broken({e})", "asked", "2")
     row.words += ["remove-file:" + b"e".hex()]
@@ -423,6 +447,7 @@ def stored_rows(git):
     row.ask_files()
     for path in [b"a", b"m", b"m/n", b"z"]:
         row.ask_at(path)
+    row.ask_each([b"m/n", b"z", b"m", b"a"])
     row.end()
 
 
@@ -437,6 +462,8 @@ for kind in LENGTH:
         cut_row(git, chance)
     for _ in range(25):
         failing_row(git, chance)
+    for _ in range(40):
+        several_row(git, chance)
     chance = random.Random("grafts " + kind)
     for _ in range(100):
         graft_row(git, chance)

@@ -6,7 +6,9 @@ use case_ids::{read_id, read_kind};
 use case_page::{Page, read_digits};
 use case_store::{Row, Trees, row_of_content};
 use gix_hash::{Kind, ObjectId};
-use history_files::{EditError, EditedFiles, Found, ReadError, edit_files, entry_at, files};
+use history_files::{
+    EditError, EditedFiles, EntriesState, Found, ReadError, edit_files, entries_at, entry_at, files,
+};
 use std::alloc::{AllocError, Global};
 
 /// What the words of a line answer.
@@ -53,6 +55,7 @@ impl Session {
             "edit" => self.edit(alloc, page),
             "files" => self.list(alloc, page),
             "at" => self.find(alloc, parts.next()?, page),
+            "each" => self.find_each(alloc, parts, page),
             "tree" => self.add(alloc, parts.next()?, page),
             "root" => self.stand_on(parts.next()?),
             "fail" => self.fail_at(parts.next()?),
@@ -153,6 +156,42 @@ impl Session {
             Ok(found) => show_found(found, page),
             Err(error) => show_read_error(error, page),
         }
+        self.show_asked(page);
+        Some(())
+    }
+
+    // What the root has at each of some paths, and how many trees the call says that it asked for.
+    fn find_each<'a, I: Iterator<Item = &'a str> + Drop>(
+        &self,
+        alloc: Global,
+        words: I,
+        page: &mut Page,
+    ) -> Option<()> {
+        let mut paths = Vec::new(alloc);
+        for word in words {
+            paths.push(read_digits(alloc, word)?).ok()?;
+        }
+        let mut lent = Vec::new(alloc);
+        for path in &paths {
+            lent.push(path.as_slice()).ok()?;
+        }
+        let mut state = EntriesState::new(alloc);
+        match entries_at(
+            alloc,
+            &self.trees,
+            self.root.as_ref()?,
+            lent.as_slice(),
+            &mut state,
+        ) {
+            Ok(entries) => {
+                for found in &entries {
+                    show_found(*found, page);
+                }
+            }
+            Err(error) => show_read_error(error, page),
+        }
+        page.word("told");
+        page.value(state.asked());
         self.show_asked(page);
         Some(())
     }

@@ -4,6 +4,8 @@
 mod answer;
 mod opened;
 pub mod rows;
+mod served;
 
 pub use answer::{Answer, AnswerError, answer_stream};
 pub use opened::{NewError, new_repository};
+pub use served::serve;

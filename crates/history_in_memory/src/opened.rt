@@ -1,10 +1,9 @@
 //! A new repository in memory.
 
 ghost use Rattle.std.specs.Prelude.{◌≡◌, false, IfOk};
-ghost use Rattle.history_steps.specs.Offered.{IsOfStage};
 ghost use Rattle.history_model.specs.Repository.{fresh};
 ghost use Rattle.history.specs.Face.{has_failed};
-ghost use Rattle.history.specs.Stands.{Stands, pair_of};
+ghost use Rattle.history.specs.Stands.{Stands};
 ghost use Rattle.history_in_memory.specs.declared.opened.NewError.TheVariants as why;
 ghost use Rattle.history_opening.specs.declared.error.OpenRefusal.{OpenRefusal};
 
@@ -48,8 +47,6 @@ pub fn new_repository(alloc: Global, kind: Kind) -> Result<Repository<MemoryFile
     ensures stands { IfOk result
         (λ made. Stands ⟦<MemoryFiles as Files>⟧.is_honest ⟦<MemoryFiles as Files>⟧.history made
         (fresh kind)) }
-    ensures stage { IfOk result
-        (λ made. IsOfStage (pair_of ⟦<MemoryFiles as Files>⟧.history made)) }
 {
     let mut objects = MemoryFiles::new(alloc);
     let mut names = MemoryFiles::new(alloc);

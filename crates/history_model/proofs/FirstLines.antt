@@ -1,19 +1,15 @@
 -- A command's parts begin with its first line.
-use Rattle.std.proofs.Common.{◌≡◌, ℕ, true, List, [], ◌∷◌, ◌++◌, length, map, refl, flat_map, nat_le, suc, Some, None, codes, arith, tests}
+use Rattle.std.proofs.Common.{◌≡◌, ℕ, true, List, [], ◌∷◌, ◌++◌, length, map, refl, ap, flat_map, Some, None, codes}
 use Rattle.std.specs.List.{list_all}
 use Rattle.history_model.specs.Bytes.{Bytes}
 use Rattle.history_model.specs.Commands.{Command, Commit, Tag, Move, Rename, Delete, Switch, Pack, Index, Names, Files, Past, Log, Show}
 use Rattle.history_model.specs.Spelling.{Part, Line, Field, parts_of, is_part, has_enough, are_items, path_words, option_list, order_words, parents_word, item_word}
-use Rattle.history_model.specs.Lines.{words_of, size_words, first_length, first_line, FirstLinesBegin}
+use Rattle.history_model.specs.Lines.{words_of, size_words, first_line, FirstLinesBegin}
 use Rattle.std.proofs.lemmas.Bool.{and_parts}
 
-too_many : (n : ℕ) → nat_le (suc (suc n)) 1 ≡ true → ⊥
-too_many n h = grind (arith, tests)
-
-path_words_are : (paths : List Bytes) → nat_le (length paths) 1 ≡ true → flat_map path_words paths ≡ flat_map size_words (option_list (first_length paths))
-path_words_are [] h = refl
-path_words_are (path ∷ []) h = refl
-path_words_are (path ∷ other ∷ more) h = absurd (too_many (length more) h)
+path_words_are : (paths : List Bytes) → flat_map path_words paths ≡ flat_map size_words (map length paths)
+path_words_are [] = refl
+path_words_are (path ∷ paths) = ap (λ words. path_words path ++ words) (path_words_are paths)
 
 begins : (command : Command) → has_enough command ≡ true → (more : List Part) × (parts_of command ≡ Line (words_of (first_line command)) ∷ more)
 begins (Commit c) h = (_, refl)
@@ -28,7 +24,7 @@ begins (Names folder) h = (_, refl)
 begins (Files word) h = (_, refl)
 begins (Past name) h = (_, refl)
 begins (Log c) h =
-    let paths = path_words_are c.paths (and_parts (are_items c.items) (nat_le (length c.paths) 1) h).1 in
+    let paths = path_words_are c.paths in
     (map Field c.paths, λ i. Line (codes "log" ∷ (order_words c.order ++ (parents_word c.first_parents ∷ (map item_word c.items ++ paths i)))) ∷ map Field c.paths)
 begins (Show word None) h = (_, refl)
 begins (Show word (Some path)) h = (_, refl)

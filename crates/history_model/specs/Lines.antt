@@ -36,8 +36,8 @@ pub data Heading : Type 0 where
   NamesHeading : (folder : Option Bytes) → Heading
   FilesHeading : (word : Bytes) → Heading
   PastHeading : (name : Bytes) → Heading
-  LogHeading : (order : Order) → (first_parents : Bool) → (items : List LogItem) → (path : Option ℕ)
-      → Heading
+  LogHeading : (order : Order) → (first_parents : Bool) → (items : List LogItem)
+      → (paths : List ℕ) → Heading
   ShowHeading : (word : Bytes) → (path : Option ℕ) → Heading
 
 abbrev pub role_word : Role → Bytes
@@ -73,9 +73,9 @@ words_of IndexHeading = codes "index" ∷ []
 words_of (NamesHeading folder) = codes "names" ∷ option_list folder
 words_of (FilesHeading word) = codes "files" ∷ word ∷ []
 words_of (PastHeading name) = codes "past" ∷ name ∷ []
-words_of (LogHeading order first_parents items path) =
-    codes "log" ∷ (order_words order ++ (parents_word first_parents ∷ (map item_word items
-    ++ flat_map size_words (option_list path))))
+words_of (LogHeading order first_parents items paths) =
+    codes "log" ∷ (order_words order
+    ++ (parents_word first_parents ∷ (map item_word items ++ flat_map size_words paths)))
 words_of (ShowHeading word path) = codes "show" ∷ word ∷ flat_map size_words (option_list path)
 
 -- the lengths of the fields that follow the line
@@ -86,17 +86,12 @@ sizes (RemoveFileHeading path) = path ∷ []
 sizes (GraftHeading path word source) = path ∷ source ∷ []
 sizes (ActorHeading role name email seconds offset) = name ∷ email ∷ []
 sizes (MessageHeading message) = message ∷ []
-sizes (LogHeading order first_parents items path) = option_list path
+sizes (LogHeading order first_parents items paths) = paths
 sizes (ShowHeading word path) = option_list path
 sizes _ = []
 
 abbrev pub are_sizes : List ℕ → Bool
 are_sizes = list_all (λ size. nat_lt size (2 ^ 64))
-
--- the length of the first of these, if there is one
-abbrev pub first_length : List Bytes → Option ℕ
-first_length [] = None
-first_length (bytes ∷ more) = Some (length bytes)
 
 -- the line that a command begins with
 abbrev pub first_line : Command → Heading
@@ -111,7 +106,7 @@ first_line Index = IndexHeading
 first_line (Names folder) = NamesHeading folder
 first_line (Files word) = FilesHeading word
 first_line (Past name) = PastHeading name
-first_line (Log c) = LogHeading c.order c.first_parents c.items (first_length c.paths)
+first_line (Log c) = LogHeading c.order c.first_parents c.items (map length c.paths)
 first_line (Show word path) = ShowHeading word (option_map length path)
 
 -- The line is that of the command's own first part.

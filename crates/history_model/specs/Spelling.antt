@@ -158,10 +158,10 @@ abbrev pub are_items : List LogItem → Bool
 are_items items =
     list_any is_tip items && list_all (λ item. not (is_empty (item_target item))) items
 
--- a move has a line; a log has a tip, and at most one path
+-- a move has a line; a log has a tip
 abbrev pub has_enough : Command → Bool
 has_enough (Move c) = not (is_empty c.to)
-has_enough (Log c) = are_items c.items && nat_le (length c.paths) 1
+has_enough (Log c) = are_items c.items
 has_enough _ = true
 
 -- the command has a spelling

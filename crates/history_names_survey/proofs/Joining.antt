@@ -34,7 +34,7 @@ module _ (kind : Kind) (names : FinMap by_bytes Reference) (branch : Bytes) (val
   }
 
 pub parts_join : PartsJoin
-parts_join kind pair kinds values branch store are part =
+parts_join kind pair facts values branch store are part =
     let names = part.stands values are in
     record {
       r = whole kind part.names branch values;

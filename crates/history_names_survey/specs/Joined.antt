@@ -12,7 +12,7 @@ use Rattle.history_model.specs.Repository.{Repository, Values, IsWholeStore, fir
 use Rattle.history_model.specs.StandsFor.{StandsWhole}
 use Rattle.history_steps.specs.TreeHalves.{HoldsValues}
 use Rattle.history_names_survey.specs.Parts.{IsNamesPart}
-use Rattle.history_names_survey.specs.Stored.{Kinds, AreKindsOf}
+use Rattle.history_names_survey.specs.Stored.{Facts, AreFactsOf}
 
 -- a repository without names that stores these values
 abbrev pub store_of : Kind → Values → Repository
@@ -32,9 +32,9 @@ pub record StandsOver (kind : Kind) (pair : Pair) (values : Values) (branch : By
   pub branch_is : r.branch ≡ branch
   pub stands : StandsWhole kind pair r
 
--- Where a tree of objects holds whole values and a names part is a repository's over their kinds, the two stand for one.
+-- Where a tree of objects holds whole values and a names part is a repository's over their facts, the two stand for one.
 abbrev pub PartsJoin : Type 0
 PartsJoin =
-    (kind : Kind) (pair : Pair) (kinds : Kinds) (values : Values) (branch : Bytes)
-    → StandsStore kind pair.objects values → AreKindsOf kinds values
-    → IsNamesPart kind kinds pair.names branch → StandsOver kind pair values branch
+    (kind : Kind) (pair : Pair) (facts : Facts) (values : Values) (branch : Bytes)
+    → StandsStore kind pair.objects values → AreFactsOf facts values
+    → IsNamesPart kind facts pair.names branch → StandsOver kind pair values branch

@@ -1,5 +1,7 @@
 pub mod Stored
 pub mod Logs
+pub mod Packed
+pub mod PackedRead
 pub mod Sound
 pub mod Parts
 pub mod Causes

@@ -8,10 +8,11 @@ use crate::log::LogFault;
 use gix_hash::ObjectId;
 use gix_object_find::find;
 use gix_ref_file::FileError;
-use std::alloc::AllocError;
+use std::alloc::{AllocError, AllocFailed};
 use thiserror::Error;
 
-/// Why a names part isn't a repository's. Paths and names are in bytes, whole from the part's root; lines of a log count from 1.
+/// Why a names part isn't a repository's. Paths and names are in bytes, whole from the part's root; lines count
+/// from 1.
 #[derive(Debug, Drop, PartialEq, Eq, Error)]
 pub enum NamesError {
     #[error("no HEAD stands")]
@@ -22,9 +23,6 @@ pub enum NamesError {
     /// A file or a folder stands where no repository has one.
     #[error("stray: {0:?}")]
     Stray(Vec<u8>),
-    /// Names are packed in this file, which isn't read yet.
-    #[error("not yet: {0:?}")]
-    NotYet(Vec<u8>),
     /// A file that was to be renamed to its place.
     #[error("unfinished: {0:?}")]
     Unfinished(Vec<u8>),
@@ -43,6 +41,16 @@ pub enum NamesError {
     /// The name holds neither a commit nor a tag.
     #[error("wrong kind: {0:?}, which {1:?} holds")]
     WrongKind(ObjectId, Vec<u8>),
+    /// A line of `packed-refs` that isn't in its form, or whose name may not stand behind those before it: no name, one that has a
+    /// record already, or one that descends where the header says that they ascend.
+    #[error("line {0} of the packed names may not stand there")]
+    BadPacked(usize),
+    /// The peeled id in the name's record isn't that of the commit of a tag that the record holds.
+    #[error("the peeled id is wrong: {0:?}")]
+    BadPeeled(Vec<u8>),
+    /// The first name is a folder of the second one.
+    #[error("{0:?} is a folder of {1:?}")]
+    Collides(Vec<u8>, Vec<u8>),
     /// A line of a log that isn't in its form and limits.
     #[error("{0:?}: line {1} tells no move")]
     BadLog(Vec<u8>, usize),
@@ -84,6 +92,14 @@ impl From<AllocError> for NamesError {
     ghost from_gives = { λ _ given. given ≡ Memory };
 
     fn from(_: AllocError) -> NamesError {
+        NamesError::Memory
+    }
+}
+
+impl<T: Drop> From<AllocFailed<T>> for NamesError {
+    ghost from_gives = { λ _ given. given ≡ Memory };
+
+    fn from(_: AllocFailed<T>) -> NamesError {
         NamesError::Memory
     }
 }

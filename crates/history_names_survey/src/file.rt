@@ -10,13 +10,17 @@ ghost use Rattle.gix_ref_file.specs.declared.files.FileError.TheVariants.{Failed
 ghost use Rattle.history_model.specs.Bytes.{begins};
 ghost use Rattle.history_model.specs.Forms.{is_private, refs_front};
 ghost use Rattle.history_model.specs.Places.{is_lock_file, is_log_place, log_name};
-ghost use Rattle.history_names_survey.specs.Causes.{Excuses, IsUnheld};
-ghost use Rattle.history_names_survey.specs.Sound.{Sounds, has_name_file};
-ghost use Rattle.history_names_survey.specs.Stored.{Kinds, may_be_held};
+ghost use Rattle.history_names_survey.specs.Causes.{Excuses, IsCollision, IsCollisionOf, IsUnheld};
+ghost use Rattle.history_names_survey.specs.Packed.{has_name};
+ghost use Rattle.history_names_survey.specs.PackedRead.{ReadsPacked};
+ghost use Rattle.history_names_survey.specs.Sound.{IsApart, Sounds};
+ghost use Rattle.history_names_survey.specs.Stored.{Facts, facts_in, may_be_held};
 
 use crate::error::NamesError;
 use crate::log::test_log;
 use crate::loose::{Loose, read_loose};
+use crate::packed::Packed;
+use crate::records::PACKED_REFS;
 use gix_hash::{Kind, ObjectId};
 use gix_object_find::FindHeader;
 use gix_object_lines::Kind as ObjectKind;
@@ -38,25 +42,30 @@ pub(crate) fn test_file<F: Files, S: FindHeader>(
     files: &F,
     kind: Kind,
     stored: &S,
+    packed: &Packed<'_>,
     path: Vec<u8>,
 ) -> Result<(), NamesError>
+    requires { Finds F.is_honest F.history files.now (ReadsPacked kind packed.now) }
     ensures sound { S.is_honest stored.now → Finds F.is_honest F.history files.now
-        (Sounds kind (kind_at (S.table stored.now)) path.items result) }
+        (Sounds kind (facts_in kind (S.table stored.now)) path.items result) }
     ensures wrong { S.is_honest stored.now → Finds F.is_honest F.history files.now
         (Excuses (F.reading_may_fail ⊎ S.may_fail stored.now) kind
-        (kind_at (S.table stored.now)) path.items result) }
+        (facts_in kind (S.table stored.now)) path.items result) }
 {
     if path.as_slice() == HEAD {
+        return Ok(());
+    }
+    if path.as_slice() == PACKED_REFS {
         return Ok(());
     }
     if path.ends_with(LOCK_END) {
         return Err(NamesError::Unfinished(path));
     }
     if path.starts_with(REFS) {
-        return test_name(alloc, files, kind, stored, path);
+        return test_name(alloc, files, kind, stored, packed, path);
     }
     if path.starts_with(LOGS) {
-        return test_log_file(alloc, files, kind, path);
+        return test_log_file(alloc, files, kind, packed, path);
     }
     Err(NamesError::Stray(path))
 }
@@ -67,15 +76,17 @@ fn test_name<F: Files, S: FindHeader>(
     files: &F,
     kind: Kind,
     stored: &S,
+    packed: &Packed<'_>,
     name: Vec<u8>,
 ) -> Result<(), NamesError>
+    requires packed { Finds F.is_honest F.history files.now (ReadsPacked kind packed.now) }
     requires below { IsTrue (begins refs_front name.items) }
     requires finished { IsFalse (is_lock_file name.items) }
     ensures sound { S.is_honest stored.now → Finds F.is_honest F.history files.now
-        (Sounds kind (kind_at (S.table stored.now)) name.items result) }
+        (Sounds kind (facts_in kind (S.table stored.now)) name.items result) }
     ensures wrong { S.is_honest stored.now → Finds F.is_honest F.history files.now
         (Excuses (F.reading_may_fail ⊎ S.may_fail stored.now) kind
-        (kind_at (S.table stored.now)) name.items result) }
+        (facts_in kind (S.table stored.now)) name.items result) }
 {
     if !is_name(&name) {
         return Err(NamesError::BadName(name));
@@ -83,6 +94,7 @@ fn test_name<F: Files, S: FindHeader>(
     if is_private(&name) {
         return Err(NamesError::PrivateName(name));
     }
+    test_apart(alloc, files, packed, &name)?;
     let text = text_at(alloc, files, &name)?;
     match read_loose(kind, &text) {
         Loose::Holds(id) => test_held(stored, id, name),
@@ -91,8 +103,12 @@ fn test_name<F: Files, S: FindHeader>(
     }
 }
 
-// Tests that a commit or a tag is stored under the id that a name holds.
-fn test_held<S: FindHeader>(stored: &S, id: ObjectId, name: Vec<u8>) -> Result<(), NamesError>
+/// Tests that a commit or a tag is stored under the id that a name holds.
+pub(crate) fn test_held<S: FindHeader>(
+    stored: &S,
+    id: ObjectId,
+    name: Vec<u8>,
+) -> Result<(), NamesError>
     ensures held { S.is_honest stored.now
         → OnOk result (IsTrue (may_be_held (kind_at (S.table stored.now) (id_of id)))) }
     ensures unheld { S.is_honest stored.now
@@ -108,8 +124,8 @@ fn test_held<S: FindHeader>(stored: &S, id: ObjectId, name: Vec<u8>) -> Result<(
     }
 }
 
-// Whether the name belongs to one working tree.
-fn is_private(name: &[u8]) -> bool
+/// Whether the name belongs to one working tree.
+pub(crate) fn is_private(name: &[u8]) -> bool
     ensures { result ≡ is_private name.now }
 {
     name.starts_with(b"refs/bisect/")
@@ -122,15 +138,17 @@ fn test_log_file<F: Files>(
     alloc: Global,
     files: &F,
     kind: Kind,
+    packed: &Packed<'_>,
     path: Vec<u8>,
 ) -> Result<(), NamesError>
-    requires { IsTrue (is_log_place path.items) }
-    ensures sound { (kinds : Kinds) → Finds F.is_honest F.history files.now
-        (Sounds kind kinds path.items result) }
-    ensures wrong { (kinds : Kinds) → Finds F.is_honest F.history files.now
-        (Excuses F.reading_may_fail kind kinds path.items result) }
+    requires packed { Finds F.is_honest F.history files.now (ReadsPacked kind packed.now) }
+    requires place { IsTrue (is_log_place path.items) }
+    ensures sound { (facts : Facts) → Finds F.is_honest F.history files.now
+        (Sounds kind facts path.items result) }
+    ensures wrong { (facts : Facts) → Finds F.is_honest F.history files.now
+        (Excuses F.reading_may_fail kind facts path.items result) }
 {
-    if !stands(files, log_name(&path))? {
+    if !stands(files, packed, log_name(&path))? {
         return Err(NamesError::LogWithoutName(path));
     }
     let text = text_at(alloc, files, &path)?;
@@ -148,14 +166,51 @@ fn log_name(path: &[u8]) -> &[u8]
     &path[LOGS.len()..]
 }
 
-// Whether a name's file stands.
-fn stands<F: Files>(files: &F, name: &[u8]) -> Result<bool, FileError>
-    ensures found { Finds F.is_honest F.history files.now
-        (λ tree. IfOk result (λ stands. stands ≡ has_name_file tree name.now)) }
+// Tests that no name stands whose folder this one would be in.
+pub(crate) fn test_apart<F: Files>(
+    alloc: Global,
+    files: &F,
+    packed: &Packed<'_>,
+    name: &[u8],
+) -> Result<(), NamesError>
+    ensures apart { (kind : Kind) → Finds F.is_honest F.history files.now
+        (λ tree. ReadsPacked kind packed.now tree → OnOk result (IsApart kind tree name.now)) }
+    ensures collides { (kind : Kind) → Finds F.is_honest F.history files.now
+        (λ tree. ReadsPacked kind packed.now tree
+        → IfErr result (IsCollision F.reading_may_fail kind tree name.now)) }
+{
+    for (end, byte) in name.iter().enumerate() {
+        if *byte == b'/' {
+            if stands(files, packed, &name[..end])? {
+                return Err(collision(alloc, &name[..end], name));
+            }
+        }
+    }
+    Ok(())
+}
+
+// The error of two names that collide.
+fn collision(alloc: Global, folder: &[u8], name: &[u8]) -> NamesError
+    ensures { IsCollisionOf folder.now name.now result }
+{
+    match (Vec::from_slice(alloc, folder), Vec::from_slice(alloc, name)) {
+        (Ok(folder), Ok(name)) => NamesError::Collides(folder, name),
+        _ => NamesError::Memory,
+    }
+}
+
+// Whether a name stands, in a file of its own or in a record.
+fn stands<F: Files>(files: &F, packed: &Packed<'_>, name: &[u8]) -> Result<bool, FileError>
+    ensures found { (kind : Kind) → Finds F.is_honest F.history files.now
+        (λ tree. ReadsPacked kind packed.now tree
+        → IfOk result (λ stands. stands ≡ has_name kind tree name.now)) }
     ensures failed { IsErrOf result Failed → F.reading_may_fail }
 {
     if !is_name(name) {
         return Ok(false);
+    }
+    if packed.has(name) {
+        return Ok(true);
     }
     is_file(files, name)
 }
@@ -173,8 +228,8 @@ pub(crate) fn is_file<F: Files>(files: &F, path: &[u8]) -> Result<bool, FileErro
     }
 }
 
-// What a file has in it, nothing where none stands.
-fn text_at<F: Files>(alloc: Global, files: &F, path: &[u8]) -> Result<Vec<u8>, FileError>
+/// What a file has in it, nothing where none stands.
+pub(crate) fn text_at<F: Files>(alloc: Global, files: &F, path: &[u8]) -> Result<Vec<u8>, FileError>
     ensures found { Finds F.is_honest F.history files.now
         (λ tree. IfOk result (λ text. text.items ≡ bytes_at tree path.now)) }
     ensures failed { IsErrOf result Failed → F.reading_may_fail }

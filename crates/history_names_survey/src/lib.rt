@@ -6,6 +6,8 @@ mod file;
 pub mod laws;
 mod log;
 mod loose;
+mod packed;
+mod records;
 mod survey;
 
 pub use error::NamesError;

@@ -1,50 +1,58 @@
 //! All that stands in the names part.
 
-ghost use Rattle.std.specs.Prelude.{◌≡◌, ◌⊎◌, IfErr, IfOk, OnOk};
-ghost use Rattle.gix_object_find.specs.Table.{kind_at};
+ghost use Rattle.std.specs.Prelude.{◌≡◌, ◌⊎◌, IfErr, IfOk, IsTrue, OnOk};
+ghost use Rattle.gix_ref_file.specs.Tree.{bytes_at};
+ghost use Rattle.history_model.specs.Places.{packed_place};
+ghost use Rattle.history_names_survey.specs.Packed.{is_packed_text};
 ghost use Rattle.gix_ref_file.specs.Calls.{Finds};
 ghost use Rattle.history_model.specs.Forms.{is_branch};
 ghost use Rattle.history_model.specs.Repository.{Repository};
 ghost use Rattle.history_store.specs.Face.{files_of_names, kind_of_names};
-ghost use Rattle.history_names_survey.specs.Causes.{HasCause, ExcusesAll, IsFault};
+ghost use Rattle.history_names_survey.specs.Causes.{HasCause, IsFault};
+ghost use Rattle.history_names_survey.specs.PackedRead.{ReadsPacked};
 ghost use Rattle.history_names_survey.specs.Parts.{IsNamesPart, NamesBranch, StandsNames};
 ghost use Rattle.history_names_survey.specs.Sound.{IsSound, IsSoundBelow};
-ghost use Rattle.history_names_survey.specs.Stored.{AreKindsOf, Kinds};
+ghost use Rattle.history_names_survey.specs.Stored.{AreFactsOf, Facts, facts_in};
 
 use crate::error::NamesError;
-use crate::file::{is_file, test_file};
+use crate::file::{is_file, test_file, text_at};
+use crate::packed::Packed;
+use crate::records::{PACKED_REFS, test_records};
 use gix_hash::Kind;
-use gix_object_find::FindHeader;
+use gix_object_find::{Find, FindHeader};
 use gix_ref_file::paths::{is_deeper, joined};
 use gix_ref_file::{Files, Place};
 use history_model::names::{HEAD, HEADS};
 use history_store::{Names, Part, is_name};
 use std::alloc::Global;
 
-/// The file of packed names.
-const PACKED_REFS: &[u8] = b"packed-refs";
-
-/// HEAD's branch, where the names part is a repository's over this store of objects: HEAD names a branch, each name holds a stored
-/// commit or tag, each log is of a name and tells moves alone, and nothing else stands but folders of names and logs. No file is
-/// changed; each is read once, and each folder listed once.
+/// HEAD's branch, where the names part is a repository's over this store of objects: HEAD names a branch, each name, in a file of its
+/// own or in `packed-refs`, holds a stored commit or tag and is no folder of another, a record's peeled id is its tag's commit, each
+/// log is of a name and tells moves alone, and nothing else stands but folders of names and logs. A name's own file wins over its
+/// record. No file is changed; each is read once, and each folder listed once.
 ///
-/// Else the error names a cause that holds. Packed names aren't read yet: where their file stands, the error is `NotYet`. It is
-/// `File` where a call of the files failed, and `Memory` where a growth was refused.
-pub fn survey_names<F: Files, S: FindHeader>(
+/// Else the error names a cause that holds. It is `File` where a call of the files failed, and `Memory` where a growth was refused.
+pub fn survey_names<F: Files, S: Find + FindHeader>(
     alloc: Global,
     names: &Names<F>,
     stored: &S,
 ) -> Result<Vec<u8>, NamesError>
     ensures stands { S.is_honest stored.now
         → Finds F.is_honest F.history (files_of_names names.now) (λ tree. IfOk result (λ branch.
-        IsNamesPart (kind_of_names names.now) (kind_at (S.table stored.now)) tree branch.items)) }
+        IsNamesPart (kind_of_names names.now)
+        (facts_in (kind_of_names names.now) (S.table stored.now)) tree branch.items)) }
     ensures wrong { S.is_honest stored.now
         → Finds F.is_honest F.history (files_of_names names.now) (λ tree. IfErr result
         (HasCause (F.reading_may_fail ⊎ S.may_fail stored.now) (kind_of_names names.now)
-        (kind_at (S.table stored.now)) tree)) }
+        (facts_in (kind_of_names names.now) (S.table stored.now)) tree)) }
+    // The file of packed names is in its form.
+    ensures packed { S.is_honest stored.now
+        → Finds F.is_honest F.history (files_of_names names.now) (λ tree. OnOk result (IsTrue
+        (is_packed_text (kind_of_names names.now) (bytes_at tree packed_place)))) }
     // A repository's names part is refused for a fault alone.
     ensures accepted { (r : Repository) → S.is_honest stored.now
-        → r.kind ≡ kind_of_names names.now → AreKindsOf (kind_at (S.table stored.now)) r.objects
+        → r.kind ≡ kind_of_names names.now
+        → AreFactsOf (facts_in (kind_of_names names.now) (S.table stored.now)) r.objects
         → Finds F.is_honest F.history (files_of_names names.now)
         (λ tree. StandsNames tree r → IfErr result IsFault) }
 {
@@ -57,9 +65,9 @@ pub fn survey_names<F: Files, S: FindHeader>(
 fn head_branch<F: Files>(alloc: Global, names: &Names<F>) -> Result<Vec<u8>, NamesError>
     ensures found { Finds F.is_honest F.history (files_of_names names.now)
         (λ tree. IfOk result (λ branch. NamesBranch tree branch.items)) }
-    ensures wrong { (kinds : Kinds) → Finds F.is_honest F.history (files_of_names names.now)
+    ensures wrong { (facts : Facts) → Finds F.is_honest F.history (files_of_names names.now)
         (λ tree. IfErr result
-        (HasCause F.reading_may_fail (kind_of_names names.now) kinds tree)) }
+        (HasCause F.reading_may_fail (kind_of_names names.now) facts tree)) }
 {
     if !is_file(names.files(), HEAD)? {
         return Err(NamesError::NoHead);
@@ -81,22 +89,22 @@ fn is_branch(name: &[u8]) -> bool
 }
 
 // Tests all that stands.
-fn test_all<F: Files, S: FindHeader>(
+fn test_all<F: Files, S: Find + FindHeader>(
     alloc: Global,
     files: &F,
     kind: Kind,
     stored: &S,
 ) -> Result<(), NamesError>
     ensures sound { S.is_honest stored.now → Finds F.is_honest F.history files.now
-        (λ tree. OnOk result (IsSound kind (kind_at (S.table stored.now)) tree)) }
+        (λ tree. OnOk result (IsSound kind (facts_in kind (S.table stored.now)) tree)) }
     ensures wrong { S.is_honest stored.now → Finds F.is_honest F.history files.now
         (λ tree. IfErr result (HasCause (F.reading_may_fail ⊎ S.may_fail stored.now) kind
-        (kind_at (S.table stored.now)) tree)) }
+        (facts_in kind (S.table stored.now)) tree)) }
 {
-    if is_file(files, PACKED_REFS)? {
-        return Err(NamesError::NotYet(Vec::from_slice(alloc, PACKED_REFS)?));
-    }
-    test_folder(alloc, files, kind, stored, b"")
+    let text = text_at(alloc, files, PACKED_REFS)?;
+    let packed = Packed::read(alloc, kind, &text)?;
+    test_folder(alloc, files, kind, stored, &packed, b"")?;
+    test_records(alloc, files, kind, stored, &packed)
 }
 
 // Tests all that stands below a folder.
@@ -105,22 +113,25 @@ fn test_folder<F: Files, S: FindHeader>(
     files: &F,
     kind: Kind,
     stored: &S,
+    packed: &Packed<'_>,
     folder: &[u8],
 ) -> Result<(), NamesError>
+    requires { Finds F.is_honest F.history files.now (ReadsPacked kind packed.now) }
     ensures sound { S.is_honest stored.now → Finds F.is_honest F.history files.now
-        (λ tree. OnOk result (IsSoundBelow kind (kind_at (S.table stored.now)) folder.now tree)) }
+        (λ tree. OnOk result
+        (IsSoundBelow kind (facts_in kind (S.table stored.now)) folder.now tree)) }
     ensures wrong { S.is_honest stored.now → Finds F.is_honest F.history files.now
-        (ExcusesAll (F.reading_may_fail ⊎ S.may_fail stored.now) kind
-        (kind_at (S.table stored.now)) result) }
+        (λ tree. IfErr result (HasCause (F.reading_may_fail ⊎ S.may_fail stored.now) kind
+        (facts_in kind (S.table stored.now)) tree)) }
 {
     for name in &files.list(alloc, folder)? {
         let path = joined(alloc, folder, name)?;
         match files.kind_of(&path)? {
             Place::Folder if Part::Names.may_hold_folder(&path) && is_deeper(&path, folder) => {
-                test_folder(alloc, files, kind, stored, &path)?;
+                test_folder(alloc, files, kind, stored, packed, &path)?;
             }
             Place::Folder => return Err(NamesError::Stray(path)),
-            Place::File(_) => test_file(alloc, files, kind, stored, path)?,
+            Place::File(_) => test_file(alloc, files, kind, stored, packed, path)?,
             // A name of nothing: the folder changed while it was read.
             Place::Absent => return Err(NamesError::Stray(path)),
         }

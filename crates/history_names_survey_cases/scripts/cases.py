@@ -125,9 +125,74 @@ def places(kind):
     row(kind, cause("Unfinished", b"HEAD.lock"), ("HEAD.lock", HEAD))
     row(kind, cause("Unfinished", b"logs/refs/heads/main.lock"), ("logs/refs/heads/main.lock", b""))
     row(kind, cause("Unfinished", b"packed-refs.lock"), ("packed-refs.lock", b""))
-    row(kind, cause("NotYet", b"packed-refs"), ("packed-refs", b""))
-    row(kind, cause("NotYet", b"packed-refs"), ("packed-refs", objects.commit + b" refs/heads/b\n"))
     row(kind, cause("Stray", b"packed-refs"), ("packed-refs", None))
+
+
+PACKED = b"# pack-refs with: peeled fully-peeled sorted \n"
+
+
+def packed(kind):
+    """Files of packed names, as git pack-refs writes them, and others that it reads."""
+    objects = Objects(kind)
+    main, commit, tag = "branch:refs/heads/main", objects.commit, objects.tag
+    on_main, on_b = commit + b" refs/heads/main\n", commit + b" refs/heads/b\n"
+    v1, peel = tag + b" refs/tags/v1\n", b"^" + commit + b"\n"
+    for text in [b"", PACKED, on_b, PACKED + on_b + on_main + v1 + peel, v1 + peel + on_b, v1 + on_b + on_main,
+                 b"# pack-refs with: peeled fully-peeled \n" + v1 + peel + on_b, b"# pack-refs with:\n" + v1 + on_b, v1 + peel + on_b + v1.replace(b"v1", b"v2"),
+                 commit.upper() + b" refs/heads/b\n", commit + b" refs/bisect\n", objects.null + b" refs/heads/main\n"]:
+        row(kind, main, ("packed-refs", text))
+    row(kind, main, ("packed-refs", PACKED + on_main), main=False)
+    row(kind, main, ("packed-refs", PACKED + on_main), main=False, log=False)
+    row(kind, main, ("packed-refs", on_b), ("logs/refs/heads/b", objects.line()))
+    row(kind, main, ("packed-refs", on_b), ("refs/heads/b", None))
+    row(kind, main, ("packed-refs", on_b), ("refs/heads/b/c", None))
+
+
+def bad_packed(kind):
+    objects = Objects(kind)
+    commit, tag, blob, null = objects.commit, objects.tag, objects.blob, objects.null
+    on_a, on_b = commit + b" refs/heads/a\n", commit + b" refs/heads/b\n"
+    v1, peel = tag + b" refs/tags/v1\n", b"^" + commit + b"\n"
+    for line, text in [
+            # lines against the formats
+            (1, b"\n"), (1, b"# pack-refs\n"), (1, PACKED[:-1]), (1, on_b[:-1]), (2, on_b + b"\n"), (2, on_b + PACKED), (2, on_b + b"one\n"),
+            (1, commit + b"\n"), (1, commit + b"  refs/heads/b\n"), (1, commit[1:] + b" refs/heads/b\n"), (1, b"g" + commit[1:] + b" refs/heads/b\n"),
+            (1, b" " + on_b), (1, b"ref: refs/heads/b\n"), (2, PACKED + PACKED), (3, PACKED + on_b + b"# one\n"),
+            # peeled lines
+            (1, peel), (2, PACKED + peel), (3, v1 + peel + peel), (2, v1 + peel[:-1]), (2, v1 + b"^" + commit[1:] + b"\n"), (3, v1 + peel + b"one\n"),
+            # names
+            (1, commit + b" HEAD\n"), (1, commit + b" refs\n"), (1, commit + b" heads/b\n"), (1, commit + b" refs/heads/a..b\n"),
+            (1, commit + b" refs/heads/b.lock\n"), (1, commit + b" refs/heads/\xff\n"), (1, commit + b" refs/" + b"n" * 1020 + b"\n"),
+            # a name twice
+            (2, on_b + on_b), (3, on_b + on_a + on_b), (3, v1 + peel + v1), (5, PACKED + on_b + v1 + peel + v1), (2, on_b + tag + b" refs/heads/b\n"),
+            # a descent where the header says `sorted`
+            (3, PACKED + on_b + on_a), (4, PACKED + on_a + v1 + on_b), (5, PACKED + on_a + v1 + peel + on_b), (2, on_b + on_b + b"one\n"),
+            (3, b"# pack-refs with: sorted\n" + on_b + on_a)]:
+        row(kind, cause("BadPacked", str(line)), ("packed-refs", text))
+    row(kind, "branch:refs/heads/main", ("packed-refs", commit + b" refs/" + b"n" * 1019 + b"\n"))
+    for name in [b"refs/bisect/x", b"refs/worktree/x", b"refs/rewritten/x"]:
+        row(kind, cause("PrivateName", name), ("packed-refs", PACKED + commit + b" " + name + b"\n"))
+    row(kind, cause("Missing", b"refs/heads/b", null.decode()), ("packed-refs", null + b" refs/heads/b\n"))
+    row(kind, cause("WrongKind", b"refs/heads/b", blob.decode()), ("packed-refs", blob + b" refs/heads/b\n"))
+    for text in [on_b + peel, v1 + b"^" + tag + b"\n", v1 + b"^" + null + b"\n"]:
+        row(kind, cause("BadPeeled", text.split(b"\n")[0].split(b" ")[1]), ("packed-refs", PACKED + text))
+    row(kind, cause("BadPeeled", b"refs/heads/main"), ("packed-refs", commit + b" refs/heads/main\n" + peel))
+
+
+def collisions(kind):
+    """Names of which one is a folder of the other: both packed, or one of them."""
+    objects = Objects(kind)
+    commit = objects.commit
+    row(kind, cause("Collides", b"refs/heads/main", b"refs/heads/main/x"), ("packed-refs", commit + b" refs/heads/main/x\n"))
+    row(kind, cause("Collides", b"refs/heads/main", b"refs/heads/main/x/y"), ("packed-refs", commit + b" refs/heads/main/x/y\n"))
+    row(kind, cause("Collides", b"refs/heads", b"refs/heads/main"), ("packed-refs", commit + b" refs/heads\n"))
+    row(kind, cause("Collides", b"refs/tags/a", b"refs/tags/a/b"), ("packed-refs", commit + b" refs/tags/a\n" + commit + b" refs/tags/a/b\n"))
+    row(kind, cause("Collides", b"refs/tags/a", b"refs/tags/a/b"), ("packed-refs", commit + b" refs/tags/a/b\n" + commit + b" refs/tags/a\n"))
+    row(kind, cause("Collides", b"refs/tags/a", b"refs/tags/a/b"), ("packed-refs", commit + b" refs/tags/a\n"), ("refs/tags/a/b", commit + b"\n"))
+    row(kind, "branch:refs/heads/main", ("packed-refs", commit + b" refs/heads/mainx\n" + commit + b" refs/heads/m/x\n"))
+    row(kind, cause("LogWithoutName", b"logs/refs/heads/c"), ("packed-refs", commit + b" refs/heads/b\n"), ("logs/refs/heads/c", objects.line()))
+    row(kind, cause("LogWithoutName", b"logs/refs/heads/b/c"), ("packed-refs", commit + b" refs/heads/b\n"), ("logs/refs/heads/b/c", objects.line()))
+    row(kind, cause("Symbolic", b"refs/heads/b"), ("packed-refs", commit + b" refs/heads/b\n"), ("refs/heads/b", b"ref: refs/heads/main\n"))
 
 
 def names(kind):
@@ -198,5 +263,8 @@ for kind in KINDS:
     heads(kind)
     places(kind)
     names(kind)
+    packed(kind)
+    bad_packed(kind)
+    collisions(kind)
     logs(kind)
 write(Path(__file__), ROWS)

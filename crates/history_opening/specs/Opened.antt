@@ -7,8 +7,8 @@ use Rattle.gix_ref_file.specs.History.{History}
 use Rattle.history_model.specs.Places.{Pair}
 use Rattle.history_model.specs.Repository.{Repository}
 use Rattle.history_model.specs.StandsFor.{StandsWhole}
-use Rattle.history_steps.specs.Offered.{IsOfStage}
 use Rattle.history_store.specs.Face.{ids_of_objects}
+use Rattle.history_store.specs.Packing.{KeepsRecords}
 use Rattle.history_opening.specs.declared.folder.OpenedFolder.{OpenedFolder}
 
 -- the trees that stand in two parts
@@ -16,10 +16,10 @@ abbrev pub trees_of : {F : Type 0} → (F → History) → F → F → Pair
 trees_of history objects names =
     record { objects = (history objects).tree; names = (history names).tree }
 
--- The pair stands, whole, for this repository, which is one that is served; the branch and the ids that are kept are its own.
+-- The pair stands, whole, for this repository; the branch and the ids that are kept are its own, and the records those of `packed-refs`.
 pub record IsOpenedAs {F : Type 0} (kind : Kind) (pair : Pair) (opened : OpenedFolder F)
     (r : Repository) : Type 0 where
   pub stands : StandsWhole kind pair r
-  pub stage : IsOfStage pair
   pub branch : opened.branch.items ≡ r.branch
+  pub records : KeepsRecords opened.names pair.names
   pub known : (id : Id) → contains_key (ids_of_objects opened.objects) id ≡ contains_key r.objects id

@@ -9,8 +9,8 @@ use history_names_survey::NamesError;
 use history_survey::ObjectsFlaw;
 use thiserror::Error;
 
-/// Why a folder isn't opened: a cause that holds of its two parts. Paths and names are in bytes, whole from the part's root; lines of
-/// a log count from 1.
+/// Why a folder isn't opened: a cause that holds of its two parts. Paths and names are in bytes, whole from the part's root; lines
+/// count from 1.
 #[derive(Debug, Drop, PartialEq, Eq, Error)]
 pub enum OpenError {
     #[error("no HEAD stands")]
@@ -24,9 +24,6 @@ pub enum OpenError {
     /// A file stands where one is written before it has its place.
     #[error("unfinished: {0:?}")]
     Unfinished(Vec<u8>),
-    /// Names are packed in this file, which isn't read yet.
-    #[error("not yet: {0:?}")]
-    NotYet(Vec<u8>),
     /// The file's text is no object's, or that of a commit or a tag that isn't in written form within the limits.
     #[error("no object: {0:?}")]
     BadObject(Vec<u8>),
@@ -60,6 +57,16 @@ pub enum OpenError {
     /// The name stands for another name.
     #[error("symbolic: {0:?}")]
     Symbolic(Vec<u8>),
+    /// This line of `packed-refs` isn't in its form, or its name may not stand behind those before it: no name, one that has a record
+    /// already, or one that descends where the header says that they ascend.
+    #[error("line {0} of the packed names may not stand there")]
+    BadPacked(usize),
+    /// The peeled id in the name's record isn't that of the commit of a tag that the record holds.
+    #[error("the peeled id is wrong: {0:?}")]
+    BadPeeled(Vec<u8>),
+    /// The first name is a folder of the second one.
+    #[error("{0:?} is a folder of {1:?}")]
+    Collides(Vec<u8>, Vec<u8>),
     /// The line of the log of this path isn't in its form and limits.
     #[error("{0:?}: line {1} tells no move")]
     BadLog(Vec<u8>, usize),
@@ -123,13 +130,15 @@ impl From<NamesError> for OpenError {
             NamesError::NoHead => OpenError::NoHead,
             NamesError::BadHead => OpenError::BadHead,
             NamesError::Stray(path) => OpenError::Stray(path),
-            NamesError::NotYet(path) => OpenError::NotYet(path),
             NamesError::Unfinished(path) => OpenError::Unfinished(path),
             NamesError::BadName(path) => OpenError::BadName(path),
             NamesError::PrivateName(name) => OpenError::PrivateName(name),
             NamesError::Symbolic(name) => OpenError::Symbolic(name),
             NamesError::Missing(id, name) => OpenError::Missing(id, NamedBy::Name(name)),
             NamesError::WrongKind(id, name) => OpenError::WrongKind(id, NamedBy::Name(name)),
+            NamesError::BadPacked(line) => OpenError::BadPacked(line),
+            NamesError::BadPeeled(name) => OpenError::BadPeeled(name),
+            NamesError::Collides(name, other) => OpenError::Collides(name, other),
             NamesError::BadLog(path, line) => OpenError::BadLog(path, line),
             NamesError::LongLogLine(path, line) => OpenError::LongLogLine(path, line),
             NamesError::LogWithoutName(path) => OpenError::LogWithoutName(path),

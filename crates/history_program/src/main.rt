@@ -5,8 +5,8 @@
 #![tactic(auto)]
 
 mod folder;
-mod memory;
 
+use history_in_memory::serve;
 use std::process::ExitCode;
 use std::{env, io};
 
@@ -18,7 +18,7 @@ fn words(rt: &HostRuntime) -> io::Result<Vec<String>> {
 fn main(rt: HostRuntime) -> ExitCode {
     let status = match words(&rt) {
         Ok(words) if words.len() > 1 => folder::answer(&rt, words.as_slice()),
-        Ok(_) => memory::serve(&rt),
+        Ok(_) => serve(&rt),
         Err(error) => folder::refuse(&rt, &error),
     };
     ExitCode::from(status)

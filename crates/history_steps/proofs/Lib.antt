@@ -15,7 +15,6 @@ pub mod PassedStates
 pub mod PassedMoments
 pub mod MoveLines
 pub mod Takings
-pub mod Deletions
 pub mod Packs
 pub mod Renames
 pub mod HeadSwitched

@@ -16,7 +16,6 @@ use Rattle.history_model.specs.Words.{commit_of}
 use Rattle.history_model.specs.Commands.{Move, MoveCommand, To}
 use Rattle.history_model.specs.CommandParts.{targets}
 use Rattle.history_model.specs.Meaning.{References, after, moved_reference, read_actor, with_lines, with_name}
-use Rattle.history_model.specs.Causes.{do_collide}
 use Rattle.history_model.specs.declared.Cause.TheVariants.{NameTwice}
 use Rattle.history_model.specs.Places.{Pair}
 use Rattle.history_model.specs.StandsFor.{StandsFor}
@@ -24,7 +23,7 @@ use Rattle.history_model.specs.Stops.{NameBetween}
 use Rattle.history_steps.specs.Passing.{HoldsBetween, MovesOnTheWay, passing}
 use Rattle.history_steps.specs.TreeHalves.{HoldsNames}
 use Rattle.history_steps.specs.TreeSteps.{MovesName, move_entry}
-use Rattle.history_steps.specs.MoveSteps.{FitsThen, IsAtLine, LinesFit, LinesMove, LinesPass, after_lines, line_entry, IsNextLine, NextLinesFit, NextLinesMove, NextLinesPass}
+use Rattle.history_steps.specs.MoveSteps.{FitsThen, after_lines, line_entry, IsNextLine, NextLinesFit, NextLinesMove, NextLinesPass}
 use Rattle.history_model.proofs.AfterFirstLemmas.{get-with}
 use Rattle.history_model.proofs.IdLemmas.{ids_apart}
 use Rattle.history_model.proofs.RecoveredLemmas.{some_is}
@@ -313,17 +312,3 @@ next_lines_move r c first rest to pair new at moves = moved r c first rest to pa
 
 pub next_lines_pass : NextLinesPass
 next_lines_pass r c first rest to pair tree at may = between r c first rest to pair at tree may
-
--- ---- where no names are packed
-
-is_next : (r : Repository) (c : MoveCommand) (first rest : List To) (to : To) (pair : Pair) → IsAtLine r c first rest to pair → IsNextLine r c first rest to pair
-is_next r c first rest to pair at = record { sound = at.sound; none = at.none; lines = at.lines; stands = at.stands }
-
-pub lines_fit : LinesFit
-lines_fit r c first rest to pair at = next_lines_fit r c first rest to pair (is_next r c first rest to pair at)
-
-pub lines_move : LinesMove
-lines_move r c first rest to pair new at moves = next_lines_move r c first rest to pair new (is_next r c first rest to pair at) moves
-
-pub lines_pass : LinesPass
-lines_pass r c first rest to pair tree at may = next_lines_pass r c first rest to pair tree (is_next r c first rest to pair at) may

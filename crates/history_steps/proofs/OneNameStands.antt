@@ -9,7 +9,7 @@ use Rattle.history_model.specs.Places.{file_at, object_place}
 use Rattle.history_model.specs.StandsFor.{StandsFor}
 use Rattle.history_steps.specs.TreeHalves.{HoldsValues}
 use Rattle.history_steps.specs.TreeSteps.{PutsValue}
-use Rattle.history_steps.specs.OneNameSteps.{NameMove, MovesOneName, CommitsMoveOneName, TagsMoveOneName, OneNameStands, OneNameMoves}
+use Rattle.history_steps.specs.OneNameSteps.{NameMove, MovesOneName, CommitsMoveOneName, TagsMoveOneName, OneNameMoves}
 use Rattle.gix_hash_id.specs.declared.kind.Kind.{Kind}
 use Rattle.history_steps.proofs.TreePuts.{halves_stand, puts_store, standing_is_stored}
 use Rattle.history_steps.proofs.PassedStops.{names_speak_of_more}
@@ -51,6 +51,3 @@ one_name_moves kind old new r command move moves stands is_one held moved =
       held,
       names_speak_of_more new.names _ (store_all r.kind r.objects (stored_by r command)) (λ id value at. all_keep r.kind r.objects (stored_by r command) id value at) there,
     ))
-
-pub one_name_stands : OneNameStands
-one_name_stands kind old new r command move moves stands is_one none held moved = one_name_moves kind old new r command move moves stands is_one held moved

@@ -12,7 +12,7 @@ use Rattle.history_model.specs.Commands.{Command}
 use Rattle.history_model.specs.Meaning.{after, stored_by, takes_id}
 use Rattle.history_model.specs.Causes.{first_cause}
 use Rattle.history_model.specs.PackedNames.{packed_file}
-use Rattle.history_model.specs.Places.{Pair, file_at, packed_place}
+use Rattle.history_model.specs.Places.{Pair}
 use Rattle.history_model.specs.Recovery.{recovered, recovered_objects, recovered_names}
 use Rattle.history_model.specs.StandsFor.{StandsFor, StandsWhole}
 use Rattle.history_steps.specs.TreeHalves.{HoldsValues, HoldsNames}
@@ -20,7 +20,7 @@ use Rattle.history_steps.specs.OneNameSteps.{NameMove, MovesOneName, entry_of_mo
 use Rattle.history_model.specs.Stops.{LeftByStop, Between, NameBetween, deletes, made, is_changing}
 use Rattle.history_model.specs.Moments.{LeavesStopped}
 use Rattle.history_model.specs.Wholeness.{IsSound}
-use Rattle.history_steps.specs.Passing.{HoldsBetween, MovesOnTheWay, MovesPass, FilesPass, MovingStops, passing}
+use Rattle.history_steps.specs.Passing.{HoldsBetween, MovesOnTheWay, FilesPass, MovingStops, passing}
 use Rattle.history_model.specs.declared.Cause.{Cause}
 use Rattle.gix_hash_id.specs.declared.kind.Kind.{Kind}
 use Rattle.history_model.proofs.StepLemmas.{stops_may_leave_all}
@@ -118,9 +118,6 @@ module _ (pair : Pair) (tree : Tree) (r : Repository) (command : Command) (move 
 
 pub files_pass : FilesPass
 files_pass pair tree r command move so sound s is_one none free may = went_between pair tree r command move so sound s is_one none free may
-
-pub moves_pass : MovesPass
-moves_pass pair tree r command move so sound s is_one none free unpacked may = files_pass pair tree r command move so sound s is_one none free may
 
 -- ---- a stop
 

@@ -19,14 +19,14 @@ use Rattle.history_model.specs.declared.Cause.TheVariants.{NameTwice, NoSuchName
 use Rattle.history_model.specs.Logs.{log_text}
 use Rattle.history_model.specs.NameStates.{is_absent, name_state}
 use Rattle.history_model.specs.PackedNames.{PackedAgrees, packed_file}
-use Rattle.history_model.specs.Places.{Pair, file_at, packed_place}
+use Rattle.history_model.specs.Places.{Pair}
 use Rattle.history_model.specs.StandsFor.{StandsFor}
 use Rattle.history_model.specs.Stops.{NameBetween}
 use Rattle.history_model.specs.Wholeness.{IsSound}
 use Rattle.history_steps.specs.TakeSteps.{TakesName, TakesOnTheWay}
 use Rattle.history_steps.specs.MoveSteps.{FitsThen}
 use Rattle.history_steps.specs.Passing.{HoldsBetween, MovesOnTheWay, NamesOnTheWay, log_in, passing, reads_as}
-use Rattle.history_steps.specs.RenameSteps.{IsOnItsWay, RenamesBring, BringingPasses, RenamesEnd, TakingPasses, IsRenaming, RenamesFit, RenamesMake, MakingPasses, RenamesStand, GoingPasses, held_id, rename_entry, with_both}
+use Rattle.history_steps.specs.RenameSteps.{IsOnItsWay, RenamesBring, BringingPasses, RenamesEnd, TakingPasses, RenamesFit, held_id, rename_entry, with_both}
 use Rattle.history_steps.specs.TreeHalves.{HoldsValues, HoldsNames}
 use Rattle.history_steps.specs.TreeSteps.{MovesName}
 use Rattle.history_model.proofs.AfterFirstLemmas.{get-with}
@@ -36,12 +36,11 @@ use Rattle.history_model.proofs.WholeForms.{after_written}
 use Rattle.history_model.proofs.WholeLists.{In, clash, either, none_passes, same_text, text_itself}
 use Rattle.history_model.proofs.WholeNames.{apart_after, names_from}
 use Rattle.history_model.proofs.WholeReads.{no_cause}
-use Rattle.history_steps.proofs.Deletions.{takes_files, takes_so}
 use Rattle.history_steps.proofs.Takings.{takings_pass, takings_stand}
 use Rattle.history_steps.proofs.PassedMoves.{Passed, passed}
 use Rattle.history_steps.proofs.PassedNames.{some_id}
 use Rattle.history_steps.proofs.PassedStates.{names_pass}
-use Rattle.history_steps.proofs.TreeMoves.{files_move_names, packed_apart, packed_no_log}
+use Rattle.history_steps.proofs.TreeMoves.{files_move_names}
 use Rattle.history_steps.proofs.TreePuts.{halves_stand}
 
 abbrev id_in : Option Reference → Option Id
@@ -323,30 +322,3 @@ renames_end r from to pair new at gone = made_stands r from to at.sound at.none 
 
 pub taking_passes : TakingPasses
 taking_passes r from to pair tree at may = going r from to at.sound at.none pair at.stands tree may
-
--- ---- where no names are packed
-
-is_on_its_way : (r : Repository) (from to : Bytes) (now : Repository) (pair : Pair) → IsRenaming r from to now pair → IsOnItsWay r from to now pair
-is_on_its_way r from to now pair at = record { sound = at.sound; none = at.none; stands = at.stands }
-
-pub renames_make : RenamesMake
-renames_make r from to pair new at moves =
-    let made = renames_bring r from to pair new (is_on_its_way r from to r pair at) moves in
-    let is_one = (fits r from to at.sound at.none).named in
-    record {
-      sound = made.sound;
-      none = made.none;
-      stands = made.stands;
-      unpacked = moves.others packed_place (packed_apart to is_one) (packed_no_log to) ∙ at.unpacked;
-    }
-
-pub making_passes : MakingPasses
-making_passes r from to pair tree at may = bringing_passes r from to pair tree (is_on_its_way r from to r pair at) may
-
-pub renames_stand : RenamesStand
-renames_stand r from to pair new at gone =
-    renames_end r from to pair new (is_on_its_way r from to (with_both r from to) pair at) (takes_files r.kind from pair.names new (from_named r from to at.sound at.none) at.unpacked gone)
-
-pub going_passes : GoingPasses
-going_passes r from to pair tree at may =
-    taking_passes r from to pair tree (is_on_its_way r from to (with_both r from to) pair at) (takes_so r.kind from pair.names tree (from_named r from to at.sound at.none) at.unpacked may)

@@ -20,7 +20,7 @@ use Rattle.history_model.specs.PackedNames.{id_from_hex, whole_line}
 use Rattle.history_model.specs.Places.{file_at, head_place, packed_place, log_place, is_log_place, is_name_place}
 use Rattle.history_model.specs.NameStates.{NameState, Holds, Symbolic, Absent, Faulty, name_state, loose_state, loose_line, packed_text_state}
 use Rattle.history_steps.specs.TreeHalves.{HoldsNames}
-use Rattle.history_steps.specs.TreeSteps.{MovesName, MovesMove, FilesMoveNames, move_entry}
+use Rattle.history_steps.specs.TreeSteps.{MovesName, FilesMoveNames, move_entry}
 use Rattle.gix_hash_id.specs.declared.kind.Kind.{Kind}
 use Rattle.history_model.proofs.IdLemmas.{low_digit, id_digits, id_from_hex-hex, one_id, apart_ids}
 use Rattle.history_model.proofs.NameLemmas.{name-log}
@@ -240,6 +240,3 @@ module _ (r : Repository) (name : Bytes) (id : Id) (actor : Actor) (message : By
 
 pub files_move_names : FilesMoveNames
 files_move_names old new r name id actor message is_one formed h m = moves r name id actor message old new is_one formed h m
-
-pub moves_move : MovesMove
-moves_move old new r name id actor message is_one formed none h m = files_move_names old new r name id actor message is_one formed h m

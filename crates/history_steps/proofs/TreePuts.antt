@@ -8,7 +8,7 @@ use Rattle.gix_hash_id.specs.Id.{Id, null_id}
 use Rattle.gix_hash_id.specs.Order.{id_eq}
 use Rattle.history_model.specs.Meaning.{store_one, is_taken, is_other}
 use Rattle.history_model.specs.Places.{file_at, object_place, unfinished_place}
-use Rattle.history_steps.specs.TreeHalves.{HoldsValues, HalvesStand, NamesSpeakOfNoValues, PlacesTellValues}
+use Rattle.history_steps.specs.TreeHalves.{HoldsValues, HalvesStand, PlacesTellValues}
 use Rattle.history_model.specs.Repository.{Values, HaveOwnIds}
 use Rattle.history_model.specs.StandsFor.{value_files}
 use Rattle.history_steps.specs.TreeSteps.{PutsValue, PutsStore, StandingIsStored, StoredStands, TreesTellTaken, OwnIdsStay, NoneUnfinished, RenamesPut}
@@ -40,16 +40,6 @@ halves_stand kind pair r = (
 
 pub no_text : {A : Type 0} {text : Bytes} {o : Option Bytes} → o ≡ None → o ≡ Some text → A
 no_text e f = cc
-
-pub names_speak_of_no_values : NamesSpeakOfNoValues
-names_speak_of_no_values tree r values none h = record {
-  head = h.head;
-  names = h.names;
-  logs = h.logs;
-  packed = λ text at. no_text none at;
-  places = h.places;
-  folders = h.folders;
-}
 
 pub places_tell_values : PlacesTellValues
 places_tell_values kind tree values h own id is = h.files (object_place id) ∙ file_at_id kind values own id is

@@ -6,7 +6,6 @@ pub mod Passing
 pub mod Offered
 pub mod OfferedWords
 pub mod MoveSteps
-pub mod DeleteSteps
 pub mod RenameSteps
 pub mod SwitchSteps
 pub mod TakeSteps

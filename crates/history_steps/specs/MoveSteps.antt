@@ -9,7 +9,7 @@ use Rattle.history_model.specs.Words.{commit_of}
 use Rattle.history_model.specs.Commands.{Move, MoveCommand, To}
 use Rattle.history_model.specs.Meaning.{read_actor, with_lines}
 use Rattle.history_model.specs.Causes.{do_collide, first_cause}
-use Rattle.history_model.specs.Places.{Pair, file_at, packed_place}
+use Rattle.history_model.specs.Places.{Pair}
 use Rattle.history_model.specs.StandsFor.{StandsFor}
 use Rattle.history_model.specs.Wholeness.{IsSound}
 use Rattle.history_steps.specs.Passing.{HoldsBetween, MovesOnTheWay}
@@ -26,41 +26,11 @@ abbrev pub after_lines : Repository → MoveCommand → List To → Repository
 after_lines r c lines =
     record r { names = with_lines r (read_actor c.actor) c.message lines r.names }
 
--- No cause holds of the move, the names of its first lines have moved, and this line's is to move next. No names are packed.
-pub record IsAtLine (r : Repository) (c : MoveCommand) (first rest : List To) (to : To)
-    (pair : Pair) : Type 0 where
-  pub sound : IsSound r
-  pub none : first_cause r (Move c) ≡ None
-  pub lines : c.to ≡ first ++ to ∷ rest
-  pub stands : StandsFor r.kind pair (after_lines r c first)
-  pub unpacked : file_at pair.names packed_place ≡ None
-
--- The name of that line may come to stand beside those that stand then.
+-- The name may come to stand beside those that stand then.
 pub record FitsThen (r : Repository) (name : Bytes) : Type 0 where
   pub named : IsTrue (is_name name)
   pub all_named : (other : Bytes) → IsTrue (stands r other) → IsTrue (is_name other)
   pub apart : (other : Bytes) → IsTrue (stands r other) → IsFalse (do_collide name other)
-
-abbrev pub LinesFit : Type 0
-LinesFit =
-    (r : Repository) (c : MoveCommand) (first rest : List To) (to : To) (pair : Pair)
-    → IsAtLine r c first rest to pair → FitsThen (after_lines r c first) to.name
-
--- Its move leaves the names of one line more moved.
-abbrev pub LinesMove : Type 0
-LinesMove =
-    (r : Repository) (c : MoveCommand) (first rest : List To) (to : To) (pair : Pair) (new : Tree)
-    → IsAtLine r c first rest to pair → MovesName to.name (line_entry r c to) pair.names new
-    → StandsFor r.kind (record pair { names = new }) (after_lines r c (first ++ to ∷ []))
-
--- Meanwhile each name, once recovered, is as before the command or as after it, and its log tells of each move that was made.
-abbrev pub LinesPass : Type 0
-LinesPass =
-    (r : Repository) (c : MoveCommand) (first rest : List To) (to : To) (pair : Pair) (tree : Tree)
-    → IsAtLine r c first rest to pair
-    → MovesOnTheWay to.name (line_entry r c to) pair.names tree → HoldsBetween r (Move c) tree
-
--- ---- whatever is packed
 
 -- No cause holds of the move, the names of its first lines have moved, and this line's is to move next.
 pub record IsNextLine (r : Repository) (c : MoveCommand) (first rest : List To) (to : To)

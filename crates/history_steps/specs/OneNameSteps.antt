@@ -1,6 +1,6 @@
 -- The step of a command that moves one name, as a commit and a tag do, on the two trees: its values are stored, in any order, and its
 -- name moves.
-use Rattle.std.specs.Prelude.{◌≡◌, None, IsTrue}
+use Rattle.std.specs.Prelude.{◌≡◌, IsTrue}
 use Rattle.gix_hash_id.specs.Id.{Id}
 use Rattle.history_model.specs.Bytes.{Bytes}
 use Rattle.history_model.specs.Objects.{Actor, StoredCommit, StoredTag, id_of}
@@ -8,7 +8,7 @@ use Rattle.history_model.specs.Repository.{Repository, LogEntry}
 use Rattle.history_model.specs.Forms.{is_id, is_name, title}
 use Rattle.history_model.specs.Commands.{Command, Commit, CommitCommand, Tag, TagCommand}
 use Rattle.history_model.specs.Meaning.{branch_after, branch_or_name, names_after, new_commit, new_tag, read_actor, with_name, after}
-use Rattle.history_model.specs.Places.{Pair, file_at, packed_place}
+use Rattle.history_model.specs.Places.{Pair}
 use Rattle.history_model.specs.StandsFor.{StandsFor}
 use Rattle.history_model.specs.Stops.{IsNotLost}
 use Rattle.history_steps.specs.TreeHalves.{HoldsValues}
@@ -62,17 +62,7 @@ CommitsMoveOneName =
 abbrev pub TagsMoveOneName : Type 0
 TagsMoveOneName = (r : Repository) (c : TagCommand) → MovesOneName r (Tag c) (tag_move r c)
 
--- Where no names are packed, and the objects are those after the command, the pair stands for the repository after it.
-abbrev pub OneNameStands : Type 0
-OneNameStands =
-    (kind : Kind) (old new : Pair) (r : Repository) (command : Command) (move : NameMove)
-    → MovesOneName r command move → StandsFor kind old r
-    → IsTrue (is_name move.name) → file_at old.names packed_place ≡ None
-    → HoldsValues r.kind new.objects (after r command).objects
-    → MovesName move.name (entry_of_move r move) old.names new.names
-    → StandsFor kind new (after r command)
-
--- So it does whatever is packed.
+-- Where the objects are those after the command, the pair stands for the repository after it.
 abbrev pub OneNameMoves : Type 0
 OneNameMoves =
     (kind : Kind) (old new : Pair) (r : Repository) (command : Command) (move : NameMove)

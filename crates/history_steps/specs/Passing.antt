@@ -143,17 +143,6 @@ pub record MovesOnTheWay (name : Bytes) (entry : LogEntry) (old tree : Tree) : T
   pub folders : (path : Bytes) → get tree path ≡ Some folder → IsTrue (is_name_folder path)
 
 -- So the name of a command that moves one is as before or moved, and its log tells of each move that was made.
-abbrev pub MovesPass : Type 0
-MovesPass =
-    (pair : Pair) (tree : Tree) (r : Repository) (command : Command) (move : NameMove)
-    → MovesOneName r command move → IsSound r
-    → StandsFor r.kind pair r → IsTrue (is_name move.name)
-    → first_cause r command ≡ None → IsFalse (takes_id r command)
-    → file_at pair.names packed_place ≡ None
-    → MovesOnTheWay move.name (entry_of_move r move) pair.names tree
-    → HoldsBetween r command tree
-
--- So it is whatever is packed.
 abbrev pub FilesPass : Type 0
 FilesPass =
     (pair : Pair) (tree : Tree) (r : Repository) (command : Command) (move : NameMove)

@@ -7,10 +7,9 @@ use Rattle.history_model.specs.Repository.{Repository, LogEntry, id_at}
 use Rattle.history_model.specs.Commands.{Rename}
 use Rattle.history_model.specs.Meaning.{after, history_actor, with_name}
 use Rattle.history_model.specs.Causes.{first_cause}
-use Rattle.history_model.specs.Places.{Pair, file_at, packed_place}
+use Rattle.history_model.specs.Places.{Pair}
 use Rattle.history_model.specs.StandsFor.{StandsFor}
 use Rattle.history_model.specs.Wholeness.{IsSound}
-use Rattle.history_steps.specs.DeleteSteps.{DeletesName, DeletesOnTheWay}
 use Rattle.history_steps.specs.MoveSteps.{FitsThen}
 use Rattle.history_steps.specs.Passing.{HoldsBetween, MovesOnTheWay}
 use Rattle.history_steps.specs.TakeSteps.{TakesName, TakesOnTheWay}
@@ -29,49 +28,11 @@ abbrev pub with_both : Repository → Bytes → Bytes → Repository
 with_both r from to =
     record r { names = with_name r to (held_id r from) history_actor (codes "rename") r.names }
 
--- No cause holds of the rename, and the pair stands for this repository on its way. No names are packed.
-pub record IsRenaming (r : Repository) (from to : Bytes) (now : Repository)
-    (pair : Pair) : Type 0 where
-  pub sound : IsSound r
-  pub none : first_cause r (Rename from to) ≡ None
-  pub stands : StandsFor r.kind pair now
-  pub unpacked : file_at pair.names packed_place ≡ None
-
 -- The new name may come to stand beside those that stand.
 abbrev pub RenamesFit : Type 0
 RenamesFit =
     (r : Repository) (from to : Bytes) → IsSound r → first_cause r (Rename from to) ≡ None
     → FitsThen r to
-
--- Once its files have moved to what the old name holds, both names stand.
-abbrev pub RenamesMake : Type 0
-RenamesMake =
-    (r : Repository) (from to : Bytes) (pair : Pair) (new : Tree) → IsRenaming r from to r pair
-    → MovesName to (rename_entry r from to) pair.names new
-    → IsRenaming r from to (with_both r from to) (record pair { names = new })
-
--- Meanwhile each name, once recovered, is as before the rename or as after it, and the old one holds its id.
-abbrev pub MakingPasses : Type 0
-MakingPasses =
-    (r : Repository) (from to : Bytes) (pair : Pair) (tree : Tree) → IsRenaming r from to r pair
-    → MovesOnTheWay to (rename_entry r from to) pair.names tree
-    → HoldsBetween r (Rename from to) tree
-
--- Once the old name's files are gone too, the rename is made.
-abbrev pub RenamesStand : Type 0
-RenamesStand =
-    (r : Repository) (from to : Bytes) (pair : Pair) (new : Tree)
-    → IsRenaming r from to (with_both r from to) pair → DeletesName from pair.names new
-    → StandsFor r.kind (record pair { names = new }) (after r (Rename from to))
-
--- Meanwhile each name, once recovered, is as before the rename or as after it, and the new one holds the id.
-abbrev pub GoingPasses : Type 0
-GoingPasses =
-    (r : Repository) (from to : Bytes) (pair : Pair) (tree : Tree)
-    → IsRenaming r from to (with_both r from to) pair → DeletesOnTheWay from pair.names tree
-    → HoldsBetween r (Rename from to) tree
-
--- ---- whatever is packed
 
 -- No cause holds of the rename, and the pair stands for this repository on its way.
 pub record IsOnItsWay (r : Repository) (from to : Bytes) (now : Repository)

@@ -1,5 +1,5 @@
 -- What stands for a repository, cut into its two trees: the files of the values, and those of the names.
-use Rattle.std.specs.Prelude.{◌≡◌, ◌↔◌, [], Some, None, option_map, unwrap_or, MatchOption, IsTrue}
+use Rattle.std.specs.Prelude.{◌≡◌, ◌↔◌, [], Some, option_map, unwrap_or, MatchOption, IsTrue}
 use Rattle.std.specs.FinMap.{get}
 use Rattle.gix_ref_file.specs.Tree.{Tree, folder}
 use Rattle.history_model.specs.Bytes.{Bytes}
@@ -37,13 +37,7 @@ HalvesStand = (kind : Kind) (pair : Pair) (r : Repository)
     → StandsFor kind pair r
     ↔ ((r.kind ≡ kind) × HoldsValues r.kind pair.objects r.objects × HoldsNames pair.names r)
 
--- Where no names are packed, their half speaks of no values.
-abbrev pub NamesSpeakOfNoValues : Type 0
-NamesSpeakOfNoValues =
-    (tree : Tree) (r : Repository) (values : Values) → file_at tree packed_place ≡ None
-    → HoldsNames tree r → HoldsNames tree (record r { objects = values })
-
--- And with more values it speaks of the same, whatever is packed.
+-- With more values the half of the names speaks of the same.
 abbrev pub NamesSpeakOfMore : Type 0
 NamesSpeakOfMore =
     (tree : Tree) (r : Repository) (values : Values)

@@ -9,7 +9,7 @@ use Rattle.gix_hash_id.specs.Id.{Id, null_id}
 use Rattle.history_model.specs.Repository.{Repository, LogEntry, IsWholeStore, id_at, Values, HaveOwnIds}
 use Rattle.history_model.specs.Forms.{is_id, is_name}
 use Rattle.history_model.specs.Meaning.{store_one, store_all, some_taken, is_taken, is_other, with_name}
-use Rattle.history_model.specs.Places.{file_at, object_place, unfinished_place, is_object_folder, packed_place, log_place, is_name_folder}
+use Rattle.history_model.specs.Places.{file_at, object_place, unfinished_place, is_object_folder, log_place, is_name_folder}
 use Rattle.history_model.specs.Logs.{log_line}
 use Rattle.history_steps.specs.TreeHalves.{HoldsValues, HoldsNames}
 use Rattle.gix_hash_id.specs.declared.kind.Kind.{Kind}
@@ -139,16 +139,7 @@ pub record MovesName (name : Bytes) (entry : LogEntry) (old new : Tree) : Type 0
       → file_at new path ≡ file_at old path
   pub folders : (path : Bytes) → get new path ≡ Some folder → IsTrue (is_name_folder path)
 
--- Where no names are packed, a move of a name's files moves the name.
-abbrev pub MovesMove : Type 0
-MovesMove =
-    (old new : Tree) (r : Repository) (name : Bytes) (id : Id) (actor : Actor) (message : Bytes)
-    → IsTrue (is_name name) → IsTrue (is_id r.kind id)
-    → file_at old packed_place ≡ None → HoldsNames old r
-    → MovesName name (move_entry r name id actor message) old new
-    → HoldsNames new (record r { names = with_name r name id actor message r.names })
-
--- So it does whatever is packed, since a name's own file wins over a record.
+-- A move of a name's files moves the name, also where it has a record: its own file wins over that.
 abbrev pub FilesMoveNames : Type 0
 FilesMoveNames =
     (old new : Tree) (r : Repository) (name : Bytes) (id : Id) (actor : Actor) (message : Bytes)

@@ -1,4 +1,4 @@
-//! Laws of the repositories of this stage, over the definitions alone.
+//! Laws of what files, names and ids stand for in whole repositories, over the definitions alone.
 
 ghost use Rattle.history_steps.specs.Offered.{FilesAreStored};
 ghost use Rattle.history_steps.specs.OfferedWords.{NamesStandForCommits, TagsStandForOthers, ParentsAreCommits};

@@ -1,9 +1,8 @@
 //! Laws on what the two parts pass through while a command is acted on, over the definitions alone.
 
-ghost use Rattle.history_steps.specs.Passing.{PutsPass, CommitsStoreWhole, TagsStoreWhole, StoringStops, MovesPass, FilesPass, MovingStops, ActsLater, ActsThen, SomeStops, FirstAreSome, NamesPass, NamesBegin};
-ghost use Rattle.history_steps.specs.MoveSteps.{LinesFit, LinesMove, LinesPass, NextLinesFit, NextLinesMove, NextLinesPass};
-ghost use Rattle.history_steps.specs.DeleteSteps.{DeletionsStand, DeletionsPass};
-ghost use Rattle.history_steps.specs.RenameSteps.{RenamesFit, RenamesMake, MakingPasses, RenamesStand, GoingPasses, RenamesBring, BringingPasses, RenamesEnd, TakingPasses};
+ghost use Rattle.history_steps.specs.Passing.{PutsPass, CommitsStoreWhole, TagsStoreWhole, StoringStops, FilesPass, MovingStops, ActsLater, ActsThen, SomeStops, FirstAreSome, NamesPass, NamesBegin};
+ghost use Rattle.history_steps.specs.MoveSteps.{NextLinesFit, NextLinesMove, NextLinesPass};
+ghost use Rattle.history_steps.specs.RenameSteps.{RenamesFit, RenamesBring, BringingPasses, RenamesEnd, TakingPasses};
 ghost use Rattle.history_steps.specs.TakeSteps.{TakingsStand, TakingsPass};
 ghost use Rattle.history_steps.specs.PackSteps.{PacksReadAlike, PacksPass, PacksStand};
 ghost use Rattle.history_steps.specs.SwitchSteps.{SwitchesStand, SwitchesPass};
@@ -27,11 +26,6 @@ pub fn tags_store_whole()
 /// Stopped while its values are stored, a command leaves a repository before its names move.
 pub fn storing_stops()
     ensures { StoringStops }
-{}
-
-/// While the name of a command that moves one moves, it is as before or moved, and its log tells of each move that was made.
-pub fn moves_pass()
-    ensures { MovesPass }
 {}
 
 /// Stopped while its names move, a command leaves each name before the command or after it.
@@ -69,54 +63,9 @@ pub fn names_begin()
     ensures { NamesBegin }
 {}
 
-/// Where the names of a move's first lines have moved, the name of the next may come to stand.
-pub fn lines_fit()
-    ensures { LinesFit }
-{}
-
-/// The move of its files moves it.
-pub fn lines_move()
-    ensures { LinesMove }
-{}
-
-/// Meanwhile each name, once recovered, is as before the command or as after it.
-pub fn lines_pass()
-    ensures { LinesPass }
-{}
-
-/// Where the files of a deleted name are gone, what stands stands for the repository after its deletion.
-pub fn deletions_stand()
-    ensures { DeletionsStand }
-{}
-
-/// While they go, each name is as before the command or as after it.
-pub fn deletions_pass()
-    ensures { DeletionsPass }
-{}
-
 /// Where no cause holds of a rename, the new name may come to stand.
 pub fn renames_fit()
     ensures { RenamesFit }
-{}
-
-/// The move of its files makes it, beside the old name.
-pub fn renames_make()
-    ensures { RenamesMake }
-{}
-
-/// Meanwhile each name is as before the rename or as after it, and the old one holds its id.
-pub fn making_passes()
-    ensures { MakingPasses }
-{}
-
-/// Where the old name's files are gone too, what stands stands for the repository after the rename.
-pub fn renames_stand()
-    ensures { RenamesStand }
-{}
-
-/// While they go, each name is as before the rename or as after it, and the new one holds the id.
-pub fn going_passes()
-    ensures { GoingPasses }
 {}
 
 /// Where HEAD alone was written anew, the tree holds the names and the branch after a switch.

@@ -1,18 +1,13 @@
 //! Laws of the trees that stand for a repository, over the definitions alone.
 
-ghost use Rattle.history_steps.specs.TreeHalves.{HalvesStand, NamesSpeakOfNoValues, NamesSpeakOfMore, PlacesTellIds, PlacesTellValues, ValuesHaveIds};
-ghost use Rattle.history_steps.specs.TreeSteps.{PutsStore, StandingIsStored, StoredStands, TreesTellTaken, OwnIdsStay, StoresInAnyOrder, MovesMove, FilesMoveNames, NoneUnfinished, RenamesPut};
-ghost use Rattle.history_steps.specs.OneNameSteps.{CommitsMoveOneName, TagsMoveOneName, OneNameStands, OneNameMoves};
+ghost use Rattle.history_steps.specs.TreeHalves.{HalvesStand, NamesSpeakOfMore, PlacesTellIds, PlacesTellValues, ValuesHaveIds};
+ghost use Rattle.history_steps.specs.TreeSteps.{PutsStore, StandingIsStored, StoredStands, TreesTellTaken, OwnIdsStay, StoresInAnyOrder, FilesMoveNames, NoneUnfinished, RenamesPut};
+ghost use Rattle.history_steps.specs.OneNameSteps.{CommitsMoveOneName, TagsMoveOneName, OneNameMoves};
 ghost use Rattle.history_steps.specs.TreeReads.{ObjectsTellValues, CommitsAreRead, FoldersAreRead, BytesAreRead};
 
 /// A pair stands for a repository exactly where each of its trees holds its half.
 pub fn halves_stand()
     ensures { HalvesStand }
-{}
-
-/// Where no names are packed, what the tree of names holds speaks of no values.
-pub fn names_speak_of_no_values()
-    ensures { NamesSpeakOfNoValues }
 {}
 
 /// Different ids have different places.
@@ -55,11 +50,6 @@ pub fn own_ids_stay()
     ensures { OwnIdsStay }
 {}
 
-/// A move of the files of a name moves the name.
-pub fn moves_move()
-    ensures { MovesMove }
-{}
-
 /// A commit moves one name, to the commit that it stores.
 pub fn commits_move_one_name()
     ensures { CommitsMoveOneName }
@@ -68,11 +58,6 @@ pub fn commits_move_one_name()
 /// A tag moves one name, to the tag that it stores.
 pub fn tags_move_one_name()
     ensures { TagsMoveOneName }
-{}
-
-/// The objects after a command that moves one name, and the move of that name, make what stands for the repository after it.
-pub fn one_name_stands()
-    ensures { OneNameStands }
 {}
 
 /// Where an object stands, a value of its type and content is stored.

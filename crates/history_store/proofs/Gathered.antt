@@ -36,7 +36,7 @@ use Rattle.history_store.proofs.Surveys.{one_more}
 -- ---- one file
 
 module _ (kind : Kind) where
-  spelled_told : (text : Bytes) (found : Option ObjectId) → SpellsId kind text found → option_map id_of found ≡ spelled_id kind text
+  pub spelled_told : (text : Bytes) (found : Option ObjectId) → SpellsId kind text found → option_map id_of found ≡ spelled_id kind text
   spelled_told text (Some id) (digits, is, reads) = sym (ap (spelled_id kind) is ∙ ap (option_and_then (id_from_hex kind)) (line_read digits) ∙ reads)
   spelled_told text None none = by_end (ends (10 ∷ []) text) refl
     where
@@ -217,22 +217,24 @@ one_named names new name id left rest all is first so_far =
     ∙ append_assoc (map name_entry names) ((name.items, id_of id) ∷ []) (named_ids rest)
     ∙ ap (λ es. map name_entry names ++ named_ids es) (sym first) ∙ so_far
 
+-- what is gathered where nothing was
+module _ (kind : Kind) (tree : Tree) (place : Bytes) (start : List (Key × ObjectId)) (ids : NameIds) (empty : start ≡ []) (gathers : Gathers kind tree place (from_sorted (named_ids start)) ids) where
+  none : (name : Bytes) → get (from_sorted {R = by_bytes} (named_ids start)) name ≡ None
+  none name = ap (λ es. get (from_sorted {R = by_bytes} (named_ids es)) name) empty ∙ get-from_sorted by_bytes [] name tt
+
+  missing : (name : Bytes) → get ids name ≡ None → (o : Option Id) → id_below kind tree place name ≡ o → None ≡ o
+  missing name is None e = refl
+  missing name is (Some id) e = let there = gathers.all name id e in cc (sym there ∙ ap is_some is)
+
+  pub all_below : (name : Bytes) → get ids name ≡ id_below kind tree place name
+  all_below name = by_found (get ids name) refl
+    where
+      by_found : (o : Option Id) → get ids name ≡ o → o ≡ id_below kind tree place name
+      by_found None is = missing name is (id_below kind tree place name) refl
+      by_found (Some id) is = elim (gathers.came name id is) [
+        | inl old ↦ let wrong : None ≡ Some id = sym (none name) ∙ old in cc
+        | inr below ↦ sym below
+      ]
+
 pub lists_names : (kind : Kind) (tree : Tree) (place : Bytes) (start : List (Key × ObjectId)) (ids : NameIds) (names : List NamedId) → start ≡ [] → Gathers kind tree place (from_sorted (named_ids start)) ids → map name_entry names ≡ entries ids → ListsNames kind tree place names
-lists_names kind tree place start ids names empty gathers are = record { ids = ids; each = each; are = are }
-  where
-    none : (name : Bytes) → get (from_sorted {R = by_bytes} (named_ids start)) name ≡ None
-    none name = ap (λ es. get (from_sorted {R = by_bytes} (named_ids es)) name) empty ∙ get-from_sorted by_bytes [] name tt
-
-    missing : (name : Bytes) → get ids name ≡ None → (o : Option Id) → id_below kind tree place name ≡ o → None ≡ o
-    missing name is None e = refl
-    missing name is (Some id) e = let there = gathers.all name id e in cc (sym there ∙ ap is_some is)
-
-    each : (name : Bytes) → get ids name ≡ id_below kind tree place name
-    each name = by_found (get ids name) refl
-      where
-        by_found : (o : Option Id) → get ids name ≡ o → o ≡ id_below kind tree place name
-        by_found None is = missing name is (id_below kind tree place name) refl
-        by_found (Some id) is = elim (gathers.came name id is) [
-          | inl old ↦ let wrong : None ≡ Some id = sym (none name) ∙ old in cc
-          | inr below ↦ sym below
-        ]
+lists_names kind tree place start ids names empty gathers are = record { ids = ids; each = all_below kind tree place start ids empty gathers; are = are }

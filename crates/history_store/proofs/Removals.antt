@@ -15,7 +15,7 @@ use Rattle.history_store.proofs.Moves.{name_apart}
 use Rattle.history_store.proofs.Stored.{apart_from_removed}
 
 -- ---- one file goes
-removed_here : (t : Tree) (k : Bytes) → file_at (remove t k) k ≡ None
+pub removed_here : (t : Tree) (k : Bytes) → file_at (remove t k) k ≡ None
 removed_here t [] = refl
 removed_here t (b ∷ k) = ap bytes_of (get-removed t (b ∷ k) (b ∷ k) ∙ ap (λ same. cond same None (get t (b ∷ k))) (same_path_itself (b ∷ k)))
 
@@ -59,6 +59,11 @@ then_folders k old mid new first second =
     adds_joined old mid new first (adds_weaker mid new second (λ x left q.
     let later = while_folders k mid.tree x left q in
     (λ h. (before q).0 (later.0 h), λ h. later.1 ((before q).1 h))))
+
+pub folders_joined : (old mid new : History) → Adds (SameFolders old.tree) old mid → Adds (SameFolders mid.tree) mid new → Adds (SameFolders old.tree) old new
+folders_joined old mid new first second =
+    let before = same_folders_now old mid first in
+    adds_joined old mid new first (adds_weaker mid new second (λ x same q. (λ h. (before q).0 ((same q).0 h), λ h. (same q).1 ((before q).1 h))))
 
 -- ---- the log
 gone_log : (name place : Bytes) (t : Tree) → place ≡ log_place name → LogIsGone name t (remove t place)

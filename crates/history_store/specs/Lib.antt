@@ -1,4 +1,5 @@
 pub mod Actors
+pub mod AllNames
 pub mod Commits
 pub mod Tags
 pub mod Creation
@@ -12,6 +13,8 @@ pub mod Lookups
 pub mod NameLists
 pub mod ObjectTexts
 pub mod Opening
+pub mod Packed
+pub mod Packing
 pub mod Parts
 pub mod Prefixes
 pub mod Puts

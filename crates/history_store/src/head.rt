@@ -6,6 +6,7 @@ ghost use Rattle.gix_ref_file.specs.declared.files.FileError.TheVariants.{Failed
 ghost use Rattle.history_model.specs.Places.{head_place};
 ghost use Rattle.history_model.specs.StandsFor.{head_text};
 ghost use Rattle.history_store.specs.Creation.{SameFolders};
+ghost use Rattle.history_store.specs.Packing.{KeepsRecords};
 ghost use Rattle.history_store.specs.References.{HasHeadRoom, MayBeWritten, PutsBeside};
 
 use crate::creation::HEAD_LOCK;
@@ -30,8 +31,12 @@ impl<F: Files> Names<F> {
     pub fn switch(&mut self, alloc: Global, branch: &[u8]) -> Result<(), FileError>
         ensures honest { F.is_honest self.old.files → F.is_honest self.new.files }
         ensures kind { self.new.kind ≡ self.old.kind }
+        ensures packed { self.new.packed ≡ self.old.packed }
         ensures switched { Achieves F.is_honest F.history self.old.files self.new.files result
             (PutsBeside head_place (head_text branch.now)) }
+        ensures keeps { F.is_honest self.old.files
+            → KeepsRecords self.old (F.history self.old.files).tree
+            → OnOk result (KeepsRecords self.new (F.history self.new.files).tree) }
 
         // What stands on the way; no folder comes or goes.
         ensures moments { Passes F.is_honest F.history self.old.files self.new.files

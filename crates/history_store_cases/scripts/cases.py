@@ -378,6 +378,7 @@ def names():
         lists(kind)
         deletions(kind)
         heads(kind)
+        packs(kind)
 
 
 def deletions(kind):
@@ -418,6 +419,78 @@ def lists(kind):
         (f"names:write:refs/tags/c:{ids[one]}", "done"), ("names:folder:refs/tags/d", "done"), ("list:refs", told("refs/tags")),
         (f"names:write:refs/tags/d/a:{text}", "done"), ("list:refs/tags/d", f"names name:refs/tags/d/a:{ids[one]}"))
     each(9, kind, f"{moved(one, null(kind), ids[one])[0]} names:fail:#:- list:refs", "moved names failed", f"moved {told('refs/tags')}")
+
+
+# What `git pack-refs --all` of git 2.39 made of five references, and `git update-ref -d refs/heads/a/b` of that: a commit without files
+# and parents at 1700000000 +0000, "one", and an annotated tag v1 of it.
+THE_COMMIT = {"sha1": "cd7e7787b0496c5d6773e15131fcf7a3396a5685", "sha256": "676d901d700bafe95903d7fb6b334893672c13185ba3f3e84cad3121a0126a4e"}
+THE_TAG = {"sha1": "94087c1e1e53783e6515ff5ac2b8a4a7577c1c86", "sha256": "32ac4a16082afb8a9f7c0a0e8b7c2ce8fa66949f0c7b8aa54c3a51b6041b5bd7"}
+PACKED = """# pack-refs with: peeled fully-peeled sorted 
+{0} refs/heads/a-c
+{0} refs/heads/a/b
+{0} refs/heads/main
+{0} refs/tags/light
+{1} refs/tags/v1
+^{0}
+"""
+WITHOUT = """# pack-refs with: peeled fully-peeled sorted 
+{0} refs/heads/a-c
+{0} refs/heads/main
+{0} refs/tags/light
+{1} refs/tags/v1
+^{0}
+"""
+
+
+def packs(kind):
+    """Names that are packed, read, listed, met, moved and deleted; texts that aren't read; each call that fails; and files in the way."""
+    zero, hello, commit, tag, newline = null(kind), oid(kind, "blob", b"hello"), THE_COMMIT[kind], THE_TAG[kind], b"\n"
+    packed, without = (text.format(commit, tag).encode() for text in (PACKED, WITHOUT))
+    five = ["refs/heads/a-c", "refs/heads/a/b", "refs/heads/main", "refs/tags/light", "refs/tags/v1"]
+    ids = {name: commit for name in five} | {"refs/tags/v1": tag}
+
+    def told(names, ids=ids):
+        return " ".join(["names", *(f"name:{word(it.encode())}:{ids[it]}" for it in names)])
+
+    makes = [moved(name, zero, ids[name]) for name in reversed(five)]
+    order = [five[2], five[4], five[0], five[3], five[1]]
+    pack = "pack:" + ";".join(f"{name}={ids[name]}" + (f"={commit}" if ids[name] == tag else "") for name in order)
+    log = line(zero, commit)
+    # What was packed reads as before: each list is that of `git for-each-ref`.
+    row(kind, *makes, (pack, "packed"), ("names:read:packed-refs", read(packed)), ("names:read:packed-refs.lock", read(None)),
+        *((f"names:read:{name}", read(None)) for name in five), *((f"find:{name}", f"at:{ids[name]}") for name in five),
+        ("list-all:refs", told(five)), ("list-all:refs/heads", told(five[:3])), ("list-all:refs/heads/a", told(five[1:2])),
+        (f"names:read:logs/{five[2]}", read(log)), ("read-packed", "kept"), ("list-all:refs", told(five)))
+    # `git update-ref` makes neither a name below one that is packed, nor one that is its folder.
+    begin = [("names:write:packed-refs:" + word(packed), "done"), ("read-packed", "kept")]
+    row(kind, *begin, ("meets:refs/heads/a-c/x", "meets"), ("meets:refs/heads/a", "meets"), ("meets:refs/heads/a/b", "free"),
+        ("meets:refs/heads/a/c", "free"), ("meets:refs/heads/a/b/c/d", "meets"), ("meets:refs/tag", "free"), ("meets:refs/tags", "meets"),
+        ("collides:refs/heads/a", "free"), moved("refs/heads/x/y", zero, hello), ("meets:refs/heads/x", "meets"), ("meets:refs/heads/x/y/z", "meets"))
+    # A name's own file wins over its record, and goes with it.
+    row(kind, *begin, moved(five[1], commit, hello), (f"find:{five[1]}", f"at:{hello}"), ("list-all:refs/heads", told(five[:3], ids | {five[1]: hello})),
+        (f"take:{five[1]}", "taken"), (f"find:{five[1]}", "none"), ("names:read:packed-refs", read(without)), ("names:read:packed-refs.lock", read(None)),
+        (f"names:read:logs/{five[1]}", read(None)), ("list-all:refs", told([five[0], *five[2:]])), ("meets:refs/heads/a", "free"),
+        moved("refs/heads/a", zero, hello), ("find:refs/heads/a", f"at:{hello}"))
+    row(kind, *begin, (f"take:{five[1]}", "taken"), ("names:read:packed-refs", read(without)), (f"find:{five[1]}", "none"),
+        (f"take:{five[1]}", "taken"), ("names:read:packed-refs", read(without)))
+    # A file that is no id's hides the record, and what is no name reads as none.
+    row(kind, *begin, *folders("names", "refs refs/heads"), (f"names:write:{five[2]}:x", "done"), (f"find:{five[2]}", "none"),
+        ("list-all:refs/heads", told(five[:2])), (f"names:write:refs/heads/y.lock:{word(hello.encode() + newline)}", "done"),
+        ("find:refs/heads/y.lock", "none"), ("list-all:refs/heads", told(five[:2])), ("find:packed-refs", "none"))
+    # Records in no order are read.
+    mixed = f"{commit} refs/heads/b\n{hello} refs/heads/a\n".encode()
+    row(kind, (f"names:write:packed-refs:{word(mixed)}", "done"),
+        ("read-packed", "kept"), ("list-all:refs", told(["refs/heads/a", "refs/heads/b"], {"refs/heads/a": hello, "refs/heads/b": commit})))
+    row(kind, ("read-packed", "kept"), (f"find:{five[2]}", "none"), ("list-all:refs", "names"))
+    row(kind, ("names:write:packed-refs:x%0a", "done"), ("read-packed", "Iter"))
+    row(kind, ("names:write:packed-refs:%23x%0a", "done"), ("read-packed", "HeaderParsing"))
+    row(kind, ("names:folder:packed-refs.lock", "done"), makes[2], (f"pack:{five[2]}={commit}", "failed"), (f"find:{five[2]}", f"at:{commit}"))
+    one = (PACKED.splitlines(True)[0] + "%s %s\n" % (commit, five[2])).encode()
+    each(9, kind, f"{makes[2][0]} names:fail:#:- pack:{five[2]}={commit} names:sound read-packed find:{five[2]} names:read:packed-refs",
+         f"moved failed kept at:{commit} {read(None)}", f"moved failed kept at:{commit} {read(one)}", f"moved packed kept at:{commit} {read(one)}")
+    begin_one = "names:write:packed-refs:" + word(packed) + " read-packed"
+    each(9, kind, f"{begin_one} names:fail:#:- take:{five[1]} names:sound read-packed find:{five[1]}",
+         f"done kept failed kept at:{commit}", "done kept failed kept none", "done kept taken kept none")
 
 
 def heads(kind):

@@ -4,6 +4,7 @@
 mod files;
 mod names;
 mod objects;
+mod packed;
 mod session;
 mod values;
 

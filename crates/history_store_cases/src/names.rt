@@ -4,6 +4,8 @@ use crate::objects::show_id;
 use crate::session::Parts;
 use crate::values::read_entry;
 use case_words::{Page, read_bytes};
+use gix_ref_file::FileError;
+use history_store::NamedId;
 use std::alloc::Global;
 
 /// Acts on the names part.
@@ -27,7 +29,7 @@ pub fn act(
             Ok(None) => page.word("none"),
             Err(_) => page.word("failed"),
         },
-        "list" => show_names(alloc, parts, &name, page),
+        "list" => show_names(parts.names.list(alloc, &name), page),
         "collides" => match parts.names.collides(alloc, &name) {
             Ok(true) => page.word("collides"),
             Ok(false) => page.word("free"),
@@ -52,10 +54,10 @@ pub fn act(
     Some(())
 }
 
-// The names below a folder, each with its id behind it.
-fn show_names(alloc: Global, parts: &Parts, folder: &[u8], page: &mut Page) {
+/// Shows names that were listed, each with its id behind it.
+pub fn show_names(listed: Result<Vec<NamedId>, FileError>, page: &mut Page) {
     page.word("names");
-    match parts.names.list(alloc, folder) {
+    match listed {
         Ok(names) => {
             for named in &names {
                 page.named("name", &named.name);

@@ -1,6 +1,6 @@
 //! The two parts of a repository, and what words do with them.
 
-use crate::{files, names, objects, values};
+use crate::{files, names, objects, packed, values};
 use case_words::{Page, Session, Trial, sound};
 use gix_hash::Kind;
 use gix_ref_file::{Files, MemoryFiles};
@@ -40,6 +40,9 @@ impl Session for Parts {
             "create" | "survey" | "branch" => self.open(alloc, operation, rest, page),
             "head" | "name" | "list" | "collides" | "move" | "delete" | "switch" => {
                 names::act(alloc, self, operation, rest, page)
+            }
+            "read-packed" | "pack" | "find" | "list-all" | "meets" | "take" => {
+                packed::act(alloc, self, operation, rest, page)
             }
             "actor"
             | "parse-actor"

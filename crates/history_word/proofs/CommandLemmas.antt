@@ -32,6 +32,7 @@ spoken draft.Names (model.Names None) h = refl
 spoken (draft.NamesIn f) (model.Names (Some folder)) h = refl
 spoken (draft.Past w) (model.Past word) h = refl
 spoken (draft.Switch n) (model.Switch name) h = refl
+spoken draft.Pack model.Pack h = refl
 spoken draft.Index model.Index h = refl
 spoken (draft.Log l) (model.Log log) h = refl
 spoken d order h = absurd h

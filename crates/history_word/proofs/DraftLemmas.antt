@@ -1,11 +1,10 @@
 -- What a line and the fields behind it leave in the draft.
-use Rattle.std.proofs.Common.{◌≡◌, ℕ, ◌<◌, true, not, List, [], ◌∷◌, ◌++◌, length, nat_le, map, Option, Some, None, option_map, if◌then◌else◌, ◌⊎◌, inl, inr, refl, sym, ap, subst, ◌∙◌, append_assoc, arith, codes, flat_map}
+use Rattle.std.proofs.Common.{◌≡◌, ℕ, ◌<◌, true, not, List, [], ◌∷◌, ◌++◌, length, map, Option, Some, None, if◌then◌else◌, ◌⊎◌, inl, inr, refl, sym, ap, subst, ◌∙◌, append_assoc, arith, codes, flat_map}
 use Rattle.std.specs.Prelude.{IfSome}
 use Rattle.std.specs.List.{join_with_byte}
 use Rattle.std.proofs.Common.{Vec, Global}
 use Rattle.std.proofs.lemmas.Grind.{flat_map-append}
 use Rattle.std.proofs.lemmas.List.{append-nil, length-append, map-append}
-use Rattle.std.proofs.lemmas.Bool.{and_from}
 use Rattle.std.proofs.lemmas.Option.{same_Some}
 use Rattle.history_model.specs.Bytes.{Bytes, line, is_empty}
 use Rattle.history_model.specs.CommandParts.{option_expect}
@@ -15,7 +14,7 @@ use Rattle.history_model.specs.Lines as lines
 use Rattle.history_word.specs.LineTable as table
 use Rattle.history_word.specs.TableRuns.{at, run_from, next_offered}
 use Rattle.history_word.specs.Commands.{IsExpect, IsTo, IsEdit}
-use Rattle.history_word.specs.Drafts.{role_of, place_of, target_of, to_of, log_of, IsEditHeading, IsOpening, IsHeading, IsDraft, with_parent, with_to, with_edit, with_actor, with_message, with_path}
+use Rattle.history_word.specs.Drafts.{role_of, place_of, target_of, to_of, log_of, IsEditHeading, IsOpening, IsHeading, IsDraft, with_parent, with_to, with_edit, with_actor, with_message, with_paths}
 use Rattle.history_word.specs.Come.{to_parents, to_committer, to_tagger, to_targets, to_mover, before_message, to_message, HasEnough, HasCome, edit_sizes, edit_heading, edit_fields, parts_with, TakesLine, TakesEdit, TakesLog, TakesActor, TakesOpening, TakesFields, TakesParts}
 use Rattle.history_word.specs.declared.command.Expect.{Expect}
 use Rattle.history_word.specs.declared.command.To.{To}
@@ -37,16 +36,12 @@ use Rattle.history_word.specs.declared.place.Place.TheVariants as place
 use Rattle.history_word.specs.declared.draft.Draft.{Draft}
 use Rattle.history_word.specs.declared.draft.Draft.TheVariants as draft
 use Rattle.history_word.proofs.ProgressLemmas.{leads_line, leads_field}
-use Rattle.history_word.proofs.LineEndLemmas.{heading_sizes_are, one_text, first_number, second_number}
+use Rattle.history_word.proofs.LineEndLemmas.{fields_text, heading_sizes_are, one_text, first_number, second_number}
 
 abbrev Word : Type 0
 Word = Option (Vec ℕ Global)
 
 -- ---- a line and the fields behind it
-
-fields_text : (fields : List Bytes) → spelling.parts_text (map spelling.Field fields) ≡ flat_map line fields
-fields_text [] = refl
-fields_text (f ∷ fields) = ap (λ t. line f ++ t) (fields_text fields)
 
 leads_fields : (fields : List Bytes) (q : table.Place) → run_from (at (map length fields) q) (map spelling.Field fields) ≡ Some (at [] q)
 leads_fields [] q = refl
@@ -178,6 +173,13 @@ switch_goes name h i q e = absurd i
 pub switch_opens : (name : Word) → TakesOpening (opening.Switch name) (draft.Switch name) []
 switch_opens name = record { fields = []; heads = refl; spelled = refl; begins = switch_goes name }
 
+pack_goes : (h : lines.Heading) → IsOpening opening.Pack h → (q : Place) → next_offered table.Start h ≡ Some (place_of q) → HasCome q draft.Pack (parts_with h [])
+pack_goes lines.PackHeading i q e = done_come draft.Pack model.Pack _ q e refl refl tt
+pack_goes h i q e = absurd i
+
+pub pack_opens : TakesOpening opening.Pack draft.Pack []
+pack_opens = record { fields = []; heads = refl; spelled = refl; begins = pack_goes }
+
 index_goes : (h : lines.Heading) → IsOpening opening.Index h → (q : Place) → next_offered table.Start h ≡ Some (place_of q) → HasCome q draft.Index (parts_with h [])
 index_goes lines.IndexHeading i q e = done_come draft.Index model.Index _ q e refl refl tt
 index_goes h i q e = absurd i
@@ -188,44 +190,33 @@ index_opens = record { fields = []; heads = refl; spelled = refl; begins = index
 pub past_opens : (word : Word) → TakesOpening (opening.Past word) (draft.Past word) []
 past_opens word = record { fields = []; heads = refl; spelled = refl; begins = past_goes word }
 
--- ---- the parts of a log, the length of its path, and how many it has
+-- ---- the parts of a log
 
--- the line of a log, with a path of this length or none
-abbrev log_heading : model.LogCommand → Option ℕ → lines.Heading
-log_heading log path = lines.LogHeading log.order log.first_parents log.items path
+-- the line of a log with paths of these lengths
+abbrev log_heading : model.LogCommand → List ℕ → lines.Heading
+log_heading log sizes = lines.LogHeading log.order log.first_parents log.items sizes
 
-log_spelled : (log : model.LogCommand) (path : Option Bytes) → parts_with (log_heading log (option_map length path)) (spelling.option_list path) ≡ spelling.parts_of (model.Log (with_path log path))
-log_spelled log None = refl
-log_spelled log (Some path) = refl
+paths_words : (paths : List Bytes) → flat_map lines.size_words (map length paths) ≡ flat_map spelling.path_words paths
+paths_words [] = refl
+paths_words (path ∷ paths) = ap (λ words. spelling.path_words path ++ words) (paths_words paths)
 
-log_lengths : (path : Option Bytes) → spelling.option_list (option_map length path) ≡ map length (spelling.option_list path)
-log_lengths None = refl
-log_lengths (Some path) = refl
-
-one_path : (path : Option Bytes) → nat_le (length (spelling.option_list path)) 1 ≡ true
-one_path None = refl
-one_path (Some path) = refl
+log_spelled : (log : model.LogCommand) (paths : List Bytes) → parts_with (log_heading log (map length paths)) paths ≡ spelling.parts_of (model.Log (with_paths log paths))
+log_spelled log paths =
+    ap (λ words. spelling.Line (codes "log" ∷ (spelling.order_words log.order ++ (spelling.parents_word log.first_parents ∷ (map spelling.item_word log.items ++ words)))) ∷ map spelling.Field paths) (paths_words paths)
 
 log_goes : (said : LogLine) (log : Option LogCommand) (ys : Bytes) (took : TakesLog said log ys) (h : lines.Heading) → IsOpening (opening.Log said) h → (q : Place) → next_offered table.Start h ≡ Some (place_of q)
-    → HasCome q (draft.Log log) (parts_with h (spelling.option_list took.path))
-log_goes said log ys took (lines.LogHeading order first_parents items n) i q e =
+    → HasCome q (draft.Log log) (parts_with h took.paths)
+log_goes said log ys took (lines.LogHeading order first_parents items sizes) i q e =
     let line = log_of order first_parents items in
-    let path = took.path in
-    let all = with_path line path in
-    done_come (draft.Log log) (model.Log all) _ q
+    done_come (draft.Log log) (model.Log (with_paths line took.paths)) _ q
     (sym (ap (λ b. if b then Some table.Done else None) i.0.begins) ∙ e)
-    (ap (λ n. parts_with (log_heading line n) (spelling.option_list path)) (sym i.1 ∙ took.heads) ∙ log_spelled line path)
-    (and_from (spelling.are_items items) (nat_le (length all.paths) 1) i.0.begins (one_path path))
+    (ap (λ ns. parts_with (log_heading line ns) took.paths) (sym i.1 ∙ took.heads) ∙ log_spelled line took.paths)
+    i.0.begins
     (took.is line i.0)
 log_goes said log ys took h i q e = absurd i
 
 pub log_opens : (said : LogLine) (log : Option LogCommand) (ys : Bytes) → TakesLog said log ys → TakesOpening (opening.Log said) (draft.Log log) ys
-log_opens said log ys took = record {
-  fields = spelling.option_list took.path;
-  heads = ap (λ p. spelling.option_list p) took.heads ∙ log_lengths took.path;
-  spelled = took.spelled;
-  begins = log_goes said log ys took;
-}
+log_opens said log ys took = record { fields = took.paths; heads = took.heads; spelled = took.spelled; begins = log_goes said log ys took }
 
 -- such a line stands at the start alone
 
@@ -254,6 +245,8 @@ at_start (opening.Past word) (lines.PastHeading w) i place.Start q e = refl
 at_start (opening.Past word) (lines.PastHeading w) i p q e = cc
 at_start (opening.Switch name) (lines.SwitchHeading n) i place.Start q e = refl
 at_start (opening.Switch name) (lines.SwitchHeading n) i p q e = cc
+at_start opening.Pack lines.PackHeading i place.Start q e = refl
+at_start opening.Pack lines.PackHeading i p q e = cc
 at_start opening.Index lines.IndexHeading i place.Start q e = refl
 at_start opening.Index lines.IndexHeading i p q e = cc
 at_start (opening.Log said) (lines.LogHeading order first_parents items n) i place.Start q e = refl

@@ -16,6 +16,7 @@ pub mod UnofferedLemmas
 pub mod PushLemmas
 pub mod TargetLemmas
 pub mod LogLemmas
+mod PathSizes
 pub mod ProgressLemmas
 pub mod DraftLemmas
 pub mod LineEndLemmas

@@ -1,5 +1,5 @@
 -- The fields that follow a line: their lengths, their texts, and where they stop.
-use Rattle.std.proofs.Common.{◌≡◌, ℕ, List, [], ◌∷◌, ◌++◌, length, Some, None, refl, sym, ap, ◌∙◌, flat_map}
+use Rattle.std.proofs.Common.{◌≡◌, ℕ, List, [], ◌∷◌, ◌++◌, length, map, Some, None, refl, sym, ap, ◌∙◌, flat_map}
 use Rattle.std.proofs.lemmas.List.{append-nil}
 use Rattle.history_model.specs.Bytes.{Bytes, line}
 use Rattle.history_model.specs.Spelling as spelling
@@ -41,8 +41,9 @@ opening_sizes_are opening.Names (lines.NamesHeading None) e = refl
 opening_sizes_are (opening.NamesIn folder) (lines.NamesHeading (Some f)) e = refl
 opening_sizes_are (opening.Past word) (lines.PastHeading w) e = refl
 opening_sizes_are (opening.Switch name) (lines.SwitchHeading n) e = refl
+opening_sizes_are opening.Pack lines.PackHeading e = refl
 opening_sizes_are opening.Index lines.IndexHeading e = refl
-opening_sizes_are (opening.Log said) (lines.LogHeading order first_parents items path) e = ap (λ p. spelling.option_list p) (sym e.1)
+opening_sizes_are (opening.Log said) (lines.LogHeading order first_parents items paths) e = sym e.1
 opening_sizes_are said h e = absurd e
 
 pub heading_sizes_are : (said : Heading) (h : lines.Heading) → IsHeading said h → lines.sizes h ≡ heading_sizes said
@@ -80,6 +81,23 @@ field_second_stops field zs first size later place l z ys cause bad =
     stops_after (first ∷ size ∷ later) (size ∷ later) place place (spelling.Field field ∷ []) zs ys cause
     (ap (λ n. run_from (at (n ∷ size ∷ later) place) (spelling.Field field ∷ [])) (sym l) ∙ leads_field field (size ∷ later) place [])
     (z ∙ sym (append-nil (line field)))
+    (field_first_stops size later place ys cause bad)
+
+pub fields_text : (fields : List Bytes) → spelling.parts_text (map spelling.Field fields) ≡ flat_map line fields
+fields_text [] = refl
+fields_text (f ∷ fields) = ap (λ t. line f ++ t) (fields_text fields)
+
+leads_some : (done : List Bytes) (later : List ℕ) (place : table.Place) → run_from (at (map length done ++ later) place) (map spelling.Field done) ≡ Some (at later place)
+leads_some [] later place = refl
+leads_some (f ∷ done) later place = leads_field f (map length done ++ later) place (map spelling.Field done) ∙ leads_some done later place
+
+-- a field behind others stops
+pub field_later_stops : (sizes : List ℕ) (done : List Bytes) (size : ℕ) (later : List ℕ) (place : table.Place) → sizes ≡ map length done ++ size ∷ later → (ys : Bytes) (cause : Cause) → IsNoField size ys cause
+    → StopsFrom sizes place (flat_map line done ++ ys) cause
+field_later_stops sizes done size later place e ys cause bad =
+    stops_after sizes (size ∷ later) place place (map spelling.Field done) (flat_map line done) ys cause
+    (ap (λ ns. run_from (at ns place) (map spelling.Field done)) e ∙ leads_some done (size ∷ later) place)
+    (sym (fields_text done))
     (field_first_stops size later place ys cause bad)
 
 -- all of the fields that follow a line stop

@@ -1,5 +1,5 @@
 -- The words of a line.
-use Rattle.std.proofs.Common.{◌≡◌, ◌↔◌, ℕ, ◌≤◌, ◌<◌, ◌^◌, ◌==◌, Bool, Bor, true, false, not, ◌&&◌, ◌||◌, List, [], ◌∷◌, length, Option, Some, None, nat_lt, nat_le, refl, sym, ap, subst, ◌∙◌, ne_eqb, arith, decimal}
+use Rattle.std.proofs.Common.{◌≡◌, ◌↔◌, ℕ, ◌+◌, ◌≤◌, ◌<◌, ◌^◌, ◌==◌, Bool, Bor, true, false, not, ◌&&◌, ◌||◌, List, [], ◌∷◌, length, Option, Some, None, nat_lt, nat_le, refl, sym, ap, subst, ◌∙◌, ne_eqb, arith, decimal}
 use Rattle.std.specs.Prelude.{cond}
 use Rattle.std.specs.List.{list_all, onto_first, join_with_byte}
 use Rattle.std.specs.Option.{option_copied, is_some}
@@ -16,7 +16,7 @@ use Rattle.history_word.specs.TableRuns.{IsLineAt}
 use Rattle.history_word.proofs.TableLaws.{number_decimal, decimal_number, heading_told, heading_reads, heading_words, some_words}
 use Rattle.history_word.specs.declared.heading.Heading.{Heading}
 use Rattle.history_word.specs.Held.{IsUnbroken}
-use Rattle.history_word.specs.Lines.{split_words, words_left, are_nonempty, IsCut}
+use Rattle.history_word.specs.Lines.{split_words, words_left, words_size, are_nonempty, IsCut}
 use Rattle.history_word.specs.declared.place.Place.{Place}
 use Rattle.history_word.specs.Drafts.{place_of, Says}
 use Rattle.history_word.specs.Come.{IsLine}
@@ -32,6 +32,16 @@ done_is None true n = (λ e. refl, λ e. refl)
 done_is None false n = absurd cc
 done_is (Some line) true n = absurd cc
 done_is (Some line) false n = (λ e. cc, λ e. absurd (omega (arith, ap length e, length-slice_split (λ b. b == 32) line.now)))
+
+size_next : (b : ℕ) (line : Bytes) (ws : List Bytes) (t : Bool) → words_size ws ≡ length line + 1 → words_size (cond t ([] ∷ ws) (onto_first b ws)) ≡ length (b ∷ line) + 1
+size_next b line ws true e = omega (arith, e)
+size_next b line [] false e = absurd (omega (arith, e))
+size_next b line (w ∷ ws) false e = omega (arith, e)
+
+-- the words of a line are as long as it is, with a byte behind the last
+pub split_size : (line : Bytes) → words_size (split_words line) ≡ length line + 1
+split_size [] = refl
+split_size (b ∷ line) = size_next b line (split_words line) (b == 32) (split_size line)
 
 -- ---- numbers
 

@@ -7,12 +7,14 @@ use Rattle.history_model.specs.Commands as model
 use Rattle.history_model.specs.Lines as lines
 use Rattle.history_model.specs.Spelling.{is_tip, item_target, are_items}
 use Rattle.history_word.specs.LineTable as table
-use Rattle.history_word.specs.LineTable.{Items, order_of, first_parents_of, item_of, items_of, path_of, with_item, number_of, walk_of_words, log_of_words}
+use Rattle.history_word.specs.LineTable.{Items, order_of, first_parents_of, item_of, items_of, paths_of, with_item, number_of, walk_of_words, log_of_words}
 use Rattle.history_word.specs.Commands.{IsOrder, IsLogItem}
 use Rattle.history_word.specs.Drafts.{SaysLog, SaysOrder, SaysItems, item_with}
 use Rattle.history_word.specs.declared.command.Order.{Order}
 use Rattle.history_word.specs.declared.command.LogItem.{LogItem}
+use Rattle.history_word.specs.Sizes.{listed}
 use Rattle.history_word.specs.declared.logs.LogLine.{LogLine}
+use Rattle.history_word.specs.declared.sizes.Sizes.{Sizes}
 use Rattle.history_word.proofs.PushLemmas.{pushed_zip}
 use Rattle.history_word.proofs.UnofferedLemmas.{nowhere}
 use Rattle.std.proofs.lemmas.Bool.{and_from, and_parts}
@@ -78,7 +80,7 @@ tip_of true word some = some_word word some
 tip_of false word some = refl
 
 said_more : (done : List model.LogItem) (item : model.LogItem) (word : Bytes) (words : List Bytes) → item_of word ≡ Some item → before done (items_of (word ∷ words)) ≡ before (done ++ item ∷ []) (items_of words)
-said_more done item word words e = ap (λ o. before done (with_item o (items_of words) (path_of (word ∷ words)))) e ∙ go (items_of words)
+said_more done item word words e = ap (λ o. before done (with_item o (items_of words) (paths_of (word ∷ words)))) e ∙ go (items_of words)
   where
     go : (more : Option Items) → before done (option_map (λ items. (item ∷ items.0, items.1)) more) ≡ before (done ++ item ∷ []) more
     go None = refl
@@ -97,36 +99,28 @@ one_more all words left word old new x has_tip tip target h split e some is push
 
 -- ---- at the end, or at a word that is no item
 
-come_to : (all words : List Bytes) (items : Option (Vec LogItem Global)) (has_tip : Bool) (path : Option ℕ) (h : HaveCome all words items has_tip) → items_of words ≡ Some ([], path) → items_of all ≡ Some (h.done, path)
-come_to all words items has_tip path h e = h.said ∙ ap (before h.done) e ∙ ap (λ done. Some (done, path)) (append-nil h.done)
+come_to : (all words : List Bytes) (items : Option (Vec LogItem Global)) (has_tip : Bool) (paths : List ℕ) (h : HaveCome all words items has_tip) → items_of words ≡ Some ([], paths) → items_of all ≡ Some (h.done, paths)
+come_to all words items has_tip paths h e = h.said ∙ ap (before h.done) e ∙ ap (λ done. Some (done, paths)) (append-nil h.done)
 
-pub all_come : (all words : List Bytes) (items : Option (Vec LogItem Global)) (has_tip : Bool) (path : Option ℕ) → HaveCome all words items has_tip → items_of words ≡ Some ([], path) → has_tip ≡ true → SaysItems (Some (items, path)) (items_of all)
-all_come all words items has_tip path h e tip =
-    subst (SaysItems (Some (items, path))) (sym (come_to all words items has_tip path h e)) (and_from (list_any is_tip h.done) (list_all has_target h.done) (h.begins ∙ tip) h.whole, h.kept, refl)
+pub all_come : (all words : List Bytes) (items : Option (Vec LogItem Global)) (has_tip : Bool) (sizes : Sizes) → HaveCome all words items has_tip → items_of words ≡ Some ([], listed sizes) → has_tip ≡ true → SaysItems (Some (items, sizes)) (items_of all)
+all_come all words items has_tip sizes h e tip =
+    subst (SaysItems (Some (items, sizes))) (sym (come_to all words items has_tip (listed sizes) h e)) (and_from (list_any is_tip h.done) (list_all has_target h.done) (h.begins ∙ tip) h.whole, h.kept, refl)
 
-pub no_tip_came : (all words : List Bytes) (items : Option (Vec LogItem Global)) (has_tip : Bool) (path : Option ℕ) → HaveCome all words items has_tip → items_of words ≡ Some ([], path) → has_tip ≡ false → SaysItems None (items_of all)
-no_tip_came all words items has_tip path h e tip = subst (SaysItems None) (sym (come_to all words items has_tip path h e)) (ap (λ b. b && list_all has_target h.done) (h.begins ∙ tip))
+pub no_tip_came : (all words : List Bytes) (items : Option (Vec LogItem Global)) (has_tip : Bool) (sizes : Sizes) → HaveCome all words items has_tip → items_of words ≡ Some ([], listed sizes) → has_tip ≡ false → SaysItems None (items_of all)
+no_tip_came all words items has_tip sizes h e tip = subst (SaysItems None) (sym (come_to all words items has_tip (listed sizes) h e)) (ap (λ b. b && list_all has_target h.done) (h.begins ∙ tip))
 
-pub none_left : (words : List Bytes) → words ≡ [] → items_of words ≡ Some ([], None)
-none_left words e = ap items_of e
+pub none_left : (words : List Bytes) (sizes : Sizes) → listed sizes ≡ [] → words ≡ [] → items_of words ≡ Some ([], listed sizes)
+none_left words sizes none e = ap items_of e ∙ ap (λ ns. Some ([], ns)) (sym none)
 
-pub path_left : (words left : List Bytes) (word size : Bytes) (n : ℕ) → words ≡ word ∷ left → word ≡ codes "path" → left ≡ size ∷ [] → number_of size ≡ Some n → items_of words ≡ Some ([], Some n)
-path_left words left word size n split is last e = ap items_of (split ∙ (λ i. is i ∷ last i)) ∙ ap (option_map (λ n. ([], Some n))) e
+pub paths_left : (words left : List Bytes) (word : Bytes) (sizes : Sizes) → words ≡ word ∷ left → word ≡ codes "path" → Some (listed sizes) ≡ paths_of (codes "path" ∷ left) → items_of words ≡ Some ([], listed sizes)
+paths_left words left word sizes split is told = ap items_of (split ∙ ap (λ w. w ∷ left) is) ∙ ap (option_map (λ ns. ([], ns))) (sym told)
 
 -- words that say no items say none behind others
 pub none_said : (all words : List Bytes) (items : Option (Vec LogItem Global)) (has_tip : Bool) → HaveCome all words items has_tip → items_of words ≡ None → SaysItems None (items_of all)
 none_said all words items has_tip h e = subst (SaysItems None) (sym (h.said ∙ ap (before h.done) e)) tt
 
-pub no_size : (words left : List Bytes) (word : Bytes) → words ≡ word ∷ left → word ≡ codes "path" → ((size : Bytes) → left ≡ size ∷ [] → ⊥) → items_of words ≡ None
-no_size words left word split is none = ap items_of (split ∙ ap (λ w. w ∷ left) is) ∙ no_path left none
-  where
-    no_path : (left : List Bytes) → ((size : Bytes) → left ≡ size ∷ [] → ⊥) → items_of (codes "path" ∷ left) ≡ None
-    no_path [] none = refl
-    no_path (size ∷ []) none = absurd (none size refl)
-    no_path (size ∷ more ∷ left) none = refl
-
-pub no_number : (words left : List Bytes) (word size : Bytes) → words ≡ word ∷ left → word ≡ codes "path" → left ≡ size ∷ [] → number_of size ≡ None → items_of words ≡ None
-no_number words left word size split is last e = ap items_of (split ∙ (λ i. is i ∷ last i)) ∙ ap (option_map (λ n. ([], Some n))) e
+pub no_paths : (words left : List Bytes) (word : Bytes) → words ≡ word ∷ left → word ≡ codes "path" → None ≡ paths_of (codes "path" ∷ left) → items_of words ≡ None
+no_paths words left word split is none = ap items_of (split ∙ ap (λ w. w ∷ left) is) ∙ ap (option_map (λ ns. ([], ns))) (sym none)
 
 bare : (done is : List model.LogItem) (item : model.LogItem) → item_target item ≡ [] → are_items (done ++ item ∷ is) ≡ false
 bare done is item e = none (list_any is_tip (done ++ item ∷ is)) (list_all has_target (done ++ item ∷ is)) (within done)
@@ -144,17 +138,16 @@ pub no_item : (all words left : List Bytes) (word : Bytes) (items : Option (Vec 
 no_item all words left word items has_tip h split other none =
     subst (SaysItems None) (sym (h.said ∙ ap (λ ws. before h.done (items_of ws)) split)) (by_item (item_of word) refl)
   where
-    no_path : (left : List Bytes) → path_of (word ∷ left) ≡ None
+    no_path : (left : List Bytes) → paths_of (word ∷ left) ≡ None
     no_path [] = refl
-    no_path (size ∷ []) = ap (λ b. if b then option_map (λ n. ([], Some n)) (number_of size) else None) other
-    no_path (size ∷ more ∷ left) = refl
+    no_path (size ∷ left) = ap (λ b. if b then option_and_then (λ n. option_map (λ ns. n ∷ ns) (paths_of left)) (number_of size) else None) other
 
     bare_says : (item : model.LogItem) → item_target item ≡ [] → (more : Option Items) → SaysItems None (before h.done (option_map (λ items. (item ∷ items.0, items.1)) more))
     bare_says item e None = tt
     bare_says item e (Some items) = bare h.done items.0 item e
 
-    by_item : (o : Option model.LogItem) → item_of word ≡ o → SaysItems None (before h.done (with_item o (items_of left) (path_of (word ∷ left))))
-    by_item None e = subst (λ path. SaysItems None (before h.done path)) (sym (no_path left)) tt
+    by_item : (o : Option model.LogItem) → item_of word ≡ o → SaysItems None (before h.done (with_item o (items_of left) (paths_of (word ∷ left))))
+    by_item None e = subst (λ paths. SaysItems None (before h.done (option_map (λ ns. ([], ns)) paths))) (sym (no_path left)) tt
     by_item (Some item) e = bare_says item (none item e) (items_of left)
 
 -- ---- the line
@@ -190,10 +183,10 @@ no_words order left e = subst (λ ws. SaysLog None (walk_of_words order ws)) (sy
 
 pub no_items : (order : model.Order) (first : Bool) (said : Option Items) → SaysItems None said → SaysLog None (option_map (λ items. lines.LogHeading order first items.0 items.1) said)
 no_items order first None says = tt
-no_items order first (Some (is, path)) says =
-    nowhere (lines.LogHeading order first is path) (ap (λ b. if b then Some table.Done else None) says) refl refl refl refl refl refl refl refl
+no_items order first (Some (is, paths)) says =
+    nowhere (lines.LogHeading order first is paths) (ap (λ b. if b then Some table.Done else None) says) refl refl refl refl refl refl refl refl
 
-pub whole_line : (order : model.Order) (own : Option Order) (first : Bool) (items : Option (Vec LogItem Global)) (path : Option ℕ) (said : Option Items) → IfSome own (λ x. IsOrder x order) → SaysItems (Some (items, path)) said
-    → SaysLog (Some (record { order = own; first_parents = first; items = items; path = path })) (option_map (λ items. lines.LogHeading order first items.0 items.1) said)
-whole_line order own first items path None is says = absurd says
-whole_line order own first items path (Some (all, size)) is says = (record { order = is; first_parents = refl; items = says.1; begins = says.0 }, says.2)
+pub whole_line : (order : model.Order) (own : Option Order) (first : Bool) (items : Option (Vec LogItem Global)) (paths : Sizes) (said : Option Items) → IfSome own (λ x. IsOrder x order) → SaysItems (Some (items, paths)) said
+    → SaysLog (Some (record { order = own; first_parents = first; items = items; paths = paths })) (option_map (λ items. lines.LogHeading order first items.0 items.1) said)
+whole_line order own first items paths None is says = absurd says
+whole_line order own first items paths (Some (all, sizes)) is says = (record { order = is; first_parents = refl; items = says.1; begins = says.0 }, says.2)

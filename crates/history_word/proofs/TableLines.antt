@@ -10,7 +10,7 @@ use Rattle.history_model.specs.Spelling.{expect_words, kind_word, option_list, o
 use Rattle.history_model.specs.declared.FileKind.{FileKind}
 use Rattle.history_model.specs.declared.FileKind.TheVariants.{File, Exec, Link}
 use Rattle.history_model.specs.Lines.{Role, Author, Committer, Tagger, Mover, Heading, CommitHeading, ParentHeading, PutHeading, RemoveHeading, RemoveFileHeading, GraftHeading, ActorHeading, MessageHeading, EndHeading, TagHeading, MoveHeading, ToHeading, RenameHeading, DeleteHeading, SwitchHeading, PackHeading, IndexHeading, NamesHeading, FilesHeading, PastHeading, LogHeading, ShowHeading, role_word, size_words, words_of, sizes, are_sizes}
-use Rattle.history_word.specs.LineTable.{number_of, kind_of, expect_of, end_of_words, word_of_words, size_of_words, commit_of_words, put_of_words, graft_of_words, actor_of_words, show_of_words, target_of_words, rename_of_words, delete_of_words, names_of_words, since_of, order_of, first_parents_of, item_of, Items, path_of, with_item, items_of, walk_of_words, log_of_words, name_heading_of, heading_of, WordsAreHeadings}
+use Rattle.history_word.specs.LineTable.{number_of, kind_of, expect_of, end_of_words, word_of_words, size_of_words, commit_of_words, put_of_words, graft_of_words, actor_of_words, show_of_words, target_of_words, rename_of_words, delete_of_words, names_of_words, since_of, order_of, first_parents_of, item_of, Items, paths_of, with_item, items_of, walk_of_words, log_of_words, name_heading_of, heading_of, WordsAreHeadings}
 use Rattle.history_model.proofs.PartLemmas.{below}
 use Rattle.std.proofs.lemmas.Bool.{and_from, eqb-true, and_parts}
 use Rattle.history_model.proofs.PlaceLemmas.{one_text}
@@ -241,28 +241,33 @@ item_told (sign ∷ word) item e =
     either_way (sign == 43) (Some (Tip word)) _ item e (λ b f. ap (λ s. s ∷ word) (eqb-true sign 43 b) ∙ ap item_word (some_same f)) (λ e.
     either_way (sign == 45) (Some (Hidden word)) None item e (λ b f. ap (λ s. s ∷ word) (eqb-true sign 45 b) ∙ ap item_word (some_same f)) (λ e. cc))
 
--- the words are those of the items and the path, whose length is one
+-- the words are those of the items and the paths, whose lengths these are
 abbrev ItemsAre : List Bytes → Items → Type 0
-ItemsAre words items = (words ≡ map item_word items.0 ++ flat_map size_words (option_list items.1)) × (are_sizes (option_list items.1) ≡ true)
+ItemsAre words items = (words ≡ map item_word items.0 ++ flat_map size_words items.1) × (are_sizes items.1 ≡ true)
 
 items_as : (words : List Bytes) (i j : Items) → i ≡ j → ItemsAre words i → ItemsAre words j
 items_as words i j e a = subst (ItemsAre words) e a
 
-path_told : (words : List Bytes) (items : Items) → path_of words ≡ Some items → ItemsAre words items
-path_told (first ∷ size ∷ []) items e =
-    let found = if_some (bytes_eq first (codes "path")) (option_map (λ n. ([], Some n)) (number_of size)) items e in
-    let n = map_some (λ n. ([], Some n)) (number_of size) items found.1 in
+paths_told : (words : List Bytes) (sizes : List ℕ) → paths_of words ≡ Some sizes → ItemsAre words ([], sizes)
+paths_told [] sizes e = items_as [] ([], []) ([], sizes) (ap (λ ns. ([], ns)) (some_same e)) (refl, refl)
+paths_told (first ∷ []) sizes e = cc
+paths_told (first ∷ size ∷ words) sizes e =
+    let found = if_some (bytes_eq first (codes "path")) (option_and_then (λ n. option_map (λ ns. n ∷ ns) (paths_of words)) (number_of size)) sizes e in
+    let n = then_some (λ n. option_map (λ ns. n ∷ ns) (paths_of words)) (number_of size) sizes found.1 in
     let size_is = decimal_number size n.0 n.1 in
-    items_as (first ∷ size ∷ []) ([], Some n.0) items n.2
-    ((λ i. one_text first (codes "path") found.0 i ∷ size_is.0 i ∷ []), and_from (nat_lt n.0 (2 ^ 64)) true size_is.1 refl)
-path_told words items e = cc
+    let more = map_some (λ ns. n.0 ∷ ns) (paths_of words) sizes n.2 in
+    let rest = paths_told words more.0 more.1 in
+    items_as (first ∷ size ∷ words) ([], n.0 ∷ more.0) ([], sizes) (ap (λ ns. ([], ns)) more.2)
+    ((λ i. one_text first (codes "path") found.0 i ∷ size_is.0 i ∷ rest.0 i), and_from (nat_lt n.0 (2 ^ 64)) (are_sizes more.0) size_is.1 rest.1)
 
 items_told : (words : List Bytes) (items : Items) → items_of words ≡ Some items → ItemsAre words items
-items_told [] items e = items_as [] ([], None) items (some_same e) (refl, refl)
+items_told [] items e = items_as [] ([], []) items (some_same e) (refl, refl)
 items_told (word ∷ words) items e = by_item (λ i f. items_told words i f) (item_of word) refl e
   where
-    by_item : ((i : Items) → items_of words ≡ Some i → ItemsAre words i) → (o : Option LogItem) → item_of word ≡ o → with_item o (items_of words) (path_of (word ∷ words)) ≡ Some items → ItemsAre (word ∷ words) items
-    by_item told None is e = path_told (word ∷ words) items e
+    by_item : ((i : Items) → items_of words ≡ Some i → ItemsAre words i) → (o : Option LogItem) → item_of word ≡ o → with_item o (items_of words) (paths_of (word ∷ words)) ≡ Some items → ItemsAre (word ∷ words) items
+    by_item told None is e =
+        let found = map_some (λ ns. ([], ns)) (paths_of (word ∷ words)) items e in
+        items_as (word ∷ words) ([], found.0) items found.2 (paths_told (word ∷ words) found.0 found.1)
     by_item told (Some item) is e =
         let more = map_some (λ items. (item ∷ items.0, items.1)) (items_of words) items e in
         let rest = told more.0 more.1 in
@@ -357,16 +362,23 @@ first_reads : (first : Bool) → first_parents_of (parents_word first) ≡ Some 
 first_reads true = refl
 first_reads false = refl
 
-items_read : (items : List LogItem) (path : Option ℕ) → are_sizes (option_list path) ≡ true → items_of (map item_word items ++ flat_map size_words (option_list path)) ≡ Some (items, path)
-items_read [] None s = refl
-items_read [] (Some n) s = ap (option_map (λ n. ([], Some n))) (number_decimal n (and_parts (nat_lt n (2 ^ 64)) true s).0)
+paths_read : (sizes : List ℕ) → are_sizes sizes ≡ true → paths_of (flat_map size_words sizes) ≡ Some sizes
+paths_read [] s = refl
+paths_read (n ∷ sizes) s =
+    let both = and_parts (nat_lt n (2 ^ 64)) (are_sizes sizes) s in
+    ap (option_and_then (λ m. option_map (λ ns. m ∷ ns) (paths_of (flat_map size_words sizes)))) (number_decimal n both.0)
+    ∙ ap (option_map (λ ns. n ∷ ns)) (paths_read sizes both.1)
+
+items_read : (items : List LogItem) (paths : List ℕ) → are_sizes paths ≡ true → items_of (map item_word items ++ flat_map size_words paths) ≡ Some (items, paths)
+items_read [] [] s = refl
+items_read [] (n ∷ paths) s = ap (option_map (λ ns. ([], ns))) (paths_read (n ∷ paths) s)
 items_read (Tip word ∷ items) path s = ap (option_map (λ more. (Tip word ∷ more.0, more.1))) (items_read items path s)
 items_read (Hidden word ∷ items) path s = ap (option_map (λ more. (Hidden word ∷ more.0, more.1))) (items_read items path s)
 
-log_reads : (order : Order) (first : Bool) (items : List LogItem) (path : Option ℕ) → are_sizes (option_list path) ≡ true
-    → log_of_words (order_words order ++ (parents_word first ∷ (map item_word items ++ flat_map size_words (option_list path)))) ≡ Some (LogHeading order first items path)
+log_reads : (order : Order) (first : Bool) (items : List LogItem) (path : List ℕ) → are_sizes path ≡ true
+    → log_of_words (order_words order ++ (parents_word first ∷ (map item_word items ++ flat_map size_words path))) ≡ Some (LogHeading order first items path)
 log_reads order first items path s =
-    let rest = map item_word items ++ flat_map size_words (option_list path) in
+    let rest = map item_word items ++ flat_map size_words path in
     ap (option_and_then (λ o. walk_of_words o.0 o.1)) (order_reads order (parents_word first ∷ rest))
     ∙ ap (option_and_then (λ first. option_map (λ items. LogHeading order first items.0 items.1) (items_of rest))) (first_reads first)
     ∙ ap (option_map (λ items. LogHeading order first items.0 items.1)) (items_read items path s)

@@ -1,14 +1,14 @@
 -- The table leads from its start to its end over a command's parts, and from anywhere to its end.
-use Rattle.std.proofs.Common.{◌≡◌, ◌≢◌, ◌↔◌, ℕ, Bool, true, not, ◌&&◌, List, [], ◌∷◌, ◌++◌, length, map, replicate, refl, sym, ap, ◌∙◌, subst, Option, Some, None, option_and_then, codes, flat_map, nat_le, suc, arith, tests}
+use Rattle.std.proofs.Common.{◌≡◌, ◌≢◌, ◌↔◌, ℕ, Bool, true, not, ◌&&◌, List, [], ◌∷◌, ◌++◌, length, map, replicate, refl, sym, ap, ◌∙◌, subst, Option, Some, None, option_and_then, codes, flat_map}
 use Rattle.std.specs.List.{list_all, join_with_byte}
 use Rattle.std.specs.Fmt.{digits}
 use Rattle.history_model.specs.Bytes.{Bytes, line, is_empty}
 use Rattle.history_model.specs.Commands.{Command, Commit, Tag, Move, Rename, Delete, Switch, Pack, Index, Names, Files, Past, Log, Show, CommitCommand, Expect, EditLine, PutLine, RemoveLine, RemoveFileLine, GraftLine, To, Order, LogItem}
-use Rattle.history_model.specs.Spelling.{Part, Line, Field, parts_of, edit_parts, to_part, actor_parts, message_parts, end_part, signed_parts, parent_part, is_part, are_items, has_spelling, has_enough}
+use Rattle.history_model.specs.Spelling.{Part, Line, Field, parts_of, edit_parts, to_part, actor_parts, message_parts, end_part, signed_parts, parent_part, is_part, are_items, has_spelling, has_enough, order_words, parents_word, item_word, path_words}
 use Rattle.history_model.specs.Commands as commands
 use Rattle.history_model.specs.Grammar.{GoesOnOf, LineStandsOf, FieldStandsOf, LineFitsOf}
 use Rattle.history_word.specs.LineTable as whole
-use Rattle.history_model.specs.Lines.{Role, Author, Committer, Tagger, Mover, Heading, CommitHeading, ParentHeading, PutHeading, RemoveHeading, RemoveFileHeading, GraftHeading, ActorHeading, MessageHeading, EndHeading, TagHeading, MoveHeading, ToHeading, RenameHeading, DeleteHeading, SwitchHeading, PackHeading, IndexHeading, NamesHeading, FilesHeading, PastHeading, LogHeading, ShowHeading, role_word, words_of, sizes, are_sizes, first_line}
+use Rattle.history_model.specs.Lines.{Role, Author, Committer, Tagger, Mover, Heading, CommitHeading, ParentHeading, PutHeading, RemoveHeading, RemoveFileHeading, GraftHeading, ActorHeading, MessageHeading, EndHeading, TagHeading, MoveHeading, ToHeading, RenameHeading, DeleteHeading, SwitchHeading, PackHeading, IndexHeading, NamesHeading, FilesHeading, PastHeading, LogHeading, ShowHeading, role_word, words_of, size_words, sizes, are_sizes, first_line}
 use Rattle.history_word.specs.LineTable.{Place, Start, Parents, Edits, ToCommitter, ToTagger, ToFirst, ToMore, ToMessage, ToEnd, Done, next_edit}
 use Rattle.history_word.specs.TableRuns.{Progress, at, begin, done, is_told, next_of, part_step_of, run_from_of, reached_of, IsLineAtOf}
 use Rattle.std.proofs.lemmas.List.{length-replicate}
@@ -36,9 +36,6 @@ lines_same [] (b ∷ c ∷ t) e = cc
 lines_same (b ∷ []) [] e = cc
 lines_same (b ∷ c ∷ s) [] e = cc
 lines_same (b ∷ s) (c ∷ t) e = λ i. head_same e i ∷ lines_same s t (tail_same e) i
-
-too_many : (n : ℕ) → nat_le (suc (suc n)) 1 ≡ true → ⊥
-too_many n h = grind (arith, tests)
 
 -- of the commands whose first lines are offered, that of `files HEAD` among them
 module _ (offers : Heading → Bool) (some_offered : offers (FilesHeading (codes "HEAD")) ≡ true) where
@@ -202,6 +199,30 @@ module _ (offers : Heading → Bool) (some_offered : offers (FilesHeading (codes
       → reached (Line (words_of h) ∷ Field path ∷ []) ≡ Some done
   path_reaches h path one stands offered parts = (one_field Start Done h path [] one (begins h Done offered stands) parts).0
 
+  fields_reach : (fields : List Bytes) (following : Place) → run_from (at (map length fields) following) (map Field fields) ≡ Some (at [] following)
+  fields_reach [] following = refl
+  fields_reach (field ∷ fields) following = run_field field (map length fields) following (map Field fields) ∙ fields_reach fields following
+
+  fields_sized : (fields : List Bytes) → list_all is_part (map Field fields) ≡ true → are_sizes (map length fields) ≡ true
+  fields_sized [] parts = refl
+  fields_sized (field ∷ fields) parts =
+      let both = and_parts (is_part (Field field)) (list_all is_part (map Field fields)) parts in
+      and_from (is_part (Field field)) (are_sizes (map length fields)) both.0 (fields_sized fields both.1)
+
+  -- a command of one line with these fields behind it
+  paths_reach : (h : Heading) (paths : List Bytes) → sizes h ≡ map length paths → whole.next Start h ≡ Some Done → offers h ≡ true → list_all is_part (Line (words_of h) ∷ map Field paths) ≡ true
+      → reached (Line (words_of h) ∷ map Field paths) ≡ Some done
+  paths_reach h paths told stands offered parts =
+      let first = and_parts (is_part (Line (words_of h))) (list_all is_part (map Field paths)) parts in
+      run_line Start Done h (map Field paths) (begins h Done offered stands) first.0 (subst (λ ns. are_sizes ns ≡ true) (sym told) (fields_sized paths first.1))
+      ∙ ap (λ ns. run_from (at ns Done) (map Field paths)) told
+      ∙ fields_reach paths Done
+
+  -- the words of the paths are those of their lengths
+  paths_words : (paths : List Bytes) → flat_map path_words paths ≡ flat_map size_words (map length paths)
+  paths_words [] = refl
+  paths_words (path ∷ paths) = ap (λ words. path_words path ++ words) (paths_words paths)
+
   move_reaches : (to : List To) (a : commands.ActorLine) (message : Bytes) → not (is_empty to) ≡ true → list_all is_part (map to_part to ++ (actor_parts (codes "actor") a ++ (message_parts message ++ end_part))) ≡ true
       → run_from (at [] ToFirst) (map to_part to ++ (actor_parts (codes "actor") a ++ (message_parts message ++ end_part))) ≡ Some done
   move_reaches [] a message some parts = cc
@@ -215,12 +236,12 @@ module _ (offers : Heading → Bool) (some_offered : offers (FilesHeading (codes
       → offers (first_line (Log (record { order = order; first_parents = first; items = items; paths = paths }))) ≡ true
       → list_all is_part (parts_of (Log (record { order = order; first_parents = first; items = items; paths = paths }))) ≡ true
       → reached (parts_of (Log (record { order = order; first_parents = first; items = items; paths = paths }))) ≡ Some done
-  log_reaches order first items [] enough offered parts =
-      alone_reaches (LogHeading order first items None) refl (if_taken (are_items items) (Some Done) (and_parts (are_items items) true enough).0) offered parts
-  log_reaches order first items (path ∷ []) enough offered parts =
-      path_reaches (LogHeading order first items (Some (length path))) path refl (if_taken (are_items items) (Some Done) (and_parts (are_items items) true enough).0) offered parts
-  log_reaches order first items (path ∷ other ∷ more) enough offered parts =
-      absurd (too_many (length more) (and_parts (are_items items) (nat_le (length (path ∷ other ∷ more)) 1) enough).1)
+  log_reaches order first items paths enough offered parts =
+      let h : Heading = LogHeading order first items (map length paths) in
+      let spelled : parts_of (Log (record { order = order; first_parents = first; items = items; paths = paths })) ≡ Line (words_of h) ∷ map Field paths =
+      ap (λ words. Line (codes "log" ∷ (order_words order ++ (parents_word first ∷ (map item_word items ++ words)))) ∷ map Field paths) (paths_words paths) in
+      ap reached spelled
+      ∙ paths_reach h paths refl (if_taken (are_items items) (Some Done) enough) offered (subst (λ ps. list_all is_part ps ≡ true) spelled parts)
 
   told_reaches : (command : Command) → has_enough command ≡ true → offers (first_line command) ≡ true → list_all is_part (parts_of command) ≡ true → reached (parts_of command) ≡ Some done
   told_reaches (Commit c) enough offered parts =

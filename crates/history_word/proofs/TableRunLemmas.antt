@@ -3,9 +3,9 @@ use Rattle.std.proofs.Common.{◌≡◌, ◌≢◌, ℕ, zero, suc, ◌^◌, ◌
 use Rattle.std.specs.List.{list_all}
 use Rattle.history_model.specs.Bytes.{Bytes}
 use Rattle.history_model.specs.Commands.{Command, Commit, Tag, Move, Rename, Delete, Switch, Pack, Index, Names, Files, Past, Log, Show, CommitCommand, Expect, EditLine, PutLine, RemoveLine, RemoveFileLine, GraftLine, To, Order, LogItem}
-use Rattle.history_model.specs.Spelling.{Part, Line, Field, parts_of, expect_words, order_words, parents_word, item_word, kind_word, parent_part, edit_parts, to_part, actor_parts, message_parts, end_part, is_part, are_items, has_spelling, has_enough}
+use Rattle.history_model.specs.Spelling.{Part, Line, Field, parts_of, expect_words, order_words, parents_word, item_word, kind_word, parent_part, edit_parts, to_part, actor_parts, message_parts, end_part, is_part, are_items, has_spelling, has_enough, path_words}
 use Rattle.history_model.specs.Commands as commands
-use Rattle.history_model.specs.Lines.{Role, Author, Committer, Tagger, Mover, Heading, CommitHeading, ParentHeading, PutHeading, RemoveHeading, RemoveFileHeading, GraftHeading, ActorHeading, MessageHeading, EndHeading, TagHeading, MoveHeading, ToHeading, RenameHeading, DeleteHeading, SwitchHeading, PackHeading, IndexHeading, NamesHeading, FilesHeading, PastHeading, LogHeading, ShowHeading, role_word, words_of, sizes, are_sizes, first_line}
+use Rattle.history_model.specs.Lines.{Role, Author, Committer, Tagger, Mover, Heading, CommitHeading, ParentHeading, PutHeading, RemoveHeading, RemoveFileHeading, GraftHeading, ActorHeading, MessageHeading, EndHeading, TagHeading, MoveHeading, ToHeading, RenameHeading, DeleteHeading, SwitchHeading, PackHeading, IndexHeading, NamesHeading, FilesHeading, PastHeading, LogHeading, ShowHeading, role_word, words_of, sizes, are_sizes, first_line, size_words}
 use Rattle.history_word.specs.LineTable.{heading_of, Place, Start, Parents, Edits, ToCommitter, ToTagger, ToFirst, ToMore, ToMessage, ToEnd, Done, next_edit, next}
 use Rattle.history_word.specs.TableRuns.{Progress, at, done, is_told, next_of, after_line_of, part_step_of, run_from_of, reached_of}
 use Rattle.history_word.proofs.TableLines.{if_some, map_some, then_some, heading_told, heading_reads, some_same}
@@ -132,6 +132,36 @@ module _ (offers : Heading → Bool) where
       let st = then_some (λ after. run_from after parts) (part_step (size ∷ fields) place (Field bytes)) done e in
       let field = field_step size fields place bytes st.0 st.1 in
       record { bytes = bytes; rest = parts; long = field.0; is = refl; goes = subst (λ p. run_from p parts ≡ Some done) (sym field.1) st.2 }
+
+  -- all fields that are to come
+  record FieldsRun (sizes : List ℕ) (place : Place) (parts : List Part) : Type 0 where
+    fields : List Bytes
+    rest : List Part
+    long : map length fields ≡ sizes
+    is : parts ≡ map Field fields ++ rest
+    goes : run_from (at [] place) rest ≡ Some done
+
+  fields_run : (sizes : List ℕ) (place : Place) (parts : List Part) → run_from (at sizes place) parts ≡ Some done → FieldsRun sizes place parts
+  fields_run [] place parts e = record { fields = []; rest = parts; long = refl; is = refl; goes = e }
+  fields_run (size ∷ sizes) place parts e =
+      let first = field_run size sizes place parts e in
+      let more = fields_run sizes place first.rest first.goes in
+      record {
+        fields = first.bytes ∷ more.fields;
+        rest = more.rest;
+        long = λ i. first.long i ∷ more.long i;
+        is = first.is ∙ ap (λ ps. Field first.bytes ∷ ps) more.is;
+        goes = more.goes;
+      }
+
+  none_behind : (parts : List Part) → parts ++ [] ≡ parts
+  none_behind [] = refl
+  none_behind (part ∷ parts) = ap (λ ps. part ∷ ps) (none_behind parts)
+
+  -- the words of the paths are those of their lengths
+  paths_words : (paths : List Bytes) → flat_map path_words paths ≡ flat_map size_words (map length paths)
+  paths_words [] = refl
+  paths_words (path ∷ paths) = ap (λ words. path_words path ++ words) (paths_words paths)
 
   record LineRun (place : Place) (parts : List Part) : Type 0 where
     heading : Heading
@@ -447,18 +477,15 @@ module _ (offers : Heading → Bool) where
   start_line (NamesHeading folder) following rest s e = alone (NamesHeading folder) following rest (Names folder) s e refl refl refl
   start_line (FilesHeading word) following rest s e = alone (FilesHeading word) following rest (Files word) s e refl refl refl
   start_line (PastHeading name) following rest s e = alone (PastHeading name) following rest (Past name) s e refl refl refl
-  start_line (LogHeading order first items None) following rest s e =
+  start_line (LogHeading order first items ns) following rest s e =
       let found = if_some (are_items items) (Some Done) following s in
-      alone (LogHeading order first items None) following rest (Log (record { order = order; first_parents = first; items = items; paths = [] })) found.1 e (and_from (are_items items) true found.0 refl) refl refl
-  start_line (LogHeading order first items (Some n)) following rest s e =
-      let found = if_some (are_items items) (Some Done) following s in
-      let f = field_run n [] following rest e in
-      let tail = f.is ∙ ap (λ ps. Field f.bytes ∷ ps) (done_run f.rest (placed Done following [] f.rest found.1 f.goes)) in
+      let f = fields_run ns following rest e in
+      let tail = f.is ∙ ap (λ ps. map Field f.fields ++ ps) (done_run f.rest (placed Done following [] f.rest found.1 f.goes)) ∙ none_behind (map Field f.fields) in
       record {
-        command = Log (record { order = order; first_parents = first; items = items; paths = f.bytes ∷ [] });
-        enough = and_from (are_items items) true found.0 refl;
-        first = ap (λ k. LogHeading order first items (Some k)) f.long;
-        is = λ i. Line (codes "log" ∷ (order_words order ++ (parents_word first ∷ (map item_word items ++ (codes "path" ∷ decimal (f.long i) ∷ []))))) ∷ sym tail i;
+        command = Log (record { order = order; first_parents = first; items = items; paths = f.fields });
+        enough = found.0;
+        first = ap (λ ks. LogHeading order first items ks) f.long;
+        is = λ i. Line (codes "log" ∷ (order_words order ++ (parents_word first ∷ (map item_word items ++ (paths_words f.fields ∙ ap (flat_map size_words) f.long) i)))) ∷ sym tail i;
       }
   start_line (ShowHeading word None) following rest s e = alone (ShowHeading word None) following rest (Show word None) s e refl refl refl
   start_line (ShowHeading word (Some n)) following rest s e =

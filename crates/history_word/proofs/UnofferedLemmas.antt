@@ -4,7 +4,7 @@ use Rattle.std.proofs.lemmas.Slice.Eq.{bytes_eq-Decides}
 use Rattle.history_model.specs.Bytes.{Bytes}
 use Rattle.history_model.specs.Lines as lines
 use Rattle.history_word.specs.LineTable as table
-use Rattle.history_word.specs.LineTable.{end_of_words, name_heading_of, heading_of}
+use Rattle.history_word.specs.LineTable.{name_heading_of, heading_of}
 use Rattle.history_word.specs.TableRuns.{next_offered}
 use Rattle.history_word.specs.declared.heading.Heading.{Heading}
 use Rattle.history_word.specs.declared.place.Place.{Place}
@@ -27,16 +27,6 @@ nowhere h start parents edits committer tagger first more message end place.ToMo
 nowhere h start parents edits committer tagger first more message end place.Message = message
 nowhere h start parents edits committer tagger first more message end place.End = end
 nowhere h start parents edits committer tagger first more message end place.Done = refl
-
--- ---- words that say such a line, or none
-
-either : (b : Bool) (x y : Option lines.Heading) → Says None x → Says None y → Says None (if b then x else y)
-either true x y e f = e
-either false x y e f = f
-
-no_end : (h : lines.Heading) → Nowhere h → (words : List Bytes) → Says None (end_of_words h words)
-no_end h none [] = none
-no_end h none (word ∷ words) = tt
 
 -- ---- by the first word
 
@@ -72,8 +62,8 @@ said_behind said first words commit parent put remove remove_file graft author c
 
 -- a line whose first word is none of those that are read
 pub no_line_of : (first : Bytes) (words : List Bytes) → bytes_eq first (codes "tag") ≡ false → bytes_eq first (codes "tagger") ≡ false → bytes_eq first (codes "move") ≡ false → bytes_eq first (codes "to") ≡ false → bytes_eq first (codes "actor") ≡ false
-    → bytes_eq first (codes "delete") ≡ false → bytes_eq first (codes "names") ≡ false → bytes_eq first (codes "past") ≡ false → bytes_eq first (codes "log") ≡ false → bytes_eq first (codes "switch") ≡ false → bytes_eq first (codes "rename") ≡ false → bytes_eq first (codes "index") ≡ false → Says None (name_heading_of first words)
-no_line_of first words tag tagger move to actor delete names past log switch rename index =
+    → bytes_eq first (codes "delete") ≡ false → bytes_eq first (codes "names") ≡ false → bytes_eq first (codes "past") ≡ false → bytes_eq first (codes "log") ≡ false → bytes_eq first (codes "switch") ≡ false → bytes_eq first (codes "rename") ≡ false → bytes_eq first (codes "index") ≡ false → bytes_eq first (codes "pack") ≡ false → Says None (name_heading_of first words)
+no_line_of first words tag tagger move to actor delete names past log switch rename index pack =
     passed None (bytes_eq first (codes "tag")) _ _ tag (
     passed None (bytes_eq first (codes "tagger")) _ _ tagger (
     passed None (bytes_eq first (codes "move")) _ _ move (
@@ -82,7 +72,7 @@ no_line_of first words tag tagger move to actor delete names past log switch ren
     passed None (bytes_eq first (codes "rename")) _ _ rename (
     passed None (bytes_eq first (codes "delete")) _ _ delete (
     passed None (bytes_eq first (codes "switch")) _ _ switch (
-    either (bytes_eq first (codes "pack")) (end_of_words lines.PackHeading words) _ (no_end lines.PackHeading (nowhere lines.PackHeading refl refl refl refl refl refl refl refl refl) words) (
+    passed None (bytes_eq first (codes "pack")) _ _ pack (
     passed None (bytes_eq first (codes "index")) _ _ index (
     passed None (bytes_eq first (codes "names")) _ _ names (
     passed None (bytes_eq first (codes "past")) _ _ past (

@@ -1,14 +1,17 @@
 -- How far a command has come, and what the readers of its lines and fields add to it.
-use Rattle.std.specs.Prelude.{◌≡◌, ℕ, ◌<◌, IsTrue, List, [], ◌∷◌, ◌++◌, length, Option, Some, None, option_map, map, IfSome, codes}
+use Rattle.std.specs.Prelude.{◌≡◌, ℕ, ◌<◌, IsTrue, List, [], ◌∷◌, ◌++◌, length, Option, Some, None, map, IfSome, Vec, codes}
 use Rattle.std.specs.List.{flat_map, join_with_byte}
+use Rattle.std.specs.declared.alloc.Global.{Global}
 use Rattle.history_model.specs.Bytes.{Bytes, line}
 use Rattle.history_model.specs.Commands as model
 use Rattle.history_model.specs.Spelling as spelling
 use Rattle.history_model.specs.Lines as lines
 use Rattle.history_word.specs.LineTable as table
 use Rattle.history_word.specs.TableRuns as runs
-use Rattle.history_word.specs.Commands.{IsEdit, IsActor, IsLog}
-use Rattle.history_word.specs.Drafts.{place_of, IsEditHeading, IsLogLine, IsOpening, IsHeading, IsDraft, with_path}
+use Rattle.history_word.specs.Commands.{IsEdit, IsActor, ArePaths, IsLog}
+use Rattle.history_word.specs.Drafts.{place_of, IsEditHeading, IsLogLine, IsOpening, IsHeading, IsDraft, with_paths}
+use Rattle.history_word.specs.Sizes.{listed}
+use Rattle.history_word.specs.declared.command.Field.{Field}
 use Rattle.history_word.specs.declared.command.Edit.{Edit}
 use Rattle.history_word.specs.declared.command.ActorLine.{ActorLine}
 use Rattle.history_word.specs.declared.command.LogCommand.{LogCommand}
@@ -123,7 +126,7 @@ edit_sizes (edit.Graft path word source) = path ∷ source ∷ []
 
 abbrev pub opening_sizes : Opening → List ℕ
 opening_sizes (opening.ShowPath word path) = path ∷ []
-opening_sizes (opening.Log line) = spelling.option_list line.path
+opening_sizes (opening.Log line) = listed line.paths
 opening_sizes _ = []
 
 -- the lengths of the fields that follow a line
@@ -161,13 +164,21 @@ pub record TakesEdit (heading : EditHeading) (edit : Option Edit) (taken : Bytes
   pub is : (line : model.EditLine) → IsEditHeading heading (edit_heading line)
       → edit_fields line ≡ fields → IfSome edit (λ x. IsEdit x line)
 
--- the path that follows the line of a log was taken, where one does
+-- paths of these sizes were taken
+pub record TakesPaths (sizes : List ℕ) (fields : Option (Vec Field Global))
+    (taken : Bytes) : Type 0 where
+  pub paths : List Bytes
+  pub heads : sizes ≡ map length paths
+  pub spelled : taken ≡ flat_map line paths
+  pub is : IfSome fields (λ all. ArePaths all.items paths)
+
+-- the paths that follow the line of a log were taken
 pub record TakesLog (heading : LogLine) (log : Option LogCommand) (taken : Bytes) : Type 0 where
-  pub path : Option Bytes
-  pub heads : heading.path ≡ option_map length path
-  pub spelled : taken ≡ flat_map line (spelling.option_list path)
+  pub paths : List Bytes
+  pub heads : listed heading.paths ≡ map length paths
+  pub spelled : taken ≡ flat_map line paths
   pub is : (order : model.LogCommand) → IsLogLine heading order
-      → IfSome log (λ x. IsLog x (with_path order path))
+      → IfSome log (λ x. IsLog x (with_paths order paths))
 
 -- the fields of an actor were taken
 pub record TakesActor (heading : ActorHeading) (actor : Option ActorLine)

@@ -5,7 +5,6 @@ use Rattle.history_model.specs.Bytes.{Bytes}
 use Rattle.history_model.specs.CommandParts.{option_expect}
 use Rattle.history_model.specs.Commands as model
 use Rattle.history_model.specs.Forms.{max_path, max_actor_part, max_content}
-use Rattle.history_model.specs.Spelling.{option_list}
 use Rattle.history_model.specs.Stops.{is_changing}
 use Rattle.history_word.specs.Fields.{Keeps}
 use Rattle.history_word.specs.declared.command.Field.{Field}
@@ -113,15 +112,14 @@ IsLogItem (Tip word) (model.Tip bytes) = word.items ≡ bytes
 IsLogItem (Hidden word) (model.Hidden bytes) = word.items ≡ bytes
 IsLogItem _ _ = ⊥
 
--- the path is the only one, or there is none
-abbrev pub ArePaths : Option Field → List Bytes → Type 0
-ArePaths field paths = (path : Option Bytes) × (paths ≡ option_list path) × IsPath field path
+abbrev pub ArePaths : List Field → List Bytes → Type 0
+ArePaths = AllZip (Keeps max_path)
 
 pub record IsLog (log : LogCommand) (line : model.LogCommand) : Type 0 where
   pub order : IsOrder log.order line.order
   pub first_parents : log.first_parents ≡ line.first_parents
   pub items : AllZip IsLogItem log.items.items line.items
-  pub paths : ArePaths log.path line.paths
+  pub paths : ArePaths log.paths.items line.paths
 
 -- the command that was read is this one, but for the bytes of fields over their limits
 abbrev pub IsCommandOf : Command → model.Command → Type 0
@@ -136,6 +134,7 @@ IsCommandOf (command.Show show) (model.Show word path) =
 IsCommandOf (command.Names folder) (model.Names word) = option_map (λ w. w.items) folder ≡ word
 IsCommandOf (command.Past word) (model.Past bytes) = word.items ≡ bytes
 IsCommandOf (command.Switch name) (model.Switch bytes) = name.items ≡ bytes
+IsCommandOf command.Pack model.Pack = ⊤
 IsCommandOf command.Index model.Index = ⊤
 IsCommandOf (command.Log log) (model.Log order) = IsLog log order
 IsCommandOf _ _ = ⊥

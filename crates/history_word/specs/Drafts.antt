@@ -10,12 +10,14 @@ use Rattle.history_model.specs.Lines as lines
 use Rattle.history_word.specs.LineTable as table
 use Rattle.history_word.specs.TableRuns as runs
 use Rattle.history_word.specs.Fields.{Keeps}
+use Rattle.history_word.specs.Sizes.{listed}
 use Rattle.history_word.specs.Commands.{IsRename, IsDelete, IsExpect, AreEdits, IsActor, AreTos, IsTo, IsPath, IsOrder, IsLogItem, IsLog}
 use Rattle.history_model.specs.Forms.{max_content}
 use Rattle.history_word.specs.declared.command.Expect.{Expect}
 use Rattle.history_word.specs.declared.command.Order.{Order}
 use Rattle.history_word.specs.declared.command.LogItem.{LogItem}
 use Rattle.history_word.specs.declared.logs.LogLine.{LogLine}
+use Rattle.history_word.specs.declared.sizes.Sizes.{Sizes}
 use Rattle.history_word.specs.declared.heading.Role.{Role}
 use Rattle.history_word.specs.declared.heading.Role.TheVariants.{Author, Committer, Tagger, Mover}
 use Rattle.history_word.specs.declared.heading.EditHeading.{EditHeading}
@@ -69,7 +71,7 @@ pub record IsLogLine (line : LogLine) (log : model.LogCommand) : Type 0 where
   pub items : IfSome line.items (λ all. AllZip IsLogItem all.items log.items)
   pub begins : IsTrue (spelling.are_items log.items)
 
--- a log with these words, without a path
+-- a log with these words, without paths
 abbrev pub log_of : model.Order → Bool → List model.LogItem → model.LogCommand
 log_of order first_parents items =
     record { order = order; first_parents = first_parents; items = items; paths = [] }
@@ -103,9 +105,10 @@ IsOpening opening.Names (lines.NamesHeading None) = ⊤
 IsOpening (opening.NamesIn folder) (lines.NamesHeading (Some f)) = IfSome folder (λ x. x.items ≡ f)
 IsOpening (opening.Past word) (lines.PastHeading w) = IfSome word (λ x. x.items ≡ w)
 IsOpening (opening.Switch name) (lines.SwitchHeading n) = IfSome name (λ x. x.items ≡ n)
+IsOpening opening.Pack lines.PackHeading = ⊤
 IsOpening opening.Index lines.IndexHeading = ⊤
-IsOpening (opening.Log line) (lines.LogHeading order first_parents items path) =
-    IsLogLine line (log_of order first_parents items) × (line.path ≡ path)
+IsOpening (opening.Log line) (lines.LogHeading order first_parents items paths) =
+    IsLogLine line (log_of order first_parents items) × (listed line.paths ≡ paths)
 IsOpening _ _ = ⊥
 
 -- The line is this one. A word that found no memory may be any.
@@ -151,13 +154,13 @@ SaysOrder (Some order) (Some (o, words)) left = IfSome order (λ x. IsOrder x o)
 SaysOrder None None left = ⊤
 SaysOrder _ _ _ = ⊥
 
--- The items and the path's size are the ones that the words say; none are read where they say none, or items without a tip.
-abbrev pub SaysItems : Option (Option (Vec LogItem Global) × Option ℕ) → Option table.Items
+-- The items and the paths' sizes are the ones that the words say; none are read where they say none, or items without a tip.
+abbrev pub SaysItems : Option (Option (Vec LogItem Global) × Sizes) → Option table.Items
     → Type 0
-SaysItems (Some (items, size)) (Some (is, path)) = IsTrue (spelling.are_items is)
-    × IfSome items (λ all. AllZip IsLogItem all.items is) × (size ≡ path)
+SaysItems (Some (items, sizes)) (Some (is, paths)) = IsTrue (spelling.are_items is)
+    × IfSome items (λ all. AllZip IsLogItem all.items is) × (listed sizes ≡ paths)
 SaysItems (Some items) None = ⊥
-SaysItems None (Some (is, path)) = IsFalse (spelling.are_items is)
+SaysItems None (Some (is, paths)) = IsFalse (spelling.are_items is)
 SaysItems None None = ⊤
 
 abbrev pub item_with : Bool → Bytes → model.LogItem
@@ -203,6 +206,7 @@ IsDraft draft.Names (model.Names None) = ⊤
 IsDraft (draft.NamesIn folder) (model.Names (Some bytes)) = IfSome folder (λ x. x.items ≡ bytes)
 IsDraft (draft.Past word) (model.Past bytes) = IfSome word (λ x. x.items ≡ bytes)
 IsDraft (draft.Switch name) (model.Switch bytes) = IfSome name (λ x. x.items ≡ bytes)
+IsDraft draft.Pack model.Pack = ⊤
 IsDraft draft.Index model.Index = ⊤
 IsDraft (draft.Log log) (model.Log order) = IfSome log (λ x. IsLog x order)
 IsDraft _ _ = ⊥
@@ -233,6 +237,6 @@ with_message (model.Tag order) message = model.Tag (record order { message = mes
 with_message (model.Move order) message = model.Move (record order { message = message })
 with_message order message = order
 
--- the log with this path alone, or with none
-abbrev pub with_path : model.LogCommand → Option Bytes → model.LogCommand
-with_path order path = record order { paths = spelling.option_list path }
+-- the log with these paths
+abbrev pub with_paths : model.LogCommand → List Bytes → model.LogCommand
+with_paths order paths = record order { paths = paths }

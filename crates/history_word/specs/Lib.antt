@@ -6,6 +6,7 @@ pub mod Taking
 pub mod Lines
 pub mod Words
 pub mod Fields
+pub mod Sizes
 pub mod Commands
 pub mod Drafts
 pub mod Come

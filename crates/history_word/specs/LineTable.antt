@@ -44,7 +44,7 @@ next Start IndexHeading = Some Done
 next Start (NamesHeading folder) = Some Done
 next Start (FilesHeading word) = Some Done
 next Start (PastHeading name) = Some Done
-next Start (LogHeading order first_parents items path) = if are_items items then Some Done else None
+next Start (LogHeading order first_parents items paths) = if are_items items then Some Done else None
 next Start (ShowHeading word path) = Some Done
 next Parents (ParentHeading word) = Some Parents
 next Parents heading = next_edit heading
@@ -148,7 +148,7 @@ names_of_words [] = Some (NamesHeading None)
 names_of_words (folder ∷ []) = Some (NamesHeading (Some folder))
 names_of_words _ = None
 
--- ---- of a log: its order, whether it follows first parents alone, its items, and its path's length
+-- ---- of a log: its order, whether it follows first parents alone, its items, and its paths' lengths
 
 abbrev pub since_of : (Bytes → Order) → List Bytes → Option (Order × List Bytes)
 since_of order [] = None
@@ -180,20 +180,24 @@ item_of (sign ∷ word) = if sign == 43 then Some (Tip word)
     else None
 
 abbrev pub Items : Type 0
-Items = List LogItem × Option ℕ
+Items = List LogItem × List ℕ
 
-abbrev pub path_of : List Bytes → Option Items
-path_of (first ∷ size ∷ []) =
-    if bytes_eq first (codes "path") then option_map (λ n. ([], Some n)) (number_of size) else None
-path_of _ = None
+-- lengths, each behind the word `path`
+abbrev pub paths_of : List Bytes → Option (List ℕ)
+paths_of [] = Some []
+paths_of (first ∷ []) = None
+paths_of (first ∷ size ∷ words) =
+    if bytes_eq first (codes "path")
+    then option_and_then (λ n. option_map (λ ns. n ∷ ns) (paths_of words)) (number_of size)
+    else None
 
-abbrev pub with_item : Option LogItem → Option Items → Option Items → Option Items
-with_item None more path = path
-with_item (Some item) more path = option_map (λ items. (item ∷ items.0, items.1)) more
+abbrev pub with_item : Option LogItem → Option Items → Option (List ℕ) → Option Items
+with_item None more paths = option_map (λ ns. ([], ns)) paths
+with_item (Some item) more paths = option_map (λ items. (item ∷ items.0, items.1)) more
 
 abbrev pub items_of : List Bytes → Option Items
-items_of [] = Some ([], None)
-items_of (word ∷ words) = with_item (item_of word) (items_of words) (path_of (word ∷ words))
+items_of [] = Some ([], [])
+items_of (word ∷ words) = with_item (item_of word) (items_of words) (paths_of (word ∷ words))
 
 abbrev pub walk_of_words : Order → List Bytes → Option Heading
 walk_of_words order [] = None

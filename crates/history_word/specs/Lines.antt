@@ -1,5 +1,5 @@
 -- The words of a line.
-use Rattle.std.specs.Prelude.{◌≡◌, ◌≢◌, Bool, not, ◌==◌, List, [], ◌∷◌, ◌++◌, Option, Some, None, All}
+use Rattle.std.specs.Prelude.{◌≡◌, ◌≢◌, ℕ, ◌+◌, Bool, not, ◌==◌, List, [], ◌∷◌, ◌++◌, length, Option, Some, None, All}
 use Rattle.std.specs.List.{list_all, slice_split}
 use Rattle.history_model.specs.Bytes.{Bytes, is_empty}
 
@@ -23,3 +23,12 @@ IsCut line word (Some rest) = (line ≡ word ++ 32 ∷ rest) × HasNoSpace word
 -- no word is empty
 abbrev pub are_nonempty : List Bytes → Bool
 are_nonempty words = list_all (λ word. not (is_empty word)) words
+
+-- how long the words are, with a byte behind each
+abbrev pub words_size : List Bytes → ℕ
+words_size [] = 0
+words_size (word ∷ words) = length word + (1 + words_size words)
+
+-- at least as many as a line tells sizes by the word `path`
+abbrev pub max_sizes : ℕ
+max_sizes = 586

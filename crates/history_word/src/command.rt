@@ -147,15 +147,16 @@ pub enum LogItem {
     Hidden(Vec<u8>),
 }
 
-/// Lists the commits that some commits reach, or those of them that differ at a path. At least one item is a tip. The
-/// path has at most 4,096 bytes.
+/// Lists the commits that some commits reach, or those of them that differ at some paths. At least one item is a tip. A path
+/// has at most 4,096 bytes.
 #[derive(Debug, Drop)]
 pub struct LogCommand {
     pub order: Order,
     /// Whether of a commit's parents the first alone is followed.
     pub first_parents: bool,
     pub items: Vec<LogItem>,
-    pub path: Option<Field>,
+    /// Where there are none, all commits are listed.
+    pub paths: Vec<Field>,
 }
 
 /// What a client asks. A word is nonempty, without space or line feed, and a line's words have at most 4,096 bytes.
@@ -175,6 +176,8 @@ pub enum Command {
     Past(Vec<u8>),
     /// Makes HEAD name this branch.
     Switch(Vec<u8>),
+    /// Writes every name to `packed-refs` and removes their own files.
+    Pack,
     /// Makes rows of all stored commits, which later logs walk over.
     Index,
     Log(LogCommand),

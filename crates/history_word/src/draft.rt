@@ -61,6 +61,7 @@ pub(crate) enum Draft {
     NamesIn(Option<Vec<u8>>),
     Past(Option<Vec<u8>>),
     Switch(Option<Vec<u8>>),
+    Pack,
     Index,
     Log(Option<LogCommand>),
 }
@@ -319,6 +320,7 @@ impl Draft {
                 | Draft::Rename(_)
                 | Draft::Delete(_)
                 | Draft::Switch(_)
+                | Draft::Pack
         )
     }
 
@@ -340,6 +342,7 @@ impl Draft {
             Draft::NamesIn(folder) => Some(Command::Names(Some(folder?))),
             Draft::Past(word) => Some(Command::Past(word?)),
             Draft::Switch(name) => Some(Command::Switch(name?)),
+            Draft::Pack => Some(Command::Pack),
             Draft::Index => Some(Command::Index),
             Draft::Log(log) => Some(Command::Log(log?)),
         }

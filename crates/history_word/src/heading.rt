@@ -1,7 +1,7 @@
 //! What the first line of a part says.
 
 ghost use Rattle.std.specs.Prelude.{◌≡◌, ◌∷◌, ◌≤◌, length, IfSome, IfNone, OnSome, IsTrue};
-ghost use Rattle.history_model.specs.Lines.{ParentHeading, RemoveHeading, RemoveFileHeading, MessageHeading, EndHeading, MoveHeading, FilesHeading, PastHeading, SwitchHeading, IndexHeading};
+ghost use Rattle.history_model.specs.Lines.{ParentHeading, RemoveHeading, RemoveFileHeading, MessageHeading, EndHeading, MoveHeading, FilesHeading, PastHeading, SwitchHeading, PackHeading, IndexHeading};
 ghost use Rattle.history_word.specs.LineTable.{heading_of, end_of_words, word_of_words, size_of_words, commit_of_words, put_of_words, graft_of_words, actor_of_words, show_of_words, names_of_words, log_of_words, name_heading_of, rename_of_words, delete_of_words};
 ghost use Rattle.history_model.specs.Spelling.{max_line};
 ghost use Rattle.history_word.specs.TableRuns.{IsLineAt};
@@ -100,6 +100,7 @@ pub(crate) enum Opening {
     Switch {
         name: Option<Vec<u8>>,
     },
+    Pack,
     Index,
     Log(LogLine),
 }
@@ -291,6 +292,17 @@ fn switch(alloc: Global, words: &mut Words) -> Option<Heading>
     }))
 }
 
+/// What follows `pack`: nothing.
+fn pack(words: &Words) -> Option<Heading>
+    ensures { Says result (end_of_words PackHeading (left words.now)) }
+{
+    if words.is_done() {
+        Some(Heading::Opening(Opening::Pack))
+    } else {
+        None
+    }
+}
+
 /// What follows `index`: nothing.
 fn index(words: &Words) -> Option<Heading>
     ensures { Says result (end_of_words IndexHeading (left words.now)) }
@@ -386,6 +398,8 @@ fn said_of_names(alloc: Global, first: &[u8], words: &mut Words) -> Option<Headi
         rename(alloc, words)
     } else if first == b"index".as_slice() {
         index(words)
+    } else if first == b"pack".as_slice() {
+        pack(words)
     } else {
         None
     }
@@ -393,6 +407,7 @@ fn said_of_names(alloc: Global, first: &[u8], words: &mut Words) -> Option<Headi
 
 /// What the words of the line say, of which none is empty.
 fn said(alloc: Global, line: &[u8]) -> Option<Heading>
+    requires { length line.now ≤ max_line }
     ensures { Says result (heading_of (split_words line.now)) }
 {
     let mut words = Words::new(line);

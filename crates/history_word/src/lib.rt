@@ -10,6 +10,7 @@ mod logs;
 mod memory;
 mod place;
 mod reader;
+mod sizes;
 mod stream;
 mod streams;
 mod targets;

@@ -1,56 +1,58 @@
 //! What a line of `log` says.
 
-ghost use Rattle.std.specs.Prelude.{◌≡◌, ◌≢◌, [], Option, Some, IfSome, IfNone};
+ghost use Rattle.std.specs.Prelude.{◌≡◌, ◌≢◌, List, [], ◌∷◌, codes, Some, IfSome, IfNone, option_map};
 ghost use Rattle.history_model.specs.Bytes.{Bytes};
 ghost use Rattle.history_model.specs.Commands as model;
 ghost use Rattle.history_model.specs.Spelling.{item_target};
-ghost use Rattle.history_word.specs.Commands.{IsPath, IsLog, IsLogItem};
-ghost use Rattle.history_word.specs.LineTable.{order_of, first_parents_of, item_of, items_of, log_of_words};
-ghost use Rattle.history_word.specs.Drafts.{IsLogLine, SaysLog, SaysOrder, SaysItems, item_with, with_path};
+ghost use Rattle.history_word.specs.Commands.{ArePaths, IsLog, IsLogItem};
+ghost use Rattle.history_word.specs.LineTable.{order_of, first_parents_of, item_of, items_of, paths_of, log_of_words};
+ghost use Rattle.history_word.specs.Drafts.{IsLogLine, SaysLog, SaysOrder, SaysItems, item_with, with_paths};
+ghost use Rattle.history_word.specs.Sizes.{listed};
 ghost use Rattle.history_word.specs.Words.{left};
 
 use crate::command::{Field, LogCommand, LogItem, Order};
 use crate::draft::pushed;
 use crate::heading::kept;
+use crate::sizes::Sizes;
 use crate::words::{Words, number};
 use std::alloc::Global;
 
-/// A line of `log`, and the size of the path that follows it where one does. The order or the items are `None` where they
-/// found no memory.
+/// A line of `log`, and the sizes of the paths that follow it. The order or the items are `None` where they found no memory.
 #[derive(Debug, Drop)]
 pub(crate) struct LogLine {
     order: Option<Order>,
     first_parents: bool,
     items: Option<Vec<LogItem>>,
-    pub(crate) path: Option<u64>,
+    pub(crate) paths: Sizes,
 }
 
 impl LogLine {
-    /// What follows `log`: `<order> <all or first> <items>`, or these and `path <size>`.
+    /// What follows `log`: `<order> <all or first> <items>`, and any number of times `path <size>`.
     pub(crate) fn new(alloc: Global, words: &mut Words) -> Option<Self>
         ensures { SaysLog result (log_of_words (left words.old)) }
     {
         let order = order(alloc, words)?;
         let first_parents = first_parents(words.next()?)?;
-        let (items, path) = items(alloc, words)?;
+        let (items, paths) = items(alloc, words)?;
         Some(LogLine {
             order,
             first_parents,
             items,
-            path,
+            paths,
         })
     }
 
-    /// The command with this path or none, if each of the line's words found memory.
-    pub(crate) fn finish(self, path: Option<Field>) -> Option<LogCommand>
-        ensures { (order : model.LogCommand) (p : Option Bytes) → IsLogLine self order
-            → IsPath path p → IfSome result (λ log. IsLog log (with_path order p)) }
+    /// The command with these paths, if they and each of the line's words found memory.
+    pub(crate) fn finish(self, paths: Option<Vec<Field>>) -> Option<LogCommand>
+        ensures { (order : model.LogCommand) (told : List Bytes) → IsLogLine self order
+            → IfSome paths (λ all. ArePaths all.items told)
+            → IfSome result (λ log. IsLog log (with_paths order told)) }
     {
         Some(LogCommand {
             order: self.order?,
             first_parents: self.first_parents,
             items: self.items?,
-            path,
+            paths: paths?,
         })
     }
 }
@@ -94,24 +96,39 @@ fn first_parents(word: &[u8]) -> Option<bool>
     }
 }
 
-/// The words that are left: items, of which at least one is a tip, and the size behind the word `path` where that ends
-/// them. The items are `None` where they found no memory.
-fn items(alloc: Global, words: &mut Words) -> Option<(Option<Vec<LogItem>>, Option<u64>)>
+/// The words that are left: items, of which at least one is a tip, and the sizes of paths behind them. The items are `None`
+/// where they found no memory.
+fn items(alloc: Global, words: &mut Words) -> Option<(Option<Vec<LogItem>>, Sizes)>
     ensures { SaysItems result (items_of (left words.old)) }
 {
     let mut items = Some(Vec::new(alloc));
     let mut has_tip = false;
-    let mut path = None;
+    let mut paths = Sizes::new();
     while let Some(word) = words.next() {
         if word == b"path".as_slice() {
-            path = Some(number(words.last()?)?);
+            paths = path_sizes(words)?;
             break;
         }
         let (is_tip, target) = item(word)?;
         has_tip |= is_tip;
         items = pushed(items, log_item(alloc, is_tip, target));
     }
-    if has_tip { Some((items, path)) } else { None }
+    if has_tip { Some((items, paths)) } else { None }
+}
+
+/// The sizes behind a word `path`: `<size>`, and any number of times `path <size>`.
+fn path_sizes(words: &mut Words) -> Option<Sizes>
+    ensures { option_map listed result ≡ paths_of (codes "path" ∷ left words.old) }
+{
+    let mut sizes = Sizes::new();
+    sizes.add(number(words.next()?)?);
+    while let Some(word) = words.next() {
+        if word != b"path".as_slice() {
+            return None;
+        }
+        sizes.add(number(words.next()?)?);
+    }
+    Some(sizes)
 }
 
 /// Whether the item is a tip, and its target: `+` and a word, or `-` and one.

@@ -3,7 +3,7 @@
 ghost use Rattle.std.specs.Prelude.{◌≡◌, ◌≢◌, ◌<◌, ℕ, List, [], ◌∷◌, ◌++◌, length, IfSome};
 ghost use Rattle.history_model.specs.Bytes.{Bytes, line};
 ghost use Rattle.history_model.specs.Commands as model;
-ghost use Rattle.history_model.specs.Spelling.{spelling, option_list};
+ghost use Rattle.history_model.specs.Spelling.{spelling};
 ghost use Rattle.history_model.specs.Grammar.{Spells};
 ghost use Rattle.history_word.specs.LineTable as table;
 ghost use Rattle.history_word.specs.TableRuns.{StopsAt};
@@ -12,15 +12,16 @@ ghost use Rattle.history_word.specs.Buffer.{unread};
 ghost use Rattle.history_word.specs.Fields.{KeepsFront, Keeps};
 ghost use Rattle.history_word.specs.Commands.{IsReceived};
 ghost use Rattle.history_word.specs.Drafts.{place_of};
-ghost use Rattle.history_word.specs.Come.{edit_sizes, opening_sizes, heading_sizes, TakesLine, TakesEdit, TakesLog, TakesActor, TakesOpening, TakesFields, TakesParts};
+ghost use Rattle.history_word.specs.Come.{edit_sizes, opening_sizes, heading_sizes, TakesLine, TakesEdit, TakesPaths, TakesLog, TakesActor, TakesOpening, TakesFields, TakesParts};
 ghost use Rattle.history_word.specs.Progress.{IsEndless, IsNoField, StopsFrom, IsCauseOf};
 ghost use Rattle.history_word.specs.Reading.{Reads};
+ghost use Rattle.history_word.specs.Sizes.{listed};
 ghost use Rattle.history_word.specs.Taking.{AsksForMore};
 ghost use Rattle.history_word.specs.declared.reader.Stop.TheVariants.{Broken as broken};
 
 use crate::buffer::Buffer;
 use crate::command::{ActorLine, Command, Edit, Field, LogCommand};
-use crate::draft::{Draft, actor_line, graft, put};
+use crate::draft::{Draft, actor_line, pushed, graft, put};
 use crate::heading::{ActorHeading, EditHeading, Heading, Opening, parse};
 use crate::logs::LogLine;
 use crate::place::Place;
@@ -185,7 +186,27 @@ fn read_edit<R: Source>(
     }
 }
 
-/// Takes the path of a log's line, where one follows it. The log is `None` where a part of it found no memory.
+/// Takes paths of these sizes. They are `None` where they found no memory.
+fn read_paths<R: Source>(
+    alloc: Global,
+    buffer: &mut Buffer,
+    source: &mut R,
+    sizes: &[u64],
+) -> Result<Option<Vec<Field>>, Stop>
+    ensures { Reads R.left R.has_failed R.readings source.old buffer.old source.new buffer.new
+        (λ paths taken. TakesPaths sizes.now paths taken
+        × AsksForMore source.old buffer.old source.new taken)
+        (λ bytes cause. (place : table.Place) → StopsFrom sizes.now place bytes cause) result }
+{
+    let mut paths = Some(Vec::new(alloc));
+    for size in sizes {
+        let path = read_field(alloc, buffer, source, *size, MAX_PATH)?;
+        paths = pushed(paths, path);
+    }
+    Ok(paths)
+}
+
+/// Takes the paths that follow a log's line. The log is `None` where a part of it found no memory.
 fn read_log<R: Source>(
     alloc: Global,
     buffer: &mut Buffer,
@@ -196,15 +217,10 @@ fn read_log<R: Source>(
         (λ log taken. TakesLog line log taken
         × AsksForMore source.old buffer.old source.new taken)
         (λ bytes cause. (place : table.Place)
-        → StopsFrom (option_list line.path) place bytes cause) result }
+        → StopsFrom (listed line.paths) place bytes cause) result }
 {
-    let Some(size) = line.path else {
-        return Ok(line.finish(None));
-    };
-    let Some(path) = read_field(alloc, buffer, source, size, MAX_PATH)? else {
-        return Ok(None);
-    };
-    Ok(line.finish(Some(path)))
+    let paths = read_paths(alloc, buffer, source, line.paths.as_slice())?;
+    Ok(line.finish(paths))
 }
 
 /// Takes the fields of an actor's line. The actor is `None` where a part of it found no memory.
@@ -254,6 +270,7 @@ fn read_opening<R: Source>(
         Opening::NamesIn { folder } => Ok(Draft::NamesIn(folder)),
         Opening::Past { word } => Ok(Draft::Past(word)),
         Opening::Switch { name } => Ok(Draft::Switch(name)),
+        Opening::Pack => Ok(Draft::Pack),
         Opening::Index => Ok(Draft::Index),
         Opening::Log(line) => Ok(Draft::Log(read_log(alloc, buffer, source, line)?)),
     }

@@ -1,18 +1,20 @@
 //! The words of a line.
 
-ghost use Rattle.std.specs.Prelude.{◌≡◌, ◌↔◌, ℕ, [], ◌∷◌, Bool, true, IsTrue, MatchOption, IfSome, IfNone};
+ghost use Rattle.std.specs.Prelude.{◌≡◌, ◌↔◌, ◌≤◌, ◌+◌, ℕ, [], ◌∷◌, length, Bool, true, IsTrue, MatchOption, IfSome, IfNone};
 ghost use Rattle.std.specs.Option.{option_copied};
 ghost use Rattle.history_model.specs.Bytes.{Bytes};
+ghost use Rattle.history_model.specs.Spelling.{max_line};
 ghost use Rattle.history_word.specs.LineTable.{number_of, kind_of};
-ghost use Rattle.history_word.specs.Lines.{IsCut, split_words, are_nonempty};
+ghost use Rattle.history_word.specs.Lines.{IsCut, split_words, are_nonempty, words_left, words_size};
 
 use gix_object_lines::decimal::read_unsigned;
 use history_model::FileKind;
 
-/// The words of a line that are still to come, with one space between.
+/// The words of a line that are still to come, with one space between. The line has at most 4,096 bytes.
 #[derive(Debug, Drop)]
 pub(crate) struct Words<'a> {
     rest: Option<&'a [u8]>,
+    ghost short: { words_size (words_left (option_copied rest)) ≤ max_line + 1 },
 }
 
 impl<'a> Words<'a> {
@@ -20,6 +22,7 @@ impl<'a> Words<'a> {
 
     /// All words of a line without its line feed.
     pub(crate) fn new(line: &'a [u8]) -> Self
+        requires { length line.now ≤ max_line }
         ensures { left result ≡ split_words line.now }
     {
         Words { rest: Some(line) }
@@ -67,6 +70,7 @@ fn first_word(line: &[u8]) -> (&[u8], Option<&[u8]>)
 
 /// Whether no word of the line is empty.
 pub(crate) fn are_words(line: &[u8]) -> bool
+    requires { length line.now ≤ max_line }
     ensures { result ≡ are_nonempty (split_words line.now) }
 {
     let mut words = Words::new(line);

@@ -107,6 +107,22 @@ class Tag:
         return " ".join(found + [field("message", self.message, 2 ** 24)])
 
 
+class Log:
+    """A log's value, its text, and its words. Its items are words with their signs."""
+
+    def __init__(self, order, first, items, paths):
+        self.order, self.first, self.items, self.paths = order, first, items, paths
+
+    def text(self):
+        words = [b"log", self.order, b"first" if self.first else b"all"] + self.items + [b"path %d" % len(path) for path in self.paths]
+        return b"\n".join([b" ".join(words)] + self.paths + [b""])
+
+    def words(self):
+        found = ["log", self.order.decode().replace(" ", ":"), "first" if self.first else "all"]
+        found += [("tip:" if item[:1] == b"+" else "hidden:") + word(item[1:]) for item in self.items]
+        return " ".join(found + [field("path", path, 4096) for path in self.paths])
+
+
 A = (b"A", b"a@b", b"1", b"+0000")
 COMMIT = Commit(b"refs/heads/s", ("new",), [b"m", b"refs/heads/t"], [("file", b"a", b"hello"), ("remove", b"d"),
                 ("remove-file", b"d/x")], A, A, b"one")
@@ -157,6 +173,8 @@ def commands():
     row("stream", b"past main\npast", "more past:main more")
     cut(b"switch refs/heads/a\n", "switch:refs/heads/a")
     row("stream", b"switch switch\nswitch", "more switch:switch more")
+    cut(b"pack\n", "pack")
+    row("stream", b"pack\npack", "more pack more")
     cut(b"index\n", "index")
     row("stream", b"index\nindex", "more index more")
     for order in (b"breadth", b"newest", b"oldest", b"date", b"topological"):
@@ -227,6 +245,11 @@ def log_paths():
     row("read", b"log date all +a path 8\nlog date\n", f"more log date all tip:a path:{word(b'log date')} end")
     row("stream", b"log topological all +a path 1\na\nlog", "more log topological all tip:a path:a more")
     row("drops", b"log oldest all +a path 1\na\nlog", "more log oldest all tip:a path:a more")
+    cut(b"log newest first +a -b path 3 path 1 path 0\na/b\nc\n\n", "log newest first tip:a hidden:b path:a/b path:c path:-")
+    for paths in [[b"a", b"b"], [b"b", b"a"], [b"a", b"a"], [b"a", b"a/b", b"a"], [b"", b"", b""], [b"path 1", b"\n", b"+b"]]:
+        log = Log(b"topological", False, [b"+main"], paths)
+        row("read", log.text(), f"more {log.words()} end")
+        row("stream", log.text() + b"log", f"more {log.words()} more")
 
 
 def limits():
@@ -252,6 +275,14 @@ def limits():
     row("read", log + "4097%0a+x*4096+%0axlog", "more Syntax")
     row("read", "log%20breadth%20all%20%2b+x*4072+%20path%200%0a%0a", "more log breadth all tip:" + "x" * 4072 + " path:- end")
     row("read", "log%20breadth%20all%20%2b+x*4073+%20path%200%0a%0a", "more LineTooLong")
+    # As many paths as a line has room for: of its 4,096 bytes 22 stand before them, and each is told by 7.
+    row("read", b"log breadth all +aaaaa" + b" path 0" * 582 + b"\n" * 583, "more log breadth all tip:aaaaa" + " path:-" * 582 + " end")
+    row("read", b"log breadth all +aaaaaa" + b" path 0" * 582 + b"\n" * 583, "more LineTooLong")
+    row("read", b"log breadth all +a" + b" path 1" * 500 + b"\n" + b"a\n" * 500, "more log breadth all tip:a" + " path:a" * 500 + " end")
+    row("read", b"log breadth all +a" + b" path 1" * 500 + b"\n" + b"a\n" * 499, "more Truncated")
+    for sizes in [(4096, 4097), (4097, 4096), (4097, 1), (1, 4097, 1), (4097, 5000)]:
+        log = Log(b"oldest", True, [b"+a"], [b"x" * size for size in sizes])
+        row("read", log.text(), f"more {log.words()} end")
 
 
 def graft_limits():
@@ -298,7 +329,13 @@ LINES = [
     b"log breadth all -a\n", b"log breadth all +\n", b"log breadth all +a -\n", b"log breadth all a\n", b"log breadth all +a b\n",
     b"log breadth all +a path 1\nab\n", b"log breadth all +a path\n", b"log breadth every +a\n", b"log all +a\n",
     b"log breadth all path 1\n", b"log breadth all path\n", b"log breadth all -a path 1\n", b"log breadth all path 1 +a\n",
-    b"log breadth all +a path 1 +b\n", b"log breadth all +a path 1 path 1\n", b"log breadth all +a path path\n",
+    b"log breadth all +a path 1 +b\n", b"log breadth all +a path 1 path 1\na\nbc\n", b"log breadth all +a path path\n",
+    b"log breadth all +a path 1 path 1\nab\n", b"log breadth all +a path 2 path 1\na\nb\nc\n", b"log breadth all +a path 1 path\n",
+    b"log breadth all +a path 1 1\n", b"log breadth all +a path 1 paths 1\n", b"log breadth all +a path 1 path 01\n",
+    b"log breadth all +a path 01 path 1\n", b"log breadth all +a path 1 path +1\n", b"log breadth all +a path 1 path 1 path\n",
+    b"log breadth all +a path 1 path 18446744073709551616\n", b"log breadth all +a path 1 +b path 1\n",
+    b"log breadth all +a path 1 path 1 -b\n", b"log breadth all path 1 path 1\n", b"log breadth all +a path 1  path 1\n",
+    b"show a path 1 path 1\n",
     b"log breadth all +a path 01\n", b"log breadth all +a path +1\n", b"log breadth all +a path 18446744073709551616\n",
     b"log breadth all +a paths 1\n", b"log breadth all +a 1\n", b"log breadth all + path 1\n", b"log breadth path 1 +a\n",
     b"log depth all +a\n", b"log newest-since all +a\n", b"log newest 1 all +a\n", b"log breadth +a all\n", b"log breadth all all +a\n",
@@ -309,7 +346,8 @@ LINES = [
     b"delete main any any\n", b"delete main at a b\n", b"delete main anyone\n", b"delete main to a\n", b"delete  any\n", b"delete main a\n",
     b"commit HEAD new\ndelete main any\n", b"delete main any \n", b"Delete main any\n",
     b"rename\n", b"rename a\n", b"rename a b c\n", b"rename  a b\n", b"rename a  b\n", b"rename a b \n",
-    b"Rename a b\n", b"commit HEAD new\nrename a b\n", b"pack\n",
+    b"Rename a b\n", b"commit HEAD new\nrename a b\n",
+    b"pack a\n", b"pack \n", b" pack\n", b"Pack\n", b"packs\n", b"commit HEAD new\npack\n",
     b"move a\n", b"move \n", b"to a new b\n", b"actor 0 0 s o\n",
     b"tag\n", b"tag a\n", b"tag a new\n", b"tag a any\n", b"tag a at b\n", b"tag a old b\n", b"tag a new b c\n", b"tag a any b c\n",
     b"tag a at b c d\n",
@@ -325,7 +363,7 @@ WRONG = [
               b"tagger 0 1 s o\n\nab\n", b"names\n", b"\n"]),
     (BY_TAGGER, [TAGGED, b"tagger 0 0 s o\n", b"end\n", b"message\n", b"message 01\n", b"message 0 0\n", b"message 0\na\n", TO, ACTOR]),
     (BY_TAGGER + MESSAGE, [TAGGED, b"tagger 0 0 s o\n", MESSAGE, b"end end\n"]),
-    (FIRST, [b"move\n", b"rename a b\n", b"delete main any\n", b"switch a\n", b"index\n", b"actor 0 0 s o\n", b"message 0\n", b"end\n", b"names\n", b"to\n", b"to a\n", b"to a new\n", b"to a any\n",
+    (FIRST, [b"move\n", b"rename a b\n", b"delete main any\n", b"switch a\n", b"pack\n", b"index\n", b"actor 0 0 s o\n", b"message 0\n", b"end\n", b"names\n", b"to\n", b"to a\n", b"to a new\n", b"to a any\n",
              b"to a at b\n", b"to a old b\n", b"to a new b c\n", b"to a any b c\n", b"to a at b c d\n", b"to a at\n", b"to  new b\n",
              b"To a new b\n", b"\n", b"parent a\n"]),
     (MORE, [b"move\n", b"message 0\n", b"end\n", b"author 0 0 s o\n", b"committer 0 0 s o\n", b"tagger 0 0 s o\n", b"parent a\n",
@@ -342,7 +380,9 @@ BEGINNINGS = [b"commit nowhere new\n", b"commit at any\nparent parent\n",
               b"commit HEAD new\ngraft 18446744073709551615 a 0\n", b"commit HEAD new\ngraft 0 a 18446744073709551615\n\n", b"commit HEAD new\ngraft 0 a 0\n\n\n",
               TAGGED, BY_TAGGER, BY_TAGGER + MESSAGE, TAGGED + b"tagger 0 18446744073709551615 s o\n\n",
               FIRST, MORE, SIGNED, TOLD, MORE + b"actor 18446744073709551615 0 s o\n", SIGNED + b"message 18446744073709551615\n",
-              b"show a path 18446744073709551615\n", b"log breadth all +a path 18446744073709551615\n"]
+              b"show a path 18446744073709551615\n", b"log breadth all +a path 18446744073709551615\n",
+              b"log breadth all +a path 1 path 1\n", b"log breadth all +a path 1 path 1\na\n", b"log breadth all +a path 1 path 1\na\nb",
+              b"log breadth all +a path 1 path 18446744073709551615\na\n"]
 
 
 def lines():
@@ -399,6 +439,13 @@ def tag_by_chance(chance):
     return Tag(name(chance), expected(chance), name(chance), actor(chance), data(chance, 40))
 
 
+def log_by_chance(chance):
+    order = chance.choice([b"breadth", b"newest", b"oldest", b"date", b"topological", b"newest-since 17", b"oldest-since 0"])
+    items = [chance.choice([b"+", b"-"]) + name(chance) for _ in range(chance.randrange(3))]
+    items.insert(chance.randrange(len(items) + 1), b"+" + name(chance))
+    return Log(order, chance.random() < 0.5, items, [data(chance, 9) for _ in range(chance.randrange(6))])
+
+
 def by_chance(chance, make):
     """A command by chance, of which all is read, or which is cut, or has another command behind it."""
     command = make(chance)
@@ -426,6 +473,9 @@ if __name__ == "__main__":
     for _ in range(100):
         by_chance(chance, tag_by_chance)
     chance = random.Random(37)
+    for _ in range(100):
+        by_chance(chance, log_by_chance)
+    chance = random.Random(41)
     for _ in range(100):
         by_chance(chance, grafts_by_chance)
     write(Path(__file__), ROWS)

@@ -43,6 +43,7 @@ fn show_command(command: &Command, page: &mut Page) {
         Command::Names(Some(folder)) => page.named("names", folder),
         Command::Past(word) => page.named("past", word),
         Command::Switch(name) => page.named("switch", name),
+        Command::Pack => page.word("pack"),
         Command::Index => page.word("index"),
         Command::Log(log) => show_log(log, page),
     }
@@ -58,7 +59,9 @@ fn show_log(log: &LogCommand, page: &mut Page) {
             LogItem::Hidden(word) => page.named("hidden", word),
         }
     }
-    show_path(&log.path, page);
+    for path in &log.paths {
+        show_field("path", path, page);
+    }
 }
 
 fn show_order(order: &Order, page: &mut Page) {

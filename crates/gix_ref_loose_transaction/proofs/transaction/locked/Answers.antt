@@ -1,4 +1,4 @@
-use Rattle.std.proofs.Common.{◌∙◌, refl, sym, ap, subst, List, Option, option_map, Vec, rules}
+use Rattle.std.proofs.Common.{◌≡◌, ◌∙◌, false, refl, sym, ap, subst, List, Option, option_map, Vec, rules}
 use Rattle.std.proofs.lemmas.Result.{IfOk-weaker}
 use Rattle.std.specs.declared.alloc.Global.{Global}
 use Rattle.gix_ref_file.specs.Tree.{Tree}
@@ -15,7 +15,10 @@ use Rattle.gix_ref_moves.proofs.LockPaths.{locks_joined}
 use Rattle.gix_ref_loose_transaction.specs.LogLines.{AllLined, logging}
 use Rattle.gix_ref_loose_transaction.specs.Causes.{SomeEditFault}
 use Rattle.gix_ref_loose_transaction.specs.Modes.{objects_in, removes}
+use Rattle.gix_ref_loose_transaction.specs.Paths.{has_twice, paths_apart}
+use Rattle.gix_ref_loose_transaction.specs.Reads.{AllGiveKind, AllReadBack}
 use Rattle.gix_ref_loose_transaction.specs.Repacking.{AreRepacked}
+use Rattle.std.specs.Prelude.{IfOk}
 use Rattle.gix_ref_transaction.specs.declared.packed.Transaction.{Transaction as Packed}
 use Rattle.gix_ref_loose_transaction.specs.Plans.{AllPlanned, AllTested}
 use Rattle.gix_ref_loose_transaction.proofs.Faults.{by_edit}
@@ -102,3 +105,11 @@ returns-in-Err-clause-causes g c = λ honest.
     let fault = some_fault_alike options c.repack.new.store.options b (base_of c.repack.new.store) old.tree mid.tree (records_in c.args.packed) c.args.committer same c.repack.ensures.options c.repack.ensures.base
     may c.deref-2.result.now c.in-Err.error (c.in-Err.ensures.failed (c.repack.ensures.honest honest)) in
     by_edit l b old.tree may c.args.edits.items c.in-Err.error (subst (λ (es : List RefEdit). SomeEditFault l b old.tree may es c.in-Err.error) c.deref-2.ensures.value fault)
+
+pub returns-in-Ok-clause-apart : goal.returns-in-Ok-clause-apart
+returns-in-Ok-clause-apart g c =
+    subst (λ (base : Base). IfOk c.finish.result (λ t. has_twice (paths_apart base t.packed t.moves.items) ≡ false)) (c.plan_all.ensures.base ∙ c.repack.ensures.base) c.finish.ensures.apart
+
+pub returns-in-Ok-clause-back : goal.returns-in-Ok-clause-back
+returns-in-Ok-clause-back g c =
+    subst (λ (base : Base). IfOk c.finish.result (λ t. AllGiveKind base.kind t.edits.items → AllReadBack base.kind t.edits.items)) (c.plan_all.ensures.base ∙ c.repack.ensures.base) c.finish.ensures.back

@@ -34,7 +34,7 @@ returns-in-Err g c =
         };
         holds = c.in-Err.ensures.refused;
         fault = λ honest_objects honest_names are.
-            c.in-Err.ensures.accepted are.0 honest_objects honest_names are.1 are.2;
+            c.in-Err.ensures.accepted are.0 honest_objects honest_names are.1;
       });
       says = says_as g.W.Sink.contents g.W.Sink.has_failed c.args.writer.now c.args.writer.now whole _ (Err (Unopened c.in-Err.refusal.error)) c.unopened.ensures.told refl;
     }

@@ -15,7 +15,7 @@ returns-in-Err g c =
         };
         holds = c.in-Err.ensures.refused;
         fault = λ honest_objects honest_names whole.
-            c.in-Err.ensures.accepted whole.0 honest_objects honest_names whole.1 whole.2;
+            c.in-Err.ensures.accepted whole.0 honest_objects honest_names whole.1;
       };
       unread = refl;
       unwritten = refl;
@@ -37,8 +37,8 @@ returns g c =
           whole_parts g.F.Files.is_honest g.F.Files.history c.args.kind c.args.objects c.args.names
           c.in-Ok.repository ok.0 ok.1 (c.in-Ok.ensures.stands honest_objects honest_names);
       is_it = λ r honest_objects honest_names stands. c.in-Ok.ensures.same r honest_objects honest_names stands;
-      runs = λ r stands stage.
-          let ran = c.run-end.ensures.runs r ok.2 stands stage in
+      runs = λ r stands.
+          let ran = c.run-end.ensures.runs r ok.2 stands in
           record {
             commands = ran.0;
             replies = ran.1;

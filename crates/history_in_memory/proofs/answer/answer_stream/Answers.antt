@@ -8,7 +8,7 @@ use Rattle.history_in_memory.proofs.answer.answer_stream.Goals as goal
 pub returns-clause-answers : goal.returns-clause-answers
 returns-clause-answers c =
     let made = c.in_ok-repository.ensures in
-    let ran = c.in_ok-end.ensures.runs (fresh c.args.kind) made.unfailed made.stands made.stage in
+    let ran = c.in_ok-end.ensures.runs (fresh c.args.kind) made.unfailed made.stands in
     let left = Some c.run.new.reader.rest.now in
     let contents = Some c.run.new.writer.bytes.items in
     answered c.args.kind c.args.input.now left contents c.in_ok-end.end (has_failed c.run.new.repository) ran.0 ran.1 ran.2 ran.3 ran.4 _ none_failed

@@ -1,16 +1,30 @@
-use Rattle.std.proofs.Common.{◌≡◌, ◌∙◌, sym, None}
-use Rattle.gix_object_find.specs.Table.{kind_at}
-use Rattle.history_model.specs.Places.{file_at, packed_place}
-use Rattle.history_names_survey.proofs.Heads.{no_file}
+use Rattle.std.proofs.Common.{◌≡◌, ◌∙◌, sym, subst}
+use Rattle.std.proofs.lemmas.Result.{err_from_is_err_and}
+use Rattle.gix_ref_file.specs.Tree.{bytes_at}
+use Rattle.history_model.specs.Places.{packed_place}
+use Rattle.history_names_survey.specs.PackedRead.{IsPackedFault, IsReadOf}
+use Rattle.history_names_survey.specs.Stored.{facts_in}
 use Rattle.history_names_survey.proofs.Surveyed.{all_tested}
+use Rattle.history_names_survey.proofs.Told.{fault_cause, widen}
 use Rattle.history_names_survey.proofs.survey.test_all.Goals as goal
+
+pub test_folder-requires : goal.test_folder-requires
+test_folder-requires g c = λ honest. subst (λ t. IsReadOf c.args.kind t c.in_ok-packed.packed) (c.deref.ensures.value ∙ c.in_ok-text.ensures.found honest) c.in_ok-packed.ensures
+
+pub test_records-requires : goal.test_records-requires
+test_records-requires g c = λ honest. subst (λ t. IsReadOf c.args.kind t c.in_ok-packed.packed) (c.deref.ensures.value ∙ c.in_ok-text.ensures.found honest) c.in_ok-packed.ensures
+
+pub returns-in_err-packed-clause-wrong : goal.returns-in_err-packed-clause-wrong
+returns-in_err-packed-clause-wrong g c = λ store honest.
+    let tree = (g.F.Files.history c.args.files.now).tree in
+    let facts = facts_in c.args.kind (g.S.Lookup.table c.args.stored.now) in
+    let p = err_from_is_err_and c.from_residual.result c.from_residual.ensures.1 in
+    rw (p.1, p.2) (widen g.F.Files.reading_may_fail (g.S.Lookup.may_fail c.args.stored.now) c.args.kind facts tree c.in_err-packed.field-0.0
+    (fault_cause g.F.Files.reading_may_fail c.args.kind facts tree c.in_err-packed.field-0.0
+    (subst (λ t. IsPackedFault c.args.kind t c.in_err-packed.field-0.0) (c.deref.ensures.value ∙ c.in_ok-text.ensures.found honest) c.in_err-packed.ensures)))
 
 pub returns-clause-sound : goal.returns-clause-sound
 returns-clause-sound g c = λ store honest.
     let tree = (g.F.Files.history c.args.files.now).tree in
-    all_tested c.args.kind (kind_at (g.S.Lookup.table c.args.stored.now)) tree c.test_folder.result (no_file tree packed_place (sym (c.in_ok-is_file.ensures.found honest) ∙ c.if-branch.false)) (c.test_folder.ensures.sound store honest)
-
-pub returns-clause-wrong : goal.returns-clause-wrong
-returns-clause-wrong g c = λ store honest.
-    let tree = (g.F.Files.history c.args.files.now).tree in
-    c.test_folder.ensures.wrong store honest (no_file tree packed_place (sym (c.in_ok-is_file.ensures.found honest) ∙ c.if-branch.false))
+    let read = subst (λ t. IsReadOf c.args.kind t c.in_ok-packed.packed) (c.deref.ensures.value ∙ c.in_ok-text.ensures.found honest) c.in_ok-packed.ensures in
+    all_tested c.args.kind (facts_in c.args.kind (g.S.Lookup.table c.args.stored.now)) tree c.test_records.result read.good (c.in_ok-test_folder.ensures.sound store honest) (c.test_records.ensures.sound store honest)

@@ -23,6 +23,6 @@ returns-in-Ok-clause-stands g c = λ objects names.
     (c.open_names.ensures.stands (subst g.F.Files.is_honest (sym files) objects) names))
 
 pub returns-in-Err-clause-accepted : goal.returns-in-Err-clause-accepted
-returns-in-Err-clause-accepted g c = λ r objects names stands stage.
+returns-in-Err-clause-accepted g c = λ r objects names stands.
     subst IsOpenFault (sym c.into.ensures)
     (fault_of_objects c.args.kind (trees_of g.F.Files.history c.args.objects c.args.names) r stands g.F.Files.reading_may_fail c.in-Err.field-0.flaw (c.in-Err.ensures.flaw objects))

@@ -68,8 +68,13 @@ returns-then-eq-12 c =
     let name = (slice_eq-Decides Decides-eqb _ _ _ c.eq-else-eq-11.ensures).0 c.if-eq-12.true ∙ c.as_slice-else-eq-11.ensures in
     subst (λ first. Says c.index.result (name_heading_of first (left c.args.words.now))) (sym name) c.index.ensures
 
-pub returns-else-eq-12 : goal.returns-else-eq-12
-returns-else-eq-12 c =
+pub returns-then-eq-13 : goal.returns-then-eq-13
+returns-then-eq-13 c =
+    let name = (slice_eq-Decides Decides-eqb _ _ _ c.eq-else-eq-12.ensures).0 c.if-eq-13.true ∙ c.as_slice-else-eq-12.ensures in
+    subst (λ first. Says c.pack.result (name_heading_of first (left c.args.words.now))) (sym name) c.pack.ensures
+
+pub returns-else-eq-13 : goal.returns-else-eq-13
+returns-else-eq-13 c =
     no_line_of c.args.first.now (left c.args.words.now)
     (is_other c.args.first.now _ (codes "tag") _ (slice_eq-Decides Decides-eqb _ _ _ c.eq.ensures).1 c.as_slice.ensures c.if-eq.false)
     (is_other c.args.first.now _ (codes "tagger") _ (slice_eq-Decides Decides-eqb _ _ _ c.eq-else-eq.ensures).1 c.as_slice-else-eq.ensures c.if-eq-2.false)
@@ -83,3 +88,4 @@ returns-else-eq-12 c =
     (is_other c.args.first.now _ (codes "switch") _ (slice_eq-Decides Decides-eqb _ _ _ c.eq-else-eq-9.ensures).1 c.as_slice-else-eq-9.ensures c.if-eq-10.false)
     (is_other c.args.first.now _ (codes "rename") _ (slice_eq-Decides Decides-eqb _ _ _ c.eq-else-eq-10.ensures).1 c.as_slice-else-eq-10.ensures c.if-eq-11.false)
     (is_other c.args.first.now _ (codes "index") _ (slice_eq-Decides Decides-eqb _ _ _ c.eq-else-eq-11.ensures).1 c.as_slice-else-eq-11.ensures c.if-eq-12.false)
+    (is_other c.args.first.now _ (codes "pack") _ (slice_eq-Decides Decides-eqb _ _ _ c.eq-else-eq-12.ensures).1 c.as_slice-else-eq-12.ensures c.if-eq-13.false)

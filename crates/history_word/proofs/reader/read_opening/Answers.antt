@@ -1,12 +1,12 @@
 use Rattle.std.proofs.Common.{[], ◌∷◌, refl}
 use Rattle.std.proofs.lemmas.Result.{err_from_is_err_and}
-use Rattle.history_model.specs.Spelling.{option_list}
+use Rattle.history_word.specs.Sizes.{listed}
 use Rattle.history_word.specs.LineTable as table
 use Rattle.history_word.specs.Progress.{IsNoField, StopsFrom}
 use Rattle.history_word.proofs.TakingLemmas.{took_none}
 use Rattle.history_word.proofs.StopLemmas.{stops_then}
 use Rattle.history_word.proofs.LineEndLemmas.{field_first_stops}
-use Rattle.history_word.proofs.DraftLemmas.{commit_opens, tag_opens, move_opens, rename_opens, delete_opens, files_opens, show_opens, path_opens, names_opens, folder_opens, past_opens, switch_opens, index_opens, log_opens}
+use Rattle.history_word.proofs.DraftLemmas.{commit_opens, tag_opens, move_opens, rename_opens, delete_opens, files_opens, show_opens, path_opens, names_opens, folder_opens, past_opens, switch_opens, pack_opens, index_opens, log_opens}
 use Rattle.history_word.proofs.reader.read_opening.Goals as goal
 
 pub returns-in-Commit : goal.returns-in-Commit
@@ -55,6 +55,9 @@ returns-in-Past g c = rw (c.in-Past.is) ([], took_none g.R.Source.left g.R.Sourc
 pub returns-in-Switch : goal.returns-in-Switch
 returns-in-Switch g c = rw (c.in-Switch.is) ([], took_none g.R.Source.left g.R.Source.readings c.args.source.now c.args.buffer.now, (switch_opens c.in-Switch.name, λ _. refl))
 
+pub returns-in-Pack : goal.returns-in-Pack
+returns-in-Pack g c = rw (c.in-Pack.is) ([], took_none g.R.Source.left g.R.Source.readings c.args.source.now c.args.buffer.now, (pack_opens, λ _. refl))
+
 pub returns-in-Index : goal.returns-in-Index
 returns-in-Index g c = rw (c.in-Index.is) ([], took_none g.R.Source.left g.R.Source.readings c.args.source.now c.args.buffer.now, (index_opens, λ _. refl))
 
@@ -62,8 +65,8 @@ pub returns-in_err-read_log-in-Log : goal.returns-in_err-read_log-in-Log
 returns-in_err-read_log-in-Log g c =
     let p = err_from_is_err_and c.from_residual-in_err-read_log-in-Log.result c.from_residual-in_err-read_log-in-Log.ensures.1 in
     rw (p.1, p.2, c.in-Log.is) (stops_then g.R.Source.left g.R.Source.has_failed g.R.Source.readings _ _ _ _ _ _ []
-    (λ bytes cause. (place : table.Place) → StopsFrom (option_list c.in-Log.line.path) place bytes cause)
-    (λ bytes cause. (place : table.Place) → StopsFrom (option_list c.in-Log.line.path) place bytes cause)
+    (λ bytes cause. (place : table.Place) → StopsFrom (listed c.in-Log.line.paths) place bytes cause)
+    (λ bytes cause. (place : table.Place) → StopsFrom (listed c.in-Log.line.paths) place bytes cause)
     (λ ys m bad. bad)
     c.in_err-read_log-in-Log.field-0.0 (took_none g.R.Source.left g.R.Source.readings c.args.source.now c.args.buffer.now) c.in_err-read_log-in-Log.ensures)
 

@@ -26,7 +26,7 @@ returns-in_err-name g c = λ r order asked.
     let MayFail = g.F.Files.reading_may_fail in
     let stopped = err_from_is_err_and c.from_residual.result c.from_residual.ensures.1 in
     stopped_by MayFail r (Commit order) name_form_causes name_causes (IsNamed r order) (IsCommitBase r order) c.name_of.result c.from_residual.result c.in_err-name.field-0.0 c.in_err-name.was (stopped.1 ∙ ap Err stopped.2)
-    (told_in_front MayFail r (Commit order) name_form_causes (word_causes ++ (held_causes ++ (place_causes ++ parent_causes))) c.in_err-name.field-0.0) (c.name_of.ensures r order h.stands (c.deref.ensures.value ∙ is.name))
+    (told_in_front MayFail r (Commit order) name_form_causes (word_causes ++ (held_causes ++ (place_causes ++ parent_causes))) c.in_err-name.field-0.0) (c.name_of.ensures r order h (c.deref.ensures.value ∙ is.name))
 
 pub returns-in_err-expected : goal.returns-in_err-expected
 returns-in_err-expected g c = λ r order asked.
@@ -74,7 +74,7 @@ returns-in_err-test_words g c = λ r order asked.
     let h = asked.serves in
     let is = asked.reads in
     let MayFail = g.F.Files.reading_may_fail in
-    let named = c.in_ok-name.ensures r order h.stands (c.deref.ensures.value ∙ is.name) in
+    let named = c.in_ok-name.ensures r order h (c.deref.ensures.value ∙ is.name) in
     let expects = c.in_ok-expected.ensures r order.expect h is.expect in
     let meanings = parent_meanings r order c.args.command.now.parents.items c.in_ok-words.words.items is.parents
     (c.in_ok-words.ensures r h ∙ ap (map (λ (word : Vec ℕ Global). commit_or_cause r word.items)) c.deref-2.ensures.value) in
@@ -94,7 +94,7 @@ returns-in_err-held g c = λ r order asked.
     let is = asked.reads in
     let MayFail = g.F.Files.reading_may_fail in
     let stopped = err_from_is_err_and c.from_residual-in_err-held.result c.from_residual-in_err-held.ensures.1 in
-    let named = c.in_ok-name.ensures r order h.stands (c.deref.ensures.value ∙ is.name) in
+    let named = c.in_ok-name.ensures r order h (c.deref.ensures.value ∙ is.name) in
     ends_told MayFail r (Commit order) name_causes (IsCommitBase r order) c.from_residual-in_err-held.result c.in_err-held.field-0.0 (stopped.1 ∙ ap Err stopped.2)
     (gives_told MayFail (IsHeld r c.deref-7.result.now) name_causes r order c.held.result c.in_err-held.field-0.0 c.in_err-held.was (c.held.ensures r h (ap is_name c.deref-7.ensures.value ∙ named.1.formed)))
 
@@ -103,7 +103,7 @@ returns-in_err-test g c = λ r order asked.
     let h = asked.serves in
     let is = asked.reads in
     let MayFail = g.F.Files.reading_may_fail in
-    let named = c.in_ok-name.ensures r order h.stands (c.deref.ensures.value ∙ is.name) in
+    let named = c.in_ok-name.ensures r order h (c.deref.ensures.value ∙ is.name) in
     let expects = c.in_ok-expected.ensures r order.expect h is.expect in
     let meanings = parent_meanings r order c.args.command.now.parents.items c.in_ok-words.words.items is.parents
     (c.in_ok-words.ensures r h ∙ ap (map (λ (word : Vec ℕ Global). commit_or_cause r word.items)) c.deref-2.ensures.value) in
@@ -125,7 +125,7 @@ returns-in_err-test_place g c = λ r order asked.
     let h = asked.serves in
     let is = asked.reads in
     let MayFail = g.F.Files.reading_may_fail in
-    let named = c.in_ok-name.ensures r order h.stands (c.deref.ensures.value ∙ is.name) in
+    let named = c.in_ok-name.ensures r order h (c.deref.ensures.value ∙ is.name) in
     let expects = c.in_ok-expected.ensures r order.expect h is.expect in
     let meanings = parent_meanings r order c.args.command.now.parents.items c.in_ok-words.words.items is.parents
     (c.in_ok-words.ensures r h ∙ ap (map (λ (word : Vec ℕ Global). commit_or_cause r word.items)) c.deref-2.ensures.value) in
@@ -157,7 +157,7 @@ returns-in_err-test_parents g c = λ r order asked.
     let h = asked.serves in
     let is = asked.reads in
     let MayFail = g.F.Files.reading_may_fail in
-    let named = c.in_ok-name.ensures r order h.stands (c.deref.ensures.value ∙ is.name) in
+    let named = c.in_ok-name.ensures r order h (c.deref.ensures.value ∙ is.name) in
     let expects = c.in_ok-expected.ensures r order.expect h is.expect in
     let meanings = parent_meanings r order c.args.command.now.parents.items c.in_ok-words.words.items is.parents
     (c.in_ok-words.ensures r h ∙ ap (map (λ (word : Vec ℕ Global). commit_or_cause r word.items)) c.deref-2.ensures.value) in
@@ -184,7 +184,7 @@ returns g c = λ r order asked.
     let h = asked.serves in
     let is = asked.reads in
     let MayFail = g.F.Files.reading_may_fail in
-    let named = c.in_ok-name.ensures r order h.stands (c.deref.ensures.value ∙ is.name) in
+    let named = c.in_ok-name.ensures r order h (c.deref.ensures.value ∙ is.name) in
     let expects = c.in_ok-expected.ensures r order.expect h is.expect in
     let meanings = parent_meanings r order c.args.command.now.parents.items c.in_ok-words.words.items is.parents
     (c.in_ok-words.ensures r h ∙ ap (map (λ (word : Vec ℕ Global). commit_or_cause r word.items)) c.deref-2.ensures.value) in

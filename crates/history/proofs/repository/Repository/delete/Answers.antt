@@ -4,9 +4,9 @@ use Rattle.history_model.specs.Commands.{Delete}
 use Rattle.history_model.specs.Meaning.{after}
 use Rattle.history_model.specs.Replies.{Deleted}
 use Rattle.history.specs.Acts.{CountsFailure}
-use Rattle.history.specs.Serving.{Serves}
+use Rattle.history.specs.Stands.{Stands}
 use Rattle.history.proofs.Acted.{idle_later, idle_stops}
-use Rattle.history.proofs.DeleteLemmas.{acts_stopped, acts_tested, names_only, passes_names, stand_now, stands_after, there_now, unpacked_after}
+use Rattle.history.proofs.DeleteLemmas.{acts_stopped, acts_tested, names_only, passes_names, stand_now, stands_after, there_now}
 use Rattle.history.proofs.NamesAlone.{names_later, names_serve, names_stop, word_told}
 use Rattle.history.proofs.repository.Repository.delete.Goals as goal
 
@@ -19,7 +19,7 @@ returns-in_err-test_delete-clause-stops g c = λ r name at h is. idle_stops g.F.
 pub returns-in_err-test_delete-clause-acts : goal.returns-in_err-test_delete-clause-acts
 returns-in_err-test_delete-clause-acts g c = λ r name at h is.
     let stopped = err_from_is_err_and c.from_residual.result c.from_residual.ensures.1 in
-    acts_tested g.F.Files.reading_may_fail (CountsFailure g.F.Files.failures g.F.Files.reading_may_fail c.args.self.now c.args.self.now) (Serves g.F.Files.is_honest g.F.Files.history c.args.self.now) (λ may. inr (inr may))
+    acts_tested g.F.Files.reading_may_fail (CountsFailure g.F.Files.failures g.F.Files.reading_may_fail c.args.self.now c.args.self.now) (Stands g.F.Files.is_honest g.F.Files.history c.args.self.now) (λ may. inr (inr may))
     r (Delete name at) c.test_delete.result c.from_residual.result c.in_err-test_delete.field-0.0 c.in_err-test_delete.was (stopped.1 ∙ ap Err stopped.2) (c.test_delete.ensures r name at h is)
 
 pub returns-in_err-line-clause-later : goal.returns-in_err-line-clause-later
@@ -33,7 +33,8 @@ returns-in_err-delete_name-clause-later g c = λ r name at h is.
     let F = g.F.Files in
     let none = c.in_ok-test_delete.ensures r name at h is in
     let place = c.deref.ensures.value ∙ is.name_is in
-    let pass = passes_names F.is_honest F.history c.args.self.now r h name c.deref.result.now at place none c.delete_name.new.self (c.delete_name.ensures.passes r (stand_now F.is_honest F.history c.args.self.now r h)) in
+    let there = there_now F.is_honest F.history c.args.self.now r h name c.deref.result.now at place none in
+    let pass = passes_names F.is_honest F.history c.args.self.now r h name c.deref.result.now at place none c.delete_name.new.self (c.delete_name.ensures.passes r (stand_now F.is_honest F.history c.args.self.now r h) there) in
     names_later F.is_honest F.history F.failures c.args.self.now c.delete_name.new.self r (Delete name at) Deleted h (names_only r name at none) c.delete_name.ensures.kept pass
 
 pub returns-in_err-delete_name-clause-stops : goal.returns-in_err-delete_name-clause-stops
@@ -41,7 +42,8 @@ returns-in_err-delete_name-clause-stops g c = λ r name at h is.
     let F = g.F.Files in
     let none = c.in_ok-test_delete.ensures r name at h is in
     let place = c.deref.ensures.value ∙ is.name_is in
-    let pass = passes_names F.is_honest F.history c.args.self.now r h name c.deref.result.now at place none c.delete_name.new.self (c.delete_name.ensures.passes r (stand_now F.is_honest F.history c.args.self.now r h)) in
+    let there = there_now F.is_honest F.history c.args.self.now r h name c.deref.result.now at place none in
+    let pass = passes_names F.is_honest F.history c.args.self.now r h name c.deref.result.now at place none c.delete_name.new.self (c.delete_name.ensures.passes r (stand_now F.is_honest F.history c.args.self.now r h) there) in
     names_stop F.is_honest F.history F.failures c.args.self.now c.delete_name.new.self r (Delete name at) Deleted h (names_only r name at none) c.delete_name.ensures.kept pass
 
 pub returns-in_err-delete_name-clause-acts : goal.returns-in_err-delete_name-clause-acts
@@ -51,8 +53,8 @@ returns-in_err-delete_name-clause-acts g c = λ r name at h is.
     let place = c.deref.ensures.value ∙ is.name_is in
     let there = there_now F.is_honest F.history c.args.self.now r h name c.deref.result.now at place none in
     let stopped = err_from_is_err_and c.from_residual-in_err-delete_name.result c.from_residual-in_err-delete_name.ensures.1 in
-    acts_stopped (CountsFailure F.failures F.reading_may_fail c.args.self.now c.delete_name.new.self) (F.history c.args.self.now.names.files).tree (F.history c.delete_name.new.self.names.files).tree
-    (Serves F.is_honest F.history c.delete_name.new.self) r name c.deref.result.now at c.delete_name.result c.from_residual-in_err-delete_name.result c.in_err-delete_name.field-0.0 c.in_err-delete_name.was (stopped.1 ∙ ap Err stopped.2)
+    acts_stopped (CountsFailure F.failures F.reading_may_fail c.args.self.now c.delete_name.new.self) r.kind (F.history c.args.self.now.names.files).tree (F.history c.delete_name.new.self.names.files).tree
+    (Stands F.is_honest F.history c.delete_name.new.self) r name c.deref.result.now at c.delete_name.result c.from_residual-in_err-delete_name.result c.in_err-delete_name.field-0.0 c.in_err-delete_name.was (stopped.1 ∙ ap Err stopped.2)
     (c.delete_name.ensures.deletes r (stand_now F.is_honest F.history c.args.self.now r h) there)
 
 pub returns-clause-later : goal.returns-clause-later
@@ -60,7 +62,8 @@ returns-clause-later g c = λ r name at h is.
     let F = g.F.Files in
     let none = c.in_ok-test_delete.ensures r name at h is in
     let place = c.deref.ensures.value ∙ is.name_is in
-    let pass = passes_names F.is_honest F.history c.args.self.now r h name c.deref.result.now at place none c.delete_name.new.self (c.delete_name.ensures.passes r (stand_now F.is_honest F.history c.args.self.now r h)) in
+    let there = there_now F.is_honest F.history c.args.self.now r h name c.deref.result.now at place none in
+    let pass = passes_names F.is_honest F.history c.args.self.now r h name c.deref.result.now at place none c.delete_name.new.self (c.delete_name.ensures.passes r (stand_now F.is_honest F.history c.args.self.now r h) there) in
     names_later F.is_honest F.history F.failures c.args.self.now c.delete_name.new.self r (Delete name at) Deleted h (names_only r name at none) c.delete_name.ensures.kept pass
 
 pub returns-clause-stops : goal.returns-clause-stops
@@ -68,7 +71,8 @@ returns-clause-stops g c = λ r name at h is.
     let F = g.F.Files in
     let none = c.in_ok-test_delete.ensures r name at h is in
     let place = c.deref.ensures.value ∙ is.name_is in
-    let pass = passes_names F.is_honest F.history c.args.self.now r h name c.deref.result.now at place none c.delete_name.new.self (c.delete_name.ensures.passes r (stand_now F.is_honest F.history c.args.self.now r h)) in
+    let there = there_now F.is_honest F.history c.args.self.now r h name c.deref.result.now at place none in
+    let pass = passes_names F.is_honest F.history c.args.self.now r h name c.deref.result.now at place none c.delete_name.new.self (c.delete_name.ensures.passes r (stand_now F.is_honest F.history c.args.self.now r h) there) in
     names_stop F.is_honest F.history F.failures c.args.self.now c.delete_name.new.self r (Delete name at) Deleted h (names_only r name at none) c.delete_name.ensures.kept pass
 
 pub returns-clause-acts : goal.returns-clause-acts
@@ -86,5 +90,5 @@ returns-clause-acts g c = λ r name at h is.
       (names_only r name at none).accepts,
       names_serve F.is_honest F.history F.failures c.args.self.now c.delete_name.new.self r (Delete name at) Deleted h (names_only r name at none) kept (c.delete_name.ensures.honest stand.honest)
           (stands_after F.is_honest F.history c.args.self.now r h name c.deref.result.now at place none c.delete_name.new.self kept deleted)
-          (unpacked_after F.is_honest F.history c.args.self.now r h name c.deref.result.now at place none c.delete_name.new.self kept deleted) c.delete_name.ensures.kind,
+          (c.in_ok-delete_name.ensures.records r stand there) c.delete_name.ensures.kind,
     )

@@ -2,11 +2,11 @@ use Rattle.std.proofs.Common.{◌≡◌, [], ◌∷◌, filter, map, take}
 use Rattle.gix_hash_id.specs.Id.{id_of}
 use Rattle.history_model.specs.Answers.{differs_at}
 use Rattle.history_model.specs.Repository as plain
-use Rattle.history.specs.Serving.{Serves}
+use Rattle.history.specs.Stands.{Stands}
 use Rattle.history.specs.Walked.{AllHold}
 use Rattle.history.proofs.repository.Repository.differing.Given as goal
 
 -- those of the commits so far that differ
 abbrev pub invariant-loop-id : goal.invariant-loop-id
-invariant-loop-id g l = (r : plain.Repository) → Serves g.F.Files.is_honest g.F.Files.history l.self r → AllHold r l.ids
+invariant-loop-id g l = (r : plain.Repository) → Stands g.F.Files.is_honest g.F.Files.history l.self r → AllHold r l.ids
     → map id_of l.differing.items ≡ filter (differs_at r (map (λ path. path.now) l.paths)) (map id_of (take l.id-index l.ids))

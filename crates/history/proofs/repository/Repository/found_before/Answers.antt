@@ -9,7 +9,7 @@ pub returns-in-Some : goal.returns-in-Some
 returns-in-Some g c = λ r s hold.
     let ids = map id_of c.args.parents.now in
     let tree = subst (IsTreeBefore r ids) c.in-Some.is (c.in_ok-tree.ensures r s hold) in
-    c.found_each.ensures r (first_files r ids) s.stands (tree_there r ids c.in-Some.tree tree)
+    c.found_each.ensures r (first_files r ids) s (tree_there r ids c.in-Some.tree tree)
 
 pub returns-in_ok-nothing_at-in-None : goal.returns-in_ok-nothing_at-in-None
 returns-in_ok-nothing_at-in-None g c = λ r s hold.

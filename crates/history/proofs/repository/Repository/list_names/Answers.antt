@@ -2,7 +2,7 @@ use Rattle.std.proofs.Common.{◌≡◌, None, Err, refl, sym, ◌∙◌, ap, su
 use Rattle.std.specs.Prelude.{option_copied, map}
 use Rattle.history_model.specs.Commands.{Names}
 use Rattle.history_model.specs.Replies.{NamesAre, reply_text}
-use Rattle.history_store.specs.NameLists.{ListsNames}
+use Rattle.history_store.specs.AllNames.{ListsAll}
 use Rattle.history.specs.NamesShown.{folder_cause, shown_name, told_name}
 use Rattle.history.specs.Face.{names_part}
 use Rattle.history.proofs.Answered.{handed_on, reading_fault}
@@ -30,9 +30,9 @@ returns-in_err-shown g c = λ r s.
     let folder = option_copied c.args.folder in
     let asked = asked_is c.args.folder _ c.unwrap_or-folder.result c.unwrap_or-folder.ensures refl in
     let good : folder_cause (asked_folder folder) ≡ None = ap folder_cause (sym asked) ∙ c.in_ok-test_folder.ensures in
-    let found = c.in_ok-names.ensures.found (λ empty. not_root (asked_folder folder) good (sym asked ∙ empty)) s.stands.honest_names in
-    let lists = subst (λ f. ListsNames here.names.kind (g.F.Files.history (names_part here)).tree f c.in_ok-names.names.items) asked found in
-    let peeled = listed_peeled g.F.Files.is_honest g.F.Files.history here r s here.names.kind s.stands.names_kind folder c.in_ok-names.names.items good lists in
+    let found = c.in_ok-names.ensures.found (λ empty. not_root (asked_folder folder) good (sym asked ∙ empty)) s.honest_names s.records in
+    let lists = subst (λ f. ListsAll here.names.kind (g.F.Files.history (names_part here)).tree f c.in_ok-names.names.items) asked found in
+    let peeled = listed_peeled g.F.Files.is_honest g.F.Files.history here r s here.names.kind s.names_kind folder c.in_ok-names.names.items good lists in
     handed_on MayFail r (Names folder) c.from_residual-in_err-shown.result _ c.from_residual-in_err-shown.ensures.1
     (reading_fault MayFail r (Names folder) c.in_err-shown.field-0.0
     (gave_fault MayFail (λ shown. map shown_name shown.items ≡ map (told_name r) c.in_ok-names.names.items) c.shown.result c.in_err-shown.field-0.0 c.in_err-shown.was (c.shown.ensures r s peeled)))
@@ -43,9 +43,9 @@ returns g c = λ r s.
     let folder = option_copied c.args.folder in
     let asked = asked_is c.args.folder _ c.unwrap_or-folder.result c.unwrap_or-folder.ensures refl in
     let good : folder_cause (asked_folder folder) ≡ None = ap folder_cause (sym asked) ∙ c.in_ok-test_folder.ensures in
-    let found = c.in_ok-names.ensures.found (λ empty. not_root (asked_folder folder) good (sym asked ∙ empty)) s.stands.honest_names in
-    let lists = subst (λ f. ListsNames here.names.kind (g.F.Files.history (names_part here)).tree f c.in_ok-names.names.items) asked found in
-    let peeled = listed_peeled g.F.Files.is_honest g.F.Files.history here r s here.names.kind s.stands.names_kind folder c.in_ok-names.names.items good lists in
+    let found = c.in_ok-names.ensures.found (λ empty. not_root (asked_folder folder) good (sym asked ∙ empty)) s.honest_names s.records in
+    let lists = subst (λ f. ListsAll here.names.kind (g.F.Files.history (names_part here)).tree f c.in_ok-names.names.items) asked found in
+    let peeled = listed_peeled g.F.Files.is_honest g.F.Files.history here r s here.names.kind s.names_kind folder c.in_ok-names.names.items good lists in
     let written = c.in_ok-names_text.ensures ∙ (λ i. reply_text (NamesAre (c.deref.ensures.value i) (map shown_name (c.deref-2.ensures.value i)))) in
-    names_answered g.F.Files.is_honest g.F.Files.history here r s here.names.kind s.stands.names_kind folder c.in_ok-names.names.items good lists g.F.Files.reading_may_fail
+    names_answered g.F.Files.is_honest g.F.Files.history here r s here.names.kind s.names_kind folder c.in_ok-names.names.items good lists g.F.Files.reading_may_fail
     c.in_ok-shown.shown.items c.in_ok-names_text.field-0 (c.in_ok-shown.ensures r s peeled) written

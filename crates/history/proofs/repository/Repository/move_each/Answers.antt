@@ -15,7 +15,7 @@ pub loop-one-preserved : goal.loop-one-preserved
 loop-one-preserved g c =
     name_moved g.F.Files.is_honest g.F.Files.history g.F.Files.failures c.args.moves.now c.loop-one.one-index c.one-item.result c.loop-one-test.true c.one-item.is
     c.args.self.now c.loop-one.self c.move_names.new.self c.loop-one.invariant c.move_names.ensures.kept c.move_names.ensures.counts c.in_ok-move_names.ensures.unfailed c.move_names.ensures.honest c.move_names.ensures.kind
-    c.in_ok-move_names.ensures.moves c.move_names.ensures.passes
+    c.in_ok-move_names.ensures.records c.in_ok-move_names.ensures.moves c.move_names.ensures.passes
 
 pub returns-in_err-move_names-clause-kept : goal.returns-in_err-move_names-clause-kept
 returns-in_err-move_names-clause-kept g c = kept_then g.F.Files.is_honest g.F.Files.history g.F.Files.failures c.args.self.now c.loop-one.self c.move_names.new.self c.loop-one.invariant.kept c.move_names.ensures.kept

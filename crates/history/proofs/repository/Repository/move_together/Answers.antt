@@ -6,7 +6,7 @@ use Rattle.history_model.specs.Replies.{Moved}
 use Rattle.history.specs.Acts.{CountsFailure}
 use Rattle.history.specs.Halves.{NamesStand}
 use Rattle.history.specs.Moving.{AreMoves, AskedMoves}
-use Rattle.history.specs.Serving.{Serves}
+use Rattle.history.specs.Stands.{Stands}
 use Rattle.history.proofs.Acted.{idle_later, idle_stops}
 use Rattle.history.proofs.LineLemmas.{plan_acts}
 use Rattle.history.proofs.MovesMade.{names_only}
@@ -22,7 +22,7 @@ returns-in_err-moves-clause-stops g c = λ r order h is. idle_stops g.F.Files.is
 pub returns-in_err-moves-clause-acts : goal.returns-in_err-moves-clause-acts
 returns-in_err-moves-clause-acts g c = λ r order h is.
     let stopped = err_from_is_err_and c.from_residual.result c.from_residual.ensures.1 in
-    plan_acts g.F.Files.reading_may_fail (CountsFailure g.F.Files.failures g.F.Files.reading_may_fail c.args.self.now c.args.self.now) (Serves g.F.Files.is_honest g.F.Files.history c.args.self.now) (λ may. inr (inr may))
+    plan_acts g.F.Files.reading_may_fail (CountsFailure g.F.Files.failures g.F.Files.reading_may_fail c.args.self.now c.args.self.now) (Stands g.F.Files.is_honest g.F.Files.history c.args.self.now) (λ may. inr (inr may))
     r order c.plan_moves.result c.from_residual.result c.in_err-moves.field-0.0 c.in_err-moves.was (stopped.1 ∙ ap Err stopped.2) (c.plan_moves.ensures r order h is)
 
 pub returns-in_err-line-clause-later : goal.returns-in_err-line-clause-later
@@ -49,7 +49,7 @@ returns-in_err-move_each-clause-acts g c = λ r order h is.
     let asked : AskedMoves g.F.Files.is_honest g.F.Files.history c.args.self.now c.deref.result.now r order = record { serves = h; none = plan.0; moves_are = subst (AreMoves r order order.to) (sym c.deref.ensures.value) plan.1 } in
     let stopped = err_from_is_err_and c.from_residual-in_err-move_each.result c.from_residual-in_err-move_each.ensures.1 in
     acts_stopped (CountsFailure g.F.Files.failures g.F.Files.reading_may_fail c.args.self.now c.move_each.new.self) (NamesStand g.F.Files.is_honest g.F.Files.history c.move_each.new.self (after r (Move order)))
-    (Serves g.F.Files.is_honest g.F.Files.history c.move_each.new.self) r (Move order) c.move_each.result c.from_residual-in_err-move_each.result c.in_err-move_each.field-0.0 c.in_err-move_each.was (stopped.1 ∙ ap Err stopped.2)
+    (Stands g.F.Files.is_honest g.F.Files.history c.move_each.new.self) r (Move order) c.move_each.result c.from_residual-in_err-move_each.result c.in_err-move_each.field-0.0 c.in_err-move_each.was (stopped.1 ∙ ap Err stopped.2)
     (c.move_each.ensures.moves r order asked)
 
 pub returns-clause-later : goal.returns-clause-later

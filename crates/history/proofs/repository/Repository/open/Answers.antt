@@ -2,7 +2,7 @@ use Rattle.std.proofs.Common.{None, false, refl}
 use Rattle.history_model.specs.Repository.{fresh}
 use Rattle.history_store.proofs.FreshParts.{new_stands_whole}
 use Rattle.history.specs.declared.repository.Repository.{Repository}
-use Rattle.history.proofs.OpenLemmas.{opened_stage, opened_stands}
+use Rattle.history.proofs.OpenLemmas.{opened_stands}
 use Rattle.history.proofs.repository.Repository.open.Goals as goal
 
 pub returns-clause-stands : goal.returns-clause-stands
@@ -15,7 +15,6 @@ returns-clause-stands g c = λ objects names.
       found.0,
       found.1.stands.stands.of_kind,
       opened_stands g.F.Files.is_honest g.F.Files.history opened c.args.kind c.args.objects c.args.names repository refl refl refl refl parts.0 parts.1 kinds.0 kinds.1 objects names found.0 found.1,
-      opened_stage g.F.Files.is_honest g.F.Files.history opened c.args.kind c.args.objects c.args.names repository refl refl refl refl parts.0 parts.1 kinds.0 kinds.1 found.1.stage,
     )
 
 pub returns-clause-same : goal.returns-clause-same

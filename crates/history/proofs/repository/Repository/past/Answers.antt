@@ -3,7 +3,7 @@ use Rattle.history_model.specs.Bytes.{Bytes}
 use Rattle.history_model.specs.Commands.{Past}
 use Rattle.history_model.specs.Repository.{moves_at}
 use Rattle.history_model.proofs.WholeForms.{moves_formed}
-use Rattle.history_store.specs.References.{NameHolds}
+use Rattle.history_store.specs.Packing.{NameReads}
 use Rattle.history.specs.CommitCauses.{form_cause}
 use Rattle.history.specs.Face.{names_part}
 use Rattle.history.proofs.Answered.{handed_on}
@@ -16,22 +16,22 @@ pub returns-in_err-test_name : goal.returns-in_err-test_name
 returns-in_err-test_name g c = λ r s.
     let asked = c.deref.ensures.value ∙ c.in_ok-name.ensures r s in
     handed_on g.F.Files.reading_may_fail r (Past c.args.word.now) c.from_residual-in_err-test_name.result _ c.from_residual-in_err-test_name.ensures.1
-    (form_refused r s.stands.whole.written c.args.word.now c.deref.result.now asked c.in_err-test_name.field-0.0 c.in_err-test_name.ensures)
+    (form_refused r s.whole.written c.args.word.now c.deref.result.now asked c.in_err-test_name.field-0.0 c.in_err-test_name.ensures)
 
 pub returns-then-is_none : goal.returns-then-is_none
 returns-then-is_none g c = λ r s.
     let asked = c.deref-2.ensures.value ∙ c.in_ok-name.ensures r s in
     let formed = ap form_cause (c.deref-2.ensures.value ∙ sym c.deref.ensures.value) ∙ c.in_ok-test_name.ensures in
-    let there = name_stands g.F.Files.is_honest g.F.Files.history c.args.self.now r s c.deref-2.result.now (formed_of c.deref-2.result.now formed) c.in_ok-read.field-0 (c.in_ok-read.ensures.found s.stands.honest_names) in
-    absent_refused r s.stands.whole.written c.args.word.now c.deref-2.result.now asked formed (there ∙ c.if-is_none.ensures)
+    let there = name_stands g.F.Files.is_honest g.F.Files.history c.args.self.now r s c.deref-2.result.now (formed_of c.deref-2.result.now formed) c.in_ok-find.field-0 (c.in_ok-find.ensures.found s.honest_names s.records) in
+    absent_refused r s.whole.written c.args.word.now c.deref-2.result.now asked formed (there ∙ c.if-is_none.ensures)
 
 pub returns : goal.returns
 returns g c = λ r s.
     let name = c.deref-3.result.now in
     let asked = c.deref-3.ensures.value ∙ c.in_ok-name.ensures r s in
     let formed = ap form_cause (c.deref-3.ensures.value ∙ sym c.deref.ensures.value) ∙ c.in_ok-test_name.ensures in
-    let holds = subst (λ (n : Bytes). NameHolds c.args.self.now.names.kind (g.F.Files.history (names_part c.args.self.now)).tree n c.in_ok-read.field-0) (c.deref-2.ensures.value ∙ sym c.deref-3.ensures.value) (c.in_ok-read.ensures.found s.stands.honest_names) in
-    let there = name_stands g.F.Files.is_honest g.F.Files.history c.args.self.now r s name (formed_of name formed) c.in_ok-read.field-0 holds in
-    let is_log = c.deref-4.ensures.value ∙ c.in_ok-log.ensures.found s.stands.honest_names ∙ s.stands.whole.stands.logs name in
-    past_answered r s.stands.whole.written c.args.word.now name asked g.F.Files.reading_may_fail c.in_ok-past_text.field-0 formed (there ∙ c.if-is_none.ensures)
-    (c.in_ok-past_text.ensures r.kind (moves_at r name) (moves_formed r s.stands.whole.written name) is_log)
+    let holds = subst (λ (n : Bytes). NameReads c.args.self.now.names.kind (g.F.Files.history (names_part c.args.self.now)).tree n c.in_ok-find.field-0) (c.deref-2.ensures.value ∙ sym c.deref-3.ensures.value) (c.in_ok-find.ensures.found s.honest_names s.records) in
+    let there = name_stands g.F.Files.is_honest g.F.Files.history c.args.self.now r s name (formed_of name formed) c.in_ok-find.field-0 holds in
+    let is_log = c.deref-4.ensures.value ∙ c.in_ok-log.ensures.found s.honest_names ∙ s.whole.stands.logs name in
+    past_answered r s.whole.written c.args.word.now name asked g.F.Files.reading_may_fail c.in_ok-past_text.field-0 formed (there ∙ c.if-is_none.ensures)
+    (c.in_ok-past_text.ensures r.kind (moves_at r name) (moves_formed r s.whole.written name) is_log)

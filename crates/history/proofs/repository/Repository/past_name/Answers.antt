@@ -12,7 +12,7 @@ use Rattle.history.proofs.repository.Repository.past_name.Goals as goal
 pub returns-then-eq : goal.returns-then-eq
 returns-then-eq g c = λ r stand.
     let head = (slice_eq-Decides Decides-eqb c.args.word.now head_word c.eq.result c.eq.ensures).0 c.if-eq.true in
-    c.in_ok-from_slice.ensures.items ∙ c.deref.ensures.value ∙ stand.stands.branch ∙ head_asked r c.args.word.now (ap (λ w. bytes_eq w head_word) head ∙ text_itself head_word)
+    c.in_ok-from_slice.ensures.items ∙ c.deref.ensures.value ∙ stand.branch ∙ head_asked r c.args.word.now (ap (λ w. bytes_eq w head_word) head ∙ text_itself head_word)
 
 pub returns-then-is_name : goal.returns-then-is_name
 returns-then-is_name g c = λ r stand.

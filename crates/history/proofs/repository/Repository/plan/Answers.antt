@@ -40,7 +40,7 @@ pub returns-in_err-below : goal.returns-in_err-below
 returns-in_err-below g c = λ r order asked.
     let h = asked.serves in
     let is = asked.reads in
-    let sound : IsSound r = record { whole = h.stands.whole.whole; written = h.stands.whole.written } in
+    let sound : IsSound r = record { whole = h.whole.whole; written = h.whole.written } in
     let base = c.in_ok-base.ensures r order asked in
     let files = c.in_ok-files.ensures r order (record { serves = h; unrefused = base.0; parents_are = ap (map id_of) c.deref.ensures.value ∙ base.1.parents; edits_are = is.edits }) in
     let actors = c.in_ok-actors.ensures r order is.author is.committer is.message files.long files.paths in
@@ -53,8 +53,8 @@ pub returns-in_err-committed : goal.returns-in_err-committed
 returns-in_err-committed g c = λ r order asked.
     let h = asked.serves in
     let is = asked.reads in
-    let w = h.stands.whole.whole.names in
-    let sound : IsSound r = record { whole = h.stands.whole.whole; written = h.stands.whole.written } in
+    let w = h.whole.whole.names in
+    let sound : IsSound r = record { whole = h.whole.whole; written = h.whole.written } in
     let base = c.in_ok-base.ensures r order asked in
     let files = c.in_ok-files.ensures r order (record { serves = h; unrefused = base.0; parents_are = ap (map id_of) c.deref.ensures.value ∙ base.1.parents; edits_are = is.edits }) in
     let actors = c.in_ok-actors.ensures r order is.author is.committer is.message files.long files.paths in
@@ -75,8 +75,8 @@ pub returns : goal.returns
 returns g c = λ r order asked.
     let h = asked.serves in
     let is = asked.reads in
-    let w = h.stands.whole.whole.names in
-    let sound : IsSound r = record { whole = h.stands.whole.whole; written = h.stands.whole.written } in
+    let w = h.whole.whole.names in
+    let sound : IsSound r = record { whole = h.whole.whole; written = h.whole.written } in
     let base = c.in_ok-base.ensures r order asked in
     let files = c.in_ok-files.ensures r order (record { serves = h; unrefused = base.0; parents_are = ap (map id_of) c.deref.ensures.value ∙ base.1.parents; edits_are = is.edits }) in
     let actors = c.in_ok-actors.ensures r order is.author is.committer is.message files.long files.paths in

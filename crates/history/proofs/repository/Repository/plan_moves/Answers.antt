@@ -29,7 +29,7 @@ returns-in_err-meanings_in g c = λ r order h is.
 
 pub returns-in_err-test_words : goal.returns-in_err-test_words
 returns-in_err-test_words g c = λ r order h is.
-    let w = h.stands.whole.whole.names in
+    let w = h.whole.whole.names in
     let names = names_told r order ∙ ap names_cause (sym (names_sent c.args.command.to.items order.to is.to)) ∙ ap (λ tos. names_cause (map to_name tos)) (sym c.deref.ensures.value) ∙ c.in_ok-test_names.ensures in
     let named = each_named order.to (all_named (map name_of order.to) (sym (names_told r order) ∙ names)) in
     let lines = c.in_ok-lines.ensures r order.to h is.to named in
@@ -39,7 +39,7 @@ returns-in_err-test_words g c = λ r order h is.
 
 pub returns-in_err-test_held : goal.returns-in_err-test_held
 returns-in_err-test_held g c = λ r order h is.
-    let w = h.stands.whole.whole.names in
+    let w = h.whole.whole.names in
     let names = names_told r order ∙ ap names_cause (sym (names_sent c.args.command.to.items order.to is.to)) ∙ ap (λ tos. names_cause (map to_name tos)) (sym c.deref.ensures.value) ∙ c.in_ok-test_names.ensures in
     let named = each_named order.to (all_named (map name_of order.to) (sym (names_told r order) ∙ names)) in
     let lines = c.in_ok-lines.ensures r order.to h is.to named in
@@ -50,7 +50,7 @@ returns-in_err-test_held g c = λ r order h is.
 
 pub returns-in_err-test_places : goal.returns-in_err-test_places
 returns-in_err-test_places g c = λ r order h is.
-    let w = h.stands.whole.whole.names in
+    let w = h.whole.whole.names in
     let names = names_told r order ∙ ap names_cause (sym (names_sent c.args.command.to.items order.to is.to)) ∙ ap (λ tos. names_cause (map to_name tos)) (sym c.deref.ensures.value) ∙ c.in_ok-test_names.ensures in
     let named = each_named order.to (all_named (map name_of order.to) (sym (names_told r order) ∙ names)) in
     let lines = c.in_ok-lines.ensures r order.to h is.to named in
@@ -62,7 +62,7 @@ returns-in_err-test_places g c = λ r order h is.
 
 pub returns-in_err-actor : goal.returns-in_err-actor
 returns-in_err-actor g c = λ r order h is.
-    let w = h.stands.whole.whole.names in
+    let w = h.whole.whole.names in
     let names = names_told r order ∙ ap names_cause (sym (names_sent c.args.command.to.items order.to is.to)) ∙ ap (λ tos. names_cause (map to_name tos)) (sym c.deref.ensures.value) ∙ c.in_ok-test_names.ensures in
     let named = each_named order.to (all_named (map name_of order.to) (sym (names_told r order) ∙ names)) in
     let lines = c.in_ok-lines.ensures r order.to h is.to named in
@@ -75,7 +75,7 @@ returns-in_err-actor g c = λ r order h is.
 
 pub returns-then-have_there : goal.returns-then-have_there
 returns-then-have_there g c = λ r order h is.
-    let w = h.stands.whole.whole.names in
+    let w = h.whole.whole.names in
     let names = names_told r order ∙ ap names_cause (sym (names_sent c.args.command.to.items order.to is.to)) ∙ ap (λ tos. names_cause (map to_name tos)) (sym c.deref.ensures.value) ∙ c.in_ok-test_names.ensures in
     let named = each_named order.to (all_named (map name_of order.to) (sym (names_told r order) ∙ names)) in
     let lines = c.in_ok-lines.ensures r order.to h is.to named in
@@ -92,7 +92,7 @@ returns-in_err-moves_of g c = λ r order h is.
 
 pub returns : goal.returns
 returns g c = λ r order h is.
-    let w = h.stands.whole.whole.names in
+    let w = h.whole.whole.names in
     let names = names_told r order ∙ ap names_cause (sym (names_sent c.args.command.to.items order.to is.to)) ∙ ap (λ tos. names_cause (map to_name tos)) (sym c.deref.ensures.value) ∙ c.in_ok-test_names.ensures in
     let named = each_named order.to (all_named (map name_of order.to) (sym (names_told r order) ∙ names)) in
     let lines = c.in_ok-lines.ensures r order.to h is.to named in
@@ -102,5 +102,5 @@ returns g c = λ r order h is.
     let teller = c.in_ok-actor.ensures r order is.actor is.message in
     let moving = there_told r order.to c.in_ok-lines.lines.items lines ∙ sym (c.have_there.ensures ∙ ap (list_any is_there) c.deref-6.ensures.value) ∙ c.if-have_there.false in (
       none_told r order names words held places teller.0 moving,
-      c.in_ok-moves_of.ensures r order lines (c.kind.ensures ∙ h.stands.names_kind) (record { actor_is = teller.1.actor_is; message_is = c.kept-message.ensures ∙ teller.1.message_is }),
+      c.in_ok-moves_of.ensures r order lines (c.kind.ensures ∙ h.names_kind) (record { actor_is = teller.1.actor_is; message_is = c.kept-message.ensures ∙ teller.1.message_is }),
     )

@@ -19,5 +19,5 @@ pub returns : goal.returns
 returns g c = λ r from to h is.
     let tested = c.in_ok-id.ensures r from to h is in
     let place : c.deref.result.now ≡ to = c.deref.ensures.value ∙ is.to_is in
-    let makes = c.in_ok-new_name.ensures r from (c.kind.ensures ∙ h.stands.names_kind) tested.1 (ap (id_at r) place ∙ is_free r from to tested.0) in
+    let makes = c.in_ok-new_name.ensures r from (c.kind.ensures ∙ h.names_kind) tested.1 (ap (id_at r) place ∙ is_free r from to tested.0) in
     (tested.0, subst (λ n. MakesName r from n c.in_ok-new_name.field-0) place makes)

@@ -69,11 +69,11 @@ returns-in_err-object g c = λ r order h is.
     let base = c.in_ok-base.ensures r order h (c.deref-2.ensures.value ∙ is.name) is.expect (c.deref-3.ensures.value ∙ is.word) (place_named order.name place) in
     let tagger = c.in_ok-tagger.ensures r order is.tagger is.message in
     let message = c.into_kept-message.ensures ∙ kept_whole max_content c.args.command.message order.message is.message tagger.message in
-    let said = tag_said r order h.stands.whole.whole.store c.in_ok-base.base.commit base.1.commit place c.in_ok-tagger.tagger tagger.tagger (good_title r order tagger.formed) c.in_ok-tag_name.tag_name.items c.deref-5.result.now
+    let said = tag_said r order h.whole.whole.store c.in_ok-base.base.commit base.1.commit place c.in_ok-tagger.tagger tagger.tagger (good_title r order tagger.formed) c.in_ok-tag_name.tag_name.items c.deref-5.result.now
     (c.in_ok-tag_name.ensures.items ∙ own.1 ∙ ap tag_rest name) (c.deref-5.ensures.value ∙ message) in
     let stopped = err_from_is_err_and c.from_residual-in_err-object.result c.from_residual-in_err-object.ensures.1 in
     object_planned r order (size_refused r order named base.0 tagger.formed) g.F.Files.reading_may_fail c.tag_object.result c.from_residual-in_err-object.result c.in_err-object.field-0.0 c.in_err-object.was (stopped.1 ∙ ap Err stopped.2)
-    (tag_told _ r order h.stands.objects_kind _ _ _ _ c.tag_object.result c.tag_object.ensures said)
+    (tag_told _ r order h.objects_kind _ _ _ _ c.tag_object.result c.tag_object.ensures said)
 
 pub returns-then-same_id : goal.returns-then-same_id
 returns-then-same_id g c = λ r order h is.
@@ -84,9 +84,9 @@ returns-then-same_id g c = λ r order h is.
     let base = c.in_ok-base.ensures r order h (c.deref-2.ensures.value ∙ is.name) is.expect (c.deref-3.ensures.value ∙ is.word) (place_named order.name place) in
     let tagger = c.in_ok-tagger.ensures r order is.tagger is.message in
     let message = c.into_kept-message.ensures ∙ kept_whole max_content c.args.command.message order.message is.message tagger.message in
-    let said = tag_said r order h.stands.whole.whole.store c.in_ok-base.base.commit base.1.commit place c.in_ok-tagger.tagger tagger.tagger (good_title r order tagger.formed) c.in_ok-tag_name.tag_name.items c.deref-5.result.now
+    let said = tag_said r order h.whole.whole.store c.in_ok-base.base.commit base.1.commit place c.in_ok-tagger.tagger tagger.tagger (good_title r order tagger.formed) c.in_ok-tag_name.tag_name.items c.deref-5.result.now
     (c.in_ok-tag_name.ensures.items ∙ own.1 ∙ ap tag_rest name) (c.deref-5.ensures.value ∙ message) in
-    let made = tag_told _ r order h.stands.objects_kind _ _ _ _ (Ok c.in_ok-object.object) c.in_ok-object.ensures said in
+    let made = tag_told _ r order h.objects_kind _ _ _ _ (Ok c.in_ok-object.object) c.in_ok-object.ensures said in
     nothing_told r order named base.0 tagger.formed made.0 (sym (c.same_id.ensures ∙ same_told r order c.in_ok-base.base.held c.id_held.result c.in_ok-object.object base.1.held c.id_held.ensures made.1) ∙ c.if-same_id.true)
 
 pub returns : goal.returns
@@ -98,9 +98,9 @@ returns g c = λ r order h is.
     let base = c.in_ok-base.ensures r order h (c.deref-2.ensures.value ∙ is.name) is.expect (c.deref-3.ensures.value ∙ is.word) (place_named order.name place) in
     let tagger = c.in_ok-tagger.ensures r order is.tagger is.message in
     let message = c.into_kept-message.ensures ∙ kept_whole max_content c.args.command.message order.message is.message tagger.message in
-    let said = tag_said r order h.stands.whole.whole.store c.in_ok-base.base.commit base.1.commit place c.in_ok-tagger.tagger tagger.tagger (good_title r order tagger.formed) c.in_ok-tag_name.tag_name.items c.deref-5.result.now
+    let said = tag_said r order h.whole.whole.store c.in_ok-base.base.commit base.1.commit place c.in_ok-tagger.tagger tagger.tagger (good_title r order tagger.formed) c.in_ok-tag_name.tag_name.items c.deref-5.result.now
     (c.in_ok-tag_name.ensures.items ∙ own.1 ∙ ap tag_rest name) (c.deref-5.ensures.value ∙ message) in
-    let made = tag_told _ r order h.stands.objects_kind _ _ _ _ (Ok c.in_ok-object.object) c.in_ok-object.ensures said in
+    let made = tag_told _ r order h.objects_kind _ _ _ _ (Ok c.in_ok-object.object) c.in_ok-object.ensures said in
     let moves = c.moves_to-moves.ensures in
     record {
       none = none_told r order named base.0 tagger.formed made.0 (sym (c.same_id.ensures ∙ same_told r order c.in_ok-base.base.held c.id_held.result c.in_ok-object.object base.1.held c.id_held.ensures made.1) ∙ c.if-same_id.false);
@@ -108,7 +108,7 @@ returns g c = λ r order h is.
       moves = record {
         name = ap (λ (name : Vec ℕ Global). name.items) moves.name ∙ is.name;
         entry = entry_told r order c.in_ok-base.base.held c.in_ok-object.object c.moves_to-moves.result.entry base.1.held made.1
-            (ap id_of moves.before ∙ c.id_before-before.ensures ∙ ap (λ kind. unwrap_or (option_map held_id c.in_ok-base.base.held) (null_id kind)) (c.kind.ensures ∙ h.stands.objects_kind))
+            (ap id_of moves.before ∙ c.id_before-before.ensures ∙ ap (λ kind. unwrap_or (option_map held_id c.in_ok-base.base.held) (null_id kind)) (c.kind.ensures ∙ h.objects_kind))
             moves.after (ap actor_of moves.actor ∙ c.in_ok-log_actor.ensures ∙ tagger.tagger)
             (ap (λ (message : Vec ℕ Global). message.items) moves.message ∙ c.in_ok-title.ensures.items ∙ c.title.ensures ∙ ap title (c.deref-4.ensures.value ∙ message));
       };

@@ -19,7 +19,7 @@ loop-edit-preserved g c = λ r lines h are good at.
     (λ front are good at. c.loop-edit.invariant r front h are good at) in
     let told = c.in_ok-found.ensures r asked.1.0 h asked.1.1 asked.1.2 (subst _ (sym c.source.ensures) asked.1.3) in
     one_read g.F.Files.reading_may_fail r c.loop-edit.yielded c.in-Some.edit c.args.sources.now c.loop-edit.made.items c.loop-edit.blobs.items c.push.new.self.items c.read_edit-change.result.0 c.extend.new.self.items (option_to_list blob)
-    asked.0 told.0 (c.read_edit-change.ensures.change r h.stands.objects.kind told.1) (c.read_edit-change.ensures.blob r h.stands.objects.kind) c.in_ok-push.ensures.items added
+    asked.0 told.0 (c.read_edit-change.ensures.change r h.objects_kind told.1) (c.read_edit-change.ensures.blob r h.objects_kind) c.in_ok-push.ensures.items added
 
 pub returns-in_err-found : goal.returns-in_err-found
 returns-in_err-found g c = λ r lines h are good sources.

@@ -5,10 +5,10 @@ use Rattle.history_model.specs.Forms.{is_name}
 use Rattle.history_model.specs.Repository as plain
 use Rattle.history_word.specs.Commands.{AreTos}
 use Rattle.history.specs.Moving.{AreLines}
-use Rattle.history.specs.Serving.{Serves}
+use Rattle.history.specs.Stands.{Stands}
 use Rattle.history.proofs.repository.Repository.read_lines.Given as goal
 
 -- the lines so far are read
 abbrev pub invariant-loop-to : goal.invariant-loop-to
-invariant-loop-to g l = (r : plain.Repository) (orders : List To) → Serves g.F.Files.is_honest g.F.Files.history l.self r
+invariant-loop-to g l = (r : plain.Repository) (orders : List To) → Stands g.F.Files.is_honest g.F.Files.history l.self r
     → AreTos l.yielded orders → list_all (λ (to : To). is_name to.name) orders ≡ true → AreLines r orders l.lines.items

@@ -12,7 +12,7 @@ lookup_prefix-requires g c = subst (λ (kind : Kind). CanName kind c.in-Some.pre
 
 pub returns-in_default : goal.returns-in_default
 returns-in_default g c = λ r s.
-    sym (ap (stands_for r) (no_short_id r c.kind.result c.args.word.now (c.kind.ensures ∙ s.stands.objects_kind) c.in_default.ensures))
+    sym (ap (stands_for r) (no_short_id r c.kind.result c.args.word.now (c.kind.ensures ∙ s.objects_kind) c.in_default.ensures))
 
 pub returns-in-Absent : goal.returns-in-Absent
 returns-in-Absent g c = λ r s.
@@ -22,8 +22,8 @@ returns-in-Absent g c = λ r s.
     let word = c.args.word.now in
     let prefix = c.in-Some.prefix in
     let spelled = subst (λ (kind : Kind). SpellsPrefix kind word prefix) c.kind.ensures c.in-Some.ensures in
-    let hit = subst (IsHit (known_ids own) prefix) c.in-Absent.is (c.lookup_prefix.ensures.hit (kinds_known H history own r s.stands)) in
-    sym (ap (stands_for r) (absent_told H history own r s.stands word prefix spelled hit))
+    let hit = subst (IsHit (known_ids own) prefix) c.in-Absent.is (c.lookup_prefix.ensures.hit (kinds_known H history own r s)) in
+    sym (ap (stands_for r) (absent_told H history own r s word prefix spelled hit))
 
 pub returns-in-One : goal.returns-in-One
 returns-in-One g c = λ r s.
@@ -33,10 +33,10 @@ returns-in-One g c = λ r s.
     let word = c.args.word.now in
     let prefix = c.in-Some.prefix in
     let spelled = subst (λ (kind : Kind). SpellsPrefix kind word prefix) c.kind.ensures c.in-Some.ensures in
-    let hit = subst (IsHit (known_ids own) prefix) c.in-One.is (c.lookup_prefix.ensures.hit (kinds_known H history own r s.stands)) in
+    let hit = subst (IsHit (known_ids own) prefix) c.in-One.is (c.lookup_prefix.ensures.hit (kinds_known H history own r s)) in
     let id = c.in-One.id in
-    let stored = one_stored H history own r s.stands word prefix spelled id hit in
-    given_alike g.F.Files.reading_may_fail _ _ (ap (stands_for r) (sym (one_told H history own r s.stands word prefix spelled id hit))) c.read_stored.result (c.read_stored.ensures r stored.0 s stored.1)
+    let stored = one_stored H history own r s word prefix spelled id hit in
+    given_alike g.F.Files.reading_may_fail _ _ (ap (stands_for r) (sym (one_told H history own r s word prefix spelled id hit))) c.read_stored.result (c.read_stored.ensures r stored.0 s stored.1)
 
 pub returns-in-Several : goal.returns-in-Several
 returns-in-Several g c = λ r s.
@@ -46,5 +46,5 @@ returns-in-Several g c = λ r s.
     let word = c.args.word.now in
     let prefix = c.in-Some.prefix in
     let spelled = subst (λ (kind : Kind). SpellsPrefix kind word prefix) c.kind.ensures c.in-Some.ensures in
-    let hit = subst (IsHit (known_ids own) prefix) c.in-Several.is (c.lookup_prefix.ensures.hit (kinds_known H history own r s.stands)) in
-    sym (ap (stands_for r) (several_told H history own r s.stands word prefix spelled hit))
+    let hit = subst (IsHit (known_ids own) prefix) c.in-Several.is (c.lookup_prefix.ensures.hit (kinds_known H history own r s)) in
+    sym (ap (stands_for r) (several_told H history own r s word prefix spelled hit))

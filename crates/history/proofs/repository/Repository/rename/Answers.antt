@@ -5,7 +5,7 @@ use Rattle.history_model.specs.Meaning.{after}
 use Rattle.history_model.specs.Replies.{Renamed}
 use Rattle.history.specs.Acts.{CountsFailure}
 use Rattle.history.specs.Halves.{NamesStand}
-use Rattle.history.specs.Serving.{Serves}
+use Rattle.history.specs.Stands.{Stands}
 use Rattle.history.proofs.Acted.{idle_later, idle_stops}
 use Rattle.history.proofs.NamesAlone.{acts_stopped, names_later, names_stop, stand_serves, word_told}
 use Rattle.history.proofs.RenameLemmas.{acts_planned, asked_so, names_only, passes_so, renames_so}
@@ -20,7 +20,7 @@ returns-in_err-moves-clause-stops g c = λ r from to h is. idle_stops g.F.Files.
 pub returns-in_err-moves-clause-acts : goal.returns-in_err-moves-clause-acts
 returns-in_err-moves-clause-acts g c = λ r from to h is.
     let stopped = err_from_is_err_and c.from_residual.result c.from_residual.ensures.1 in
-    acts_planned g.F.Files.reading_may_fail (CountsFailure g.F.Files.failures g.F.Files.reading_may_fail c.args.self.now c.args.self.now) (Serves g.F.Files.is_honest g.F.Files.history c.args.self.now) (λ may. inr (inr may))
+    acts_planned g.F.Files.reading_may_fail (CountsFailure g.F.Files.failures g.F.Files.reading_may_fail c.args.self.now c.args.self.now) (Stands g.F.Files.is_honest g.F.Files.history c.args.self.now) (λ may. inr (inr may))
     r from to c.plan_rename.result c.from_residual.result c.in_err-moves.field-0.0 c.in_err-moves.was (stopped.1 ∙ ap Err stopped.2) (c.plan_rename.ensures r from to h is)
 
 pub returns-in_err-line-clause-later : goal.returns-in_err-line-clause-later
@@ -55,7 +55,7 @@ returns-in_err-rename_name-clause-acts g c = λ r from to h is.
     let asked = asked_so F.is_honest F.history r from to c.deref.result.now same c.args.self.now c.in_ok-moves.moves h plan in
     let CallFailed = CountsFailure F.failures F.reading_may_fail c.args.self.now c.rename_name.new.self in
     let stopped = err_from_is_err_and c.from_residual-in_err-rename_name.result c.from_residual-in_err-rename_name.ensures.1 in
-    acts_stopped CallFailed (NamesStand F.is_honest F.history c.rename_name.new.self (after r (Rename from to))) (Serves F.is_honest F.history c.rename_name.new.self) r (Rename from to)
+    acts_stopped CallFailed (NamesStand F.is_honest F.history c.rename_name.new.self (after r (Rename from to))) (Stands F.is_honest F.history c.rename_name.new.self) r (Rename from to)
     c.rename_name.result c.from_residual-in_err-rename_name.result c.in_err-rename_name.field-0.0 c.in_err-rename_name.was (stopped.1 ∙ ap Err stopped.2)
     (renames_so F.is_honest F.history r from to c.deref.result.now same CallFailed c.rename_name.new.self c.rename_name.result (c.rename_name.ensures.renames r to asked))
 

@@ -59,10 +59,13 @@ returns-clause-passes g c = λ r to asked.
     let from = c.args.from.now in
     let stand = stand_first F.is_honest F.history old moves r from to asked in
     let fits = fits_first F.is_honest F.history old moves r from to asked in
-    let honest = c.move_names.ensures.honest asked.serves.stands.honest_names in
+    let honest = c.move_names.ensures.honest asked.serves.honest_names in
+    let kind = c.move_names.ensures.kind in
+    let records = c.in_ok-move_names.ensures.records r stand fits in
     let moved = c.in_ok-move_names.ensures.moves r stand fits in
-    let stand_then = stand_second F.is_honest F.history old moves r from to asked mid honest moved in
-    both_pass F.is_honest F.history old moves r from to asked mid honest moved c.delete_name.new.self (c.move_names.ensures.passes r stand fits) (c.delete_name.ensures.passes (with_both r from to) stand_then)
+    let stand_then = stand_second F.is_honest F.history old moves r from to asked mid honest kind records moved in
+    let there = old_stands F.is_honest F.history old moves r from to asked mid honest kind records moved in
+    both_pass F.is_honest F.history old moves r from to asked mid honest kind records moved c.delete_name.new.self (c.move_names.ensures.passes r stand fits) (c.delete_name.ensures.passes (with_both r from to) stand_then there)
 
 pub returns-clause-renames : goal.returns-clause-renames
 returns-clause-renames g c = λ r to asked.
@@ -73,11 +76,13 @@ returns-clause-renames g c = λ r to asked.
     let from = c.args.from.now in
     let stand = stand_first F.is_honest F.history old moves r from to asked in
     let fits = fits_first F.is_honest F.history old moves r from to asked in
-    let honest = c.move_names.ensures.honest asked.serves.stands.honest_names in
+    let honest = c.move_names.ensures.honest asked.serves.honest_names in
+    let kind = c.move_names.ensures.kind in
+    let records = c.in_ok-move_names.ensures.records r stand fits in
     let moved = c.in_ok-move_names.ensures.moves r stand fits in
-    let stand_then = stand_second F.is_honest F.history old moves r from to asked mid honest moved in
+    let stand_then = stand_second F.is_honest F.history old moves r from to asked mid honest kind records moved in
     let new = c.delete_name.new.self in
-    let there = old_stands F.is_honest F.history old moves r from to asked mid honest moved in
-    rename_ends F.is_honest F.history old moves r from to asked mid honest moved new (c.delete_name.ensures.honest honest)
+    let there = old_stands F.is_honest F.history old moves r from to asked mid honest kind records moved in
+    rename_ends F.is_honest F.history old moves r from to asked mid honest kind records moved new (c.delete_name.ensures.honest honest) c.delete_name.ensures.kind
     (CountsFailure F.failures F.reading_may_fail mid new) (CountsFailure F.failures F.reading_may_fail old new) (failed_before F.failures F.reading_may_fail old mid new c.move_names.ensures.counts)
-    c.delete_name.result (c.delete_name.ensures.deletes (with_both r from to) stand_then there)
+    c.delete_name.result (c.delete_name.ensures.records (with_both r from to) stand_then there) (c.delete_name.ensures.deletes (with_both r from to) stand_then there)

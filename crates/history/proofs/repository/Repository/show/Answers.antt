@@ -11,4 +11,4 @@ returns-in_err-id g c = λ r path s kept.
     let MayFail = g.F.Files.reading_may_fail in
     subst (λ (w : Bytes). OnlyAnswers MayFail r (Show w path) c.from_residual.result) c.deref.ensures.value
     (handed_on MayFail r (Show word path) c.from_residual.result _ c.from_residual.ensures.1
-    (unread MayFail r (Show word path) word _ (show_refused r s.stands.whole.whole word path) (c.in_err-id.ensures r s)))
+    (unread MayFail r (Show word path) word _ (show_refused r s.whole.whole word path) (c.in_err-id.ensures r s)))

@@ -5,7 +5,7 @@ use Rattle.history_model.specs.Commands.{Tag}
 use Rattle.gix_hash_id.specs.Id.{id_of}
 use Rattle.history_model.specs.Forms.{is_name}
 use Rattle.history_model.specs.declared.Cause.TheVariants.{Collides}
-use Rattle.history_store.specs.References.{TellsCollision}
+use Rattle.history_store.specs.AllNames.{TellsMeeting}
 use Rattle.history.specs.Bases.{IsExpected, expected_meanings}
 use Rattle.history.specs.CommitCauses.{held_causes, place_causes, word_causes}
 use Rattle.history.specs.Face.{names_part}
@@ -21,7 +21,7 @@ use Rattle.history.proofs.TagLemmas.{all_commits, fault_based, held_so, place_so
 use Rattle.history.proofs.Tested.{ends_told, none_joined, told_behind, told_in_front}
 use Rattle.history.proofs.WordCauses.{commit_is}
 use Rattle.history.proofs.repository.Repository.tag_base.Goals as goal
-use Rattle.history.proofs.repository.Repository.tag_base.Goals.{else-is_none-via-then-is_none+in_ok-collides+else-branch, else-is_none-via-else-is_none}
+use Rattle.history.proofs.repository.Repository.tag_base.Goals.{else-is_none-via-then-is_none+in_ok-collides_any+else-branch, else-is_none-via-else-is_none}
 
 pub returns-in_err-expected : goal.returns-in_err-expected
 returns-in_err-expected g c = λ r order h name expect word named.
@@ -79,8 +79,8 @@ returns-then-branch g c = λ r order h name expect word named.
     let held = held_so r order c.in_ok-expected.expected c.in_ok-held.held c.commit_held.result expects held_is c.commit_held.ensures in
     let tree = (g.F.Files.history (names_part c.args.self.now)).tree in
     let new = held_stands r order.name c.in_ok-held.held held_is ∙ c.is_none.ensures ∙ ap not c.if-is_none.true in
-    let found = subst (λ (n : Bytes). TellsCollision n tree c.in_ok-collides.field-0) name (c.in_ok-collides.ensures.found (ap is_name name ∙ named) h.stands.honest_names) in
-    let told = subst (λ b. TellsCollision order.name tree b) c.if-branch.true found in
+    let found = subst (λ (n : Bytes). TellsMeeting c.args.self.now.names.kind n tree c.in_ok-collides_any.field-0) name (c.in_ok-collides_any.ensures.found (ap is_name name ∙ named) h.honest_names h.records) in
+    let told = subst (λ b. TellsMeeting c.args.self.now.names.kind order.name tree b) c.if-branch.true found in
     told_behind MayFail r (Tag order) word_causes (held_causes ++ place_causes) (Refused Collides) (words ∙ c.in_ok-test_words.ensures)
     (told_behind MayFail r (Tag order) held_causes place_causes (Refused Collides) (held ∙ c.in_ok-test.ensures)
     (place_so r order true (place_collides g.F.Files.is_honest g.F.Files.history c.args.self.now r h order.name named new true told)))
@@ -99,10 +99,10 @@ returns g c = λ r order h name expect word named.
     let held = held_so r order c.in_ok-expected.expected c.in_ok-held.held c.commit_held.result expects held_is c.commit_held.ensures in
     let tree = (g.F.Files.history (names_part c.args.self.now)).tree in
     let free : one_collides r order.name ≡ false = elim c.else-is_none.branch [
-      | else-is_none-via-then-is_none+in_ok-collides+else-branch w ↦
+      | else-is_none-via-then-is_none+in_ok-collides_any+else-branch w ↦
           let new = held_stands r order.name c.in_ok-held.held held_is ∙ c.is_none.ensures ∙ ap not w.if-is_none.true in
-          let found = subst (λ (n : Bytes). TellsCollision n tree w.in_ok-collides.field-0) name (w.in_ok-collides.ensures.found (ap is_name name ∙ named) h.stands.honest_names) in
-          let told = subst (λ b. TellsCollision order.name tree b) w.if-branch.false found in
+          let found = subst (λ (n : Bytes). TellsMeeting c.args.self.now.names.kind n tree w.in_ok-collides_any.field-0) name (w.in_ok-collides_any.ensures.found (ap is_name name ∙ named) h.honest_names h.records) in
+          let told = subst (λ b. TellsMeeting c.args.self.now.names.kind order.name tree b) w.if-branch.false found in
           place_collides g.F.Files.is_honest g.F.Files.history c.args.self.now r h order.name named new false told
       | else-is_none-via-else-is_none w ↦ standing_free r order.name (held_stands r order.name c.in_ok-held.held held_is ∙ c.is_none.ensures ∙ ap not w.if-is_none.false)
     ] in (

@@ -5,7 +5,7 @@ use Rattle.history_model.specs.Bytes.{Bytes}
 use Rattle.history_model.specs.Repository.{id_at}
 use Rattle.history_model.specs.Forms.{is_name}
 use Rattle.history_model.specs.declared.Cause.TheVariants.{Collides}
-use Rattle.history_store.specs.References.{TellsCollision}
+use Rattle.history_store.specs.AllNames.{TellsMeeting}
 use Rattle.history.specs.Face.{names_part}
 use Rattle.history.specs.Moving.{names_cause}
 use Rattle.history.proofs.PlaceLemmas.{collision_told}
@@ -23,44 +23,44 @@ pub returns-in_default : goal.returns-in_default
 returns-in_default g c = λ r from to h is.
     let named : names_cause (from ∷ to ∷ []) ≡ None = (λ i. names_cause (sym (c.deref.ensures.value ∙ is.from_is) i ∷ sym (c.deref-2.ensures.value ∙ is.to_is) i ∷ [])) ∙ c.in_ok-test_both.ensures in
     let are = are_named r from to named in
-    let old = held_at g.F.Files.is_honest g.F.Files.history c.args.self.now r h from c.deref-3.result.now (c.deref-3.ensures.value ∙ is.from_is) are.0 c.in_ok-id.field-0 (c.in_ok-id.ensures.found h.stands.honest_names) in
+    let old = held_at g.F.Files.is_honest g.F.Files.history c.args.self.now r h from c.deref-3.result.now (c.deref-3.ensures.value ∙ is.from_is) are.0 c.in_ok-id.field-0 (c.in_ok-id.ensures.found h.honest_names h.records) in
     by_missing r from to named (old ∙ ap (option_map id_of) c.in_default.is)
 
 pub returns-then-is_some : goal.returns-then-is_some
 returns-then-is_some g c = λ r from to h is.
     let named : names_cause (from ∷ to ∷ []) ≡ None = (λ i. names_cause (sym (c.deref.ensures.value ∙ is.from_is) i ∷ sym (c.deref-2.ensures.value ∙ is.to_is) i ∷ [])) ∙ c.in_ok-test_both.ensures in
     let are = are_named r from to named in
-    let old = held_at g.F.Files.is_honest g.F.Files.history c.args.self.now r h from c.deref-3.result.now (c.deref-3.ensures.value ∙ is.from_is) are.0 c.in_ok-id.field-0 (c.in_ok-id.ensures.found h.stands.honest_names) in
+    let old = held_at g.F.Files.is_honest g.F.Files.history c.args.self.now r h from c.deref-3.result.now (c.deref-3.ensures.value ∙ is.from_is) are.0 c.in_ok-id.field-0 (c.in_ok-id.ensures.found h.honest_names h.records) in
     let there : is_some (id_at r from) ≡ true = ap is_some (old ∙ ap (option_map id_of) c.in-Some.is) in
-    let new = held_at g.F.Files.is_honest g.F.Files.history c.args.self.now r h to c.deref-4.result.now (c.deref-4.ensures.value ∙ is.to_is) are.1 c.in_ok-read.field-0 (c.in_ok-read.ensures.found h.stands.honest_names) in
-    by_taken r from to named there (stands_told _ c.in_ok-read.field-0 new (sym c.is_some.ensures ∙ c.if-is_some.true))
+    let new = held_at g.F.Files.is_honest g.F.Files.history c.args.self.now r h to c.deref-4.result.now (c.deref-4.ensures.value ∙ is.to_is) are.1 c.in_ok-find.field-0 (c.in_ok-find.ensures.found h.honest_names h.records) in
+    by_taken r from to named there (stands_told _ c.in_ok-find.field-0 new (sym c.is_some.ensures ∙ c.if-is_some.true))
 
 pub returns-then-branch : goal.returns-then-branch
 returns-then-branch g c = λ r from to h is.
     let named : names_cause (from ∷ to ∷ []) ≡ None = (λ i. names_cause (sym (c.deref.ensures.value ∙ is.from_is) i ∷ sym (c.deref-2.ensures.value ∙ is.to_is) i ∷ [])) ∙ c.in_ok-test_both.ensures in
     let are = are_named r from to named in
-    let old = held_at g.F.Files.is_honest g.F.Files.history c.args.self.now r h from c.deref-3.result.now (c.deref-3.ensures.value ∙ is.from_is) are.0 c.in_ok-id.field-0 (c.in_ok-id.ensures.found h.stands.honest_names) in
+    let old = held_at g.F.Files.is_honest g.F.Files.history c.args.self.now r h from c.deref-3.result.now (c.deref-3.ensures.value ∙ is.from_is) are.0 c.in_ok-id.field-0 (c.in_ok-id.ensures.found h.honest_names h.records) in
     let there : is_some (id_at r from) ≡ true = ap is_some (old ∙ ap (option_map id_of) c.in-Some.is) in
-    let new = held_at g.F.Files.is_honest g.F.Files.history c.args.self.now r h to c.deref-4.result.now (c.deref-4.ensures.value ∙ is.to_is) are.1 c.in_ok-read.field-0 (c.in_ok-read.ensures.found h.stands.honest_names) in
-    let free = free_told _ c.in_ok-read.field-0 new (sym c.is_some.ensures ∙ c.if-is_some.false) in
+    let new = held_at g.F.Files.is_honest g.F.Files.history c.args.self.now r h to c.deref-4.result.now (c.deref-4.ensures.value ∙ is.to_is) are.1 c.in_ok-find.field-0 (c.in_ok-find.ensures.found h.honest_names h.records) in
+    let free = free_told _ c.in_ok-find.field-0 new (sym c.is_some.ensures ∙ c.if-is_some.false) in
     let place : c.deref-5.result.now ≡ to = c.deref-5.ensures.value ∙ is.to_is in
-    let found = c.in_ok-collides.ensures.found (ap is_name place ∙ are.1) h.stands.honest_names in
-    let told = collision_told g.F.Files.is_honest g.F.Files.history c.args.self.now r h to are.1 c.in_ok-collides.field-0
-    (subst (λ (n : Bytes). TellsCollision n (g.F.Files.history (names_part c.args.self.now)).tree c.in_ok-collides.field-0) place found) in
-    let first = by_place r from to named there free c.in_ok-collides.field-0 told in
+    let found = c.in_ok-collides_any.ensures.found (ap is_name place ∙ are.1) h.honest_names h.records in
+    let told = collision_told g.F.Files.is_honest g.F.Files.history c.args.self.now r h to are.1 c.in_ok-collides_any.field-0
+    (subst (λ (n : Bytes). TellsMeeting c.args.self.now.names.kind n (g.F.Files.history (names_part c.args.self.now)).tree c.in_ok-collides_any.field-0) place found) in
+    let first = by_place r from to named there free c.in_ok-collides_any.field-0 told in
     first ∙ ap (λ b. cond b (Some Collides) None) c.if-branch.true
 
 pub returns : goal.returns
 returns g c = λ r from to h is.
     let named : names_cause (from ∷ to ∷ []) ≡ None = (λ i. names_cause (sym (c.deref.ensures.value ∙ is.from_is) i ∷ sym (c.deref-2.ensures.value ∙ is.to_is) i ∷ [])) ∙ c.in_ok-test_both.ensures in
     let are = are_named r from to named in
-    let old = held_at g.F.Files.is_honest g.F.Files.history c.args.self.now r h from c.deref-3.result.now (c.deref-3.ensures.value ∙ is.from_is) are.0 c.in_ok-id.field-0 (c.in_ok-id.ensures.found h.stands.honest_names) in
+    let old = held_at g.F.Files.is_honest g.F.Files.history c.args.self.now r h from c.deref-3.result.now (c.deref-3.ensures.value ∙ is.from_is) are.0 c.in_ok-id.field-0 (c.in_ok-id.ensures.found h.honest_names h.records) in
     let there : is_some (id_at r from) ≡ true = ap is_some (old ∙ ap (option_map id_of) c.in-Some.is) in
-    let new = held_at g.F.Files.is_honest g.F.Files.history c.args.self.now r h to c.deref-4.result.now (c.deref-4.ensures.value ∙ is.to_is) are.1 c.in_ok-read.field-0 (c.in_ok-read.ensures.found h.stands.honest_names) in
-    let free = free_told _ c.in_ok-read.field-0 new (sym c.is_some.ensures ∙ c.if-is_some.false) in
+    let new = held_at g.F.Files.is_honest g.F.Files.history c.args.self.now r h to c.deref-4.result.now (c.deref-4.ensures.value ∙ is.to_is) are.1 c.in_ok-find.field-0 (c.in_ok-find.ensures.found h.honest_names h.records) in
+    let free = free_told _ c.in_ok-find.field-0 new (sym c.is_some.ensures ∙ c.if-is_some.false) in
     let place : c.deref-5.result.now ≡ to = c.deref-5.ensures.value ∙ is.to_is in
-    let found = c.in_ok-collides.ensures.found (ap is_name place ∙ are.1) h.stands.honest_names in
-    let told = collision_told g.F.Files.is_honest g.F.Files.history c.args.self.now r h to are.1 c.in_ok-collides.field-0
-    (subst (λ (n : Bytes). TellsCollision n (g.F.Files.history (names_part c.args.self.now)).tree c.in_ok-collides.field-0) place found) in
-    let first = by_place r from to named there free c.in_ok-collides.field-0 told in
+    let found = c.in_ok-collides_any.ensures.found (ap is_name place ∙ are.1) h.honest_names h.records in
+    let told = collision_told g.F.Files.is_honest g.F.Files.history c.args.self.now r h to are.1 c.in_ok-collides_any.field-0
+    (subst (λ (n : Bytes). TellsMeeting c.args.self.now.names.kind n (g.F.Files.history (names_part c.args.self.now)).tree c.in_ok-collides_any.field-0) place found) in
+    let first = by_place r from to named there free c.in_ok-collides_any.field-0 told in
     (first ∙ ap (λ b. cond b (Some Collides) None) c.if-branch.false, old ∙ ap (option_map id_of) c.in-Some.is)

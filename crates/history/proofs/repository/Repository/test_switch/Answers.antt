@@ -10,10 +10,10 @@ returns-then-not-is_branch g c = λ r h. name_refused r c.args.name.now (sym c.i
 
 pub returns-then-eq : goal.returns-then-eq
 returns-then-eq g c = λ r h.
-    let same = (slice_eq-Decides Decides-eqb _ _ _ c.eq.ensures).0 c.if-eq.true ∙ c.as_slice.ensures.value ∙ h.stands.branch in
+    let same = (slice_eq-Decides Decides-eqb _ _ _ c.eq.ensures).0 c.if-eq.true ∙ c.as_slice.ensures.value ∙ h.branch in
     same_refused r c.args.name.now (sym c.is_branch.ensures ∙ c.if-not-is_branch.false) (ap (bytes_eq c.args.name.now) (sym same) ∙ text_itself c.args.name.now)
 
 pub returns : goal.returns
 returns g c = λ r h.
     none_refused r c.args.name.now (sym c.is_branch.ensures ∙ c.if-not-is_branch.false)
-    (texts_apart c.args.name.now r.branch (λ same. absurd (cc ((slice_eq-Decides Decides-eqb _ _ _ c.eq.ensures).1 (same ∙ sym h.stands.branch ∙ sym c.as_slice.ensures.value), c.if-eq.false))))
+    (texts_apart c.args.name.now r.branch (λ same. absurd (cc ((slice_eq-Decides Decides-eqb _ _ _ c.eq.ensures).1 (same ∙ sym h.branch ∙ sym c.as_slice.ensures.value), c.if-eq.false))))

@@ -10,6 +10,7 @@ use Rattle.history_store.proofs.Beside.{lock_beside, rename_beside, put_beside, 
 use Rattle.history_store.proofs.FoldersMade.{caused}
 use Rattle.history_store.proofs.HeadNamed.{lock_folders, head_folders, lock_room, may_follow}
 use Rattle.history_store.proofs.Stored.{on_ok_both}
+use Rattle.history_store.proofs.Taken.{head_keeps, keeps_on}
 use Rattle.history_store.proofs.names.Names.switch.Goals as goal
 
 pub returns-clause-switched : goal.returns-clause-switched
@@ -22,6 +23,19 @@ returns-clause-switched g c = λ honest.
     on_ok_both c.rename.result
     (λ may is. subst (λ bytes. PutsBeside head_place bytes old.tree new.tree) (c.deref.ensures.value ∙ c.in_ok-text.ensures)
     (put_beside head_place c.deref.result.now head_lock refl old old locked new (adds_nothing old) written.allowed written.made may is))
+    renamed.allowed renamed.made
+
+pub returns-clause-keeps : goal.returns-clause-keeps
+returns-clause-keeps g c = λ honest keeps.
+    let old = c.args.self.now in
+    let before = g.F.Files.history old.files in
+    let locked = g.F.Files.history c.write.new.self in
+    let new = g.F.Files.history c.rename.new.self in
+    let written = c.in_ok-write.ensures.change honest in
+    let renamed = c.rename.ensures.change (c.write.ensures.honest honest) in
+    on_ok_both c.rename.result
+    (λ may is. keeps_on old (record old { files = c.rename.new.self }) before.tree new.tree refl refl
+    (head_keeps c.deref.result.now before.tree new.tree (put_beside head_place c.deref.result.now head_lock refl before before locked new (adds_nothing before) written.allowed written.made may is)) keeps)
     renamed.allowed renamed.made
 
 pub returns-in_err-write-clause-moments : goal.returns-in_err-write-clause-moments

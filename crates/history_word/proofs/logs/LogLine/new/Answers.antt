@@ -28,7 +28,7 @@ returns-in_err-items c =
 
 pub returns : goal.returns
 returns c =
-    let line : LogLine = record { order = c.in_ok-order.order; first_parents = c.in_ok-first_parents.first_parents; items = c.in_ok-items.items; path = c.in_ok-items.path } in
+    let line : LogLine = record { order = c.in_ok-order.order; first_parents = c.in_ok-first_parents.first_parents; items = c.in_ok-items.items; paths = c.in_ok-items.paths } in
     behind_order (left c.args.words.now) (left c.order.new.words) c.in_ok-order.order (Some line) c.in_ok-order.ensures
     (λ order is. behind_parents order _ _ _ c.in_ok-first_parents.first_parents (Some line) c.in_ok-next.ensures.found (sym c.in_ok-first_parents.ensures)
-    (whole_line order c.in_ok-order.order c.in_ok-first_parents.first_parents c.in_ok-items.items c.in_ok-items.path (items_of (left c.next.new.self)) is c.in_ok-items.ensures))
+    (whole_line order c.in_ok-order.order c.in_ok-first_parents.first_parents c.in_ok-items.items c.in_ok-items.paths (items_of (left c.next.new.self)) is c.in_ok-items.ensures))

@@ -1,0 +1,7 @@
+use Rattle.std.proofs.Common.{◌≡◌, ◌++◌, map, drop}
+use Rattle.gix_ref_packed.specs.Edited.{lines_of, own_line}
+use Rattle.history_store.specs.Packed.{lines_of_names, record_of_name}
+use Rattle.history_store.proofs.packs.edits_of.Given as goal
+
+abbrev pub invariant-loop-named : goal.invariant-loop-named
+invariant-loop-named l = lines_of l.edits.items ++ lines_of_names (drop l.named-index l.names) ≡ lines_of_names l.names
