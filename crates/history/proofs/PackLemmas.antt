@@ -61,17 +61,18 @@ lines_of r es = map (name_line r) (filter (λ e. is_in_folder None e.0) es)
 -- a name's record among those of all names
 hit_shown : (r : plain.Repository) (name : Bytes) (es : List (Bytes × Reference)) → hit (map line_record (lines_of r es)) name ≡ option_map (λ (ref : Reference). line_record (name_line r (name, ref))) (find by_bytes name es)
 hit_shown r name [] = refl
-hit_shown r name (e ∷ es) = go (bytes_eq e.0 name) refl
+hit_shown r name (e ∷ es) = go (bytes_eq e.0 name) refl (hit_shown r name es)
   where
     go : (b : Bool) → bytes_eq e.0 name ≡ b
+        → hit (map line_record (lines_of r es)) name ≡ option_map (λ (ref : Reference). line_record (name_line r (name, ref))) (find by_bytes name es)
         → cond b (Some (line_record (name_line r e))) (hit (map line_record (lines_of r es)) name) ≡ option_map (λ (ref : Reference). line_record (name_line r (name, ref))) (cond (eq_by_cmp by_bytes name e.0) (Some e.1) (find by_bytes name es))
-    go true same =
+    go true same rest =
         let is = same_text e.0 name same in
         let key : eq_by_cmp by_bytes name e.0 ≡ true = same_key name e.0 ∙ ap (bytes_eq name) is ∙ text_itself name in
         (λ i. Some (line_record (name_line r (is i, e.1)))) ∙ ap (λ b. option_map (λ (ref : Reference). line_record (name_line r (name, ref))) (cond b (Some e.1) (find by_bytes name es))) (sym key)
-    go false other =
+    go false other rest =
         let key : eq_by_cmp by_bytes name e.0 ≡ false = same_key name e.0 ∙ texts_apart name e.0 (λ is. absurd (cc (other, ap (λ n. bytes_eq n name) (sym is) ∙ text_itself name))) in
-        hit_shown r name es ∙ ap (λ b. option_map (λ (ref : Reference). line_record (name_line r (name, ref))) (cond b (Some e.1) (find by_bytes name es))) (sym key)
+        rest ∙ ap (λ b. option_map (λ (ref : Reference). line_record (name_line r (name, ref))) (cond b (Some e.1) (find by_bytes name es))) (sym key)
 
 module _ (r : plain.Repository) (whole : IsWhole r) (written : IsWritten r) where
   abbrev record_with : Bytes → Option Id → Id → Record

@@ -1,6 +1,6 @@
 //! The command `pack`: each name gets a record in `packed-refs`, and its own file goes.
 
-ghost use Rattle.std.specs.Prelude.{◌≡◌, IfErr, IfNone, IfSome, IsFalse, OnOk, ⊥, map};
+ghost use Rattle.std.specs.Prelude.{◌≡◌, IfErr, IfNone, IfSome, IsFalse, OnOk, map};
 ghost use Rattle.gix_object_lines.specs.NameTest.{is_full_name};
 ghost use Rattle.gix_ref_file.specs.History.{Adds};
 ghost use Rattle.history_model.specs.Commands as orders;

@@ -1,6 +1,6 @@
 -- A repository's names part has no cause but a call that failed, or memory that was refused.
-use Rattle.std.proofs.Common.{◌≡◌, ◌≢◌, ◌⊎◌, inl, inr, ℕ, ◌+◌, ◌<◌, ◌≤◌, ◌^◌, Bool, true, false, not, ◌&&◌, ◌||◌, List, [], ◌∷◌, ◌++◌, length, take, drop, reverse, Option, Some, None, option_map, option_and_then, unwrap_or, is_some, refl, sym, ◌∙◌, ap, subst, arith, bytes_eq, append_assoc, append-nil, length-append, take-append-drop, nat_le, nat_lt, ◌==◌, codes, decimal, cond, tests}
-use Rattle.std.specs.Prelude.{IsTrue, IsFalse, IsSome, IfSome, MatchOption, Result, Ok, Err, IfErr, ⊤}
+use Rattle.std.proofs.Common.{◌≡◌, ◌≢◌, ◌⊎◌, inl, inr, ℕ, ◌≤◌, Bool, true, false, not, ◌&&◌, ◌||◌, List, [], ◌∷◌, ◌++◌, length, take, drop, reverse, Option, Some, None, option_map, option_and_then, unwrap_or, is_some, refl, sym, ◌∙◌, ap, subst, arith, bytes_eq, append_assoc, length-append, take-append-drop, nat_le, ◌==◌, codes, decimal, cond}
+use Rattle.std.specs.Prelude.{IsTrue, IfSome, MatchOption, Result, Ok, Err, IfErr}
 use Rattle.std.specs.List.{Contains, flat_map, list_all, list_any}
 use Rattle.std.specs.FinMap.{get}
 use Rattle.std.proofs.lemmas.Bool.{and_parts, not-true, or_cases, or_parts}
@@ -8,23 +8,21 @@ use Rattle.std.proofs.lemmas.Bool.Decides.{nat_tests}
 use Rattle.std.proofs.lemmas.Fmt.{length-decimal-le}
 use Rattle.std.proofs.lemmas.List.{length-take-le}
 use Rattle.gix_hash_id.specs.Id.{Id, id_of}
-use Rattle.gix_hash_id.specs.Kind.{hex_len}
 use Rattle.gix_hash_id.specs.Order.{id_eq}
 use Rattle.gix_hash_id.specs.declared.kind.Kind.{Kind}
 use Rattle.gix_hash_id.specs.declared.kind.Kind.TheVariants.{Sha1, Sha256}
 use Rattle.gix_ref_file.specs.Changes.{is_file_at}
 use Rattle.gix_ref_file.specs.Tree.{Tree, Node, bytes_at, file, folder, is_folder}
 use Rattle.gix_ref_format.specs.Packed.{Record}
-use Rattle.history_model.specs.Bytes.{Bytes, begins, has_byte, is_empty, line}
+use Rattle.history_model.specs.Bytes.{Bytes, begins, has_byte, is_empty}
 use Rattle.history_model.specs.Forms.{is_id, is_name, is_private, is_actor, is_actor_part, is_offset, is_log_entry, is_reference, max_actor_part, max_seconds, max_title, max_name, refs_front}
 use Rattle.history_model.specs.Logs.{log_line, log_text}
 use Rattle.history_model.specs.NameStates as states
 use Rattle.history_model.specs.NameStates.{NameState, Absent, name_state, is_absent, loose_state, packed_state}
 use Rattle.history_model.specs.PackedNames.{PackedAgrees, PackedFile, PeelAgrees, is_packed_form, packed_file}
-use Rattle.history_model.specs.Objects.{Actor, Value, StoredCommit, StoredTag, StoredBytes, StoredFolder, actor_text, hex, object_kind}
-use Rattle.history_model.specs.Places.{file_at, head_place, packed_place, log_place, is_lock_file, is_log_place, log_name, is_name_folder}
+use Rattle.history_model.specs.Objects.{Actor, Value, StoredCommit, StoredTag, StoredBytes, StoredFolder, actor_text, hex}
+use Rattle.history_model.specs.Places.{file_at, head_place, packed_place, is_lock_file, is_log_place, log_name}
 use Rattle.history_model.specs.Repository.{LogEntry, Reference, Repository, id_at, is_tag, is_tag_value, moves_at, stands, peeled, peeled_value}
-use Rattle.history_model.specs.StandsFor.{head_text}
 use Rattle.gix_object_lines.specs.NameTest.{is_partial_name}
 use Rattle.std.specs.Str.{is_utf8}
 use Rattle.history_model.proofs.IdLemmas.{id_itself, length-hex}
@@ -34,8 +32,8 @@ use Rattle.history_model.proofs.PartLemmas.{split_at, head_same, tail_same}
 use Rattle.history_model.proofs.PlaceLemmas.{one_text, id_length}
 use Rattle.history_model.proofs.WholeLists.{one_passes, passes_one}
 use Rattle.history_model.proofs.WholePaths.{begins_parts}
-use Rattle.history_names_survey.specs.Causes.{HasCause, HasBadHead, IsBadName, IsStray, IsLogOf, may_hold_file, IsFault}
-use Rattle.history_names_survey.specs.Logs.{HasBadLine, HasLongLine, FailsAt, max_log_line}
+use Rattle.history_names_survey.specs.Causes.{HasCause, may_hold_file, IsFault}
+use Rattle.history_names_survey.specs.Logs.{HasBadLine, HasLongLine, max_log_line}
 use Rattle.history_names_survey.specs.Parts.{StandsNames}
 use Rattle.history_names_survey.specs.Packed.{has_record, is_good_file, is_packed_text, record_names, records_at, records_in}
 use Rattle.history_names_survey.specs.Stored.{Fact, Facts, AreFactsOf, fact_of, is_of_wrong_kind, is_tag_of, is_well_peeled}
@@ -274,7 +272,7 @@ module _ (tree : Tree) (r : Repository) (facts : Facts) (are : AreFactsOf facts 
 
       by_name : (b : Bool) → is_name name ≡ b → (is_name name ≡ true) × (is_file_at tree name ≡ true)
       by_name false is =
-          clash refl (ap is_absent (sym reads ∙ ap (λ b. cond b (unwrap_or (option_map (loose_state r.kind) (file_at tree name)) (packed_read r.kind name (file_at tree packed_place))) Absent) is))
+          clash refl (sym (ap is_absent (sym reads ∙ ap (λ b. cond b (unwrap_or (option_map (loose_state r.kind) (file_at tree name)) (packed_read r.kind name (file_at tree packed_place))) Absent) is)))
       by_name true is = by_text is (file_at tree name) refl (sym (reads_by name is) ∙ reads)
 
   -- what reads as something is a name that stands
@@ -302,7 +300,7 @@ module _ (tree : Tree) (r : Repository) (facts : Facts) (are : AreFactsOf facts 
 
           by_name : (b : Bool) → is_name name ≡ b → (is_name name ≡ true) × (is_file_at tree name ≡ true)
           by_name false is =
-              clash refl (ap is_absent (sym reads ∙ ap (λ b. cond b (unwrap_or (option_map (loose_state r.kind) (file_at tree name)) (packed_read r.kind name (file_at tree packed_place))) Absent) is))
+              clash refl (sym (ap is_absent (sym reads ∙ ap (λ b. cond b (unwrap_or (option_map (loose_state r.kind) (file_at tree name)) (packed_read r.kind name (file_at tree packed_place))) Absent) is)))
           by_name true is = by_text is (file_at tree name) refl (sym (reads_by name is) ∙ reads)
 
       by_state : (state : NameState) → name_state r.kind tree name ≡ state → is_absent state ≡ false → stands r name ≡ true

@@ -1,5 +1,5 @@
 -- What the survey of a folder finds.
-use Rattle.std.proofs.Common.{◌≡◌, ℕ, ◌<◌, List, [], length, map, Vec, Option, Some, None, refl, sym, ◌∙◌, ap, subst, IsTrue}
+use Rattle.std.proofs.Common.{◌≡◌, ℕ, ◌<◌, List, [], length, Option, Some, None, sym, ◌∙◌, ap, IsTrue}
 use Rattle.std.specs.FinMap.{get}
 use Rattle.std.proofs.Math.ListN.{get_or}
 use Rattle.gix_hash_id.specs.declared.kind.Kind.{Kind}

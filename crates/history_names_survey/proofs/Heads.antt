@@ -1,5 +1,5 @@
 -- What HEAD tells.
-use Rattle.std.proofs.Common.{◌≡◌, ◌≢◌, Bool, true, false, is_some, [], ◌∷◌, ◌++◌, Option, Some, None, refl, sym, ◌∙◌, ap, subst, codes}
+use Rattle.std.proofs.Common.{◌≡◌, Bool, true, false, is_some, [], ◌∷◌, ◌++◌, Option, Some, None, refl, sym, ◌∙◌, ap, subst, codes}
 use Rattle.std.specs.Prelude.{MatchOption}
 use Rattle.std.proofs.lemmas.List.{append_cancel_left, append_cancel_right}
 use Rattle.gix_ref_file.specs.Tree.{Tree}

@@ -1,5 +1,5 @@
 -- Names that are kept in a set, looked up by their bytes, and the first line of a text.
-use Rattle.std.proofs.Common.{◌≡◌, ◌≢◌, ℕ, ◌+◌, ◌-◌, ◌<◌, Bool, true, false, cond, not, ◌||◌, ◌&&◌, List, [], ◌∷◌, ◌++◌, map, length, take, drop, Some, None, Option, slice_get, refl, sym, ◌∙◌, ap, subst, bytes_eq, arith}
+use Rattle.std.proofs.Common.{◌≡◌, ℕ, ◌+◌, ◌-◌, Bool, true, false, cond, not, ◌||◌, List, [], ◌∷◌, ◌++◌, map, length, take, drop, Some, slice_get, refl, sym, ◌∙◌, ap, bytes_eq, arith}
 use Rattle.std.specs.Borrow.{Bor}
 use Rattle.std.specs.List.{list_any}
 use Rattle.std.specs.Ordering.{is_eq, is_lt, nat_cmp}
@@ -9,7 +9,7 @@ use Rattle.std.proofs.lemmas.Map.Text.{is_eq-slice_cmp}
 use Rattle.std.proofs.lemmas.Option.{same_Some}
 use Rattle.gix_object_lines.specs.Bytes.{Lacks}
 use Rattle.gix_ref_format.specs.Lines.{lines}
-use Rattle.gix_ref_format.specs.Packed.{Record, header_line, record_of}
+use Rattle.gix_ref_format.specs.Packed.{header_line, record_of}
 use Rattle.gix_ref_format.specs.declared.packed.Reference.{Reference}
 use Rattle.gix_ref_format.proofs.LineLemmas.{lines_rest, lines_split}
 use Rattle.history_model.specs.Bytes.{Bytes, by_bytes}
@@ -69,7 +69,7 @@ one_get x (y ∷ xs) l e = let rest = one_get y xs l e in (x ∷ rest.0, ap (λ 
 -- the last one, and those before it
 pub last_of : {X : Type 0} (xs : List X) (l : X) → Some l ≡ slice_get xs (length xs - 1) → (front : List X) × (xs ≡ front ++ l ∷ [])
 last_of [] l e = absurd (cc e)
-last_of (x ∷ xs) l e = one_get x xs l e
+last_of (x ∷ xs) l e = let n : length (x ∷ xs) - 1 ≡ length xs = omega arith in one_get x xs l (e ∙ ap (slice_get (x ∷ xs)) n)
 
 pub follows_last : (records : List Reference) (last next : Reference) (lt : Bool) → lt ≡ is_lt (by_bytes (record_of last).name (record_of next).name) → Some last ≡ slice_get records (length records - 1)
     → is_ascending (record_names (map record_of records)) ≡ true → lt ≡ is_ascending (record_names (map record_of records ++ record_of next ∷ []))

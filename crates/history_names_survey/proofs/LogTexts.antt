@@ -1,17 +1,16 @@
 -- Texts of logs: what their lines tell, and where they begin with none.
-use Rattle.std.proofs.Common.{◌≡◌, ◌≢◌, ℕ, ◌+◌, ◌<◌, ◌≤◌, Bool, true, false, not, ◌&&◌, ◌||◌, List, [], ◌∷◌, ◌++◌, length, take, drop, reverse, refl, sym, ◌∙◌, ap, subst, arith, append_assoc, append-nil, length-append, take-append-drop, nat_le, ◌==◌, Result, Ok, Err, Option, Some, None, is_some}
-use Rattle.std.specs.Borrow.{Bor}
+use Rattle.std.proofs.Common.{◌≡◌, ◌≢◌, ℕ, ◌+◌, ◌<◌, ◌≤◌, Bool, true, false, not, ◌&&◌, ◌||◌, List, [], ◌∷◌, ◌++◌, length, take, drop, reverse, refl, sym, ◌∙◌, ap, subst, arith, append_assoc, append-nil, length-append, take-append-drop, nat_le, ◌==◌, Err, Option, Some, None, is_some}
 use Rattle.std.specs.Bool.{Decides}
-use Rattle.std.specs.List.{flat_map, list_all, list_any}
-use Rattle.std.specs.Prelude.{IsTrue, IsFalse, MatchOption}
-use Rattle.std.proofs.lemmas.Bool.{or_parts, and_parts, and_from}
+use Rattle.std.specs.List.{flat_map, list_all}
+use Rattle.std.specs.Prelude.{IsTrue, MatchOption}
+use Rattle.std.proofs.lemmas.Bool.{or_parts, and_parts}
 use Rattle.std.proofs.lemmas.Bool.Decides.{Decides-eqb, nat_tests}
 use Rattle.std.proofs.lemmas.List.{append_cancel_right, reverse-append, reverse-reverse, take-append-le}
 use Rattle.gix_hash_id.specs.Id.{Id}
 use Rattle.gix_hash_id.specs.declared.kind.Kind.{Kind}
 use Rattle.history_model.specs.Bytes.{Bytes, line, has_byte}
 use Rattle.history_model.specs.Forms.{is_id, is_actor, is_log_entry, max_title}
-use Rattle.history_model.specs.Logs.{log_line, log_text}
+use Rattle.history_model.specs.Logs.{log_line}
 use Rattle.history_model.specs.Objects.{Actor, hex, actor_text}
 use Rattle.history_model.specs.Repository.{LogEntry}
 use Rattle.history_model.specs.PackedNames.{id_from_hex}
@@ -19,7 +18,7 @@ use Rattle.history_model.proofs.IdLemmas.{id_from_hex-hex, id_from_hex-is_id}
 use Rattle.history_model.proofs.OnePairLines.{entry_parts, line_more}
 use Rattle.history_model.proofs.OnePairTexts.{hex_high, actor_no_tab, actor_one_line, none_in}
 use Rattle.history_model.proofs.PartLemmas.{split_at, one_is_in}
-use Rattle.history_names_survey.specs.Logs.{SpellsLog, BeginsWithNoLine, BeginsWithLongLine, FailsAt, HasFault, Takes, IsEndless, SpellsEntry, Parts, AreParts, IsUncut, TellsLower, TellsIds, max_log_line}
+use Rattle.history_names_survey.specs.Logs.{SpellsLog, BeginsWithNoLine, BeginsWithLongLine, HasFault, Takes, IsEndless, SpellsEntry, Parts, AreParts, IsUncut, TellsLower, TellsIds, max_log_line}
 use Rattle.history_names_survey.specs.declared.log.LogFault.{LogFault}
 use Rattle.history_names_survey.specs.declared.log.LogFault.TheVariants.{Bad, Long, Memory}
 

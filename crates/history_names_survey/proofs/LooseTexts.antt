@@ -1,5 +1,5 @@
 -- What the texts of names' files read as.
-use Rattle.std.proofs.Common.{◌≡◌, ◌≢◌, Bool, true, false, cond, ◌-◌, ◌&&◌, [], ◌∷◌, ◌++◌, length, take, drop, Option, Some, None, option_map, unwrap_or, refl, sym, ◌∙◌, ap, codes}
+use Rattle.std.proofs.Common.{◌≡◌, ◌≢◌, Bool, true, false, cond, ◌-◌, ◌&&◌, [], ◌∷◌, ◌++◌, length, take, drop, Some, None, option_map, unwrap_or, refl, sym, ◌∙◌, ap, codes}
 use Rattle.gix_hash_id.specs.Id.{Id}
 use Rattle.gix_hash_id.specs.declared.kind.Kind.{Kind}
 use Rattle.history_model.specs.Bytes.{Bytes, begins, ends, line}

@@ -1,5 +1,5 @@
 -- The lines of a file of packed names, and the records of the first of them.
-use Rattle.std.proofs.Common.{◌≡◌, ◌≢◌, ℕ, drop, zero, suc, ◌+◌, ◌≤◌, ◌<◌, ◌==◌, Bool, true, false, cond, List, [], ◌∷◌, ◌++◌, map, take, length, Option, Some, None, option_map, is_some, refl, sym, ◌∙◌, ap, subst, arith}
+use Rattle.std.proofs.Common.{◌≡◌, ℕ, drop, zero, suc, ◌+◌, ◌≤◌, ◌==◌, Bool, true, false, cond, List, [], ◌∷◌, ◌++◌, map, take, length, Option, Some, None, option_map, is_some, refl, sym, ◌∙◌, ap, subst, arith}
 use Rattle.std.specs.Prelude.{option_and_then}
 use Rattle.std.specs.List.{AllByRecursion, onto_first}
 use Rattle.std.proofs.lemmas.Option.{same_Some}
@@ -10,7 +10,7 @@ use Rattle.history_model.specs.PackedNames.{id_from_hex}
 use Rattle.history_model.proofs.IdLemmas.{id_from_hex-is_id}
 use Rattle.gix_hash_id.specs.declared.kind.Kind.{Kind}
 use Rattle.gix_ref_format.specs.Lines.{cut_line, lines}
-use Rattle.gix_ref_format.specs.Packed.{Record, Item, Good, Bad, BadHeader, items, item_of, next_number, record_line, peel_line, peel_behind, all_good, record_text, with_item, without_peel}
+use Rattle.gix_ref_format.specs.Packed.{Record, Item, Good, Bad, items, item_of, next_number, record_line, peel_line, peel_behind, all_good, record_text, with_item, without_peel}
 use Rattle.history_names_survey.specs.Packed.{first_lines}
 
 -- ---- lines

@@ -1,8 +1,6 @@
 -- What names read as by the records of `packed-refs`.
-use Rattle.std.proofs.Common.{◌≡◌, ◌≢◌, ◌⊎◌, inl, inr, ℕ, zero, suc, Bool, true, false, cond, not, ◌&&◌, ◌||◌, List, [], ◌∷◌, map, Option, Some, None, option_map, unwrap_or, is_some, refl, sym, ◌∙◌, ap, subst, bytes_eq, arith}
-use Rattle.std.specs.Prelude.{IsTrue, IsFalse}
+use Rattle.std.proofs.Common.{◌≡◌, zero, suc, Bool, true, false, cond, not, ◌&&◌, ◌||◌, List, [], ◌∷◌, Option, Some, None, option_map, unwrap_or, is_some, refl, sym, ◌∙◌, ap, subst, bytes_eq, arith}
 use Rattle.std.specs.List.{AllByRecursion, Contains, list_any, list_all}
-use Rattle.std.specs.FinMap.{is_sorted}
 use Rattle.std.proofs.lemmas.Bool.{and_from, and_parts, or_from, or_parts}
 use Rattle.gix_hash_id.specs.Id.{Id}
 use Rattle.gix_hash_id.specs.declared.kind.Kind.{Kind}
@@ -10,7 +8,7 @@ use Rattle.gix_ref_file.specs.Changes.{is_file_at}
 use Rattle.gix_ref_file.specs.Tree.{Tree, bytes_at}
 use Rattle.gix_ref_format.specs.Packed.{Record, packed_records}
 use Rattle.gix_ref_format.specs.PackedBuffer.{hit}
-use Rattle.history_model.specs.Bytes.{Bytes, by_bytes, has_twice}
+use Rattle.history_model.specs.Bytes.{Bytes, has_twice}
 use Rattle.history_model.specs.Forms.{is_name, is_private}
 use Rattle.history_model.specs.NameStates.{NameState, Holds, Symbolic, Absent, Faulty, is_absent, loose_line, loose_state, name_state, packed_state, packed_text_state}
 use Rattle.history_model.specs.PackedNames.{PackedFile, id_from_hex, is_packed_form, packed_file, says_sorted, whole_line}

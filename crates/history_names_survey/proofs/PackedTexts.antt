@@ -1,14 +1,13 @@
 -- Which line of a text is the first that may not stand in a file of packed names.
-use Rattle.std.proofs.Common.{◌≡◌, ◌≢◌, ℕ, zero, suc, ◌+◌, ◌≤◌, ◌<◌, Bool, true, false, cond, List, [], ◌∷◌, ◌++◌, map, take, length, Option, Some, None, option_map, unwrap_or, refl, sym, ◌∙◌, ap, subst, arith, codes, append-nil}
+use Rattle.std.proofs.Common.{◌≡◌, ◌≢◌, ℕ, zero, suc, ◌+◌, ◌≤◌, Bool, true, false, cond, List, [], ◌∷◌, ◌++◌, map, take, length, Option, Some, None, option_map, unwrap_or, refl, sym, ◌∙◌, ap, subst, arith, append-nil}
 use Rattle.std.specs.Prelude.{option_and_then}
-use Rattle.std.specs.List.{AllByRecursion, list_any, list_all, onto_first}
-use Rattle.gix_hash_id.specs.Id.{Id}
+use Rattle.std.specs.List.{AllByRecursion, onto_first}
 use Rattle.gix_hash_id.specs.declared.kind.Kind.{Kind}
 use Rattle.gix_ref_format.specs.Lines.{lines}
-use Rattle.gix_ref_format.specs.Packed.{Record, Item, Good, Bad, BadHeader, items, item_of, record_line, peel_behind, all_good, header_line, is_headed, items_behind_header, packed_items, packed_records}
+use Rattle.gix_ref_format.specs.Packed.{Record, Item, Good, Bad, items, item_of, record_line, peel_behind, all_good, header_line, is_headed, items_behind_header, packed_items, packed_records}
 use Rattle.gix_ref_format.specs.declared.packed.Header.{Header}
 use Rattle.history_model.specs.Forms.{is_id}
-use Rattle.history_model.specs.PackedNames.{PackedFile, first_header, says_sorted, packed_file}
+use Rattle.history_model.specs.PackedNames.{first_header, says_sorted}
 use Rattle.history_names_survey.specs.Packed.{first_lines, record_names, is_good_file, are_good_names, is_packed_text, records_in, HasBadRecord}
 use Rattle.history_names_survey.proofs.PackedLines.{lines_first, weights, with_peel, Passed, passed, begins, all_ids}
 use Rattle.history_names_survey.proofs.GoodNames.{good_front}

@@ -1,10 +1,10 @@
 -- What was read so far of a file of packed names.
-use Rattle.std.proofs.Common.{◌≡◌, ◌≢◌, ℕ, ◌+◌, ◌≤◌, Bool, true, false, cond, not, ◌&&◌, ◌||◌, List, [], ◌∷◌, ◌++◌, map, length, Option, Some, None, unwrap_or, refl, sym, ◌∙◌, ap, subst, arith, bytes_eq, Err, Ok}
+use Rattle.std.proofs.Common.{◌≡◌, ◌≢◌, ℕ, ◌+◌, ◌≤◌, Bool, true, false, cond, not, ◌&&◌, ◌||◌, List, [], ◌∷◌, ◌++◌, map, length, Option, Some, unwrap_or, refl, sym, ◌∙◌, ap, subst, arith, bytes_eq, Err}
 use Rattle.std.specs.Borrow.{Bor}
 use Rattle.std.specs.List.{list_any}
 use Rattle.std.proofs.lemmas.List.Folds.{list_any-append}
 use Rattle.gix_hash_id.specs.declared.kind.Kind.{Kind}
-use Rattle.gix_ref_format.specs.Packed.{Record, Item, Good, Bad, BadHeader, is_headed, item_view, packed_items, packed_records, record_of}
+use Rattle.gix_ref_format.specs.Packed.{Record, Item, Good, is_headed, item_view, packed_items, packed_records, record_of}
 use Rattle.gix_ref_format.specs.declared.packed.Reference.{Reference}
 use Rattle.gix_ref_format.specs.declared.packed.iter.Error.{Error}
 use Rattle.gix_ref_format.specs.declared.packed.iter.Error.TheVariants as faults

@@ -1,6 +1,6 @@
 -- What is told of a record of `packed-refs`: that it is sound, or why it isn't.
-use Rattle.std.proofs.Common.{◌≡◌, ◌⊎◌, ℕ, zero, suc, ◌+◌, ◌<◌, Bool, true, false, ◌&&◌, ◌||◌, List, [], ◌∷◌, map, length, take, get_or, refl, sym, ◌∙◌, ap, subst, bytes_eq, arith, Vec, Result, Ok, Err}
-use Rattle.std.specs.Prelude.{IsTrue, IsFalse, IfErr, OnOk}
+use Rattle.std.proofs.Common.{◌≡◌, ◌⊎◌, ℕ, zero, suc, ◌+◌, ◌<◌, Bool, true, false, ◌||◌, List, [], ◌∷◌, map, length, take, get_or, refl, sym, ◌∙◌, ap, subst, bytes_eq, arith, Vec, Result}
+use Rattle.std.specs.Prelude.{IsTrue, IfErr}
 use Rattle.std.specs.List.{AllByRecursion, Contains, list_all, list_any}
 use Rattle.std.specs.declared.alloc.Global.{Global}
 use Rattle.std.proofs.lemmas.Bool.{and_parts}
@@ -18,9 +18,9 @@ use Rattle.history_model.specs.NameStates.{name_state}
 use Rattle.history_model.specs.Places.{packed_place}
 use Rattle.history_model.proofs.PlaceLemmas.{text_itself}
 use Rattle.history_names_survey.specs.Causes.{HasBadPeel, HasCause, IsCollision, IsUnheld}
-use Rattle.history_names_survey.specs.Packed.{has_name, has_record, record_names, records_at}
+use Rattle.history_names_survey.specs.Packed.{has_record, record_names, records_at}
 use Rattle.history_names_survey.specs.PackedRead.{ReadsPacked}
-use Rattle.history_names_survey.specs.Sound.{AreSoundRecords, IsApart, IsSoundRecord}
+use Rattle.history_names_survey.specs.Sound.{IsApart, IsSoundRecord}
 use Rattle.history_names_survey.specs.Stored.{Facts, is_well_peeled, kind_in, may_be_held}
 use Rattle.history_names_survey.specs.declared.error.NamesError.{NamesError}
 use Rattle.history_names_survey.specs.declared.packed.Packed.{Packed}
@@ -53,7 +53,9 @@ at_among (x ∷ entries) (suc k) entry below is = let rest = at_among entries k 
 pub one_more_sound : (P : Reference → Type 0) (entries : List Reference) (k : ℕ) (entry : Reference) → k < length entries → entry ≡ get_or entries k entry → AllByRecursion P (take k entries) → P entry → AllByRecursion P (take (k + 1) entries)
 one_more_sound P [] k entry below is all here = absurd (omega (arith, below))
 one_more_sound P (x ∷ entries) zero entry below is all here = (subst P is here, tt)
-one_more_sound P (x ∷ entries) (suc k) entry below is all here = (all.0, one_more_sound P entries k entry (omega (arith, below)) is all.1 here)
+one_more_sound P (x ∷ entries) (suc k) entry below is all here =
+    let n : suc k + 1 ≡ suc (k + 1) = omega arith in
+    subst (λ m. AllByRecursion P (take m (x ∷ entries))) (sym n) (all.0, one_more_sound P entries k entry (omega (arith, below)) is all.1 here)
 
 pub all_sound : (P : Record → Type 0) (entries : List Reference) (records : List Record) (k : ℕ) → map record_of entries ≡ records → take k entries ≡ entries → AllByRecursion (λ (r : Reference). P (record_of r)) (take k entries) → AllByRecursion P records
 all_sound P entries records k are whole all = subst (AllByRecursion P) are (go entries (subst (AllByRecursion (λ (r : Reference). P (record_of r))) whole all))

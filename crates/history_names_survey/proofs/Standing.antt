@@ -1,26 +1,26 @@
 -- A tree of which each part is sound is the names part of a repository.
-use Rattle.std.proofs.Common.{◌≡◌, ◌≢◌, ◌⊎◌, inl, inr, Bool, true, false, cond, not, ◌&&◌, ◌||◌, List, [], ◌∷◌, ◌++◌, Option, Some, None, option_map, option_and_then, unwrap_or, is_some, refl, sym, ◌∙◌, ap, subst, bytes_eq}
-use Rattle.std.specs.Prelude.{IsTrue, IsFalse, IsSome, IfSome, MatchOption, ◌↔◌}
+use Rattle.std.proofs.Common.{◌≡◌, ◌⊎◌, inl, inr, Bool, true, false, cond, not, ◌&&◌, ◌||◌, List, [], ◌∷◌, ◌++◌, Option, Some, None, option_map, option_and_then, unwrap_or, is_some, refl, sym, ◌∙◌, ap, subst, bytes_eq}
+use Rattle.std.specs.Prelude.{IsTrue, IsSome, IfSome, MatchOption, ◌↔◌}
 use Rattle.std.specs.List.{AllByRecursion, list_all, list_any}
 use Rattle.std.specs.Ordering.{eq_by_cmp}
 use Rattle.std.specs.FinMap.{FinMap, get, keys, contains_key-keys}
-use Rattle.std.proofs.lemmas.Bool.{and_from, and_parts}
+use Rattle.std.proofs.lemmas.Bool.{and_from}
 use Rattle.std.proofs.lemmas.List.Folds.{list_any-append}
 use Rattle.gix_hash_id.specs.Id.{Id}
 use Rattle.gix_hash_id.specs.declared.kind.Kind.{Kind}
 use Rattle.gix_ref_file.specs.Changes.{is_file_at}
-use Rattle.gix_ref_file.specs.Tree.{Tree, Node, bytes_at, file, folder, node_at, bytes_of}
+use Rattle.gix_ref_file.specs.Tree.{Tree, Node, bytes_at, file, folder, bytes_of}
 use Rattle.gix_ref_format.specs.Packed.{Record}
 use Rattle.gix_ref_format.specs.PackedBuffer.{hit}
-use Rattle.history_model.specs.Bytes.{Bytes, by_bytes, begins}
+use Rattle.history_model.specs.Bytes.{Bytes, by_bytes}
 use Rattle.history_model.specs.FileMap.{is_below}
 use Rattle.history_model.specs.Forms.{is_id, is_name, is_private, is_log_entry, is_reference}
 use Rattle.history_model.specs.Logs.{log_text}
-use Rattle.history_model.specs.NameStates.{NameState, Holds, Symbolic, Absent, Faulty, name_state, loose_state, loose_line, packed_state}
-use Rattle.history_model.specs.Objects.{Value, StoredCommit, StoredTag, StoredBytes, StoredFolder, object_kind}
+use Rattle.history_model.specs.NameStates.{Holds, Symbolic, Absent, Faulty, name_state, loose_state, loose_line, packed_state}
+use Rattle.history_model.specs.Objects.{Value, StoredCommit, StoredTag, StoredBytes, StoredFolder}
 use Rattle.history_model.specs.PackedNames.{id_from_hex, whole_line, packed_file, PackedAgrees, PeelAgrees}
 use Rattle.history_model.specs.Places.{file_at, head_place, packed_place, log_place, is_log_place, log_name, is_name_place, is_name_folder}
-use Rattle.history_model.specs.Repository.{LogEntry, Reference, Repository, Values, id_at, is_tag, is_tag_value, moves_at, stands, peeled, peeled_value}
+use Rattle.history_model.specs.Repository.{LogEntry, Reference, Repository, Values, id_at, is_tag, is_tag_value, stands, peeled, peeled_value}
 use Rattle.history_model.proofs.FormatLemmas.{holds_same}
 use Rattle.history_model.proofs.IdLemmas.{id_from_hex-is_id, one_id}
 use Rattle.history_model.proofs.NameLemmas.{name-log, some_or}

@@ -1,6 +1,7 @@
 -- What a file that was read tells: that it is sound, or why it isn't.
-use Rattle.std.proofs.Common.{◌≡◌, ◌⊎◌, inl, inr, Bool, true, false, cond, ◌&&◌, ◌||◌, [], ◌∷◌, ◌++◌, Option, Some, None, option_map, unwrap_or, is_some, refl, sym, ◌∙◌, ap, subst, bytes_eq, Vec, ℕ, Result, Ok, Err}
-use Rattle.std.specs.Prelude.{IsTrue, IsFalse, IfErr, IfOk, OnOk, ⊤}
+use Rattle.std.proofs.Common.{◌≡◌, ◌⊎◌, inl, inr, Bool, true, false, cond, ◌&&◌, ◌||◌, [], Option, Some, None, option_map, unwrap_or, is_some, refl, sym, ◌∙◌, ap, subst, bytes_eq, Vec, ℕ, Result, Ok, Err}
+use Rattle.std.specs.Prelude.{IsTrue, IfErr, IfOk, OnOk}
+use Rattle.std.specs.List.{list_any}
 use Rattle.std.specs.declared.alloc.Global.{Global}
 use Rattle.std.proofs.lemmas.Bool.{or_from}
 use Rattle.gix_hash_id.specs.Id.{Id, id_of}
@@ -18,10 +19,9 @@ use Rattle.history_model.specs.Forms.{is_name, is_private, refs_front}
 use Rattle.history_model.specs.NameStates as states
 use Rattle.history_model.specs.NameStates.{NameState, Absent, name_state, is_absent, loose_state, packed_text_state}
 use Rattle.history_model.specs.Places.{file_at, head_place, packed_place, is_lock_file, is_log_place, log_name}
-use Rattle.history_model.proofs.PlaceLemmas.{texts_apart}
-use Rattle.history_names_survey.specs.Causes.{HasCause, IsBadName, IsCollision, IsStray, may_hold_file, IsUnheld, IsLogOf, log_error}
+use Rattle.history_names_survey.specs.Causes.{HasCause, IsCollision, IsCollisionOf, IsStray, IsUnheld, log_error}
 use Rattle.history_names_survey.specs.Logs.{HasFault, SpellsLog}
-use Rattle.history_names_survey.specs.Sound.{IsApart, ReadsAs, IsSoundFile}
+use Rattle.history_names_survey.specs.Sound.{IsApart, IsSoundFile}
 use Rattle.history_names_survey.specs.Packed.{has_name, has_record, is_packed_text}
 use Rattle.history_names_survey.specs.PackedRead.{IsPackedFault, ReadsPacked, names_in}
 use Rattle.history_names_survey.specs.Stored.{Fact, Facts, fact_told, facts_in, is_of_wrong_kind, is_tag_of, kind_in, may_be_held, target_in, target_told}
@@ -194,6 +194,26 @@ fault_cause A kind facts tree File h = absurd h
 fault_cause A kind facts tree Memory h = tt
 
 -- ---- names that collide
+
+-- the error of two names that collide
+pub collision_of : (A : Type 0) (kind : Kind) (tree : Tree) (folder name : Bytes) (error : NamesError) → IsCollisionOf folder name error → is_below folder name ≡ true → has_name kind tree folder ≡ true → IsCollision A kind tree name error
+collision_of A kind tree folder name NoHead h below has = absurd h
+collision_of A kind tree folder name BadHead h below has = absurd h
+collision_of A kind tree folder name (Stray path) h below has = absurd h
+collision_of A kind tree folder name (Unfinished path) h below has = absurd h
+collision_of A kind tree folder name (BadName path) h below has = absurd h
+collision_of A kind tree folder name (PrivateName holder) h below has = absurd h
+collision_of A kind tree folder name (Symbolic holder) h below has = absurd h
+collision_of A kind tree folder name (Missing id holder) h below has = absurd h
+collision_of A kind tree folder name (WrongKind id holder) h below has = absurd h
+collision_of A kind tree folder name (BadPacked number) h below has = absurd h
+collision_of A kind tree folder name (BadPeeled holder) h below has = absurd h
+collision_of A kind tree folder name (Collides one other) (first, second) below has = (second, ap (λ f. is_below f name) first ∙ below, ap (has_name kind tree) first ∙ has)
+collision_of A kind tree folder name (BadLog path number) h below has = absurd h
+collision_of A kind tree folder name (LongLogLine path number) h below has = absurd h
+collision_of A kind tree folder name (LogWithoutName path) h below has = absurd h
+collision_of A kind tree folder name File h below has = absurd h
+collision_of A kind tree folder name Memory h below has = tt
 
 pub file_named : (kind : Kind) (tree : Tree) (name : Bytes) → is_name name ≡ true → is_file_at tree name ≡ true → has_name kind tree name ≡ true
 file_named kind tree name named there = λ i. named i && (there i || has_record kind tree name)

@@ -1,9 +1,9 @@
 -- What a walk over all folders finds.
-use Rattle.std.proofs.Common.{◌≡◌, ℕ, zero, suc, ◌<◌, ◌≤◌, true, cond, List, [], ◌∷◌, length, Option, Some, None, refl, sym, ◌∙◌, ap, subst}
+use Rattle.std.proofs.Common.{◌≡◌, ℕ, zero, suc, ◌<◌, true, cond, List, [], ◌∷◌, length, Option, Some, None, refl, sym, ◌∙◌, ap, subst}
 use Rattle.std.specs.Prelude.{IsTrue, IsSome}
 use Rattle.std.specs.FinMap.{keys, get, contains_key-keys}
 use Rattle.std.proofs.Math.ListN.{get_or}
-use Rattle.gix_ref_file.specs.Tree.{Tree, Node, file, folder, is_path, parent, names_at, node_at, place_of, is_folder, IsRooted, under}
+use Rattle.gix_ref_file.specs.Tree.{Tree, Node, file, folder, parent, names_at, node_at, place_of, is_folder, IsRooted, under}
 use Rattle.gix_ref_file.specs.declared.files.Place.TheVariants as places
 use Rattle.gix_ref_file.proofs.Listings.{in_folder, names_in, found}
 use Rattle.gix_ref_file.proofs.Moved.{some_of_folder}

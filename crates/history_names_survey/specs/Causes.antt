@@ -1,5 +1,5 @@
 -- Why a names part isn't a repository's.
-use Rattle.std.specs.Prelude.{◌≡◌, ◌≢◌, ◌⊎◌, ⊤, ℕ, Bool, ◌&&◌, ◌||◌, Option, Some, None, Result, IfErr, Vec, bytes_eq, IsTrue, IsFalse}
+use Rattle.std.specs.Prelude.{◌≡◌, ◌≢◌, ◌⊎◌, ⊤, ℕ, Bool, ◌||◌, Option, Some, None, Result, IfErr, Vec, bytes_eq, IsTrue, IsFalse}
 use Rattle.std.specs.List.{Contains}
 use Rattle.std.specs.FinMap.{get}
 use Rattle.std.specs.declared.alloc.Global.{Global}

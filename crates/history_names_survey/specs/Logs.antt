@@ -1,5 +1,5 @@
 -- Which texts are logs, and what is wrong with others ("Logging updates" in git-update-ref(1)).
-use Rattle.std.specs.Prelude.{◌≡◌, ◌≢◌, ◌<◌, ◌+◌, ℕ, ⊤, Bool, true, false, ◌&&◌, List, [], ◌∷◌, ◌++◌, length, take, codes, Result, Ok, Err, IsTrue, IsFalse}
+use Rattle.std.specs.Prelude.{◌≡◌, ◌≢◌, ◌<◌, ◌+◌, ℕ, ⊤, Bool, true, false, List, [], ◌∷◌, ◌++◌, length, take, Result, Ok, Err, IsTrue, IsFalse}
 use Rattle.std.specs.Borrow.{Bor}
 use Rattle.std.specs.List.{flat_map, list_all}
 use Rattle.gix_hash_id.specs.declared.kind.Kind.{Kind}

@@ -1,5 +1,5 @@
 -- What may stand at each path of a repository's names part (gitrepository-layout(5)).
-use Rattle.std.specs.Prelude.{◌≡◌, ◌⊎◌, ⊤, ℕ, suc, Bool, ◌&&◌, [], Option, Some, None, Result, OnOk, IfErr, drop, codes, IsTrue, IsFalse}
+use Rattle.std.specs.Prelude.{◌≡◌, ◌⊎◌, ⊤, ℕ, suc, Bool, ◌&&◌, [], Option, Some, None, Result, OnOk, drop, codes, IsTrue, IsFalse}
 use Rattle.std.specs.List.{AllByRecursion}
 use Rattle.std.specs.FinMap.{get}
 use Rattle.gix_hash_id.specs.Id.{Id, id_of}

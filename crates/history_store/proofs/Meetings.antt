@@ -1,7 +1,7 @@
 -- Which names are in the way of another, packed or not.
-use Rattle.std.proofs.Common.{◌≡◌, ◌⊎◌, inl, inr, refl, sym, ◌∙◌, ap, subst, ℕ, ◌+◌, ◌<◌, ◌≤◌, Bool, true, false, cond, List, [], ◌∷◌, ◌++◌, map, length, take, get_or, ◌==◌, Option, Some, None, is_some, not, arith}
+use Rattle.std.proofs.Common.{◌≡◌, ◌⊎◌, inl, inr, refl, sym, ◌∙◌, ap, subst, ℕ, ◌+◌, ◌<◌, ◌≤◌, Bool, true, false, cond, List, [], ◌∷◌, map, length, take, get_or, ◌==◌, Option, Some, None, is_some, not, arith}
 use Rattle.std.specs.Prelude.{Result, Ok, Err, IfOk, nat_le}
-use Rattle.std.specs.FinMap.{get, find, entries, get-entries}
+use Rattle.std.specs.FinMap.{get, find, get-entries}
 use Rattle.std.proofs.lemmas.Bool.Decides.{nat_tests}
 use Rattle.std.proofs.lemmas.Bool.{eqb-true}
 use borrow.Author.Tests.{leb-true}

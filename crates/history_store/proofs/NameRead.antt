@@ -1,23 +1,20 @@
 -- What is read of a name, packed or not, is what it reads as.
-use Rattle.std.proofs.Common.{◌≡◌, refl, sym, ◌∙◌, ap, inl, Bool, true, false, cond, ◌&&◌, ◌||◌, ℕ, List, [], ◌∷◌, ◌++◌, drop, length, nat_eq, Option, Some, None, option_map, is_some, unwrap_or, codes, find, arith, tests}
-use Rattle.std.specs.Prelude.{bytes_eq, option_and_then}
-use Rattle.std.specs.List.{list_all}
+use Rattle.std.proofs.Common.{◌≡◌, refl, sym, ◌∙◌, ap, inl, Bool, true, false, cond, ◌&&◌, ◌||◌, ℕ, List, [], ◌∷◌, ◌++◌, drop, length, nat_eq, Option, Some, None, option_map, unwrap_or, codes}
+use Rattle.std.specs.Prelude.{option_and_then}
 use Rattle.std.proofs.lemmas.Bool.{and_from, and_parts, eqb-true}
 use Rattle.gix_hash_id.specs.Id.{Id, id_of}
-use Rattle.gix_hash_id.specs.Kind.{hex_len}
 use Rattle.gix_hash_id.specs.declared.kind.Kind.{Kind}
 use Rattle.gix_hash_id.specs.declared.object_id.ObjectId.{ObjectId}
 use Rattle.gix_object_lines.specs.NameTest.{is_partial_name, is_full_name, is_capitals, has_slash}
 use Rattle.gix_ref_file.specs.Tree.{Tree, bytes_at}
 use Rattle.gix_ref_format.specs.Ids.{digits_read}
-use Rattle.gix_ref_format.specs.Lookup.{packed_hit}
-use Rattle.gix_ref_format.specs.Packed.{Record, packed_records}
+use Rattle.gix_ref_format.specs.Packed.{Record}
 use Rattle.gix_ref_format.specs.PackedBuffer.{KeepsFile, hit}
 use Rattle.gix_ref_format.specs.PackedKept.{kept}
 use Rattle.gix_ref_format.specs.declared.packed.buffer.Buffer.{Buffer}
 use Rattle.history_model.specs.Bytes.{Bytes, begins}
 use Rattle.history_model.specs.Forms.{is_name, is_private}
-use Rattle.history_model.specs.NameStates.{NameState, Holds, Symbolic, Absent, Faulty, loose_line, loose_state, name_state, packed_state, packed_text_state}
+use Rattle.history_model.specs.NameStates.{Holds, Symbolic, Absent, Faulty, loose_line, loose_state, name_state, packed_state}
 use Rattle.history_model.specs.PackedNames.{id_from_hex, says_sorted, whole_line}
 use Rattle.history_model.specs.Places.{file_at, packed_place}
 use Rattle.history_model.proofs.FormatLemmas.{records_alike}

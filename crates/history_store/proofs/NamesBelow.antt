@@ -1,10 +1,9 @@
 -- What is listed of the names below a folder, packed or not, is what they read as.
-use Rattle.std.proofs.Common.{◌≡◌, refl, sym, ◌∙◌, ap, Bool, true, false, cond, ◌&&◌, T, ℕ, List, [], ◌∷◌, ◌++◌, map, filter, Option, Some, None, option_map, is_some, bytes_eq, append_assoc}
+use Rattle.std.proofs.Common.{◌≡◌, refl, sym, ◌∙◌, ap, Bool, true, false, cond, ◌&&◌, T, List, [], ◌∷◌, ◌++◌, map, filter, Option, Some, None, option_map, is_some, bytes_eq, append_assoc}
 use Rattle.std.specs.Prelude.{option_and_then}
 use Rattle.std.specs.Option.{option_or}
-use Rattle.std.specs.Ordering.{nat_cmp}
 use Rattle.std.specs.declared.cmp.Ordering.TheVariants.{Equal}
-use Rattle.std.specs.FinMap.{get, find, is_sorted, from_sorted, entries, entries_sorted, get-entries, get-from_sorted, entries-from_sorted, slice_cmp-IsAntisymmetric, nat_cmp-IsAntisymmetric}
+use Rattle.std.specs.FinMap.{get, is_sorted, from_sorted, entries, entries_sorted, get-entries, get-from_sorted, entries-from_sorted, slice_cmp-IsAntisymmetric, nat_cmp-IsAntisymmetric}
 use Rattle.std.specs.FinMap.Entries.{find-where_key, is_sorted-where_key}
 use Rattle.gix_ref_file.specs.Tree.{Tree, same_path}
 use Rattle.gix_ref_file.proofs.Trees.{one_path, same_path_itself}
@@ -22,7 +21,6 @@ use Rattle.history_model.specs.NameStates.{name_state}
 use Rattle.history_model.specs.Places.{file_at, packed_place}
 use Rattle.history_model.proofs.FormatLemmas.{records_alike}
 use Rattle.history_model.proofs.PlaceLemmas.{one_text, text_itself}
-use Rattle.history_steps.proofs.PackedRecords.{packed_read}
 use Rattle.history_store.specs.AllNames.{ListsAll, has_record, is_packed_below, told_if}
 use Rattle.history_store.specs.NameLists.{Gathers, NameIds, held_id, id_below, name_entry, spelled_id}
 use Rattle.history_store.specs.Packing.{NameReads, kept_hit, told_id}

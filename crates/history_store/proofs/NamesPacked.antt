@@ -1,5 +1,5 @@
 -- Where all names of a repository are packed, the steps are those of a `pack`.
-use Rattle.std.proofs.Common.{◌≡◌, ◌≢◌, ◌⊎◌, inl, inr, refl, sym, ◌∙◌, ap, subst, Bool, true, false, cond, not, ◌&&◌, ◌||◌, List, [], ◌∷◌, map, Option, Some, None, option_map, is_some, bytes_eq, MatchOption}
+use Rattle.std.proofs.Common.{◌≡◌, ◌≢◌, ◌⊎◌, inl, inr, refl, sym, ◌∙◌, ap, subst, Bool, true, false, cond, not, ◌&&◌, ◌||◌, List, [], ◌∷◌, Option, Some, None, option_map, is_some, bytes_eq, MatchOption}
 use Rattle.std.specs.Prelude.{IfSome, nat_le, option_and_then, unwrap_or, length}
 use Rattle.std.specs.FinMap.{get}
 use Rattle.std.specs.List.{AllByRecursion, list_all}
@@ -17,15 +17,15 @@ use Rattle.gix_ref_packed.specs.Written.{HasKind}
 use Rattle.history_model.specs.Bytes.{Bytes, is_empty}
 use Rattle.history_model.specs.Forms.{HasForm, IsWritten, is_actor, is_id, is_log_entry, is_name, is_private, is_reference, is_tag_name, max_title, title}
 use Rattle.history_model.specs.Objects.{Value, StoredBytes, StoredCommit, StoredFolder, StoredTag}
-use Rattle.history_model.specs.PackedNames.{PackedFile, packed_file, says_sorted}
+use Rattle.history_model.specs.PackedNames.{says_sorted}
 use Rattle.history_model.specs.Places.{file_at, head_place, is_lock_file, is_log_place, is_name_place, log_name, packed_place}
 use Rattle.history_model.specs.Repository.{Reference, Repository, id_at, is_tag, is_tag_value, peeled, peeled_value, stands}
 use Rattle.history_model.proofs.IdLemmas.{has_kind}
-use Rattle.history_model.proofs.PlaceLemmas.{one_text, text_itself, texts_apart}
+use Rattle.history_model.proofs.PlaceLemmas.{one_text, text_itself}
 use Rattle.history_steps.specs.PackSteps.{HasAllNames, HasPacked, PacksAll, PacksNames, PacksOnTheWay, record_for}
 use Rattle.history_steps.specs.TreeHalves.{HoldsNames}
 use Rattle.history_steps.proofs.PackedRecords.{all_by_finds}
-use Rattle.history_store.specs.Packed.{AllOfKind, ArePacked, HasPackedText, IsPackedText, MayPack, name_texts, record_of_name, records_of}
+use Rattle.history_store.specs.Packed.{AllOfKind, ArePacked, HasPackedText, MayPack, name_texts, record_of_name, records_of}
 use Rattle.history_store.specs.References.{SameFolders, lock_place}
 use Rattle.history_store.specs.declared.packs.PackedName.{PackedName}
 use Rattle.history_store.proofs.RecordsLeft.{as_all, ascend_once, form_made}

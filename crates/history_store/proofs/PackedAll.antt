@@ -1,11 +1,10 @@
 -- What is left of the files while names are packed, and the text of their records.
-use Rattle.std.proofs.Common.{◌≡◌, ◌≢◌, ◌⊎◌, inl, inr, refl, sym, ◌∙◌, ap, subst, Bool, true, false, cond, ◌||◌, ℕ, ◌+◌, ◌<◌, List, [], ◌∷◌, ◌++◌, map, length, take, drop, get_or, Option, Some, None, bytes_eq}
-use Rattle.std.specs.List.{list_any, AllByRecursion}
+use Rattle.std.proofs.Common.{◌≡◌, ◌≢◌, ◌⊎◌, inl, inr, refl, sym, ◌∙◌, ap, Bool, true, false, cond, ◌||◌, ℕ, ◌+◌, ◌<◌, List, [], ◌∷◌, ◌++◌, map, length, take, drop, get_or, Some, None, bytes_eq}
 use Rattle.std.proofs.lemmas.Bool.{or_parts, or_from, or_cases}
 use Rattle.std.proofs.lemmas.List.{map_more, map-append, take-append-drop}
 use Rattle.gix_ref_file.specs.Tree.{Tree}
 use Rattle.gix_ref_file.specs.History.{History, Adds}
-use Rattle.gix_ref_file.proofs.Histories.{adds_weaker, adds_joined, adds_nothing}
+use Rattle.gix_ref_file.proofs.Histories.{adds_weaker, adds_joined}
 use Rattle.gix_hash_id.specs.declared.kind.Kind.{Kind}
 use Rattle.gix_object_lines.specs.Bytes.{is_among}
 use Rattle.gix_ref_format.specs.Packed.{Record, packed_records}
@@ -18,7 +17,7 @@ use Rattle.history_model.specs.Places.{file_at, packed_place}
 use Rattle.history_model.proofs.PlaceLemmas.{one_text, text_itself, texts_apart}
 use Rattle.history_steps.proofs.PackedRecords.{all_by_finds}
 use Rattle.history_store.proofs.RecordsLeft.{ascend_once, as_all}
-use Rattle.history_store.specs.Packed.{AllFull, AllOfKind, AreGone, ArePacked, HasPackedText, IsPackedText, MayBeGone, MayPack, lines_of_names, name_texts, record_of_name, records_of}
+use Rattle.history_store.specs.Packed.{AllFull, AllOfKind, AreGone, ArePacked, HasPackedText, IsPackedText, MayBeGone, MayPack, lines_of_names, name_texts, records_of}
 use Rattle.history_store.specs.Packing.{FileIsGone, FileMayGo}
 use Rattle.history_store.specs.References.{MayBeWritten, PutsBeside, lock_place}
 use Rattle.history_store.specs.declared.packs.PackedName.{PackedName}

@@ -1,12 +1,10 @@
 -- What `packed-refs` says where a name's record has gone.
 use Rattle.std.proofs.Common.{◌≡◌, refl, sym, ◌∙◌, ap, subst, Bool, true, false, cond, not, ◌&&◌, ◌||◌, List, [], ◌∷◌, map, Option, Some, None, option_map, bytes_eq, MatchOption}
-use Rattle.std.specs.Prelude.{IfSome, option_and_then}
+use Rattle.std.specs.Prelude.{option_and_then}
 use Rattle.std.specs.List.{list_any, list_all, AllByRecursion}
 use Rattle.std.specs.FinMap.{is_sorted}
 use Rattle.std.specs.FinMap.Entries.{below_all}
 use Rattle.std.specs.Ordering.{is_lt, is_eq}
-use Rattle.std.specs.declared.cmp.Ordering.{Ordering}
-use Rattle.std.specs.declared.cmp.Ordering.TheVariants.{Less, Equal, Greater}
 use Rattle.std.proofs.lemmas.Bool.{and_from, and_parts, or_from}
 use Rattle.std.proofs.lemmas.Map.Text.{is_eq-slice_cmp}
 use Rattle.gix_hash_id.specs.declared.kind.Kind.{Kind}
@@ -23,7 +21,7 @@ use Rattle.history_model.specs.PackedNames.{PackedFile, is_packed_form, packed_f
 use Rattle.history_model.proofs.FormatLemmas.{records_alike}
 use Rattle.history_model.proofs.PlaceLemmas.{one_text, text_itself, texts_apart}
 use Rattle.history_steps.specs.TakeSteps.{LacksName, LacksRecord}
-use Rattle.history_steps.proofs.PackedRecords.{all_by_finds, all_found, form_once, found_named, name_in, not_found}
+use Rattle.history_steps.proofs.PackedRecords.{all_by_finds, all_found, found_named, name_in, not_found}
 use Rattle.history_store.specs.Packing.{IfSomeRecords, IsEditedText, kept_hit}
 use Rattle.history_store.proofs.ReadRecords.{records_kind}
 

@@ -3,7 +3,7 @@ use Rattle.std.proofs.Common.{◌≡◌, ◌≢◌, inl, inr, refl, sym, ◌∙�
 use Rattle.std.specs.Prelude.{IsTrue, Option, Some, None, is_some}
 use Rattle.std.specs.FinMap.{get}
 use Rattle.gix_ref_file.specs.Tree.{Tree, Node, file, folder, bytes_of, is_folder}
-use Rattle.gix_ref_file.specs.Changes.{to_write, to_rename, to_remove_file, allows, after, may_hold_file, is_file_at, MayLeave}
+use Rattle.gix_ref_file.specs.Changes.{to_write, to_rename, allows, after, may_hold_file, is_file_at, MayLeave}
 use Rattle.gix_ref_file.specs.History.{History, Adds}
 use Rattle.gix_ref_file.proofs.Histories.{adds_weaker, adds_joined}
 use Rattle.gix_ref_file.proofs.Trees.{get_inserted, room_after_insert}

@@ -1,5 +1,5 @@
 -- What is kept of `packed-refs` (git-pack-refs(1)), what names read as by it, and what stands while it is replaced.
-use Rattle.std.specs.Prelude.{◌≡◌, ◌≢◌, ◌⊎◌, List, [], ◌∷◌, Option, Some, None, option_map, MatchOption, IsTrue}
+use Rattle.std.specs.Prelude.{◌≡◌, ◌≢◌, ◌⊎◌, List, Option, Some, None, option_map, MatchOption, IsTrue}
 use Rattle.std.specs.FinMap.{get}
 use Rattle.gix_ref_file.specs.Tree.{Tree, folder}
 use Rattle.gix_hash_id.specs.Id.{Id, id_of}

@@ -32,7 +32,7 @@ returns-in-Holds-clause-wrong g c = λ store honest there.
     let tree = (g.F.Files.history c.args.files.now).tree in
     let facts = facts_in c.args.kind (g.S.Lookup.table c.args.stored.now) in
     let named : is_name c.args.name.items ≡ true = search rules in
-    name_causes c.args.kind facts tree c.args.name.items (bytes_at tree c.args.name.items) c.in_ok-text.text.items (text_of tree c.args.name.items there) named (c.in_ok-text.ensures.found honest ∙ ap (bytes_at tree) c.deref-4.ensures.value) g.F.Files.reading_may_fail (g.S.Lookup.may_fail c.args.stored.now) c.in-Holds.id c.args.name c.test_held.result refl (ap (states.loose_state c.args.kind) (sym c.deref-5.ensures.value) ∙ c.in-Holds.ensures) (unheld_told c.args.kind (g.S.Lookup.table c.args.stored.now) (id_of c.in-Holds.id) c.test_held.result (c.test_held.ensures.unheld store))
+    name_causes c.args.kind facts tree c.args.name.items (bytes_at tree c.args.name.items) c.in_ok-text.text.items (text_of tree c.args.name.items there) named (c.in_ok-text.ensures.found honest ∙ ap (bytes_at tree) c.deref-4.ensures.value) g.F.Files.reading_may_fail (g.S.Lookup.may_fail c.args.stored.now) c.in-Holds.id c.args.name c.test_held.result refl (ap (states.loose_state c.args.kind) (sym c.deref-5.ensures.value) ∙ c.in-Holds.ensures) (unheld_told (g.S.Lookup.may_fail c.args.stored.now) c.args.kind (g.S.Lookup.table c.args.stored.now) c.in-Holds.id c.args.name c.test_held.result (c.test_held.ensures.unheld store))
 
 pub returns-in-Symbolic-clause-wrong : goal.returns-in-Symbolic-clause-wrong
 returns-in-Symbolic-clause-wrong g c = λ store honest there.

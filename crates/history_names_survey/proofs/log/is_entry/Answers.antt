@@ -1,4 +1,4 @@
-use Rattle.std.proofs.Common.{◌∙◌, subst, sym}
+use Rattle.std.proofs.Common.{subst}
 use Rattle.history_store.specs.Formats.{actor_of}
 use Rattle.history_names_survey.specs.Logs.{TellsIds, parts_of}
 use Rattle.history_names_survey.proofs.LogTexts.{uncut_tells_none, no_ids_tell_none, long_tells_none, actor_told}

@@ -1,4 +1,4 @@
-use Rattle.std.proofs.Common.{◌≡◌, ◌∙◌, ap, ℕ, List, [], sym, subst, length, rules}
+use Rattle.std.proofs.Common.{◌∙◌, sym}
 use Rattle.std.proofs.lemmas.Result.{err_from_is_err_and}
 use Rattle.history_names_survey.proofs.LogTexts.{none_read, one_read, falls, all_read, read_fails, empty_so, some_so}
 use Rattle.history_names_survey.proofs.log.test_log.Goals as goal

@@ -1,4 +1,4 @@
-use Rattle.std.proofs.Common.{◌≡◌, ◌∙◌, Some, rules}
+use Rattle.std.proofs.Common.{◌≡◌, Some, rules}
 use Rattle.gix_hash_id.specs.Id.{id_of}
 use Rattle.gix_object_find.specs.Table.{content_at, kind_at}
 use Rattle.gix_object_lines.specs.declared.kind.Kind.TheVariants.{Tag}

@@ -1,7 +1,5 @@
-use Rattle.std.proofs.Common.{◌≡◌, ◌∙◌, sym, subst}
+use Rattle.std.proofs.Common.{◌∙◌, subst}
 use Rattle.std.proofs.lemmas.Result.{err_from_is_err_and}
-use Rattle.gix_ref_file.specs.Tree.{bytes_at}
-use Rattle.history_model.specs.Places.{packed_place}
 use Rattle.history_names_survey.specs.PackedRead.{IsPackedFault, IsReadOf}
 use Rattle.history_names_survey.specs.Stored.{facts_in}
 use Rattle.history_names_survey.proofs.Surveyed.{all_tested}
@@ -18,7 +16,7 @@ pub returns-in_err-packed-clause-wrong : goal.returns-in_err-packed-clause-wrong
 returns-in_err-packed-clause-wrong g c = λ store honest.
     let tree = (g.F.Files.history c.args.files.now).tree in
     let facts = facts_in c.args.kind (g.S.Lookup.table c.args.stored.now) in
-    let p = err_from_is_err_and c.from_residual.result c.from_residual.ensures.1 in
+    let p = err_from_is_err_and c.from_residual-in_err-packed.result c.from_residual-in_err-packed.ensures.1 in
     rw (p.1, p.2) (widen g.F.Files.reading_may_fail (g.S.Lookup.may_fail c.args.stored.now) c.args.kind facts tree c.in_err-packed.field-0.0
     (fault_cause g.F.Files.reading_may_fail c.args.kind facts tree c.in_err-packed.field-0.0
     (subst (λ t. IsPackedFault c.args.kind t c.in_err-packed.field-0.0) (c.deref.ensures.value ∙ c.in_ok-text.ensures.found honest) c.in_err-packed.ensures)))

@@ -1,4 +1,3 @@
-use Rattle.std.proofs.Common.{◌≡◌, ◌∙◌, ap}
 use Rattle.history_store.proofs.ReadRecords.{bad_header, bad_line}
 use Rattle.history_store.proofs.packed.buffer_of.Goals as goal
 

@@ -1,6 +1,6 @@
-use Rattle.std.proofs.Common.{◌≡◌, ◌++◌, map, drop}
-use Rattle.gix_ref_packed.specs.Edited.{lines_of, own_line}
-use Rattle.history_store.specs.Packed.{lines_of_names, record_of_name}
+use Rattle.std.proofs.Common.{◌≡◌, ◌++◌, drop}
+use Rattle.gix_ref_packed.specs.Edited.{lines_of}
+use Rattle.history_store.specs.Packed.{lines_of_names}
 use Rattle.history_store.proofs.packs.edits_of.Given as goal
 
 abbrev pub invariant-loop-named : goal.invariant-loop-named

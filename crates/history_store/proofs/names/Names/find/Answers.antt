@@ -1,6 +1,5 @@
-use Rattle.std.proofs.Common.{◌≡◌, ◌∙◌, sym, ap, ◌++◌}
+use Rattle.std.proofs.Common.{◌∙◌, sym, ap, ◌++◌}
 use Rattle.gix_ref_file.specs.Tree.{bytes_at}
-use Rattle.history_model.specs.Places.{file_at}
 use Rattle.history_store.proofs.NameRead.{file_reads, no_name_reads, record_reads, file_read, none_read}
 use Rattle.history_store.proofs.names.Names.find.Goals as goal
 

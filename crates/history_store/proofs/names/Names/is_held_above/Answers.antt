@@ -1,4 +1,4 @@
-use Rattle.std.proofs.Common.{◌≡◌, ◌∙◌, sym, take, arith}
+use Rattle.std.proofs.Common.{◌∙◌, sym, take, arith}
 use Rattle.history_store.proofs.Above.{above_slash}
 use Rattle.history_store.proofs.Meetings.{one_passed, all_passed, none_reads, some_reads}
 use Rattle.history_store.proofs.names.Names.is_held_above.Goals as goal

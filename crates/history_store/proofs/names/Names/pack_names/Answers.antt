@@ -1,4 +1,4 @@
-use Rattle.std.proofs.Common.{◌≡◌, refl, sym, ◌∙◌, ap, inl, subst, rules}
+use Rattle.std.proofs.Common.{inl, rules}
 use Rattle.std.proofs.lemmas.Result.{on_ok_weaker}
 use Rattle.history_store.proofs.PackedAll.{all_packed, packed_kept, packed_moments, packed_reads, written_moments}
 use Rattle.history_store.proofs.Removals.{folders_joined}

@@ -1,4 +1,4 @@
-use Rattle.std.proofs.Common.{◌≡◌, refl, sym, ◌∙◌, ap, inl}
+use Rattle.std.proofs.Common.{inl}
 use Rattle.std.proofs.lemmas.Result.{on_ok_weaker}
 use Rattle.gix_ref_file.proofs.Histories.{adds_weaker}
 use Rattle.history_model.specs.Places.{file_at, packed_place}
