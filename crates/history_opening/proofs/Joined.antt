@@ -1,5 +1,5 @@
 -- The two parts that were surveyed, as one repository.
-use Rattle.std.proofs.Common.{◌≡◌, ◌⊎◌, ℕ, ◌<◌, ◌≤◌, ◌^◌, ◌&&◌, not, nat_le, length-append, take, unwrap_or, true, cond, [], ◌∷◌, ◌++◌, length, refl, sym, ◌∙◌, ap, subst, arith, inl, inr, codes, Option, Some, None, is_some, option_map}
+use Rattle.std.proofs.Common.{◌≡◌, ◌⊎◌, ℕ, ◌<◌, ◌^◌, ◌&&◌, not, nat_le, length-append, take, unwrap_or, true, cond, [], ◌∷◌, ◌++◌, length, refl, sym, ◌∙◌, ap, subst, arith, inl, inr, codes, Option, Some, None, is_some, option_map}
 use Rattle.std.specs.Prelude.{option_and_then}
 use Rattle.std.specs.FinMap.{contains_key, empty, get}
 use Rattle.std.proofs.lemmas.Bool.{and_parts}

@@ -1,9 +1,13 @@
 -- A file of packed names can be read.
-use Rattle.std.proofs.Common.{◌≡◌, [], ap, sym, ◌∙◌, true, false, List, Option, Some, None, option_map, unwrap_or, ℕ}
+use Rattle.std.proofs.Common.{◌≡◌, [], ap, subst, sym, ◌∙◌, true, false, List, Option, Some, None, option_map, unwrap_or, ℕ}
 use Rattle.gix_hash_id.specs.declared.kind.Kind.{Kind}
 use Rattle.gix_ref_format.specs.Packed.{Record, packed_records}
 use Rattle.gix_ref_format.specs.PackedBuffer.{FileFault}
+use Rattle.gix_ref_file.specs.History.{History}
+use Rattle.gix_ref_file.specs.Tree.{bytes_at}
+use Rattle.gix_ref_format.specs.declared.packed.buffer.Error.{Error}
 use Rattle.gix_ref_format.specs.declared.packed.buffer.Error.TheVariants as faults
+use Rattle.history_model.specs.Places.{file_at, packed_place}
 use Rattle.history_model.specs.Bytes.{Bytes}
 use Rattle.history_model.specs.PackedNames.{says_sorted}
 use Rattle.history_names_survey.specs.Packed.{is_good_file, is_packed_text}
@@ -21,3 +25,12 @@ no_bad_line kind (Some text) n good h = no_records kind text good (bad_line kind
 pub no_bad_header : (kind : Kind) (file : Option Bytes) → is_packed_text kind (unwrap_or file []) ≡ true → FileFault kind file faults.HeaderParsing → ⊥
 no_bad_header kind None good h = h
 no_bad_header kind (Some text) good h = no_records kind text good (bad_header kind text h)
+
+-- where what was surveyed is read again
+pub unread : {F : Type 0} (IsHonest : F → Type 0) (history : F → History) (old new : F) (k kind : Kind) (error : Error) (n : ℕ) → error ≡ faults.Iter n → new ≡ old → k ≡ kind → IsHonest old
+    → is_packed_text kind (bytes_at (history old).tree packed_place) ≡ true → (IsHonest new → FileFault k (file_at (history new).tree packed_place) error) → ⊥
+unread IsHonest history old new k kind error n is e f honest good told =
+    no_bad_line kind (file_at (history old).tree packed_place) n good
+    (subst (λ x. FileFault kind (file_at (history old).tree packed_place) x) is
+    (subst (λ (q : Kind). FileFault q (file_at (history old).tree packed_place) error) f
+    ((subst (λ files. IsHonest files → FileFault k (file_at (history files).tree packed_place) error) e told) honest)))

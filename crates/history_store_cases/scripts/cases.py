@@ -456,41 +456,42 @@ def packs(kind):
     order = [five[2], five[4], five[0], five[3], five[1]]
     pack = "pack:" + ";".join(f"{name}={ids[name]}" + (f"={commit}" if ids[name] == tag else "") for name in order)
     log = line(zero, commit)
+    # A word on the files makes the names anew, which keep no records until they are read again.
+    kept = ("read-packed", "kept")
     # What was packed reads as before: each list is that of `git for-each-ref`.
     row(kind, *makes, (pack, "packed"), ("names:read:packed-refs", read(packed)), ("names:read:packed-refs.lock", read(None)),
-        *((f"names:read:{name}", read(None)) for name in five), *((f"find:{name}", f"at:{ids[name]}") for name in five),
+        *((f"names:read:{name}", read(None)) for name in five), kept, *((f"find:{name}", f"at:{ids[name]}") for name in five),
         ("list-all:refs", told(five)), ("list-all:refs/heads", told(five[:3])), ("list-all:refs/heads/a", told(five[1:2])),
-        (f"names:read:logs/{five[2]}", read(log)), ("read-packed", "kept"), ("list-all:refs", told(five)))
+        (f"names:read:logs/{five[2]}", read(log)), ("find:refs/heads/main", "none"), kept, ("list-all:refs", told(five)))
     # `git update-ref` makes neither a name below one that is packed, nor one that is its folder.
-    begin = [("names:write:packed-refs:" + word(packed), "done"), ("read-packed", "kept")]
+    begin = [("names:write:packed-refs:" + word(packed), "done"), kept]
     row(kind, *begin, ("meets:refs/heads/a-c/x", "meets"), ("meets:refs/heads/a", "meets"), ("meets:refs/heads/a/b", "free"),
         ("meets:refs/heads/a/c", "free"), ("meets:refs/heads/a/b/c/d", "meets"), ("meets:refs/tag", "free"), ("meets:refs/tags", "meets"),
         ("collides:refs/heads/a", "free"), moved("refs/heads/x/y", zero, hello), ("meets:refs/heads/x", "meets"), ("meets:refs/heads/x/y/z", "meets"))
     # A name's own file wins over its record, and goes with it.
     row(kind, *begin, moved(five[1], commit, hello), (f"find:{five[1]}", f"at:{hello}"), ("list-all:refs/heads", told(five[:3], ids | {five[1]: hello})),
         (f"take:{five[1]}", "taken"), (f"find:{five[1]}", "none"), ("names:read:packed-refs", read(without)), ("names:read:packed-refs.lock", read(None)),
-        (f"names:read:logs/{five[1]}", read(None)), ("list-all:refs", told([five[0], *five[2:]])), ("meets:refs/heads/a", "free"),
+        (f"names:read:logs/{five[1]}", read(None)), kept, ("list-all:refs", told([five[0], *five[2:]])), ("meets:refs/heads/a", "free"),
         moved("refs/heads/a", zero, hello), ("find:refs/heads/a", f"at:{hello}"))
-    row(kind, *begin, (f"take:{five[1]}", "taken"), ("names:read:packed-refs", read(without)), (f"find:{five[1]}", "none"),
+    row(kind, *begin, (f"take:{five[1]}", "taken"), ("names:read:packed-refs", read(without)), kept, (f"find:{five[1]}", "none"),
         (f"take:{five[1]}", "taken"), ("names:read:packed-refs", read(without)))
     # A file that is no id's hides the record, and what is no name reads as none.
-    row(kind, *begin, *folders("names", "refs refs/heads"), (f"names:write:{five[2]}:x", "done"), (f"find:{five[2]}", "none"),
-        ("list-all:refs/heads", told(five[:2])), (f"names:write:refs/heads/y.lock:{word(hello.encode() + newline)}", "done"),
+    row(kind, *begin, *folders("names", "refs refs/heads"), (f"names:write:{five[2]}:x", "done"), kept, (f"find:{five[2]}", "none"),
+        ("list-all:refs/heads", told(five[:2])), (f"names:write:refs/heads/y.lock:{word(hello.encode() + newline)}", "done"), kept,
         ("find:refs/heads/y.lock", "none"), ("list-all:refs/heads", told(five[:2])), ("find:packed-refs", "none"))
     # Records in no order are read.
     mixed = f"{commit} refs/heads/b\n{hello} refs/heads/a\n".encode()
     row(kind, (f"names:write:packed-refs:{word(mixed)}", "done"),
-        ("read-packed", "kept"), ("list-all:refs", told(["refs/heads/a", "refs/heads/b"], {"refs/heads/a": hello, "refs/heads/b": commit})))
-    row(kind, ("read-packed", "kept"), (f"find:{five[2]}", "none"), ("list-all:refs", "names"))
+        kept, ("list-all:refs", told(["refs/heads/a", "refs/heads/b"], {"refs/heads/a": hello, "refs/heads/b": commit})))
+    row(kind, kept, (f"find:{five[2]}", "none"), ("list-all:refs", "names"))
     row(kind, ("names:write:packed-refs:x%0a", "done"), ("read-packed", "Iter"))
     row(kind, ("names:write:packed-refs:%23x%0a", "done"), ("read-packed", "HeaderParsing"))
     row(kind, ("names:folder:packed-refs.lock", "done"), makes[2], (f"pack:{five[2]}={commit}", "failed"), (f"find:{five[2]}", f"at:{commit}"))
     one = (PACKED.splitlines(True)[0] + "%s %s\n" % (commit, five[2])).encode()
     each(9, kind, f"{makes[2][0]} names:fail:#:- pack:{five[2]}={commit} names:sound read-packed find:{five[2]} names:read:packed-refs",
          f"moved failed kept at:{commit} {read(None)}", f"moved failed kept at:{commit} {read(one)}", f"moved packed kept at:{commit} {read(one)}")
-    begin_one = "names:write:packed-refs:" + word(packed) + " read-packed"
-    each(9, kind, f"{begin_one} names:fail:#:- take:{five[1]} names:sound read-packed find:{five[1]}",
-         f"done kept failed kept at:{commit}", "done kept failed kept none", "done kept taken kept none")
+    each(9, kind, f"names:write:packed-refs:{word(packed)} names:fail:#:- read-packed take:{five[1]} names:sound read-packed find:{five[1]}",
+         f"done Io taken kept at:{commit}", f"done kept failed kept at:{commit}", "done kept failed kept none", "done kept taken kept none")
 
 
 def heads(kind):
