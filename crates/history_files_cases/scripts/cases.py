@@ -130,6 +130,7 @@ class Made:
             self.files.update(self.grafted(path, *file))
         self.stored = {folder for folder in self.stored if folder != path and not within(folder, path)}
         if what == "graft":
+            self.changed = {folder for folder in self.changed if folder != path and not within(folder, path)}
             self.stored |= {front for other in self.files if within(other, path) for front in fronts(other) if front == path or within(front, path)}
         if self.files != before:
             self.changed |= set(fronts(path))
