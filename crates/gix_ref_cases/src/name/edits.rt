@@ -59,7 +59,12 @@ fn show(alloc: Global, edit: &RefEdit, page: &mut Page) -> Option<()> {
     page.put_between("", &edit.name, "; ");
     show_target(alloc, edit.change.new_value(), page)?;
     show_target(alloc, edit.change.previous_value(), page)?;
-    page.put(*edit == read_edit(alloc, [b"any", b"", b""])?);
+    show_plain(alloc, edit, page)
+}
+
+fn show_plain(alloc: Global, edit: &RefEdit, page: &mut Page) -> Option<()> {
+    let deletion = read_edit(alloc, [b"any", b"", b""])?;
+    page.put(*edit == deletion);
     Some(())
 }
 
