@@ -4,25 +4,15 @@ Each answer is the file that git writes: for a removal after `git update-ref -d`
 `git pack-refs --all`. A file that git doesn't write itself, unsorted or with several records of a name, is answered by the rule of the
 table at the end.
 """
-import os
-import subprocess
 import sys
 import tempfile
 from pathlib import Path
 
 sys.path.append(str(Path(__file__).resolve().parents[3] / "scripts"))
 from families import write
+from git_packed import git, packed
 
 rows = []
-WHO = {f"GIT_{who}_{what}": value for who in ["AUTHOR", "COMMITTER"] for what, value in [("NAME", "a"), ("EMAIL", "b"), ("DATE", "@1 +0000")]}
-
-
-def git(room, *words, text=b""):
-    return subprocess.run(["git", "-C", room, *words], input=text, capture_output=True, check=True, env={**os.environ, **WHO}).stdout.strip().decode()
-
-
-def packed(room):
-    return open(os.path.join(room, ".git/packed-refs"), "rb").read()
 
 
 def add(kind, before, edits, after):

@@ -4,22 +4,15 @@ The files and what edits make of them are those that git writes (`gix_ref_cases`
 leaves comes from the order of the calls, which the documents of the crate tell: the lock is made (call 1), the file is read (2), the text is
 written into the lock (3), the lock is renamed (4), and a call that fails is followed by the lock's removal. None comes from the program.
 """
-import os
-import subprocess
+import sys
 import tempfile
+from pathlib import Path
 
+sys.path.append(str(Path(__file__).resolve().parents[3] / "scripts"))
 import loose_rows
+from git_packed import git, packed
 
 rows = []
-WHO = {f"GIT_{who}_{what}": value for who in ["AUTHOR", "COMMITTER"] for what, value in [("NAME", "a"), ("EMAIL", "b"), ("DATE", "@1 +0000")]}
-
-
-def git(room, *words, text=b""):
-    return subprocess.run(["git", "-C", room, *words], input=text, capture_output=True, check=True, env={**os.environ, **WHO}).stdout.strip().decode()
-
-
-def packed(room):
-    return open(os.path.join(room, ".git/packed-refs"), "rb").read()
 
 
 def repository():

@@ -1112,13 +1112,8 @@ def reopening():
         ROWS.append((" ".join([other, *mixed]), " ".join([*["done"] * (len(mixed) - 1), f"Stray:objects/{first[:2]}/{first[2:]}"])))
 
 
-def reopened_between():
-    """Commands of each kind that changes files, with the folder closed and opened again between them."""
-    second = b"commit refs/heads/side new\nparent main\nput exec 3 1\nd/b\n2\n" + SIGNED % (2, 2, 3, b"two")
-    streams = [PUT_HELLO, tag(b"refs/tags/v1 new main", 3), second,
-               move(b"refs/heads/main any side"),
-               b"rename refs/heads/side refs/heads/kept\n", b"switch refs/heads/kept\n", b"index\n",
-               b"delete refs/tags/v1 any\n", b"names\npast main\nlog topological all +kept +main\nfiles kept\nshow main path 3\nd/b\n"]
+def reopen_between(streams):
+    """These streams in a row, each accepted whole, with the folder closed and opened again behind each."""
     for kind in KINDS:
         plain, words, answers = Plain(kind), ["create", "open"], ["created", "opened"]
         for stream in streams:
@@ -1127,6 +1122,16 @@ def reopened_between():
             words += [f"run:{word(stream)}", "close", "open"]
             answers += [told(ended, replies), "opened"]
         ROWS.append((" ".join([kind, *words, "left"]), " ".join([*answers, left(plain)])))
+
+
+def reopened_between():
+    """Commands of each kind that changes files, with the folder closed and opened again between them."""
+    second = b"commit refs/heads/side new\nparent main\nput exec 3 1\nd/b\n2\n" + SIGNED % (2, 2, 3, b"two")
+    streams = [PUT_HELLO, tag(b"refs/tags/v1 new main", 3), second,
+               move(b"refs/heads/main any side"),
+               b"rename refs/heads/side refs/heads/kept\n", b"switch refs/heads/kept\n", b"index\n",
+               b"delete refs/tags/v1 any\n", b"names\npast main\nlog topological all +kept +main\nfiles kept\nshow main path 3\nd/b\n"]
+    reopen_between(streams)
 
 
 FEW = b"commit refs/heads/main new\nput file 5 1\na/b/c\n1\nput file 1 1\nd\n2\n"
@@ -1372,14 +1377,7 @@ def reopened_packs():
     main, x, v = b"refs/heads/main", b"refs/heads/x", b"refs/tags/v"
     streams = [PUT_HELLO, tag(v + b" new main", 3), PACK, b"names\npast main\nshow v\n", branch(x + b" new", 2, b"parent main\n"),
                b"delete %s at main\n" % v, PACK, b"rename %s refs/heads/y\n" % x, b"delete %s any\n" % main, b"names\npast y\n", PACK, b"names\n"]
-    for kind in KINDS:
-        plain, words, answers = Plain(kind), ["create", "open"], ["created", "opened"]
-        for stream in streams:
-            ended, replies = plain.run(stream)
-            assert (ended, refusals(replies)) == ("Input", []), (stream, ended, replies)
-            words += [f"run:{word(stream)}", "close", "open"]
-            answers += [told(ended, replies), "opened"]
-        ROWS.append((" ".join([kind, *words, "left"]), " ".join([*answers, left(plain)])))
+    reopen_between(streams)
 
 
 def as_on_the_way(plain, alone, logs=None, records=None):
