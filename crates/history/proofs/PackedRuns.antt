@@ -1,5 +1,5 @@
 -- Each `pack` of a run packs, between its two moments.
-use Rattle.std.proofs.Common.{◌≡◌, ◌∙◌, ap, sym, subst, ℕ, zero, suc, Bool, true, false, not, List, [], ◌∷◌, ◌++◌, Some, Ok, Err, Vec, slice_get}
+use Rattle.std.proofs.Common.{◌≡◌, ◌∙◌, ap, sym, subst, ℕ, zero, suc, true, false, List, [], ◌∷◌, ◌++◌, Some, Ok, Err, Vec, slice_get}
 use Rattle.std.specs.declared.alloc.Global.{Global}
 use Rattle.gix_ref_file.specs.History.{History, trees}
 use Rattle.gix_ref_file.specs.Tree.{Tree}
