@@ -173,7 +173,7 @@ only_index r (Log c) n h = let e = h.2 in cc
 only_index r (Show word None) n h = let e = h.3 in cc
 only_index r (Show word (Some path)) n h = let e = h.5 in cc
 
-goes_unchanged : (changing : Bool) (P Q : Type 0) → not (changing && true) ≡ true → MatchBool changing P Q → Q
+pub goes_unchanged : (changing : Bool) (P Q : Type 0) → not (changing && true) ≡ true → MatchBool changing P Q → Q
 goes_unchanged true P Q on h = let z : ⊥ = cc in absurd z
 goes_unchanged false P Q on h = h
 
@@ -184,7 +184,7 @@ one_on r mid rows order (RefusedFor cause) orders replies step on = ap (λ x. ro
 one_on r mid rows order (Faulted fault) orders replies step on = ap (λ x. rows_after x rows orders replies) (sym (goes_unchanged (is_changing order) _ _ on step.1))
 one_on r mid rows order reply orders replies step on = ap (λ x. rows_after x rows orders replies) (sym step.result)
 
-no_failure : (on failed : Bool) → (not on || failed) ≡ false → (on ≡ true) × (failed ≡ false)
+pub no_failure : (on failed : Bool) → (not on || failed) ≡ false → (on ≡ true) × (failed ≡ false)
 no_failure true failed e = (refl, e)
 no_failure false failed e = cc
 

@@ -1,13 +1,18 @@
 -- What a `pack` is to write, and what it does to the files of names.
-use Rattle.std.specs.Prelude.{◌≡◌, ⊤, List, None, Some, Result, Ok, Err, IsTrue, if◌then◌else◌, map}
+use Rattle.std.specs.Prelude.{◌≡◌, ⊤, ℕ, List, ◌∷◌, None, Some, Result, Ok, Err, Vec, IsTrue, OnOk, if◌then◌else◌, map}
 use Rattle.std.specs.List.{AllByRecursion}
+use Rattle.std.specs.declared.alloc.Global.{Global}
 use Rattle.gix_hash_id.specs.Order.{id_eq}
 use Rattle.gix_object_lines.specs.NameTest.{is_full_name}
+use Rattle.gix_ref_file.specs.History.{History}
 use Rattle.gix_ref_file.specs.Tree.{Tree}
 use Rattle.gix_ref_format.specs.Packed.{Record}
 use Rattle.history_model.specs.Answers.{names_shown}
-use Rattle.history_model.specs.Replies.{NameLine}
+use Rattle.history_model.specs.Commands.{Command, Pack}
+use Rattle.history_model.specs.Moments.{Moment, StoodAt}
+use Rattle.history_model.specs.Replies.{NameLine, Packed, Reply}
 use Rattle.history_model.specs.Repository as plain
+use Rattle.history_model.specs.Steps.{next}
 use Rattle.history_model.specs.declared.Fault.TheVariants.{Memory, File, IdTaken}
 use Rattle.history_steps.specs.PackSteps.{PacksNames}
 use Rattle.history_store.specs.Packed.{records_of}
@@ -38,3 +43,33 @@ PacksFiles CallFailed r old new (Err (Refused cause)) = ⊥
 PacksFiles CallFailed r old new (Err (Fault Memory)) = ⊤
 PacksFiles CallFailed r old new (Err (Fault File)) = CallFailed
 PacksFiles CallFailed r old new (Err (Fault IdTaken)) = ⊥
+
+-- An accepted `pack` packs all names.
+abbrev pub LeavesPacked : plain.Repository → Command → Result (Vec ℕ Global) Stopped → Tree → Tree
+    → Type 0
+LeavesPacked r Pack result old new = OnOk result (PacksNames r old new)
+LeavesPacked r order result old new = ⊤
+
+-- ---- in a run
+
+-- The names part went from the tree that stood at one moment to the one at another by packing all names.
+pub record PacksBetween (names : History) (r : plain.Repository) (begin finish : Moment) : Type 0
+  where
+    pub old : Tree
+    pub new : Tree
+    pub begins : StoodAt names begin.names old
+    pub ends : StoodAt names finish.names new
+    pub packs : PacksNames r old new
+
+-- Between its two moments a `pack` that was answered `ok pack` packed all names.
+abbrev pub PacksAsSaid : History → plain.Repository → Moment → Command → Reply → Moment → Type 0
+PacksAsSaid names r begin Pack Packed finish = PacksBetween names r begin finish
+PacksAsSaid names r begin command reply finish = ⊤
+
+-- So did each of these commands, from this repository on, where each ends and the next begins at these moments.
+abbrev pub AllPackAsSaid : History → plain.Repository → Moment → List Command → List Reply
+    → List Moment → Type 0
+AllPackAsSaid names r begin (command ∷ commands) (reply ∷ replies) (finish ∷ moments) =
+    PacksAsSaid names r begin command reply finish
+    × AllPackAsSaid names (next r command reply) finish commands replies moments
+AllPackAsSaid names r begin _ _ _ = ⊤

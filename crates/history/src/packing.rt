@@ -7,7 +7,7 @@ ghost use Rattle.history_model.specs.Commands as orders;
 ghost use Rattle.history_model.specs.Moments.{LeavesStopped};
 ghost use Rattle.history_model.specs.Places.{Pair};
 ghost use Rattle.history_model.specs.Repository as plain;
-ghost use Rattle.history_steps.specs.PackSteps.{PacksOnTheWay};
+ghost use Rattle.history_steps.specs.PackSteps.{PacksNames, PacksOnTheWay};
 ghost use Rattle.history_store.specs.Face.{kind_of_names};
 ghost use Rattle.history_store.specs.Packed.{record_of_name, records_of};
 ghost use Rattle.history_store.specs.Packing.{KeepsRecords};
@@ -107,6 +107,9 @@ impl<F: Files> Repository<F> {
         ensures acts { (r : plain.Repository) → Stands F.is_honest F.history self.old r
             → Acts (CountsFailure F.failures F.reading_may_fail self.old self.new)
             (Stands F.is_honest F.history self.new) r orders.Pack result }
+        ensures packs { (r : plain.Repository) → Stands F.is_honest F.history self.old r
+            → OnOk result
+            (PacksNames r (names_tree F.history self.old) (names_tree F.history self.new)) }
     {
         let names = self.names_to_pack(alloc)?;
         let mut text = Vec::new(alloc);

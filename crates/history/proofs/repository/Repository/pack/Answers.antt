@@ -78,3 +78,6 @@ returns-clause-acts g c = λ r h.
           (stands_after F.is_honest F.history c.args.self.now r h c.pack_names.new.self kept (c.in_ok-pack_names.ensures.packs r h are))
           (c.in_ok-pack_names.ensures.records r h) c.pack_names.ensures.kind,
     )
+
+pub returns-clause-packs : goal.returns-clause-packs
+returns-clause-packs g c = λ r h. c.in_ok-pack_names.ensures.packs r h (ap records_of c.deref.ensures.value ∙ c.in_ok-names.ensures r h)
