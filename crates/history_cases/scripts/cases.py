@@ -1227,8 +1227,8 @@ def faults():
 
 
 def reading_faults():
-    """One call of either part fails, each in turn, of each command that changes nothing, given twice, over names of their own and packed ones:
-    the one that makes it tells so, the run goes on, and the other is right."""
+    """One call of either part fails, each in turn, of each command that changes nothing, given twice and once more in a later run, over names of
+    their own and packed ones: the one that makes it tells so, the run goes on, and the others are right."""
     fault, x, v = b"fault File\n", b"refs/heads/x", b"refs/tags/v"
     loose = PUT_HELLO + branch(x + b" new", 2, b"parent main\n") + tag(v + b" new main", 3)
     of_names = [b"past main\n", b"past HEAD\n", b"past v\n", b"names refs/remotes\n"]
@@ -1240,10 +1240,10 @@ def reading_faults():
             front = f"created opened {told(*plain.run(made))}"
             for line in of_names + of_both:
                 _, ((reply, _),) = plain.run(line)
-                pairs = [(fault, reply), (reply, fault), (reply, reply)]
-                ends = [f"{front} opened Input:{word(one + other)} sound Input:{word(reply)}" for one, other in pairs]
+                runs_ = [(fault, reply, reply), (reply, fault, reply), (reply, reply, fault), (reply, reply, reply)]
+                ends = [f"{front} opened Input:{word(one + other)} sound Input:{word(last)}" for one, other, last in runs_]
                 for part in ("names", "objects") if line in of_both else ("names",):
-                    each(120, kind, f"create open run:{word(made)} {part}:fail:#:- open run:{word(line + line)} failed run:{word(line)}",
+                    each(80, kind, f"create open run:{word(made)} {part}:fail:#:- open run:{word(line + line)} failed run:{word(line)}",
                          [f"{front} File closed closed closed", *ends])
 
 
@@ -1271,7 +1271,7 @@ def refused_or_failed():
             answers = [f"{front} File closed closed {after}", f"{front} opened Fault:{word(fault)} failed {after}", f"{front} opened {told(ended, replies)} sound {after}"]
             for part in ("names", "objects") if (command, cause) in of_both else ("names",):
                 for how in ("stop", "fail"):
-                    each(120, kind, f"create open run:{word(made)} {part}:{how}:#:- open run:{word(command)} failed {part}:sound recover open run:{word(names)}",
+                    each(70, kind, f"create open run:{word(made)} {part}:{how}:#:- open run:{word(command)} failed {part}:sound recover open run:{word(names)}",
                          answers)
 
 

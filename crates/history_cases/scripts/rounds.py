@@ -117,7 +117,7 @@ def row(kind, way, part, how, kept, states):
             (f"opened {told('Input', replies)}", way.after)]
     answers = [f"{front} {end} recovered opened {way.goes_on(state)}" for end, state in ends]
     words = f"create open run:{word(way.made)} {part}:{how}:#:{kept} open run:{word(way.command)} {part}:sound recover open {way.words()}"
-    return f"each:150 {kind} {words}", " | ".join(dict.fromkeys(answers))
+    return f"each:100 {kind} {words}", " | ".join(dict.fromkeys(answers))
 
 
 def leftovers():
@@ -130,7 +130,7 @@ def leftovers():
                 made = told(*Plain(kind).run(way.made))
                 front = " ".join(["created opened", made, *["done"] * len(words)])
                 line = f"create open run:{word(way.made)} close {' '.join(words)} names:{how}:#:{kept} recover names:sound recover open {way.words()}"
-                yield f"each:140 {kind} {line}", " | ".join(f"{front} {end} recovered opened {way.goes_on(state)}" for end in ("File", "recovered"))
+                yield f"each:90 {kind} {line}", " | ".join(f"{front} {end} recovered opened {way.goes_on(state)}" for end in ("File", "recovered"))
         # The objects part has one leftover alone, and its recovery comes first.
         way, state, words = left_by_hand(kind)["commit"]
         front = " ".join(["created opened", told(*Plain(kind).run(way.made)), *["done"] * len(words)])
