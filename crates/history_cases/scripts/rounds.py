@@ -93,15 +93,17 @@ def ways(kind):
 # Commands that put objects or ask for one, and those behind whose last change a call still comes that changes no name.
 ASKING = ("commit", "commit-packed", "tag", "tag-moved", "move", "move-two", "pack")
 CLEARED = ("rename-packed", "rename-tag", "delete-packed", "pack")
+# Those that are tried with both hash functions.
+OTHER = ("commit", "tag-moved", "move", "rename-packed", "delete-packed", "pack")
 
 
 def stops():
     for kind in KINDS:
         half, line = (20, 51) if kind == "sha1" else (32, 75)
-        cut = [("stop", 0), ("stop", half), ("stop", 1000), ("fail", "-"), ("fail", half)]
+        cut = [("stop", half), ("stop", 0), ("stop", 1000), ("fail", "-")]
         for name, way in ways(kind).items():
             adds = [("stop", line)] if name in ASKING and name != "pack" else []
-            for how, kept in cut + adds if kind == "sha1" else [cut[1], cut[4]]:
+            for how, kept in cut + adds if kind == "sha1" else cut[:1] if name in OTHER else []:
                 last = [way.after] if kept != "-" or name in CLEARED else []
                 yield row(kind, way, "names", how, kept, [way.before, *way.between, *last])
                 if name in ASKING and kept in ("-", half, 1000):
@@ -117,7 +119,7 @@ def row(kind, way, part, how, kept, states):
             (f"opened {told('Input', replies)}", way.after)]
     answers = [f"{front} {end} recovered opened {way.goes_on(state)}" for end, state in ends]
     words = f"create open run:{word(way.made)} {part}:{how}:#:{kept} open run:{word(way.command)} {part}:sound recover open {way.words()}"
-    return f"each:100 {kind} {words}", " | ".join(dict.fromkeys(answers))
+    return f"each:{110 if part == 'objects' or way.command == PACK else 90} {kind} {words}", " | ".join(dict.fromkeys(answers))
 
 
 def leftovers():
@@ -125,7 +127,7 @@ def leftovers():
     behind it."""
     for kind in KINDS:
         for name, (way, state, words) in left_by_hand(kind).items():
-            cut = [("stop", "-"), ("stop", 10), ("stop", 1000), ("fail", 10)] if kind == "sha1" else [("stop", 30)]
+            cut = [("stop", "-"), ("stop", 10), ("fail", 10)] if kind == "sha1" else [("stop", 30)]
             for how, kept in cut:
                 made = told(*Plain(kind).run(way.made))
                 front = " ".join(["created opened", made, *["done"] * len(words)])
