@@ -6,11 +6,14 @@ clap 4 prints. No answer is taken from the program.
 """
 
 import hashlib
+import os
 import sys
 from pathlib import Path
 
 sys.path.append(str(Path(__file__).resolve().parents[3] / "scripts"))
 from case_words import word, write
+from folder_causes import as_line, causes, place
+from small_folder import Few, judged
 
 ROWS = []
 ZERO = b"\0"
@@ -20,8 +23,8 @@ NULL = {"sha1": b"0" * 40, "sha256": b"0" * 64}
 class Kind:
     """A hash function, with the objects of the first commit."""
 
-    def __init__(self, name):
-        self.name = name
+    def __init__(self, name, where=None):
+        self.name, self.where = name, where or name
         self.tree = self.id(b"tree", b"")
         actor = b"A <a@b> 1 +0000\n"
         self.commit_text = b"tree " + self.tree + b"\nauthor " + actor + b"committer " + actor + b"\none"
@@ -135,7 +138,7 @@ def actions(kind):
 
 
 def flaws(kind, first, log):
-    k = kind.name
+    k = kind.where
 
     def unopened(cause, *steps, then=()):
         row(k, CREATE, first, *steps, refused("check", *cause), refused("run:names%0a", *cause), *then)
@@ -270,10 +273,66 @@ def real(kind):
         files("names", "kind", b"refs/heads/main.lock", told="absent"),
     )
     row("real", CREATE, ("run:hello%0a", answer(1, b"refused Syntax\n")), refused("create", b"NotEmpty", b"HEAD"))
+    flaws(kind, run, NULL["sha1"] + b" " + kind.commit + b" A <a@b> 1 +0000\tone\n")
+
+
+def several(name):
+    """A file that has other bytes, for which several causes hold: with errors told where as many bytes are taken as all of them begin with, what
+    is told is the beginning of each, and no cause of another beginning and no fault."""
+    few = Few(name)
+    made = [CREATE, ("run:" + word(few.STREAM), answer(0, few.replies))]
+    assert not causes(name, few.objects, few.names)
+
+    def told(found, *steps):
+        begun = os.path.commonprefix([as_line(it) for it in found])
+        row(name, *made, *steps, (f"last:check:{len(begun)}", answer(1, b"", begun)))
+
+    for path in [*few.changed, b"HEAD", b"refs/heads/main", b"refs/tags/v", b"logs/refs/heads/main"]:
+        part = "objects" if path in few.objects else "names"
+        for text, found in judged(few, path):
+            if len(found) > 1:
+                told(found, (f"{part}:write:{word(path)}:{long_word(text)}", "done"))
+    # Packed names that stand no more, or may not, beside their logs.
+    pack = ("run:pack%0a", answer(0, b"ok pack\n"))
+    for text in [few.packed[:60], b"\xff" * 4097, *(few.packed[:at] + b"x" + few.packed[at + 1:] for at, it in enumerate(few.packed) if few.packed[at - 1] == 10)]:
+        found = causes(name, few.objects, {**without(few.names, b"refs/heads/main", b"refs/tags/v"), b"packed-refs": text})
+        assert len(found) > 1, text
+        told(found, pack, (f"names:write:packed-refs:{long_word(text)}", "done"))
+    # Objects under reserved ids, which no text has or the empty tree's alone.
+    empty = hashlib.new(name, b"tree 0" + ZERO).hexdigest().encode()
+    for digits, text in [(NULL[name], b"blob 0" + ZERO), (NULL[name], b"tree 0" + ZERO), (empty, b"blob 0" + ZERO), (empty, b"blob 5" + ZERO + b"hello")]:
+        path = place(digits)
+        told(causes(name, {**few.objects, path: text}, few.names), *([] if any(it.startswith(path[:10]) for it in few.objects) else
+             [("objects:folder:" + word(path[:10]), "done")]), (f"objects:write:{word(path)}:{word(text)}", "done"))
+
+
+def without(files, *gone):
+    return {path: text for path, text in files.items() if path not in gone}
+
+
+def long_word(text):
+    return f"%ff*{len(text)}" if len(text) > 4096 else word(text)
+
+
+def narrow(k):
+    """A writer that fails behind each byte, and a reader that does."""
+    names, stream = b"ok names 0 refs/heads/main\n", b"names\nhello\nnames\n"
+    whole = {"run": names, "check": b"whole\n", "recover": b"recovered\n"}
+    for action, text in whole.items():
+        cut = [(f"narrow:{room}:{action}", fault("", b"Write", text[:room])[1]) for room in range(len(text))]
+        row(k, CREATE, *cut, (f"narrow:{len(text)}:{action}", answer(0, text)), CHECK)
+    for room in range(len(b"created\n")):
+        row(k, (f"narrow:{room}:create", fault("", b"Write", b"created\n"[:room])[1]), CHECK)
+    # The second line is no command, where it comes whole.
+    cut = [(f"drops:{good}:{word(stream)}", answer(1, names + b"refused Syntax\n") if good >= 12 else fault("", b"Read", names if good >= 6 else b"")[1])
+           for good in range(len(stream) + 2)]
+    row(k, CREATE, *cut, CHECK)
 
 
 for name in ("sha1", "sha256"):
     actions(Kind(name))
+    several(name)
+    narrow(name)
 lines()
-real(Kind("sha1"))
+real(Kind("sha1", "real"))
 write(Path(__file__), ROWS)

@@ -1023,6 +1023,39 @@ def limits():
     answer([saying % LIMIT, b"t\n", Long(b"m", LIMIT - 2), b"\nend\n"], "TooLarge")
 
 
+def times():
+    """Seconds and offsets of each role, and of a log's order: those that are taken, and those that are refused."""
+    x = b"refs/heads/x"
+    made = branch(b"refs/heads/main new", 1) + branch(x + b" new", 2)
+    good = [b"0 +0000", b"1 -0001", b"9223372036854775807 +9959", b"10 -1259", b"2 -9900"]
+    bad = [b"9223372036854775808 +0000", b"-1 +0000", b"01 +0000", b"00 +0000", b"+1 +0000", b"1x +0000", b"0x1 +0000", b"1. +0000",
+           b"99999999999999999999999 +0000", b"18446744073709551617 +0000", b"1 +0060", b"1 -0000", b"1 +0099", b"1 +00600", b"1 0000", b"1 00000", b"1 +000", b"1 +00a0",
+           b"1 *0000", b"1 +0", b"1 -", b"1 Z", b"1 +00:0"]
+    other = b"committer 1 3 1 +0000\nA\na@b\nmessage 1\na\nend\n"
+    roles = [lambda it: b"commit HEAD any\nauthor 1 3 %s\nA\na@b\n" % it + other,
+             lambda it: b"commit HEAD any\nauthor 1 3 1 +0000\nA\na@b\n" + other.replace(b"1 +0000", it),
+             lambda it: tag(b"refs/tags/v any main", tagger=b"tagger 1 3 %s\nA\na@b\n" % it),
+             lambda it: b"move\nto refs/heads/%s any HEAD\nactor 1 3 %s\nA\na@b\nmessage 1\na\nend\n" % (it[:1].replace(b"-", b"m") + b"y", it)]
+    for told_by in roles:
+        runs((made,), *((told_by(it),) for it in good[:1] + good[2:4]), *((told_by(it), "BadTime") for it in bad), (b"past HEAD\nnames\n",), by_git_alone=False)
+        runs((made,), *((told_by(it),) for it in (good[1], good[4])), (b"past HEAD\nshow HEAD\nnames\n",), by_git_alone=False)
+    seconds = dict.fromkeys(it.split(b" ")[0] for it in bad[:10])
+    runs((made,), *((b"log %s-since %s all +HEAD\n" % (order, it), "BadTime") for order in (b"newest", b"oldest") for it in seconds),
+         *((b"log %s-since %s all +HEAD\n" % (order, it),) for order in (b"newest", b"oldest") for it in (b"0", b"2", b"9223372036854775807")),
+         by_git_alone=False)
+
+
+def one_time():
+    """Tips of one time by topology: the one that was given last comes first."""
+    made = b"".join(branch(b"refs/heads/%s new" % name, 1, b"put file 1 1\na\n%s\n" % name) for name in (b"a", b"b", b"c"))
+    made += branch(b"refs/heads/d new", 1, b"parent a\nparent b\n") + branch(b"refs/heads/e new", 2, b"parent b\nparent a\n")
+    items = [b"+a +b", b"+b +a", b"+a +b +c", b"+c +b +a", b"+b +c +a +b", b"+a +a +b", b"+a +b -c", b"+c -a +b", b"+d +c", b"+c +d", b"+e +d +c",
+             b"+d +e +c", b"+a +d", b"+d -a", b"+e -b +c"]
+    lines = b"".join(b"log topological all %s\n" % it for it in items)
+    runs((made,), (lines,), (b"index\n" + lines,), by_git_alone=False)
+    runs((made,), *((log_at(b"topological all " + it, b"a"),) for it in items[:4]), (b"log topological first +a +b +d\n",), by_git_alone=False)
+
+
 def opening():
     """Folders that aren't opened, each for its cause, and empty ones in the way of the first commit."""
     head = f"names:write:HEAD:{word(HEAD)}"
@@ -1191,6 +1224,54 @@ def faults():
         for part in ("objects", "names"):
             each(60, kind, f"create {part}:fail:#:- open run:{word(INPUT)} failed run:{word(again)} failed",
                  ["created File closed closed closed closed", f"created opened Fault:{word(fault)} failed Fault:- failed", *ends])
+
+
+def reading_faults():
+    """One call of either part fails, each in turn, of each command that changes nothing, given twice and once more in a later run, over names of
+    their own and packed ones: the one that makes it tells so, the run goes on, and the others are right."""
+    fault, x, v = b"fault File\n", b"refs/heads/x", b"refs/tags/v"
+    loose = PUT_HELLO + branch(x + b" new", 2, b"parent main\n") + tag(v + b" new main", 3)
+    of_names = [b"past main\n", b"past HEAD\n", b"past v\n", b"names refs/remotes\n"]
+    of_both = [b"names\n", b"names refs/heads\n", b"names refs/tags\n", b"show HEAD\n", b"show v\n", b"files tags/v\n", b"show x path 1\na\n", b"log date all +v -x\n",
+               b"log breadth first +x +HEAD\n", b"log oldest all +x\n"]
+    for made in (loose, loose + PACK):
+        plain = Plain("sha1")
+        front = f"created opened {told(*plain.run(made))}"
+        for line in of_names + of_both:
+            _, ((reply, _),) = plain.run(line)
+            runs_ = [(fault, reply, reply), (reply, fault, reply), (reply, reply, fault), (reply, reply, reply)]
+            ends = [f"{front} opened Input:{word(one + other)} sound Input:{word(last)}" for one, other, last in runs_]
+            for part in ("names", "objects") if line in of_both else ("names",):
+                each(80, "sha1", f"create open run:{word(made)} {part}:fail:#:- open run:{word(line + line)} failed run:{word(line)}",
+                     [f"{front} File closed closed closed", *ends])
+
+
+def refused_or_failed():
+    """One call of either part fails or stops, each in turn, of commands that are refused for what they must have read: the fault is told, or the
+    refusal. Nothing is changed then, and the folder is recovered and opened again."""
+    main, x, v, fault = b"refs/heads/main", b"refs/heads/x", b"refs/tags/v", b"fault File\n"
+    made = (b"commit refs/heads/main new\nput file 3 1\na/b\n1\n" + ONE + branch(x + b" new", 2, b"parent main\n") + tag(v + b" new main", 3))
+    of_names = [(branch(main + b" at x", 4), "NotExpected"), (branch(main + b" new", 4), "Taken"), (branch(main + b"/y any", 4), "Collides"),
+                (branch(b"refs/heads/y at main", 4), "NoSuchName"), (branch(main + b" any", 4, b"parent nosuch\n"), "UnknownWord"),
+                (tag(v + b" new main", 4), "Taken"), (tag(v + b" at x main", 4), "NotExpected"), (move(x + b" at main main"), "NotExpected"),
+                (move(main + b" any main", x + b" any main"), "NothingMoves"), (b"rename %s %s\n" % (x, main), "Taken"),
+                (b"rename refs/heads/y %s/y\n" % x, "NoSuchName"), (b"rename %s %s/y\n" % (x, v), "Collides"), (b"delete refs/heads/y any\n", "NoSuchName"),
+                (b"delete %s at main\n" % x, "NotExpected")]
+    of_both = [(branch(main + b" any", 4, b"remove-file 1\na\n"), "IsFolder"), (branch(v + b" any", 4), "HoldsTag"),
+               (branch(main + b" any", 4, b"parent v\n"), "DuplicateParent"), (tag(v + b" any v", 3), "NothingMoves"),
+               (move(main + b" any v"), "NothingMoves"), (b"delete %s at x\n" % v, "NotExpected")]
+    for kind in KINDS:
+        plain = Plain(kind)
+        front, names = f"created opened {told(*plain.run(made))}", b"names\npast main\n"
+        after = f"recovered opened {told(*plain.run(names))}"
+        for command, cause in of_names + of_both if kind == "sha1" else of_both:
+            ended, replies = plain.run(command)
+            assert refusals(replies) == [cause], (command, replies)
+            answers = [f"{front} File closed closed {after}", f"{front} opened Fault:{word(fault)} failed {after}", f"{front} opened {told(ended, replies)} sound {after}"]
+            for part in ("names", "objects") if (command, cause) in of_both else ("names",):
+                for how in ("fail",) if kind == "sha1" else ("stop",):
+                    each(70, kind, f"create open run:{word(made)} {part}:{how}:#:- open run:{word(command)} failed {part}:sound recover open run:{word(names)}",
+                         answers)
 
 
 def log_faults():
@@ -1482,13 +1563,18 @@ def left_logged(plain, first):
 
 
 def creation(kind):
-    """A creation that is stopped at each call: nothing is left but its leftovers, or the new repository, and a second call finds it."""
+    """A creation that stops or fails at each call: nothing is left but its leftovers, or the new repository, and a second call finds it."""
     none, made = "objects names", f"objects names{listed({b'HEAD': HEAD})}"
-    for kept in ["-", 0, 3, 20, 50, 1000]:
+    ended, replies = Plain(kind).run(PUT_HELLO)
+    again = f"opened {told(ended, replies)}"
+    for how, kept in [*(("stop", kept) for kept in ["-", 0, 3, 20, 50, 1000]), ("fail", "-"), ("fail", 10), ("fail", 1000)]:
         for part in ("objects", "names"):
             renamed = [f"File {made} NotEmpty:HEAD"] if part == "names" and kept != "-" else []
-            each(20, kind, f"{part}:stop:#:{kept} create left create",
+            each(20, kind, f"{part}:{how}:#:{kept} create left create",
                  [f"File {none} created", *renamed, f"created {made} NotEmpty:HEAD"])
+            # Without a recovery, and then a first round.
+            each(20, kind, f"{part}:{how}:#:{kept} create {part}:sound create open run:{word(PUT_HELLO)}",
+                 [f"File created {again}", *[f"File NotEmpty:HEAD {again}" for _ in renamed], f"created NotEmpty:HEAD {again}"])
 
 
 def placed(part, files):
@@ -1610,12 +1696,15 @@ def logs_by_chance(chance, kind):
 
 if __name__ == "__main__":
     for part in (rows, first_causes, two_branches, of_names, moves, renames, deletions, switches, tags, renamed_tags, indexes, logs, path_logs,
-                 short_ids, removals, nested, limits, opening, reopening, reopened_between, readings, readers, faults, index_faults, log_faults,
+                 short_ids, removals, nested, limits, times, one_time, opening, reopening, reopened_between, readings, readers, faults, index_faults, reading_faults, refused_or_failed, log_faults,
                  move_stops, rename_stops, delete_stops, switch_stops, tag_stops, tag_rename_stops, stops, reopened_stops, packs, pack_stops,
                  packed_delete_stops, packed_rename_stops, reopened_packs):
         part()
     for kind in KINDS:
         recoveries(kind)
+    import any_bytes
+    import rounds
+    ROWS.extend([*any_bytes.rows(), *rounds.stops(), *rounds.leftovers()])
     chance = random.Random(23)
     for number in range(200):
         by_chance(chance, list(KINDS)[number % 2])

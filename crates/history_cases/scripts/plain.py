@@ -189,7 +189,8 @@ class Walk:
         return found
 
     def listed(self, order, tips, inside):
-        """All that are inside, in this order. Where two of one time might both come next, either may be told: then this stops."""
+        """All that are inside, in this order. Where two of one time might both come next, either may be told: then this stops. By topology
+        the tip that was given last comes first then."""
         found = []
         while len(found) < len(inside):
             found.append(self.following(order, tips, inside, found))
@@ -205,7 +206,7 @@ class Walk:
             last = {at: (place, number) for at, place, number in named}
             ready = [it for it in after_all if it not in found]
             behind = [it for it in ready if it in last]
-            return max(behind, key=last.get) if behind else self.only(max, ready)
+            return max(behind, key=last.get) if behind else max(ready, key=lambda it: (self.times[it], tips.index(it)))
         if order == b"date":
             return self.only(max, [it for it in after_all if it not in found])
         return self.only(min if order == b"oldest" else max, opened)
@@ -353,7 +354,8 @@ class Plain:
 
     def forget(self, name):
         """The name goes, with its log and its record."""
-        del self.names[name], self.logs[name]
+        del self.names[name]
+        self.logs.pop(name, None)
         self.packed_alone.discard(name)
         (self.records or {}).pop(name, None)
 
@@ -486,7 +488,7 @@ class Plain:
         refuse_where(not is_name(name), "BadName")
         refuse_where(name.startswith(PRIVATE), "PrivateName")
         refuse_where(name not in self.names, "NoSuchName")
-        moves = self.logs[name].splitlines(keepends=True)
+        moves = [line + b"\n" for line in self.logs.get(name, b"").split(b"\n")[:-1]]
         return b"ok past %d\n" % len(moves) + b"".join(reversed(moves))
 
     def differs(self, digits, paths):

@@ -249,6 +249,18 @@ def failures(kind):
     answers = " ".join(a for _, a in made.words)
     opened = ":".join(["opened", *made.ids])
     ROWS.append((f"each:99 {kind} {words} fail:#:0 open sound open", f"{answers} File {opened} | {answers} {opened} {opened}"))
+    # Of a history with objects of all kinds, with a file at the end that is none of an object.
+    for last, found in ((None, None), ("objects/zz", "Stray:objects/zz")):
+        made = Part(kind)
+        history(kind, made)
+        if last:
+            made.file(last, "-")
+        words = " ".join(w for w, _ in made.words)
+        answers = " ".join(a for _, a in made.words)
+        opened = found or ":".join(["opened", *sorted(made.ids)])
+        ROWS.append((f"each:99 {kind} {words} fail:#:- open sound open", f"{answers} File {opened} | {answers} {opened} {opened}"))
+    made = Part(kind)
+    made.put("blob", b"hello")
     # No file is changed.
     made.file("README", "-")
     made.row("Stray:README", before=[("open", "Stray:README"), ("list:objects", f"names:{made.ids[0][:2]}")])
