@@ -1,15 +1,15 @@
 //! What a `commit` stands on: the name that it moves, what that holds, and the commit's parents.
 
-ghost use Rattle.std.specs.Prelude.{◌≡◌, ◌++◌, ⊤, Some, None, IfOk, IsTrue, MatchResult, map, length, option_map, option_to_list};
+ghost use Rattle.std.specs.Prelude.{◌≡◌, ◌++◌, ⊤, Some, None, IfOk, IsTrue, List, MatchResult, map, length, option_and_then, option_map, option_to_list};
 ghost use Rattle.std.specs.List.{filter_map};
 ghost use Rattle.history_model.specs.Forms.{is_name};
 ghost use Rattle.history_model.specs.Commands as orders;
 ghost use Rattle.history_model.specs.Repository as plain;
 ghost use Rattle.history_model.specs.Meaning.{branch_or_name};
-ghost use Rattle.history_word.specs.Commands.{IsExpect};
+ghost use Rattle.history_word.specs.Commands.{AreEdits, IsEdit, IsExpect};
 ghost use Rattle.history.specs.Acts.{GivesMeant};
 ghost use Rattle.history.specs.Asked.{AskedCommit};
-ghost use Rattle.history.specs.Bases.{IsCommitBase, IsExpected, expected_meanings, held_cause, parents_cause, words_cause};
+ghost use Rattle.history.specs.Bases.{IsCommitBase, IsExpected, expected_meanings, held_cause, line_word, parents_cause, words_cause};
 ghost use Rattle.history.specs.CommitCauses.{Tests, name_causes, place_causes};
 ghost use Rattle.history.specs.Held.{IsHeld};
 ghost use Rattle.history.specs.Meanings.{commit_in, commit_or_cause, meaning_of};
@@ -25,15 +25,16 @@ use gix_ref_file::Files;
 use history_model::Cause;
 use history_model::limits::MAX_PARENTS;
 use history_store::has_twice;
-use history_word::{CommitCommand, Expect};
+use history_word::{CommitCommand, Edit, Expect};
 use std::alloc::{AllocError, Global};
 
-/// The name that a commit moves, what it holds, and the commit's parents.
+/// The name that a commit moves, what it holds, the commit's parents, and of each edit the commit of its word, if it has one.
 #[derive(Drop)]
 pub(crate) struct Base {
     pub(crate) name: Vec<u8>,
     pub(crate) held: Option<ObjectId>,
     pub(crate) parents: Vec<ObjectId>,
+    pub(crate) sources: Vec<Option<ObjectId>>,
 }
 
 /// What is expected of a name, its word read.
@@ -61,6 +62,43 @@ impl Expected {
                 None => Err(Cause::NoSuchName),
             },
         }
+    }
+}
+
+/// What the words of the parents read as, and then those of edits.
+fn all_words(
+    alloc: Global,
+    parents: &[WordMeaning],
+    sources: &[Option<WordMeaning>],
+) -> Result<Vec<WordMeaning>, AllocError>
+    ensures { IfOk result
+        (λ all. all.items ≡ parents.now ++ filter_map (λ source. source) sources.now) }
+{
+    let mut all = Vec::new(alloc);
+    all.extend_from_slice(parents)?;
+    all.extend(sources.iter().filter_map(|source| *source))?;
+    Ok(all)
+}
+
+/// The commits of the edits' words.
+fn source_ids(
+    alloc: Global,
+    sources: &[Option<WordMeaning>],
+) -> Result<Vec<Option<ObjectId>>, AllocError>
+    ensures { IfOk result (λ ids. ids.items ≡ map (option_and_then commit_in) sources.now) }
+{
+    sources
+        .iter()
+        .map(|source| source_id(*source))
+        .collect(alloc)
+}
+
+fn source_id(source: Option<WordMeaning>) -> Option<ObjectId>
+    ensures { result ≡ option_and_then commit_in source }
+{
+    match source {
+        Some(meaning) => meaning.id(),
+        None => None,
     }
 }
 
@@ -134,6 +172,39 @@ impl<F: Files> Repository<F> {
         Ok(meanings)
     }
 
+    /// What the word of an edit reads as, if it has one.
+    fn read_source(&self, alloc: Global, edit: &Edit) -> Result<Option<WordMeaning>, Stopped>
+        ensures { (r : plain.Repository) (line : orders.EditLine)
+            → Stands F.is_honest F.history self.now r → IsEdit edit.now line
+            → GivesMeant F.reading_may_fail (λ source. option_map meaning_of source
+            ≡ option_map (commit_or_cause r) (line_word line)) result }
+    {
+        match edit {
+            Edit::Graft(graft) => Ok(Some(self.read_word(alloc, &graft.word)?)),
+            Edit::Put(_) => Ok(None),
+            Edit::Remove(_) => Ok(None),
+            Edit::RemoveFile(_) => Ok(None),
+        }
+    }
+
+    /// What the words of edits read as, one of each edit, if it has one.
+    fn read_sources(
+        &self,
+        alloc: Global,
+        edits: &[Edit],
+    ) -> Result<Vec<Option<WordMeaning>>, Stopped>
+        ensures { (r : plain.Repository) (lines : List orders.EditLine)
+            → Stands F.is_honest F.history self.now r → AreEdits edits.now lines
+            → GivesMeant F.reading_may_fail (λ sources. map (option_map meaning_of) sources.items
+            ≡ map (λ line. option_map (commit_or_cause r) (line_word line)) lines) result }
+    {
+        let mut sources = Vec::new(alloc);
+        for edit in edits {
+            sources.push(self.read_source(alloc, edit)?)?;
+        }
+        Ok(sources)
+    }
+
     /// Tests that the name holds a commit, or may come to stand beside the others.
     fn test_place(&self, alloc: Global, name: &[u8], held: Option<Held>) -> Result<(), Stopped>
         ensures { (r : plain.Repository) (order : orders.CommitCommand)
@@ -163,16 +234,20 @@ impl<F: Files> Repository<F> {
         let name = self.name_of(alloc, &command.name)?;
         let expected = self.read_expected(alloc, &command.expect)?;
         let words = self.read_words(alloc, &command.parents)?;
-        test_words(expected, &words)?;
+        let sources = self.read_sources(alloc, &command.edits)?;
+        let all = all_words(alloc, &words, &sources)?;
+        test_words(expected, &all)?;
         let held = self.held(alloc, &name)?;
         expected.test(commit_held(held))?;
         self.test_place(alloc, &name, held)?;
         let parents = parents_of(alloc, commit_held(held), &words)?;
         test_parents(&parents)?;
+        let sources = source_ids(alloc, &sources)?;
         Ok(Base {
             name,
             held: id_held(held),
             parents,
+            sources,
         })
     }
 }

@@ -25,7 +25,7 @@ ghost use Rattle.history.specs.declared.stopped.Stopped.TheVariants as why;
 use crate::actors::actor_at;
 use crate::base::Base;
 use crate::causes::{have_long_content, read_times, test_paths};
-use crate::editing::read_edits;
+use crate::editing::graft_nothing;
 use crate::fields::into_kept;
 use crate::repository::Repository;
 use crate::stopped::Stopped;
@@ -249,16 +249,20 @@ impl<F: Files> Repository<F> {
         &self,
         alloc: Global,
         parents: &[ObjectId],
+        sources: &[Option<ObjectId>],
         edits: Vec<Edit>,
     ) -> Result<NewFiles, Stopped>
         ensures { (r : plain.Repository) (order : orders.CommitCommand)
-            → AskedFiles F.is_honest F.history self.now parents.now edits.items r order
+            → AskedFiles F.is_honest F.history self.now parents.now sources.now edits.items r order
             → MatchResult result (AreNewFiles r order) (IsUnplanned F.reading_may_fail r order) }
     {
         test_paths(&edits)?;
         let has_long_content = have_long_content(&edits);
-        let changes = read_edits(alloc, self.objects.kind(), edits)?;
+        let changes = self.read_edits(alloc, edits, sources)?;
         let edited = self.edited(alloc, parents, &changes.made)?;
+        if graft_nothing(&changes.made) {
+            return Err(Stopped::Refused(Cause::NoSuchPath));
+        }
         Ok(NewFiles {
             blobs: changes.blobs,
             edited,
@@ -273,7 +277,7 @@ impl<F: Files> Repository<F> {
             → Plans F.reading_may_fail r order result }
     {
         let base = self.base(alloc, &command)?;
-        let files = self.new_files(alloc, &base.parents, command.edits)?;
+        let files = self.new_files(alloc, &base.parents, &base.sources, command.edits)?;
         let actors = read_actors(
             command.author,
             command.committer,

@@ -2,7 +2,7 @@
 
 use case_ids::read_id;
 use case_page::read_digits;
-use history_files::{Change, Edit};
+use history_files::{Change, Edit, Found};
 use history_model::FileKind;
 use std::alloc::Global;
 
@@ -31,6 +31,19 @@ pub fn kind_word(kind: FileKind) -> &'static str {
     }
 }
 
+// What is grafted: `none`, or a folder or a file of a kind with its id.
+fn read_found(what: &str, id: Option<&str>) -> Option<Option<Found>> {
+    if what == "none" {
+        return Some(None);
+    }
+    let id = read_id(id?)?;
+    if what == "folder" {
+        return Some(Some(Found::Folder { id }));
+    }
+    let kind = read_file_kind(what)?;
+    Some(Some(Found::File { kind, id }))
+}
+
 /// The edit that a word spells.
 pub fn read_edit(alloc: Global, word: &str) -> Option<PathEdit> {
     let mut parts = word.split(':');
@@ -50,6 +63,12 @@ pub fn read_edit(alloc: Global, word: &str) -> Option<PathEdit> {
         "remove-file" => {
             let path = read_digits(alloc, parts.next()?)?;
             let change = Change::RemoveFile;
+            Some(PathEdit { path, change })
+        }
+        "graft" => {
+            let path = read_digits(alloc, parts.next()?)?;
+            let found = read_found(parts.next()?, parts.next())?;
+            let change = Change::Graft(found);
             Some(PathEdit { path, change })
         }
         _ => None,

@@ -224,6 +224,7 @@ fn show_edit_error(error: EditError, page: &mut Page) {
         EditError::BadPath => page.word("BadPath"),
         EditError::IsFolder => page.word("IsFolder"),
         EditError::NullId => page.word("NullId"),
+        EditError::EmptyTree => page.word("EmptyTree"),
         EditError::Failed => page.word("Failed"),
         EditError::Broken { oid } => show_broken(oid, page),
         EditError::Memory => page.word("Memory"),

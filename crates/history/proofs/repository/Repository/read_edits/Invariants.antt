@@ -1,0 +1,15 @@
+use Rattle.std.proofs.Common.{◌≡◌, List, false}
+use Rattle.std.specs.List.{flat_map, list_any}
+use Rattle.history_model.specs.Causes.{is_bad_path}
+use Rattle.history_model.specs.CommandParts.{edit_paths}
+use Rattle.history_model.specs.Commands.{EditLine}
+use Rattle.history_model.specs.Repository as plain
+use Rattle.history_word.specs.Commands.{AreEdits}
+use Rattle.history.specs.Stands.{Stands}
+use Rattle.history.proofs.EditsRead.{ReadSoFar, SourcesAt}
+use Rattle.history.proofs.repository.Repository.read_edits.Given as goal
+
+-- the edits so far are read
+abbrev pub invariant-loop-edit : goal.invariant-loop-edit
+invariant-loop-edit g l = (r : plain.Repository) (lines : List EditLine) → Stands g.F.Files.is_honest g.F.Files.history l.self r
+    → AreEdits l.yielded lines → list_any is_bad_path (flat_map edit_paths lines) ≡ false → SourcesAt r lines l.sources → ReadSoFar r l.yielded l.made.items l.blobs.items
