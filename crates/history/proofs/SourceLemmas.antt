@@ -16,6 +16,8 @@ use Rattle.history_model.proofs.WholeLists.{In, in_left, in_right, none_passes}
 use Rattle.std.proofs.lemmas.List.{map-append, take_more}
 use Rattle.history_word.specs.Commands.{AreEdits, IsEdit}
 use Rattle.history_word.specs.declared.command.Edit.{Edit}
+use Rattle.history_word.specs.declared.command.Edit.TheVariants.{Graft}
+use Rattle.history_word.specs.declared.command.Graft as received
 use Rattle.history.specs.Bases.{line_word, source_id}
 use Rattle.history.specs.Meanings.{commit_or_cause, meaning_of}
 use Rattle.history.specs.declared.words.WordMeaning as own
@@ -100,3 +102,11 @@ source_added r edits lines are i edit source sources more less is read so_far ad
     ap (map (option_map meaning_of)) added ∙ map-append (option_map meaning_of) sources (source ∷ []) ∙ (λ j. so_far j ++ read line this j ∷ [])
     ∙ sym (ap (map (λ line. option_map (commit_or_cause r) (line_word line))) (take_more lines i (RemoveLine []) within)
     ∙ map-append (λ line. option_map (commit_or_cause r) (line_word line)) (take i lines) (line ∷ []))
+
+-- what the word of a graft reads as
+pub source_sent : (r : Repository) (graft : received.Graft) (meaning : own.WordMeaning) (line : EditLine) → IsEdit (Graft graft) line → meaning_of meaning ≡ commit_or_cause r graft.word.items
+    → option_map meaning_of (Some meaning) ≡ option_map (commit_or_cause r) (line_word line)
+source_sent r graft meaning (PutLine kind path bytes) is reads = absurd is
+source_sent r graft meaning (RemoveLine path) is reads = absurd is
+source_sent r graft meaning (RemoveFileLine path) is reads = absurd is
+source_sent r graft meaning (GraftLine path word source) is reads = ap Some (reads ∙ ap (commit_or_cause r) is.1.0)

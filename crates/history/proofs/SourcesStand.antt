@@ -26,7 +26,7 @@ use Rattle.history_files.specs.declared.found.Found.TheVariants.{File, Folder}
 use Rattle.history_files.proofs.Grafted.{source_files}
 use Rattle.history_files.proofs.Inside.{HasFile}
 use Rattle.history_files.proofs.Items.{digest_kind}
-use Rattle.history_files.proofs.Sources.{AFile, AFolder, Nothing, Source, by_entry, folder_stored, no_keys, some_file}
+use Rattle.history_files.proofs.Sources.{AFile, AFolder, Nothing, Source, by_entry, folder_stored, no_keys, some_file, source_of}
 use Rattle.history_files.proofs.Stores.{has_trees}
 use Rattle.history.proofs.Befores.{held_commit, held_files}
 
@@ -67,6 +67,18 @@ module _ (r : Repository) (whole : IsWholeStore r) (files : FileMap) (map_is : I
           subst (λ f. IfSome f (λ it. IsEmptyTree (entry_of it).1 → ⊥)) (sym e)
           (not_empty_tree (StoredFolder (source_files source files)) (id_of id) same (ap (λ (i : Id). i.kind) same ∙ digest_kind r.kind _)
           (folder_stored (IsStored r) source files all some) (no_file (source_files source files) some))
+
+  -- the folder that a source is stands
+  pub source_stands : (source : Bytes) (found : Option Found) (id : ObjectId) → IsSource (table_of r) r.kind source files found → found ≡ Some (Folder id) → get r.objects (id_of id) ≡ Some (StoredFolder (source_files source files))
+  source_stands source found id is e = go (source_of (table_of r) r.kind source files found is)
+    where
+      same_id : {a b : ObjectId} → Some (Folder a) ≡ Some (Folder b) → a ≡ b
+      same_id k = cc
+
+      go : Source r.kind source files found → get r.objects (id_of id) ≡ Some (StoredFolder (source_files source files))
+      go (Nothing k file none) = cc
+      go (AFile kind x content f same_kind same at file none) = cc
+      go (AFolder x f same file some) = ap (get r.objects) (ap id_of (same_id (sym e ∙ f)) ∙ same) ∙ folder_stored (IsStored r) source files all some
 
 -- ---- the files of a stored commit
 
