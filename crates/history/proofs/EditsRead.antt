@@ -11,7 +11,7 @@ use Rattle.history_model.specs.Bytes.{Bytes}
 use Rattle.history_model.specs.FileMap as model
 use Rattle.history_model.specs.FileMap.{grafted_paths}
 use Rattle.history_model.specs.Repository as plain
-use Rattle.history_model.specs.Commands.{EditLine}
+use Rattle.history_model.specs.Commands.{EditLine, RemoveLine}
 use Rattle.history_model.specs.CommandParts.{edit_paths}
 use Rattle.history_model.specs.Causes.{is_bad_path}
 use Rattle.history_model.specs.Meaning.{put_bytes}
@@ -26,7 +26,7 @@ use Rattle.history.specs.declared.editing.Changes.{Changes}
 use Rattle.history.specs.declared.editing.PathChange.{PathChange}
 use Rattle.history.specs.declared.stopped.Stopped.{Stopped}
 use Rattle.history.specs.declared.stopped.Stopped.TheVariants.{Refused, Fault}
-use Rattle.history.proofs.Edits.{AreSoFar, read_more}
+use Rattle.history.proofs.Edits.{AreSoFar, no_paths, read_more}
 use Rattle.history.proofs.LineLemmas.{zip_split}
 use Rattle.history.proofs.Zipped.{zip_get, zip_length}
 
@@ -113,7 +113,7 @@ module _ (MayFail : Type 0) (r : plain.Repository) (edits : List Edit) (edit : E
       let here : SourcesAt r (cut.0 ++ cut.1 ∷ []) sources = subst (λ ls. SourcesAt r ls sources) cut.2 at in
       let read = so_far cut.0 cut.3 parts.0 (front_sources r cut.0 cut.1 sources here) in
       let same : length cut.0 ≡ length made = sym (zip_length IsEdit edits cut.0 cut.3) ∙ sym (made_length r edits made blobs read.0) in
-      (read, cut.1, cut.4, parts.1, subst (λ n. HasSource r cut.1 (get_or sources n None)) same (last_source r cut.0 cut.1 sources here))
+      (read, (cut.1, cut.4, parts.1, subst (λ n. HasSource r cut.1 (get_or sources n None)) same (last_source r cut.0 cut.1 sources here)))
 
   pub one_read : (more : List PathChange) (change : PathChange) (others blob : List NewObject) → ReadSoFar r edits made blobs → grafts_badly (kept_edit r edit ∷ []) ≡ false
       → IsChangeOf r change (kept_edit r edit) → AreObjectsOf r.kind (put_bytes (kept_edit r edit)) blob → more ≡ made ++ change ∷ [] → others ≡ blobs ++ blob → ReadSoFar r (edits ++ edit ∷ []) more others
@@ -121,6 +121,27 @@ module _ (MayFail : Type 0) (r : plain.Repository) (edits : List Edit) (edit : E
     read_more r edits edit made more change blobs others blob so_far.0 is_change is_blob pushed extended,
     badly_one r edits edit ∙ or_from (grafts_badly (map (kept_edit r) edits)) (grafts_badly (kept_edit r edit ∷ [])) so_far.1 good,
   )
+
+-- none of the lines' paths is bad
+good_at : (lines : List EditLine) (i : ℕ) (d : EditLine) → i < length lines → list_any is_bad_path (flat_map edit_paths lines) ≡ false → list_any is_bad_path (edit_paths (get_or lines i d)) ≡ false
+good_at [] i d less good = absurd (omega arith)
+good_at (line ∷ lines) zero d less good = (no_paths is_bad_path edit_paths line lines good).0
+good_at (line ∷ lines) (suc i) d less good = good_at lines i d (omega arith) (no_paths is_bad_path edit_paths line lines good).1
+
+-- what the line and the source of an edit among them are
+pub one_there : (r : plain.Repository) (edits : List Edit) (lines : List EditLine) (sources : List (Option ObjectId)) → AreEdits edits lines → list_any is_bad_path (flat_map edit_paths lines) ≡ false → SourcesAt r lines sources
+    → (i : ℕ) (edit : Edit) → i < length edits → edit ≡ get_or edits i edit → (line : EditLine) × IsEdit edit line × (list_any is_bad_path (edit_paths line) ≡ false) × HasSource r line (get_or sources i None)
+one_there r edits lines sources are good at i edit less is =
+    let within : i < length lines = subst (λ n. i < n) (zip_length IsEdit edits lines are) less in (
+      get_or lines i (RemoveLine []),
+      subst (λ (e : Edit). IsEdit e (get_or lines i (RemoveLine []))) (sym is) (zip_get IsEdit edits lines are i edit (RemoveLine []) less),
+      good_at lines i (RemoveLine []) within good,
+      at i (RemoveLine []) within,
+    )
+
+-- none is read at first
+pub none_read : (r : plain.Repository) (made : List PathChange) (blobs : List NewObject) → made ≡ [] → blobs ≡ [] → ReadSoFar r [] made blobs
+none_read r made blobs no none = subst (λ (m : List PathChange). ReadSoFar r [] m blobs) (sym no) (subst (λ (b : List NewObject). ReadSoFar r [] [] b) (sym none) ((tt, tt), refl))
 
 -- what stops one of the edits stops them
 pub one_stopped : (MayFail : Type 0) (r : plain.Repository) (edits : List Edit) (i : ℕ) (edit : Edit) → i < length edits → edit ≡ get_or edits i edit

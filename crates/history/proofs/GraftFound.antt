@@ -66,7 +66,7 @@ module _ (r : plain.Repository) (graft : sent.Graft) where
   commit_there (RemoveFileLine path) commit is good has = absurd is
   commit_there (GraftLine path word from) commit is good has =
       let parts = or_parts (is_bad_path path) (list_any is_bad_path (source_paths from)) good in
-      (ap (commit_of r) is.1.0 ∙ has, ap is_bad_path (whole_path graft.path path is.0 parts.0) ∙ parts.0)
+      (ap (commit_of r) is.1 ∙ has, ap is_bad_path (whole_path graft.path path is.0 parts.0) ∙ parts.0)
 
   module _ (whole : IsWholeStore r) (written : IsWritten r) (commit : ObjectId) (reads : commit_of r graft.word.items ≡ Some (id_of commit)) where
     pub word_holds : HoldsCommit r (id_of commit)

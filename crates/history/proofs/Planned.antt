@@ -280,7 +280,7 @@ module _ (r : plain.Repository) (order : CommitCommand) where
     folders_new : IsSound r → (edited : EditedFiles) (so : AreEdited r.kind (first_files r (parents_of r order)) (edits_of r order) edited)
         → AreNewFolders r (new_commit r order).files (so.trees.below ++ (new_commit r order).files ∷ [])
     folders_new sound edited so =
-        new_folders r sound.whole.store (parents_of r order) (parents_are_commits r order sound.whole.store) (new_commit r order).files edited.trees.items so.trees
+        new_folders r sound.whole.store (parents_of r order) (parents_are_commits r order sound.whole.store) order.edits (new_commit r order).files edited.trees.items so.trees
 
     pub below_planned : (MayFail : Type 0) → IsSound r → (edited : Option EditedFiles) → AreMeant edited → (blobs : List NewObject) (stopped : Stopped)
         → MatchOption edited (◌≡◌ {A = Result Below Stopped} (Err stopped) (Err (why.Fault IdTaken))) (λ edited. GivesObjects blobs edited (Err stopped)) → IsUnplanned MayFail r order stopped

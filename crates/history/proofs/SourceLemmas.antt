@@ -109,4 +109,4 @@ pub source_sent : (r : Repository) (graft : received.Graft) (meaning : own.WordM
 source_sent r graft meaning (PutLine kind path bytes) is reads = absurd is
 source_sent r graft meaning (RemoveLine path) is reads = absurd is
 source_sent r graft meaning (RemoveFileLine path) is reads = absurd is
-source_sent r graft meaning (GraftLine path word source) is reads = ap Some (reads ∙ ap (commit_or_cause r) is.1.0)
+source_sent r graft meaning (GraftLine path word source) is reads = ap Some (reads ∙ ap (commit_or_cause r) is.1)

@@ -231,7 +231,8 @@ impl<F: Files> Repository<F> {
         let mut made = Vec::with_capacity(alloc, edits.len())?;
         let mut blobs = Vec::new(alloc);
         for edit in edits {
-            let source = source_at(sources, made.len());
+            let at = made.len();
+            let source = source_at(sources, at);
             let found = self.found_for(alloc, &edit, source)?;
             let (change, blob) = read_edit(self.objects.kind(), edit, found);
             made.push(change)?;

@@ -1273,6 +1273,18 @@ def readings():
             reading(kind, three + b"index\n", log_at(b"breadth all +m", *paths), count - 3)
 
 
+def graft_readings():
+    """Of a graft the trees on the way to its source are read, and those below it, of which the same one may stand at several paths, each
+    different one once. The command is refused behind what it reads, so that nothing is stored."""
+    made = b"commit refs/heads/main new\n" + b"".join(b"put file 7 1\ns/%s/x/f\n1\n" % it for it in (b"a", b"b")) + b"put file 1 1\nt\n2\n" + ONE
+    unsigned = b"author 0 3 1 +0000\n\na@b\ncommitter 1 3 1 +0000\nA\na@b\nmessage 3\none\nend\n"
+    for kind in KINDS:
+        for sources, count in [((b"s",), 6), ((b"",), 6), ((b"s/a",), 6), ((b"s/a/x",), 6), ((b"s/a/x/f",), 6), ((b"t",), 3), ((b"nope",), 3),
+                               ((b"s", b"s/b"), 12)]:
+            edits = b"".join(graft(b"d/%d" % number, b"main", it) for number, it in enumerate(sources))
+            reading(kind, made, b"commit refs/heads/app new\n" + edits + unsigned, count)
+
+
 def readers():
     """A reader that fails behind so many bytes: the commands that came whole are answered."""
     for kind in KINDS:
@@ -1346,6 +1358,29 @@ def stops():
             for part, answers in (("objects", in_objects), ("names", in_names)):
                 each(80, kind, f"create {part}:stop:#:{kept} open run:{word(stream)} left", [closed, *answers, whole])
         creation(kind)
+
+
+def graft_stops():
+    """The same of a second commit that puts all files of the first into a folder, or of which each call fails: the root's tree and the
+    commit alone are stored anew."""
+    stream = PUT_HELLO + b"commit refs/heads/main any\n" + graft(b"d", b"main", b"") + SIGNED % (1, 1, 3, b"two")
+    fault = b"fault File\n"
+    for kind in KINDS:
+        plain, first = Plain(kind), Plain(kind)
+        _, replies = plain.run(stream)
+        first.run(PUT_HELLO)
+        assert len(plain.objects) == len(first.objects) + 2
+        ends = [f"created opened Fault:{word(b''.join(reply for reply, _ in replies[:count]) + fault)} " for count in range(2)]
+        closed, whole = f"created File closed {left(plain, 0, False)}", f"created opened {told('Input', replies)} {left(plain)}"
+        for how, kept in [*(("stop", kept) for kept in ["-", 0, 3, 20, 50, 1000]), ("fail", "-")]:
+            made = kept != "-"
+            in_objects = [ends[0] + left(plain, count, False) for count in range(4 if made else 3)]
+            in_objects += [ends[1] + left_with(plain, first, count) for count in ((3, 4, 5) if made else (3, 4))]
+            in_names = [ends[0] + left(plain, 0, False), ends[0] + left(plain, 3, False), *([ends[0] + left(first)] if made else [])]
+            in_names += [ends[1] + left_with(plain, first, 3), ends[1] + left_with(plain, first, 5), ends[1] + left_logged(plain, first)]
+            in_names += [ends[1] + left(plain)] if made else []
+            for part, answers in (("objects", in_objects), ("names", in_names)):
+                each(90, kind, f"create {part}:{how}:#:{kept} open run:{word(stream)} left", [closed, *answers, whole])
 
 
 def reopened_stops():
@@ -1718,8 +1753,8 @@ def logs_by_chance(chance, kind):
 
 if __name__ == "__main__":
     for part in (rows, first_causes, two_branches, of_names, moves, renames, deletions, switches, tags, renamed_tags, indexes, logs, path_logs,
-                 short_ids, removals, nested, grafts, limits, opening, reopening, reopened_between, readings, readers, faults, index_faults, log_faults,
-                 move_stops, rename_stops, delete_stops, switch_stops, tag_stops, tag_rename_stops, stops, reopened_stops, packs, pack_stops,
+                 short_ids, removals, nested, grafts, limits, opening, reopening, reopened_between, readings, graft_readings, readers, faults, index_faults, log_faults,
+                 move_stops, rename_stops, delete_stops, switch_stops, tag_stops, tag_rename_stops, stops, graft_stops, reopened_stops, packs, pack_stops,
                  packed_delete_stops, packed_rename_stops, reopened_packs):
         part()
     for kind in KINDS:

@@ -1,4 +1,4 @@
-use Rattle.std.proofs.Common.{◌≡◌, List, false}
+use Rattle.std.proofs.Common.{◌≡◌, List, false, length}
 use Rattle.std.specs.List.{flat_map, list_any}
 use Rattle.history_model.specs.Causes.{is_bad_path}
 use Rattle.history_model.specs.CommandParts.{edit_paths}
@@ -9,7 +9,8 @@ use Rattle.history.specs.Stands.{Stands}
 use Rattle.history.proofs.EditsRead.{ReadSoFar, SourcesAt}
 use Rattle.history.proofs.repository.Repository.read_edits.Given as goal
 
--- the edits so far are read
+-- the edits so far are read, a change of each
 abbrev pub invariant-loop-edit : goal.invariant-loop-edit
-invariant-loop-edit g l = (r : plain.Repository) (lines : List EditLine) → Stands g.F.Files.is_honest g.F.Files.history l.self r
-    → AreEdits l.yielded lines → list_any is_bad_path (flat_map edit_paths lines) ≡ false → SourcesAt r lines l.sources → ReadSoFar r l.yielded l.made.items l.blobs.items
+invariant-loop-edit g l = (length l.made.items ≡ length l.yielded)
+    × ((r : plain.Repository) (lines : List EditLine) → Stands g.F.Files.is_honest g.F.Files.history l.self r
+    → AreEdits l.yielded lines → list_any is_bad_path (flat_map edit_paths lines) ≡ false → SourcesAt r lines l.sources → ReadSoFar r l.yielded l.made.items l.blobs.items)
