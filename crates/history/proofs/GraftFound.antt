@@ -37,8 +37,8 @@ use Rattle.history.proofs.SourcesStand.{files_folder}
 
 -- what is given is meant otherwise too
 pub gives_as : {T : Type 0} (MayFail : Type 0) (P Q : T → Type 0) (result : Result T Stopped) → ((value : T) → P value → Q value) → GivesMeant MayFail P result → GivesMeant MayFail Q result
-gives_as MayFail P Q (Ok value) as gives = as value gives
-gives_as MayFail P Q (Err stopped) as gives = gives
+gives_as MayFail P Q (Ok value) turned gives = turned value gives
+gives_as MayFail P Q (Err stopped) turned gives = gives
 
 -- a fault of reading stops edits
 pub fault_told : {T : Type 0} (MayFail : Type 0) (made : List model.Edit) (IsRead : T → Type 0) (stopped : Stopped) → IsReadingFault MayFail stopped → TellsRead MayFail made IsRead (Err stopped)
