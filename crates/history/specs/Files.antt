@@ -69,7 +69,7 @@ pub record AreReadAs (r : plain.Repository) (changes : Changes) (made : List mod
   pub changes_are : AreChangesOf r changes.made.items made
   pub blobs_are : AreObjectsOf r.kind (flat_map put_bytes made) changes.blobs.items
 
--- the files stand as a folder, or there are none
+-- the files stand as a folder
 abbrev pub StandsWithFolders : plain.Repository → FileMap → Type 0
 StandsWithFolders r files = get r.objects (folder_id r.kind files) ≡ Some (StoredFolder files)
 
