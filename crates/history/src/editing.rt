@@ -176,7 +176,7 @@ impl<F: Files> Repository<F> {
         Ok(Some(Found::Folder { id: root }))
     }
 
-    /// Tests that a graft at a path would put each file at one within the limit. Each tree below a folder is read.
+    /// Tests that a graft at a path would put each file at one within the limit. Each different tree below a folder is read once.
     fn test_graft(&self, alloc: Global, path: &[u8], found: Option<Found>) -> Result<(), Stopped>
         ensures { (r : plain.Repository) (source : Bytes) (other : FileMap)
             → Stands F.is_honest F.history self.now r → IsFalse (is_bad_path path.now)
@@ -185,7 +185,7 @@ impl<F: Files> Repository<F> {
             → TellsRead F.reading_may_fail (model.Graft path.now source other ∷ []) (λ _. ⊤) result }
     {
         if let Some(Found::Folder { id }) = found {
-            let files = self.files_below(alloc, &id)?;
+            let files = self.files_by_trees(alloc, &id)?;
             if have_long_below(path.len(), &files) {
                 return Err(Stopped::Refused(Cause::BadPath));
             }

@@ -20,7 +20,7 @@ use gix_hash::ObjectId;
 use gix_object::Commit;
 use gix_ref_file::Files;
 use gix_traverse_commit::Graph;
-use history_files::{File, Found, entry_at, files};
+use history_files::{File, Found, entry_at, files, files_by_trees};
 use history_model::Fault;
 use history_store::{commit_tree, parse_commit, tag_target};
 use history_walks::{Request, list_commits};
@@ -102,6 +102,21 @@ impl<F: Files> Repository<F> {
             ≡ map (file_line r.kind) (entries below)) result }
     {
         Ok(files(alloc, &self.objects, tree)?)
+    }
+
+    /// As [`Repository::files_below`], but each different tree is read once, however often it stands: all of them are kept in memory
+    /// meanwhile.
+    pub(crate) fn files_by_trees(
+        &self,
+        alloc: Global,
+        tree: &ObjectId,
+    ) -> Result<Vec<File>, Stopped>
+        ensures { (r : plain.Repository) (below : FileMap) → Stands F.is_honest F.history self.now r
+            → get r.objects (id_of tree.now) ≡ Some (StoredFolder below)
+            → GivesMeant F.reading_may_fail (λ found. map line_of found.items
+            ≡ map (file_line r.kind) (entries below)) result }
+    {
+        Ok(files_by_trees(alloc, &self.objects, tree)?)
     }
 
     /// The rows that are kept, once more, of which no row is copied.

@@ -31,3 +31,4 @@ pub mod Counting
 pub mod Unopened
 pub mod Breaks
 pub mod SeveralPaths
+mod TreesKept

@@ -61,11 +61,12 @@ class Row:
         self.say("edit", self.root, "written", str(1 + made.written()), "lookups", str(made.asked), "asked", str(made.asked), "known+")
 
     def ask_files(self):
-        """All files, with as many askings as there are folders, the root one of them."""
+        """All files, with as many askings as there are folders, the root one of them; and with as many as there are different trees."""
         listed = list(self.git.listed(self.root))
         files = sorted((path, KINDS[mode], oid) for mode, oid, path in listed if mode in KINDS)
-        folders = 1 + sum(mode == "040000" for mode, _, _ in listed)
-        self.say("files", "files", str(len(files)), *[f"{kind}:{oid}:{path.hex()}" for path, kind, oid in files], "asked", str(folders))
+        folders = [self.root] + [oid for mode, oid, _ in listed if mode == "040000"]
+        for word, asked in (("files", len(folders)), ("by-trees", len(set(folders)))):
+            self.say(word, "files", str(len(files)), *[f"{kind}:{oid}:{path.hex()}" for path, kind, oid in files], "asked", str(asked))
 
     def told(self, path):
         """What stands at a path."""
@@ -384,11 +385,14 @@ def stored_rows(git):
     row.say(f"root:{root}")
     for word in ["files", f"at:{b'a'.hex()}", "edit"]:
         row.say(word, f"Broken({root})", "asked", "1")
+    # What isn't there is asked for once more, to be told.
+    row.say("by-trees", f"Broken({root})", "asked", "2")
     row.end()
     # The root stands alone: what leads into none of its folders is answered.
     row = Row(git)
     given(row, [root], root)
     row.say("files", f"Broken({a})", "asked", "2")
+    row.say("by-trees", f"Broken({a})", "asked", "4")
     row.say(f"at:{b'a'.hex()}", f"folder:{a}", "asked", "1")
     row.say(f"at:{b'g'.hex()}", f"file:{y}", "asked", "1")
     row.say(f"at:{b'a/d'.hex()}", f"Broken({a})", "asked", "2")
@@ -407,6 +411,7 @@ def stored_rows(git):
     row = Row(git)
     given(row, [root, a, e], root)
     row.say("files", f"Broken({b})", "asked", "3")
+    row.say("by-trees", f"Broken({b})", "asked", "5")
     row.words += [put.format(b"a/b/c".hex())]
     row.say("edit", f"Broken({b})", "asked", "3")
     row.words += ["remove:" + b"a/b/c".hex(), "remove:" + b"z".hex()]

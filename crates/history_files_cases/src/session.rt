@@ -7,7 +7,8 @@ use case_page::{Page, read_digits};
 use case_store::{Row, Trees, row_of_content};
 use gix_hash::{Kind, ObjectId};
 use history_files::{
-    EditError, EditedFiles, EntriesState, Found, ReadError, edit_files, entries_at, entry_at, files,
+    EditError, EditedFiles, EntriesState, File, Found, ReadError, edit_files, entries_at, entry_at, files,
+    files_by_trees,
 };
 use std::alloc::{AllocError, Global};
 
@@ -53,7 +54,14 @@ impl Session {
         let mut parts = word.split(':');
         match parts.next()? {
             "edit" => self.edit(alloc, page),
-            "files" => self.list(alloc, page),
+            "files" => {
+                let found = files(alloc, &self.trees, self.root.as_ref()?);
+                self.list(found, page)
+            }
+            "by-trees" => {
+                let found = files_by_trees(alloc, &self.trees, self.root.as_ref()?);
+                self.list(found, page)
+            }
             "at" => self.find(alloc, parts.next()?, page),
             "each" => self.find_each(alloc, word, page),
             "tree" => self.add(alloc, parts.next()?, page),
@@ -130,8 +138,8 @@ impl Session {
     }
 
     // All files of the root.
-    fn list(&self, alloc: Global, page: &mut Page) -> Option<()> {
-        match files(alloc, &self.trees, self.root.as_ref()?) {
+    fn list(&self, found: Result<Vec<File>, ReadError>, page: &mut Page) -> Option<()> {
+        match found {
             Ok(found) => {
                 page.word("files");
                 page.value(found.len());
