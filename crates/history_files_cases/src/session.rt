@@ -7,8 +7,8 @@ use case_page::{Page, read_digits};
 use case_store::{Row, Trees, row_of_content};
 use gix_hash::{Kind, ObjectId};
 use history_files::{
-    EditError, EditedFiles, EntriesState, File, Found, ReadError, edit_files, entries_at, entry_at, files,
-    files_by_trees,
+    EditError, EditedFiles, EntriesState, File, Found, ReadError, edit_files, entries_at, entry_at,
+    files, files_by_trees,
 };
 use std::alloc::{AllocError, Global};
 
