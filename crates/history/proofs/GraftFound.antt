@@ -1,12 +1,12 @@
 -- What is found for an edit, and why none is.
-use Rattle.std.proofs.Common.{◌≡◌, ◌==◌, refl, sym, ◌∙◌, ap, subst, true, false, List, [], ◌∷◌, length, Option, Some, None, Err, option_to_list}
+use Rattle.std.proofs.Common.{◌≡◌, refl, sym, ◌∙◌, ap, subst, false, List, [], ◌∷◌, Option, Some, None, Err, option_to_list}
 use Rattle.std.specs.Prelude.{Result, Ok, ⊤}
 use Rattle.std.specs.List.{list_any}
 use Rattle.std.specs.FinMap.{get}
 use Rattle.std.proofs.lemmas.Bool.{or_parts}
 use Rattle.gix_hash_id.specs.Id.{Id, id_of}
 use Rattle.gix_hash_id.specs.declared.object_id.ObjectId.{ObjectId}
-use Rattle.history_model.specs.Bytes.{Bytes, is_empty}
+use Rattle.history_model.specs.Bytes.{Bytes}
 use Rattle.history_model.specs.Causes.{is_bad_path}
 use Rattle.history_model.specs.CommandParts.{edit_paths, source_paths}
 use Rattle.history_model.specs.Commands.{EditLine, PutLine, RemoveLine, RemoveFileLine, GraftLine}
@@ -85,10 +85,6 @@ module _ (r : plain.Repository) (graft : sent.Graft) where
         (subst (λ (files : FileMap). IsSource (table_of r) r.kind source files found) (sym word_files_are) is)
 
 -- ---- the root of a stored commit
-
-pub empty_text : (text : Bytes) → (length text == 0) ≡ true → is_empty text ≡ true
-empty_text [] e = refl
-empty_text (b ∷ text) e = cc
 
 module _ (r : plain.Repository) (whole : IsWholeStore r) (written : IsWritten r) (id : Id) (holds : HoldsCommit r id) (root : ObjectId)
     (is : (commit : CommitValue) → get r.objects id ≡ Some (StoredCommit commit) → id_of root ≡ folder_id r.kind commit.files) where

@@ -10,8 +10,8 @@ use Rattle.history_files.specs.Laws.{table_of}
 use Rattle.history_files.specs.Reading.{entry_of}
 use Rattle.history_files.specs.declared.found.Found.{Found}
 use Rattle.history.proofs.Befores.{gives_stopped, held_commit}
-use Rattle.history.proofs.FieldLemmas.{not_empty}
-use Rattle.history.proofs.GraftFound.{empty_text, gives_as, root_is, root_stands}
+use Rattle.history.proofs.FieldLemmas.{no_length, not_empty}
+use Rattle.history.proofs.GraftFound.{gives_as, root_is, root_stands}
 use Rattle.history.proofs.SourcesStand.{all_told, found_below_told, none_told}
 use Rattle.history.proofs.repository.Repository.found_in.Goals as goal
 
@@ -37,11 +37,11 @@ returns-then-is_empty_tree g c = λ r h holds.
     let id = id_of c.args.commit.now in
     let source = c.args.source.now in
     let same = root_is r h.whole.whole.store h.whole.written id holds c.in_ok-root.root (λ value at. c.in_ok-root.ensures r value h at) in
-    none_told r h.whole.whole.store h.whole.written id holds source (empty_text source (sym c.is_empty.ensures ∙ c.if-not-is_empty.false)) (subst IsEmptyTree same (c.is_empty_tree.ensures.0 c.if-is_empty_tree.true))
+    none_told r h.whole.whole.store h.whole.written id holds source (no_length source (sym c.is_empty.ensures ∙ c.if-not-is_empty.false)) (subst IsEmptyTree same (c.is_empty_tree.ensures.0 c.if-is_empty_tree.true))
 
 pub returns : goal.returns
 returns g c = λ r h holds.
     let id = id_of c.args.commit.now in
     let source = c.args.source.now in
     let same = root_is r h.whole.whole.store h.whole.written id holds c.in_ok-root.root (λ value at. c.in_ok-root.ensures r value h at) in
-    all_told r h.whole.whole.store h.whole.written id holds source c.in_ok-root.root (empty_text source (sym c.is_empty.ensures ∙ c.if-not-is_empty.false)) same (λ tree. cc (sym c.if-is_empty_tree.false ∙ c.is_empty_tree.ensures.1 tree))
+    all_told r h.whole.whole.store h.whole.written id holds source c.in_ok-root.root (no_length source (sym c.is_empty.ensures ∙ c.if-not-is_empty.false)) same (λ tree. cc (sym c.if-is_empty_tree.false ∙ c.is_empty_tree.ensures.1 tree))
