@@ -36,11 +36,11 @@ returns-in_err-test_graft g c = λ r line h is good has.
     let there = commit_there r graft line commit (subst (λ (e : Edit). IsEdit e line) c.in-Graft.is is) good (subst (HasSource r line) c.in_ok-commit.ensures.ok_part has) in
     let found = found_is r graft store h.whole.written commit there.0 c.kept.result.now c.kept.ensures c.in_ok-found.found (c.in_ok-found.ensures r h (word_holds r graft store h.whole.written commit there.0)) in
     let told = c.in_err-test_graft.ensures r (kept_bytes graft.source) (word_files r graft.word.items) h (ap is_bad_path c.kept-2.ensures ∙ there.1) found (word_stands r graft store h.whole.written commit there.0) in
-    let at_path = subst (λ (path : Bytes). TellsRead MayFail (model.Graft path (kept_bytes graft.source) (word_files r graft.word.items) ∷ []) (λ _. ⊤) (Err c.in_err-test_graft.field-0.0)) c.kept-2.ensures told in
+    let at_path = subst (λ (path : Bytes). TellsRead {T = Unit {0}} MayFail (model.Graft path (kept_bytes graft.source) (word_files r graft.word.items) ∷ []) (λ _. ⊤) (Err c.in_err-test_graft.field-0.0)) c.kept-2.ensures told in
     let stopped = err_from_is_err_and c.from_residual-in_err-test_graft.result c.from_residual-in_err-test_graft.ensures.1 in
     subst (λ (e : Edit). TellsRead MayFail (kept_edit r e ∷ []) (IsFoundFor r e) c.from_residual-in_err-test_graft.result) (sym c.in-Graft.is)
     (subst (TellsRead MayFail (kept_edit r (Graft graft) ∷ []) (IsFoundFor r (Graft graft))) (sym (stopped.1 ∙ ap Err stopped.2))
-    (stopped_as MayFail (kept_edit r (Graft graft) ∷ []) (λ _. ⊤) (IsFoundFor r (Graft graft)) c.in_err-test_graft.field-0.0 at_path))
+    (stopped_as {S = Unit {0}} MayFail (kept_edit r (Graft graft) ∷ []) (λ _. ⊤) (IsFoundFor r (Graft graft)) c.in_err-test_graft.field-0.0 at_path))
 
 pub returns : goal.returns
 returns g c = λ r line h is good has.

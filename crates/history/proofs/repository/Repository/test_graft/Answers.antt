@@ -20,7 +20,7 @@ returns-in_err-files g c = λ r source other h good is stands.
     let folder = source_stands r h.whole.whole.store other is.map stands source c.args.found c.in-Some-Folder.id is c.in-Some-Folder.is in
     let fault = c.in_err-files.ensures r (source_files source other) h folder in
     let stopped = err_from_is_err_and c.from_residual.result c.from_residual.ensures.1 in
-    subst (TellsRead MayFail one (λ _. ⊤)) (sym (stopped.1 ∙ ap Err stopped.2)) (fault_told MayFail one (λ _. ⊤) c.in_err-files.field-0.0 fault)
+    subst (TellsRead {T = Unit {0}} MayFail one (λ _. ⊤)) (sym (stopped.1 ∙ ap Err stopped.2)) (fault_told {T = Unit {0}} MayFail one (λ _. ⊤) c.in_err-files.field-0.0 fault)
 
 pub returns-then-have_long_below : goal.returns-then-have_long_below
 returns-then-have_long_below g c = λ r source other h good is stands.
