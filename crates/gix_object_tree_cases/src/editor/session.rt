@@ -7,7 +7,7 @@ use case_store::{Row, Trees};
 use gix_hash::{Kind, ObjectId};
 use gix_object_editor::tree::editor::{Cursor, Editor, Error, write};
 use gix_object_entries::Tree;
-use gix_object_entries::tree::EntryRef;
+use gix_object_entries::tree::{EntryKind, EntryRef};
 use std::alloc::{AllocError, Global};
 
 /// What the words of a line answer.
@@ -21,15 +21,22 @@ pub fn answer(alloc: Global, line: &str) -> Result<String, AllocError> {
 
 fn edit(alloc: Global, line: &str, page: &mut Page) -> Option<()> {
     let mut words = line.split(' ');
-    let Case { kind, root, trees } = read_case(alloc, words.next()?, words.next()?, words.next()?)?;
-    if !root.is_well_formed() {
-        return None;
-    }
-    let mut editor = Editor::new(alloc, &root, trees).ok()?;
+    let case = read_case(alloc, words.next()?, words.next()?, words.next()?)?;
+    let kind = case.kind;
+    let mut editor = editor_of(alloc, case)?;
     for word in words {
         act(alloc, kind, &mut editor, word, page)?;
     }
     Some(())
+}
+
+// The editor of a case's tree, where that is well formed.
+fn editor_of(alloc: Global, case: Case) -> Option<Editor<Trees>> {
+    let Case { root, trees, .. } = case;
+    if !root.is_well_formed() {
+        return None;
+    }
+    Editor::new(alloc, &root, trees).ok()
 }
 
 // That a tree isn't kept.
@@ -88,25 +95,45 @@ fn lent(alloc: Global, names: &[Vec<u8>]) -> Option<Vec<&[u8]>> {
     Some(path)
 }
 
+// A word's parts: what is asked, the path that it is asked of, and what stands behind that.
+fn parts_of(word: &str) -> Option<(&str, &str, &str)> {
+    let (what, rest) = word.split_once(':')?;
+    let (path, behind) = rest.split_once(':').unwrap_or((rest, ""));
+    Some((what, path, behind))
+}
+
+// The kind and the id of an entry.
+fn read_entry(text: &str) -> Option<(EntryKind, ObjectId)> {
+    let (kind, id) = text.split_once(':')?;
+    Some((read_entry_kind(kind)?, read_id(id)?))
+}
+
 // An edit or a question of a path.
 fn at_path(alloc: Global, editor: &mut Editor<Trees>, word: &str, page: &mut Page) -> Option<()> {
-    let mut parts = word.split(':');
-    let what = parts.next()?;
-    let names = read_path(alloc, parts.next()?)?;
+    let (what, path, behind) = parts_of(word)?;
+    let names = read_path(alloc, path)?;
     let path = lent(alloc, names.as_slice())?;
-    let path = path.as_slice();
+    ask(alloc, editor, what, path.as_slice(), behind, page)
+}
+
+fn ask(
+    alloc: Global,
+    editor: &mut Editor<Trees>,
+    what: &str,
+    path: &[&[u8]],
+    behind: &str,
+    page: &mut Page,
+) -> Option<()> {
     match what {
         "get" => show_entry(editor.get(path), page),
         "remove" => show_done(editor.remove(alloc, path), page),
         "remove_leaf" => show_done(editor.remove_leaf(alloc, path), page),
         "upsert" => {
-            let kind = read_entry_kind(parts.next()?)?;
-            let id = read_id(parts.next()?)?;
+            let (kind, id) = read_entry(behind)?;
             show_done(editor.upsert(alloc, path, kind, id), page);
         }
         "graft" => {
-            let kind = read_entry_kind(parts.next()?)?;
-            let id = read_id(parts.next()?)?;
+            let (kind, id) = read_entry(behind)?;
             show_done(editor.graft(alloc, path, kind, id), page);
         }
         _ => return None,
@@ -122,36 +149,55 @@ fn at_cursor(
     word: &str,
     page: &mut Page,
 ) -> Option<()> {
-    let mut parts = word.split(':');
-    parts.next()?;
-    let base = read_path(alloc, parts.next()?)?;
+    let (base, rest) = word.strip_prefix("at:")?.split_once(':')?;
+    let base = read_path(alloc, base)?;
     let folder = lent(alloc, base.as_slice())?;
-    let what = parts.next()?;
-    let below = read_path(alloc, parts.next()?)?;
-    let path = lent(alloc, below.as_slice())?;
-    let path = path.as_slice();
-    let mut cursor = match cursor_of(alloc, kind, editor, folder.as_slice()) {
-        Ok(cursor) => cursor,
+    match cursor_of(alloc, kind, editor, folder.as_slice()) {
+        Ok(mut cursor) => below(alloc, kind, &mut cursor, rest, page),
         Err(error) => {
             show_done(Err(error), page);
-            return Some(());
+            Some(())
         }
-    };
+    }
+}
+
+// The same at a cursor that stands.
+fn below(
+    alloc: Global,
+    kind: Kind,
+    cursor: &mut Cursor<'_, Trees>,
+    word: &str,
+    page: &mut Page,
+) -> Option<()> {
+    let (what, path, behind) = parts_of(word)?;
+    let names = read_path(alloc, path)?;
+    let path = lent(alloc, names.as_slice())?;
+    if what == "write" {
+        return show_written(alloc, kind, cursor, page);
+    }
+    ask_cursor(alloc, cursor, what, path.as_slice(), behind, page)
+}
+
+fn ask_cursor(
+    alloc: Global,
+    cursor: &mut Cursor<'_, Trees>,
+    what: &str,
+    path: &[&[u8]],
+    behind: &str,
+    page: &mut Page,
+) -> Option<()> {
     match what {
         "get" => show_entry(cursor.get(path), page),
         "remove" => show_done(cursor.remove(alloc, path), page),
         "remove_leaf" => show_done(cursor.remove_leaf(alloc, path), page),
         "upsert" => {
-            let entry_kind = read_entry_kind(parts.next()?)?;
-            let id = read_id(parts.next()?)?;
-            show_done(cursor.upsert(alloc, path, entry_kind, id), page);
+            let (kind, id) = read_entry(behind)?;
+            show_done(cursor.upsert(alloc, path, kind, id), page);
         }
         "graft" => {
-            let entry_kind = read_entry_kind(parts.next()?)?;
-            let id = read_id(parts.next()?)?;
-            show_done(cursor.graft(alloc, path, entry_kind, id), page);
+            let (kind, id) = read_entry(behind)?;
+            show_done(cursor.graft(alloc, path, kind, id), page);
         }
-        "write" => show_written(alloc, kind, &cursor, page)?,
         _ => return None,
     }
     Some(())

@@ -3,7 +3,7 @@
 use case_ids::Case;
 use case_page::{Page, digest};
 use gix_object_entries::tree::{Entry, EntryRef};
-use gix_object_tree::ObjectRef;
+use gix_object_tree::{Object, ObjectRef};
 use std::alloc::Global;
 use std::hash::Hash;
 
@@ -20,6 +20,10 @@ pub fn entries(alloc: Global, case: &Case, page: &mut Page) {
     let Ok(copy) = object.to_owned(alloc) else {
         return page.text("not owned");
     };
+    show(&object, &copy, page);
+}
+
+fn show(object: &ObjectRef<'_>, copy: &Object, page: &mut Page) {
     let (Some(tree), Some(own)) = (object.as_tree(), copy.as_tree()) else {
         return page.text("no tree");
     };

@@ -37,14 +37,30 @@ fn show(alloc: Global, hash_kind: gix_hash::Kind, object: &Object, page: &mut Pa
 
 /// A copy of a loose object, and whether one that is given is like one that is lent.
 pub fn own(alloc: Global, case: &Case, page: &mut Page) {
-    let object = match ObjectRef::from_loose(alloc, case.text(0), case.kind) {
-        Ok(object) => object,
-        Err(error) => return page.refused(error),
-    };
-    let (Ok(lent), Ok(given)) = (object.to_owned(alloc), object.into_owned(alloc)) else {
+    match ObjectRef::from_loose(alloc, case.text(0), case.kind) {
+        Ok(object) => show_copies(alloc, case.kind, object, page),
+        Err(error) => page.refused(error),
+    }
+}
+
+fn show_copies(alloc: Global, hash_kind: gix_hash::Kind, object: ObjectRef<'_>, page: &mut Page) {
+    let Ok(lent) = object.to_owned(alloc) else {
         return page.text("not owned");
     };
-    show(alloc, case.kind, &given, page);
+    match object.into_owned(alloc) {
+        Ok(given) => show_alike(alloc, hash_kind, &given, &lent, page),
+        Err(_) => page.text("not owned"),
+    }
+}
+
+fn show_alike(
+    alloc: Global,
+    hash_kind: gix_hash::Kind,
+    given: &Object,
+    lent: &Object,
+    page: &mut Page,
+) {
+    show(alloc, hash_kind, given, page);
     page.text(if lent == given {
         "; alike"
     } else {

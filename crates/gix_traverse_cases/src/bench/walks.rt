@@ -39,7 +39,7 @@ fn by_time(order: CommitTimeOrder) -> Way {
 }
 
 /// How many commits a walk gave, and how many objects it asked for.
-#[derive(Clone, Copy, PartialEq, Eq)]
+#[derive(Clone, Copy)]
 pub struct Counts {
     /// The commits.
     pub commits: usize,
@@ -49,30 +49,41 @@ pub struct Counts {
 
 /// Walks the ladder from its last commit. `None` where it ends with an error or no memory is left.
 pub fn walk(alloc: Global, ladder: &Ladder, rows: Option<Graph>, way: Way) -> Option<Counts> {
-    let tip = *ladder.ids.last()?;
     match way {
-        Way::Simple(sorting, parents) => {
-            by_simple(
-                made(alloc, ladder, rows, tip)?
-                    .parents(parents)
-                    .sorting(sorting)
-                    .ok()?,
-            )
-        }
-        Way::Hiding => {
-            let middle = *ladder.ids.get(ladder.ids.len() / 2)?;
-            by_simple(
-                made(alloc, ladder, rows, tip)?
-                    .hide(one(alloc, middle)?)
-                    .ok()?,
-            )
-        }
-        Way::Topo(sorting) => {
-            let builder = Builder::from_iters(alloc, &ladder.objects, &[tip], None).ok()?;
-            let walk = builder.with_commit_graph(rows).sorting(sorting).build();
-            by_topo(walk.ok()?)
-        }
+        Way::Topo(sorting) => topological(alloc, ladder, rows, sorting),
+        _ => by_simple(&mut told(alloc, ladder, made(alloc, ladder, rows)?, way)?),
     }
+}
+
+fn topological(
+    alloc: Global,
+    ladder: &Ladder,
+    rows: Option<Graph>,
+    sorting: topo::Sorting,
+) -> Option<Counts> {
+    let tip = *ladder.ids.last()?;
+    let builder = Builder::from_iters(alloc, &ladder.objects, &[tip], None).ok()?;
+    let walk = builder.with_commit_graph(rows).sorting(sorting).build();
+    by_topo(&mut walk.ok()?)
+}
+
+// The walk that is told how it goes.
+fn told<'s>(
+    alloc: Global,
+    ladder: &Ladder,
+    walk: Simple<&'s Store, All>,
+    way: Way,
+) -> Option<Simple<&'s Store, All>> {
+    match way {
+        Way::Simple(sorting, parents) => walk.parents(parents).sorting(sorting).ok(),
+        Way::Hiding => walk.hide(middle(alloc, ladder)?).ok(),
+        Way::Topo(_) => Some(walk),
+    }
+}
+
+// The commit that stands half way.
+fn middle(alloc: Global, ladder: &Ladder) -> Option<Vec<ObjectId>> {
+    one(alloc, *ladder.ids.get(ladder.ids.len() / 2)?)
 }
 
 fn one(alloc: Global, id: ObjectId) -> Option<Vec<ObjectId>> {
@@ -81,13 +92,8 @@ fn one(alloc: Global, id: ObjectId) -> Option<Vec<ObjectId>> {
     Some(ids)
 }
 
-fn made(
-    alloc: Global,
-    ladder: &Ladder,
-    rows: Option<Graph>,
-    tip: ObjectId,
-) -> Option<Simple<&Store, All>> {
-    let walk = Simple::new(one(alloc, tip)?, &ladder.objects).ok()?;
+fn made(alloc: Global, ladder: &Ladder, rows: Option<Graph>) -> Option<Simple<&Store, All>> {
+    let walk = Simple::new(one(alloc, *ladder.ids.last()?)?, &ladder.objects).ok()?;
     Some(walk.commit_graph(rows))
 }
 
@@ -107,9 +113,9 @@ fn step_topo(walk: &mut Topo<All>) -> Option<bool> {
     step(walk.next())
 }
 
-fn by_simple(mut walk: Simple<&Store, All>) -> Option<Counts> {
+fn by_simple(walk: &mut Simple<&Store, All>) -> Option<Counts> {
     for commits in 0..usize::MAX {
-        match step_simple(&mut walk) {
+        match step_simple(walk) {
             Some(true) => {}
             Some(false) => return None,
             None => {
@@ -121,9 +127,9 @@ fn by_simple(mut walk: Simple<&Store, All>) -> Option<Counts> {
     None
 }
 
-fn by_topo(mut walk: Topo<All>) -> Option<Counts> {
+fn by_topo(walk: &mut Topo<All>) -> Option<Counts> {
     for commits in 0..usize::MAX {
-        match step_topo(&mut walk) {
+        match step_topo(walk) {
             Some(true) => {}
             Some(false) => return None,
             None => {
