@@ -27,7 +27,7 @@ use Rattle.history_model.specs.declared.Cause.TheVariants.{BadPath, IsFolder, No
 use Rattle.history_model.proofs.WholeReads.{read_holds}
 use Rattle.history_steps.proofs.OfferedFiles.{files_are_stored}
 use Rattle.history_model.proofs.WholeLists.{texts_differ}
-use Rattle.history_store.specs.Commits.{SaysCommit}
+use Rattle.history_texts.specs.Commits.{SaysCommit}
 use Rattle.gix_object_commit.specs.declared.commit.owned.Commit as commits
 use Rattle.gix_hash_id.specs.declared.object_id.ObjectId.{ObjectId}
 use Rattle.history.specs.Acts.{OnlyAnswers, GivesMeant, ReadsWord, IsReadingFault}

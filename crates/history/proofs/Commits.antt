@@ -12,7 +12,7 @@ use Rattle.history_model.specs.Repository as plain
 use Rattle.history_model.specs.Forms.{IsWritten, is_name, is_private, is_reference}
 use Rattle.history_model.specs.Repository.{Reference, HasWholeNames, stands, HaveOwnIds}
 use Rattle.history_steps.specs.TreeSteps.{MovesName}
-use Rattle.history_store.specs.Formats.{entry_of}
+use Rattle.history_texts.specs.Formats.{entry_of}
 use Rattle.gix_ref_file.specs.Tree.{Tree}
 use Rattle.history_model.specs.Commands.{Command, Commit, CommitCommand, Tag, TagCommand}
 use Rattle.history_model.specs.Replies.{Committed, Tagged, reply_text}
@@ -29,8 +29,8 @@ use Rattle.history_steps.proofs.OneNameStands.{one_name_moves}
 use Rattle.history_model.proofs.WholeReads.{no_cause, tests_collides}
 use Rattle.history_steps.proofs.TreePuts.{halves_stand}
 use Rattle.history_model.proofs.WholeSteps.{steps_keep_sound}
-use Rattle.history_store.specs.Face.{ids_of_objects}
-use Rattle.history_store.specs.Packing.{KeepsRecords}
+use Rattle.history_objects.specs.Face.{ids_of_objects}
+use Rattle.history_names.specs.Packing.{KeepsRecords}
 use Rattle.gix_traverse_commit.specs.Told.{rows_of}
 use Rattle.gix_traverse_commit.specs.declared.rows.Row.{Row}
 use Rattle.history.specs.Face.{objects_part, names_part, rows_in, KeepsAllButObjects, KeepsAllButNames}

@@ -43,10 +43,10 @@ use Rattle.history_model.specs.Objects.{CommitValue, Value, StoredCommit, Stored
 use Rattle.history_model.specs.Objects as model
 use Rattle.history_model.specs.Repository.{Repository, HoldsCommit, IsWholeStore, Reaches, as_commit, named, by_way_of, named_ids}
 use Rattle.history_model.proofs.IdLemmas.{digest_is_id, digits_of-raw_bytes, has_kind, id_itself, length-hex}
-use Rattle.history_store.proofs.ActorTexts.{actor_parts, time_spelled}
-use Rattle.history_store.proofs.CommitTexts.{value_forms, value_parts, value_spelled}
-use Rattle.history_store.proofs.Offsets.{OffsetTold, offset_told}
-use Rattle.history_store.specs.Formats.{person_of}
+use Rattle.history_texts.proofs.ActorTexts.{actor_parts, time_spelled}
+use Rattle.history_texts.proofs.CommitTexts.{value_forms, value_parts, value_spelled}
+use Rattle.history_texts.proofs.Offsets.{OffsetTold, offset_told}
+use Rattle.history_texts.specs.Formats.{person_of}
 use Rattle.history_walks.specs.Asking.{IsInOrder, parents_in, walk_from}
 use Rattle.history_walks.specs.declared.listing.Order as walks
 use Rattle.history_walks.specs.declared.listing.Order.TheVariants as walk

@@ -33,8 +33,8 @@ use Rattle.history_steps.specs.TreeHalves.{HoldsNames}
 use Rattle.history_steps.proofs.Takings.{takings_pass, takings_stand}
 use Rattle.history_steps.proofs.PassedStates.{names_pass}
 use Rattle.history_steps.proofs.TreePuts.{halves_stand}
-use Rattle.history_store.specs.Packing.{HasPackedRoom, IsPackedForm, IsTaken, MayTake}
-use Rattle.history_store.specs.References.{SameFolders, lock_place}
+use Rattle.history_names.specs.Packing.{HasPackedRoom, IsPackedForm, IsTaken, MayTake}
+use Rattle.history_names.specs.References.{SameFolders, lock_place}
 use Rattle.history.specs.Acts.{Acts, IsReadingFault}
 use Rattle.history.specs.Bases.{IsExpected, expected_meanings, reads_as, words_cause}
 use Rattle.history.specs.CommitCauses.{first_among, form_cause, held_causes, name_form_causes, word_causes}

@@ -11,7 +11,7 @@ use Rattle.gix_ref_file.specs.History.{History}
 use Rattle.history_files.specs.Laws as laws
 use Rattle.history_model.specs.Objects.{Value, content_of, object_kind}
 use Rattle.history_model.specs.Repository as plain
-use Rattle.history_store.specs.KnownObjects.{table_of}
+use Rattle.history_objects.specs.KnownObjects.{table_of}
 use Rattle.history.specs.Stands.{Stands}
 use Rattle.history.specs.declared.repository.Repository.{Repository}
 use Rattle.history.proofs.Tables.{tables_same}

@@ -37,9 +37,9 @@ use Rattle.history_steps.specs.TreeHalves.{HoldsNames}
 use Rattle.history_steps.proofs.OfferedReads.{tags_stand_for_others}
 use Rattle.history_steps.proofs.Packs.{packs_pass, packs_stand}
 use Rattle.history_steps.proofs.TreePuts.{halves_stand}
-use Rattle.history_store.specs.Packed.{record_of_name, records_of}
-use Rattle.history_store.specs.declared.packs.PackedName.{PackedName}
-use Rattle.history_store.proofs.NameRead.{full_of}
+use Rattle.history_names.specs.Packed.{record_of_name, records_of}
+use Rattle.history_names.specs.declared.packs.PackedName.{PackedName}
+use Rattle.history_names.proofs.NameRead.{full_of}
 use Rattle.history.specs.Acts.{Acts, GivesMeant}
 use Rattle.history.specs.Face.{KeepsAllButNames, names_part}
 use Rattle.history.specs.Faults.{file_fault}

@@ -34,9 +34,9 @@ use Rattle.history_steps.specs.TreeSteps.{MovesName}
 use Rattle.history_steps.proofs.Renames.{bringing_passes, renames_bring, renames_end, renames_fit, taking_passes}
 use Rattle.history_steps.proofs.TreeMoves.{stands_moved}
 use Rattle.history_steps.proofs.TreePuts.{halves_stand}
-use Rattle.history_store.specs.Formats.{actor_of, entry_of}
-use Rattle.history_store.specs.Packing.{KeepsRecords, NameReads}
-use Rattle.history_store.specs.declared.log_entry.LogEntry.{LogEntry}
+use Rattle.history_texts.specs.Formats.{actor_of, entry_of}
+use Rattle.history_names.specs.Packing.{KeepsRecords, NameReads}
+use Rattle.history_texts.specs.declared.log_entry.LogEntry.{LogEntry}
 use Rattle.history.specs.Acts.{Acts}
 use Rattle.history.specs.Deleting.{DeletesFiles}
 use Rattle.history.specs.Face.{names_part}

@@ -24,9 +24,9 @@ use Rattle.history_files.specs.declared.edits.EditError.TheVariants as refused
 use Rattle.history_files.specs.declared.error.ReadError.{ReadError}
 use Rattle.history_files.specs.declared.error.ReadError.TheVariants.{Failed, Broken, Memory}
 use Rattle.history_files.proofs.Stores.{has_trees}
-use Rattle.history_store.specs.KnownObjects.{object_at, table_of, HoldsKnown}
-use Rattle.history_store.specs.ObjectTexts.{object_in}
-use Rattle.history_store.proofs.TextObjects.{object_in-text}
+use Rattle.history_objects.specs.KnownObjects.{object_at, table_of, HoldsKnown}
+use Rattle.history_texts.specs.ObjectTexts.{object_in}
+use Rattle.history_texts.proofs.TextObjects.{object_in-text}
 use Rattle.history.specs.Acts.{GivesMeant, IsReadingFault}
 use Rattle.history.specs.Face.{objects_part, known_ids}
 use Rattle.history.specs.Faults.{read_fault}

@@ -10,8 +10,8 @@ use Rattle.history_model.specs.declared.Fault.{Fault}
 use Rattle.history_model.specs.declared.Fault.TheVariants.{Memory, File, IdTaken}
 use Rattle.history_files.specs.declared.error.ReadError.{ReadError}
 use Rattle.history_files.specs.declared.error.ReadError.TheVariants as read
-use Rattle.history_store.specs.declared.objects.PutMadeError.{PutMadeError}
-use Rattle.history_store.specs.declared.objects.PutMadeError.TheVariants as put
+use Rattle.history_objects.specs.declared.objects.PutMadeError.{PutMadeError}
+use Rattle.history_objects.specs.declared.objects.PutMadeError.TheVariants as put
 use Rattle.history_walks.specs.declared.error.WalkError.{WalkError}
 use Rattle.history_walks.specs.declared.error.WalkError.TheVariants as walk
 use Rattle.history.specs.declared.stopped.Stopped.{Stopped}

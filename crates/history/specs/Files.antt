@@ -19,7 +19,7 @@ use Rattle.history_files.specs.declared.edits.Edit as files
 use Rattle.history_files.specs.declared.edits.EditError.{EditError}
 use Rattle.history_files.specs.declared.edits.EditError.TheVariants as refused
 use Rattle.history_files.specs.declared.trees.EditedFiles.{EditedFiles}
-use Rattle.history_store.specs.Stores.{AreObjectsOf}
+use Rattle.history_objects.specs.Stores.{AreObjectsOf}
 use Rattle.history_word.specs.declared.command.Edit.{Edit}
 use Rattle.history_word.specs.declared.command.Edit.TheVariants.{Put, Remove, RemoveFile}
 use Rattle.history.specs.Acts.{IsReadingFault}

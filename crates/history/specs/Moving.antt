@@ -17,8 +17,8 @@ use Rattle.history_model.specs.declared.Cause.{Cause}
 use Rattle.history_model.specs.declared.Cause.TheVariants.{BadName, PrivateName, NameTwice, NoSuchName, Taken, NotExpected, BadActor, BadTime, BadMessage, NothingMoves}
 use Rattle.history_model.specs.declared.Fault.TheVariants.{Memory, File, IdTaken}
 use Rattle.history_steps.specs.MoveSteps.{line_entry}
-use Rattle.history_store.specs.Formats.{actor_of, entry_of}
-use Rattle.history_store.specs.declared.actor.Actor.{Actor}
+use Rattle.history_texts.specs.Formats.{actor_of, entry_of}
+use Rattle.history_texts.specs.declared.actor.Actor.{Actor}
 use Rattle.history_word.specs.declared.command.Field.{Field}
 use Rattle.history_word.specs.declared.command.To as sent
 use Rattle.history.specs.Acts.{IsReadingFault}

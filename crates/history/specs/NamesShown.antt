@@ -7,7 +7,7 @@ use Rattle.history_model.specs.Replies.{NameLine}
 use Rattle.history_model.specs.Repository as plain
 use Rattle.history_model.specs.Repository.{peeled}
 use Rattle.history_model.specs.declared.Cause.{Cause}
-use Rattle.history_store.specs.declared.listed.NamedId.{NamedId}
+use Rattle.history_names.specs.declared.listed.NamedId.{NamedId}
 use Rattle.history.specs.CommitCauses.{form_cause}
 use Rattle.history.specs.Held.{held_commit, held_id}
 use Rattle.history.specs.declared.listed.Shown.{Shown}

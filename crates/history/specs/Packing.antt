@@ -15,8 +15,8 @@ use Rattle.history_model.specs.Repository as plain
 use Rattle.history_model.specs.Steps.{next}
 use Rattle.history_model.specs.declared.Fault.TheVariants.{Memory, File, IdTaken}
 use Rattle.history_steps.specs.PackSteps.{PacksNames}
-use Rattle.history_store.specs.Packed.{records_of}
-use Rattle.history_store.specs.declared.packs.PackedName.{PackedName}
+use Rattle.history_names.specs.Packed.{records_of}
+use Rattle.history_names.specs.declared.packs.PackedName.{PackedName}
 use Rattle.history.specs.declared.listed.Shown.{Shown}
 use Rattle.history.specs.declared.stopped.Stopped.{Stopped}
 use Rattle.history.specs.declared.stopped.Stopped.TheVariants.{Refused, Fault}

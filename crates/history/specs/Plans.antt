@@ -7,8 +7,8 @@ use Rattle.gix_hash_id.specs.declared.object_id.ObjectId.{ObjectId}
 use Rattle.gix_object_lines.specs.declared.kind.Kind as git_object
 use Rattle.gix_object_lines.specs.declared.kind.Kind.TheVariants as kinds
 use Rattle.history_model.specs.Bytes.{Bytes}
-use Rattle.history_store.specs.Stores.{AreObjectsOf}
-use Rattle.history_store.specs.declared.object.NewObject.{NewObject}
+use Rattle.history_objects.specs.Stores.{AreObjectsOf}
+use Rattle.history_texts.specs.declared.object.NewObject.{NewObject}
 use Rattle.gix_ref_file.specs.Tree.{Tree}
 use Rattle.history_model.specs.CommandParts.{contents_in}
 use Rattle.history_model.specs.Objects.{CommitValue, Value, commit_content, digest, folder_id, object_text}
@@ -28,7 +28,7 @@ use Rattle.history_model.specs.declared.Fault.TheVariants.{Memory, File, IdTaken
 use Rattle.history_files.specs.Editing.{AreEdited, HaveNull}
 use Rattle.history_files.specs.declared.trees.EditedFiles.{EditedFiles}
 use Rattle.history_files.specs.declared.trees.EditedTree.{EditedTree}
-use Rattle.history_store.specs.Formats.{actor_of, entry_of}
+use Rattle.history_texts.specs.Formats.{actor_of, entry_of}
 use Rattle.history.specs.CommitCauses.{first_among, form_causes, is_long, path_causes}
 use Rattle.history.specs.declared.planning.Actors.{Actors}
 use Rattle.history.specs.declared.planning.Below.{Below}

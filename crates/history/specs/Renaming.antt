@@ -9,7 +9,7 @@ use Rattle.history_model.specs.Commands.{Rename}
 use Rattle.history_model.specs.Repository as plain
 use Rattle.history_model.specs.Repository.{id_at}
 use Rattle.history_steps.specs.RenameSteps.{rename_entry}
-use Rattle.history_store.specs.Formats.{entry_of}
+use Rattle.history_texts.specs.Formats.{entry_of}
 use Rattle.history.specs.Acts.{IsReadingFault}
 use Rattle.history.specs.Stands.{Stands}
 use Rattle.history.specs.declared.planning.Moves.{Moves}

@@ -9,7 +9,7 @@ ghost use Rattle.history_model.specs.Commands as model;
 ghost use Rattle.history_model.specs.Forms.{max_actor_part};
 ghost use Rattle.history_word.specs.Commands.{IsActor};
 ghost use Rattle.history_word.specs.Fields.{Keeps};
-ghost use Rattle.history_store.specs.Formats.{actor_of};
+ghost use Rattle.history_texts.specs.Formats.{actor_of};
 ghost use Rattle.history.specs.CommitCauses.{IsTime, ReadsTime};
 
 use crate::fields::into_kept;

@@ -8,7 +8,7 @@ ghost use Rattle.history_model.specs.Meaning.{first_files, put_bytes};
 ghost use Rattle.history_model.specs.Repository as plain;
 ghost use Rattle.history_model.specs.Repository.{HoldsCommit};
 ghost use Rattle.history_files.specs.Editing.{HavePaths};
-ghost use Rattle.history_store.specs.Stores.{AreObjectsOf};
+ghost use Rattle.history_objects.specs.Stores.{AreObjectsOf};
 ghost use Rattle.history.specs.Acts.{GivesMeant};
 ghost use Rattle.history.specs.Files.{AreChangesOf, AreReadAs, TellsEdited, IsChangeOf, IsTreeBefore, change_parts, edit_parts, kept_edit, unmade};
 ghost use Rattle.history.specs.Stands.{Stands};

@@ -12,7 +12,7 @@ ghost use Rattle.history_model.specs.Repository as plain;
 ghost use Rattle.history_model.specs.Commands as orders;
 ghost use Rattle.history_model.specs.declared.Cause.TheVariants.{TooLarge};
 ghost use Rattle.history_model.specs.declared.Fault.TheVariants.{IdTaken};
-ghost use Rattle.history_store.specs.Face.{kind_of_objects};
+ghost use Rattle.history_objects.specs.Face.{kind_of_objects};
 ghost use Rattle.history_word.specs.Commands.{IsActor};
 ghost use Rattle.history_word.specs.Fields.{Keeps};
 ghost use Rattle.history.specs.Asked.{AskedCommit, AskedFiles};

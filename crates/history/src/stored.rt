@@ -7,7 +7,7 @@ ghost use Rattle.history_files.specs.Reading.{entry_of, line_of};
 ghost use Rattle.history_model.specs.FileMap.{FileMap};
 ghost use Rattle.history_model.specs.Objects as model;
 ghost use Rattle.history_model.specs.Objects.{CommitValue, Value, StoredCommit, StoredFolder, content_of, folder_id, object_kind};
-ghost use Rattle.history_store.specs.Commits.{SaysCommit};
+ghost use Rattle.history_texts.specs.Commits.{SaysCommit};
 ghost use Rattle.gix_hash_id.specs.Id.{id_of};
 ghost use Rattle.gix_traverse_commit.specs.Rows.{AllHeld};
 ghost use Rattle.gix_traverse_commit.specs.Told.{rows_of};

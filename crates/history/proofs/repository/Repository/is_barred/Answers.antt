@@ -2,7 +2,7 @@ use Rattle.std.proofs.Common.{◌≡◌, ◌∙◌, ap, subst, sym, Err}
 use Rattle.std.proofs.lemmas.Result.{err_from_is_err_and}
 use Rattle.history_model.specs.Bytes.{Bytes}
 use Rattle.history_model.specs.Forms.{is_name}
-use Rattle.history_store.specs.AllNames.{TellsMeeting}
+use Rattle.history_names.specs.AllNames.{TellsMeeting}
 use Rattle.history.specs.Face.{names_part}
 use Rattle.history.specs.Moving.{bars}
 use Rattle.history.proofs.LineLemmas.{file_fails, gives_fault, new_bars, standing_bars}

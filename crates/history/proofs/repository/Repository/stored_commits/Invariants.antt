@@ -1,5 +1,5 @@
 use Rattle.history_model.specs.Repository as plain
-use Rattle.history_store.specs.KeptIds.{left}
+use Rattle.history_objects.specs.KeptIds.{left}
 use Rattle.history.specs.Stands.{Stands}
 use Rattle.history.proofs.AllTold.{AreSoFar}
 use Rattle.history.proofs.repository.Repository.stored_commits.Given as goal
