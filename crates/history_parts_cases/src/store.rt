@@ -6,5 +6,5 @@ mod packed;
 mod session;
 mod values;
 
-pub use objects::read_kind;
+pub use objects::{read_new, show_id, show_ids};
 pub use session::StoreCase;

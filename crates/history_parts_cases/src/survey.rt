@@ -1,7 +1,8 @@
 //! Cases of `history_survey`: words on an objects part.
 
 use crate::parts::Parts;
-use case_words::{Page, Session, Trial};
+use crate::store::{show_id, show_ids};
+use case_words::{Page, Session};
 use gix_hash::ObjectId;
 use history_store::Objects;
 use history_survey::{ObjectsFlaw, Unopened, open_objects};
@@ -34,21 +35,13 @@ fn open(alloc: Global, parts: &mut Parts, page: &mut Page) {
     let files = parts.take_objects(alloc);
     match open_objects(alloc, files, parts.kind) {
         Ok(objects) => {
-            show_ids(&objects, page);
+            show_ids("opened", &objects, page);
             parts.objects = objects;
         }
         Err(Unopened { flaw, files }) => {
             show_flaw(&flaw, page);
             parts.objects = Objects::new(alloc, files, parts.kind);
         }
-    }
-}
-
-fn show_ids(objects: &Objects<Trial>, page: &mut Page) {
-    page.word("opened");
-    for id in objects.ids() {
-        page.text(":");
-        page.put(id);
     }
 }
 
@@ -67,12 +60,6 @@ fn show_flaw(flaw: &ObjectsFlaw, page: &mut Page) {
         ObjectsFlaw::File => page.word("File"),
         ObjectsFlaw::Memory => page.word("Memory"),
     }
-}
-
-fn show_id(name: &str, id: &ObjectId, page: &mut Page) {
-    page.word(name);
-    page.text(":");
-    page.put(*id);
 }
 
 fn show_two(name: &str, id: &ObjectId, by: &ObjectId, page: &mut Page) {

@@ -34,26 +34,19 @@ pub fn kind_word(kind: FileKind) -> &'static str {
 /// The edit that a word spells.
 pub fn read_edit(alloc: Global, word: &str) -> Option<PathEdit> {
     let mut parts = word.split(':');
-    match parts.next()? {
+    let (path, change) = match parts.next()? {
         "put" => {
             let kind = read_file_kind(parts.next()?)?;
-            let path = read_digits(alloc, parts.next()?)?;
+            let path = parts.next()?;
             let id = read_id(parts.next()?)?;
-            let change = Change::Put { kind, id };
-            Some(PathEdit { path, change })
+            (path, Change::Put { kind, id })
         }
-        "remove" => {
-            let path = read_digits(alloc, parts.next()?)?;
-            let change = Change::Remove;
-            Some(PathEdit { path, change })
-        }
-        "remove-file" => {
-            let path = read_digits(alloc, parts.next()?)?;
-            let change = Change::RemoveFile;
-            Some(PathEdit { path, change })
-        }
-        _ => None,
-    }
+        "remove" => (parts.next()?, Change::Remove),
+        "remove-file" => (parts.next()?, Change::RemoveFile),
+        _ => return None,
+    };
+    let path = read_digits(alloc, path)?;
+    Some(PathEdit { path, change })
 }
 
 /// The edits, with their paths lent.

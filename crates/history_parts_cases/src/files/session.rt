@@ -7,7 +7,8 @@ use case_page::{Page, read_digits};
 use case_store::{Row, Trees, row_of_content};
 use gix_hash::{Kind, ObjectId};
 use history_files::{
-    EditError, EditedFiles, EntriesState, Found, ReadError, edit_files, entries_at, entry_at, files,
+    EditError, EditedFiles, EditedTree, EntriesState, Found, ReadError, edit_files, entries_at,
+    entry_at, files,
 };
 use std::alloc::{AllocError, Global};
 
@@ -59,10 +60,7 @@ impl Session {
             "tree" => self.add(alloc, parts.next()?, page),
             "root" => self.stand_on(parts.next()?),
             "fail" => self.fail_at(parts.next()?),
-            _ => {
-                self.edits.push(read_edit(alloc, word)?).ok()?;
-                Some(())
-            }
+            _ => self.edits.push(read_edit(alloc, word)?).ok(),
         }
     }
 
@@ -119,14 +117,18 @@ impl Session {
         let mut known = true;
         for tree in edited.trees {
             known = known && has_named(&self.trees, alloc, self.kind, tree.content.as_slice());
-            let row = Row {
-                oid: tree.id,
-                content: tree.content,
-            };
-            self.trees.add(row).ok()?;
+            self.keep(tree)?;
         }
         page.word(if known { "known+" } else { "known-" });
         Some(())
+    }
+
+    fn keep(&mut self, tree: EditedTree) -> Option<()> {
+        let row = Row {
+            oid: tree.id,
+            content: tree.content,
+        };
+        self.trees.add(row).ok()
     }
 
     // All files of the root.
@@ -162,19 +164,16 @@ impl Session {
 
     // What the root has at each of the paths that a word names, and how many trees the call says that it asked for.
     fn find_each(&self, alloc: Global, word: &str, page: &mut Page) -> Option<()> {
+        let root = self.root.as_ref()?;
         let paths = paths_in(alloc, word)?;
-        let mut lent = Vec::new(alloc);
-        for path in &paths {
-            lent.push(path.as_slice()).ok()?;
-        }
+        let lent = lent_paths(alloc, paths.as_slice())?;
+        self.show_each(alloc, root, lent.as_slice(), page);
+        Some(())
+    }
+
+    fn show_each(&self, alloc: Global, root: &ObjectId, paths: &[&[u8]], page: &mut Page) {
         let mut state = EntriesState::new(alloc);
-        match entries_at(
-            alloc,
-            &self.trees,
-            self.root.as_ref()?,
-            lent.as_slice(),
-            &mut state,
-        ) {
+        match entries_at(alloc, &self.trees, root, paths, &mut state) {
             Ok(entries) => {
                 for found in &entries {
                     show_found(*found, page);
@@ -185,7 +184,6 @@ impl Session {
         page.word("told");
         page.value(state.asked());
         self.show_asked(page);
-        Some(())
     }
 
     // How often the trees were asked for one. The count begins once more.
@@ -234,6 +232,15 @@ fn show_broken(oid: ObjectId, page: &mut Page) {
     page.word("Broken(");
     page.put(oid);
     page.text(")");
+}
+
+// The paths as they are lent.
+fn lent_paths(alloc: Global, paths: &[Vec<u8>]) -> Option<Vec<&[u8]>> {
+    let mut lent = Vec::new(alloc);
+    for path in paths {
+        lent.push(path.as_slice()).ok()?;
+    }
+    Some(lent)
 }
 
 // The paths that a word names behind its first part.

@@ -2,10 +2,9 @@
 
 use crate::names_survey::shown::show_error;
 use crate::parts::Parts;
-use crate::store::read_kind;
-use case_words::{Page, Session, read_bytes};
+use crate::store::read_new;
+use case_words::{Page, Session};
 use history_names_survey::survey_names;
-use history_store::NewObject;
 use std::alloc::Global;
 
 /// A names part that is surveyed, beside objects.
@@ -34,8 +33,7 @@ impl Session for NamesSurvey {
 
 // Puts an object.
 fn put(alloc: Global, parts: &mut Parts, rest: &str) -> Option<()> {
-    let (kind, content) = rest.split_once(':')?;
-    let object = NewObject::new(parts.kind, read_kind(kind)?, read_bytes(alloc, content)?);
+    let object = read_new(alloc, parts.kind, rest)?;
     parts.objects.put_made(alloc, &object).ok()
 }
 

@@ -48,33 +48,49 @@ pub fn act(
 ) -> Option<()> {
     match operation {
         "open" => open(alloc, parts, page),
-        "ids" => {
-            page.word("ids");
-            for id in parts.objects.ids() {
-                page.text(":");
-                page.put(id);
-            }
-        }
-        "put" | "put-made" => {
-            let (kind, content) = rest.split_once(':')?;
-            let (kind, content) = (read_kind(kind)?, read_bytes(alloc, content)?);
-            if operation == "put" {
-                show_put(parts.objects.put(alloc, kind, content), page);
-            } else {
-                put_made(
-                    alloc,
-                    parts,
-                    &NewObject::new(parts.kind, kind, content),
-                    page,
-                );
-            }
-        }
+        "ids" => show_ids("ids", &parts.objects, page),
+        "put" => put(alloc, parts, rest, page)?,
+        "put-made" => put_made(alloc, parts, rest, page)?,
         "prefix" => {
             let (digits, limit) = rest.split_once(':')?;
             let prefix = Prefix::from_hex(digits).ok()?;
             look_prefix_up(&parts.objects, &prefix, limit.parse().ok()?, page)?;
         }
         _ => look_up(alloc, &parts.objects, operation, &read_id(rest)?, page)?,
+    }
+    Some(())
+}
+
+/// Shows this word, and the ids that are known.
+pub fn show_ids(word: &str, objects: &Objects<Trial>, page: &mut Page) {
+    page.word(word);
+    for id in objects.ids() {
+        page.text(":");
+        page.put(id);
+    }
+}
+
+fn put(alloc: Global, parts: &mut Parts, rest: &str, page: &mut Page) -> Option<()> {
+    let (kind, content) = rest.split_once(':')?;
+    let (kind, content) = (read_kind(kind)?, read_bytes(alloc, content)?);
+    show_put(parts.objects.put(alloc, kind, content), page);
+    Some(())
+}
+
+/// The object of a kind and a content, with its id.
+pub fn read_new(alloc: Global, ids: gix_hash::Kind, rest: &str) -> Option<NewObject> {
+    let (kind, content) = rest.split_once(':')?;
+    let kind = read_kind(kind)?;
+    Some(NewObject::new(ids, kind, read_bytes(alloc, content)?))
+}
+
+fn put_made(alloc: Global, parts: &mut Parts, rest: &str, page: &mut Page) -> Option<()> {
+    let object = read_new(alloc, parts.kind, rest)?;
+    match parts.objects.put_made(alloc, &object) {
+        Ok(()) => show_id("put", &object.id, page),
+        Err(PutMadeError::IdTaken(id)) => show_id("IdTaken", &id, page),
+        Err(PutMadeError::File) => page.word("File"),
+        Err(PutMadeError::Memory) => page.word("Memory"),
     }
     Some(())
 }
@@ -140,15 +156,6 @@ fn show_put(put: Result<ObjectId, PutError>, page: &mut Page) {
     }
 }
 
-fn put_made(alloc: Global, parts: &mut Parts, object: &NewObject, page: &mut Page) {
-    match parts.objects.put_made(alloc, object) {
-        Ok(()) => show_id("put", &object.id, page),
-        Err(PutMadeError::IdTaken(id)) => show_id("IdTaken", &id, page),
-        Err(PutMadeError::File) => page.word("File"),
-        Err(PutMadeError::Memory) => page.word("Memory"),
-    }
-}
-
 // What a lookup of an id answers.
 fn look_up(
     alloc: Global,
@@ -169,26 +176,32 @@ fn look_up(
         } else {
             "lost"
         }),
-        "find" => {
-            let mut content = Vec::new(alloc);
-            match objects.find_into(id.as_oid(), &mut content) {
-                Ok(Some(kind)) => page.named(kind_name(kind), &content),
-                Ok(None) => page.named("none", &content),
-                Err(_) => page.word("failed"),
-            }
-        }
-        "header" => match objects.try_header(id.as_oid()) {
-            Ok(Some(header)) => {
-                page.word(kind_name(header.kind));
-                page.text(":");
-                page.put(header.size);
-            }
-            Ok(None) => page.word("none"),
-            Err(_) => page.word("failed"),
-        },
+        "find" => show_content(alloc, objects, id, page),
+        "header" => show_header(objects, id, page),
         _ => return None,
     }
     Some(())
+}
+
+fn show_content(alloc: Global, objects: &Objects<Trial>, id: &ObjectId, page: &mut Page) {
+    let mut content = Vec::new(alloc);
+    match objects.find_into(id.as_oid(), &mut content) {
+        Ok(Some(kind)) => page.named(kind_name(kind), &content),
+        Ok(None) => page.named("none", &content),
+        Err(_) => page.word("failed"),
+    }
+}
+
+fn show_header(objects: &Objects<Trial>, id: &ObjectId, page: &mut Page) {
+    match objects.try_header(id.as_oid()) {
+        Ok(Some(header)) => {
+            page.word(kind_name(header.kind));
+            page.text(":");
+            page.put(header.size);
+        }
+        Ok(None) => page.word("none"),
+        Err(_) => page.word("failed"),
+    }
 }
 
 fn show_read(read: Result<Option<Object>, FileError>, page: &mut Page) {

@@ -1,60 +1,50 @@
 //! Names that are packed, and what is read, listed, met and deleted whether packed or not.
 
-use crate::parts::Parts;
-use crate::store::names::show_names;
-use crate::store::objects::show_id;
+use crate::store::names::{show_done, show_held, show_names, show_test};
 use case_ids::read_id;
-use case_words::{Page, read_bytes};
+use case_words::{Page, Trial, read_bytes};
 use gix_ref_format::packed::buffer::Error;
 use gix_ref_name::FullName;
-use history_store::PackedName;
+use history_store::{Names, PackedName};
 use std::alloc::Global;
 
 /// Acts on the names part with its packed names.
 pub fn act(
     alloc: Global,
-    parts: &mut Parts,
+    names: &mut Names<Trial>,
     operation: &str,
     rest: &str,
     page: &mut Page,
 ) -> Option<()> {
     match operation {
-        "read-packed" => page.word(read_packed(alloc, parts)),
-        "pack" => {
-            let names = read_names(alloc, rest)?;
-            match parts.names.pack_names(alloc, &names) {
-                Ok(()) => page.word("packed"),
-                Err(_) => page.word("failed"),
-            }
+        "read-packed" => page.word(read_packed(alloc, names)),
+        "pack" => pack(alloc, names, rest, page)?,
+        _ => {
+            let name = read_bytes(alloc, rest)?;
+            by_name(alloc, names, operation, &name, page);
         }
-        _ => by_name(alloc, parts, operation, &read_bytes(alloc, rest)?, page),
     }
     Some(())
 }
 
-fn by_name(alloc: Global, parts: &mut Parts, operation: &str, name: &[u8], page: &mut Page) {
+fn pack(alloc: Global, names: &mut Names<Trial>, rest: &str, page: &mut Page) -> Option<()> {
+    let packed = read_names(alloc, rest)?;
+    show_done(names.pack_names(alloc, &packed), "packed", page);
+    Some(())
+}
+
+fn by_name(alloc: Global, names: &mut Names<Trial>, operation: &str, name: &[u8], page: &mut Page) {
     match operation {
-        "find-name" => match parts.names.find(alloc, name) {
-            Ok(Some(id)) => show_id("at", &id, page),
-            Ok(None) => page.word("none"),
-            Err(_) => page.word("failed"),
-        },
-        "list-all" => show_names(parts.names.list_all(alloc, name), page),
-        "meets" => match parts.names.collides_any(alloc, name) {
-            Ok(true) => page.word("meets"),
-            Ok(false) => page.word("free"),
-            Err(_) => page.word("failed"),
-        },
-        _ => match parts.names.take_name(alloc, name) {
-            Ok(()) => page.word("taken"),
-            Err(_) => page.word("failed"),
-        },
+        "find-name" => show_held(names.find(alloc, name), page),
+        "list-all" => show_names(names.list_all(alloc, name), page),
+        "meets" => show_test(names.collides_any(alloc, name), "meets", page),
+        _ => show_done(names.take_name(alloc, name), "taken", page),
     }
 }
 
 // Reads the records of `packed-refs`, and names what came of it.
-fn read_packed(alloc: Global, parts: &mut Parts) -> &'static str {
-    match parts.names.read_packed(alloc) {
+fn read_packed(alloc: Global, names: &mut Names<Trial>) -> &'static str {
+    match names.read_packed(alloc) {
         Ok(()) => "kept",
         Err(Error::Iter { .. }) => "Iter",
         Err(Error::HeaderParsing) => "HeaderParsing",
@@ -74,12 +64,16 @@ fn read_names(alloc: Global, rest: &str) -> Option<Vec<PackedName>> {
 
 fn read_name(alloc: Global, word: &str) -> Option<PackedName> {
     let mut fields = word.split('=');
-    let name = read_bytes(alloc, fields.next()?)?;
+    let name = fields.next()?;
     let id = read_id(fields.next()?)?;
     let peeled = match fields.next() {
         Some(digits) => Some(read_id(digits)?),
         None => None,
     };
-    let name = FullName::from_bytes(alloc, &name).ok()?;
+    let name = read_full_name(alloc, name)?;
     Some(PackedName { name, id, peeled })
+}
+
+fn read_full_name(alloc: Global, word: &str) -> Option<FullName> {
+    FullName::from_bytes(alloc, &read_bytes(alloc, word)?).ok()
 }

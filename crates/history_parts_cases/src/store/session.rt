@@ -1,6 +1,7 @@
 //! The two parts of a repository, and what words do with them.
 
 use crate::parts::Parts;
+use crate::store::objects::show_open_error;
 use crate::store::{names, objects, packed, values};
 use case_words::{Page, Session, read_bytes};
 use gix_ref_file::Files;
@@ -39,10 +40,10 @@ fn act(
     match operation {
         "create" | "survey" | "branch" => open(alloc, parts, operation, rest, page),
         "head" | "name" | "list" | "collides" | "move" | "delete" | "switch" => {
-            names::act(alloc, parts, operation, rest, page)
+            names::act(alloc, &mut parts.names, operation, rest, page)
         }
         "read-packed" | "pack" | "find-name" | "list-all" | "meets" | "take" => {
-            packed::act(alloc, parts, operation, rest, page)
+            packed::act(alloc, &mut parts.names, operation, rest, page)
         }
         "actor"
         | "parse-actor"
@@ -68,34 +69,33 @@ fn open(
     page: &mut Page,
 ) -> Option<()> {
     match operation {
-        "create" => {
-            create_parts(alloc, parts, page);
-            Some(())
-        }
-        "survey" => survey_part(alloc, parts, rest, page),
-        _ => {
-            show_branch(alloc, parts, page);
-            Some(())
-        }
+        "create" => create_parts(alloc, parts, page),
+        "survey" => survey_part(alloc, parts, rest, page)?,
+        _ => show_branch(alloc, parts, page),
     }
+    Some(())
 }
 
 fn create_parts(alloc: Global, parts: &mut Parts, page: &mut Page) {
     let (mut objects, mut names) = (parts.take_objects(alloc), parts.take_names(alloc));
-    match create(alloc, &mut objects, &mut names, parts.kind) {
+    show_created(create(alloc, &mut objects, &mut names, parts.kind), page);
+    parts.objects = Objects::new(alloc, objects, parts.kind);
+    parts.names = Names::new(names, parts.kind);
+}
+
+fn show_created(created: Result<(), CreateError>, page: &mut Page) {
+    match created {
         Ok(()) => page.word("created"),
         Err(CreateError::NotEmpty(path)) => page.named("NotEmpty", &path),
         Err(CreateError::File) => page.word("File"),
         Err(CreateError::Memory) => page.word("Memory"),
     }
-    parts.objects = Objects::new(alloc, objects, parts.kind);
-    parts.names = Names::new(names, parts.kind);
 }
 
 fn show_branch(alloc: Global, parts: &Parts, page: &mut Page) {
     match new_branch(alloc, parts.objects.files(), &parts.names) {
         Ok(branch) => page.named("branch", &branch),
-        Err(error) => objects::show_open_error(&error, page),
+        Err(error) => show_open_error(&error, page),
     }
 }
 

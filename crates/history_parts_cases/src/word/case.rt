@@ -3,7 +3,9 @@
 use crate::word::shown::show_received;
 use case_drops::Drops;
 use case_words::{Page, read_bytes};
-use history_word::{Broken, Buffer, Bytes, Collected, Source, Stream, read_command, write_all};
+use history_word::{
+    Broken, Buffer, Bytes, Collected, Sink, Source, Stream, read_command, write_all,
+};
 use std::alloc::{AllocError, Global};
 
 /// What the operation of the line answers.
@@ -19,17 +21,27 @@ fn act(alloc: Global, line: &str, page: &mut Page) -> Option<()> {
     let mut words = line.split(' ');
     let operation = words.next()?;
     let bytes = read_bytes(alloc, words.next()?)?;
+    act_on_bytes(alloc, operation, &bytes, words.next(), page)
+}
+
+fn act_on_bytes(
+    alloc: Global,
+    operation: &str,
+    bytes: &[u8],
+    rest: Option<&str>,
+    page: &mut Page,
+) -> Option<()> {
     match operation {
-        "read" => read(alloc, Bytes::new(&bytes), page),
+        "read" => read(alloc, Bytes::new(bytes), page),
         "drops" => {
-            let good = match words.next() {
+            let good = match rest {
                 Some(good) => good.parse().ok()?,
                 None => usize::MAX,
             };
-            read(alloc, Drops::new(&bytes, good), page);
+            read(alloc, Drops::new(bytes, good), page);
         }
-        "stream" => read(alloc, Stream::new(bytes.as_slice()), page),
-        "write" => write(alloc, &bytes, words.next(), page)?,
+        "stream" => read(alloc, Stream::new(bytes), page),
+        "write" => write(alloc, bytes, rest, page)?,
         _ => return None,
     }
     Some(())
@@ -57,12 +69,19 @@ fn show_more(more: Result<bool, Broken>, page: &mut Page) {
 // What a sink in memory holds once both texts were written, and whether std's writer took them too.
 fn write(alloc: Global, first: &[u8], second: Option<&str>, page: &mut Page) -> Option<()> {
     let second = read_bytes(alloc, second.unwrap_or("-"))?;
+    write_to_stream(alloc, first, &second)?;
     let mut sink = Collected::new(alloc);
-    let mut stream = Stream::new(Vec::new(alloc));
-    for text in [first, second.as_slice()] {
-        write_all(&mut sink, text).ok()?;
-        write_all(&mut stream, text).ok()?;
-    }
+    write_both(&mut sink, first, &second)?;
     page.named("written", sink.as_slice());
     Some(())
+}
+
+fn write_to_stream(alloc: Global, first: &[u8], second: &[u8]) -> Option<()> {
+    let mut stream = Stream::new(Vec::new(alloc));
+    write_both(&mut stream, first, second)
+}
+
+fn write_both<S: Sink>(sink: &mut S, first: &[u8], second: &[u8]) -> Option<()> {
+    write_all(sink, first).ok()?;
+    write_all(sink, second).ok()
 }
