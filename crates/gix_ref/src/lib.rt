@@ -56,23 +56,23 @@ pub mod file {
     pub mod log {
         /// Reading logs.
         pub mod iter {
-            pub use gix_ref_format::log::iter::{
+            pub use gix_ref_log::iter::{
                 Error, FileAt, Forward, IoError, ReadAt, Reverse, forward, reverse,
             };
             pub use gix_ref_store::store::file::LogPlatform as Platform;
 
             /// Why a line isn't given.
             pub mod decode {
-                pub use gix_ref_format::log::iter::decode::{Error, LineNumber};
+                pub use gix_ref_log::iter::decode::{Error, LineNumber};
             }
         }
 
         /// Why bytes are no line of a log.
         pub mod decode {
-            pub use gix_ref_format::log::decode::Error;
+            pub use gix_ref_log::decode::Error;
         }
 
-        pub use gix_ref_format::log::LineRef;
+        pub use gix_ref_log::LineRef;
         pub use gix_ref_store::store::file::log::{Error, LogFile};
     }
 
@@ -144,11 +144,11 @@ pub mod packed {
 
 /// Lines of logs.
 pub mod log {
-    pub use gix_ref_format::log::Line;
+    pub use gix_ref_log::Line;
 
     /// Why a line isn't written.
     pub mod write {
-        pub use gix_ref_format::log::write::Error;
+        pub use gix_ref_log::write::Error;
     }
 }
 

@@ -3,8 +3,8 @@
 use case_page::Page;
 use gix_object_lines::hex_line::is_id;
 use gix_ref_file::{Files, MemoryFiles};
-use gix_ref_format::log::iter::{Error, FileAt, ReadAt, forward, reverse};
-use gix_ref_format::log::{Line, LineRef};
+use gix_ref_log::iter::{Error, FileAt, ReadAt, forward, reverse};
+use gix_ref_log::{Line, LineRef};
 use std::alloc::Global;
 
 const REFUSED: &str = "refused";

@@ -7,8 +7,3 @@ pub mod PrefixLemmas
 pub mod GatherLemmas
 pub mod WordLemmas
 pub mod WrittenLemmas
-pub mod LogLineLemmas
-pub mod LogWriteLemmas
-pub mod LogSplitLemmas
-pub mod LogWindowLemmas
-pub mod LogGivesLemmas

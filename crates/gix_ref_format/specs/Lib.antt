@@ -6,12 +6,3 @@ pub mod PackedIter
 pub mod PackedBuffer
 pub mod PackedKept
 pub mod Lookup
-pub mod LogLine
-pub mod LogCuts
-pub mod LogViews
-pub mod LogOwned
-pub mod LogForward
-pub mod LogFound
-pub mod LogPlace
-pub mod LogBackward
-pub mod LogReverse

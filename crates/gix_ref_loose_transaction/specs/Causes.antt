@@ -18,7 +18,7 @@ use Rattle.gix_ref_edit.specs.declared.change.PreviousValue.TheVariants as asks
 use Rattle.gix_ref_edit.specs.declared.change.RefEdit.{RefEdit}
 use Rattle.gix_ref_edit.specs.declared.log.LogChange.{LogChange}
 use Rattle.gix_ref_format.specs.PackedBuffer.{FileFault}
-use Rattle.gix_ref_format.specs.declared.log.line.Line.{Line}
+use Rattle.gix_ref_log.specs.declared.line.Line.{Line}
 use Rattle.gix_ref_format.specs.declared.packed.buffer.Error.TheVariants as opening
 use Rattle.gix_ref_moves.specs.declared.act.LogError.{LogError}
 use Rattle.gix_ref_moves.specs.declared.act.Move.{Move}

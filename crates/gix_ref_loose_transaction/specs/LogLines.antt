@@ -19,7 +19,7 @@ use Rattle.gix_ref_edit.specs.declared.change.Change.{Change}
 use Rattle.gix_ref_edit.specs.declared.change.Change.TheVariants.{Update, Delete}
 use Rattle.gix_ref_edit.specs.declared.change.RefEdit.{RefEdit}
 use Rattle.gix_ref_edit.specs.declared.log.LogChange.{LogChange}
-use Rattle.gix_ref_format.specs.LogLine.{line_text}
+use Rattle.gix_ref_log.specs.LogLine.{line_text}
 use Rattle.gix_ref_moves.specs.declared.act.Act.{Act}
 use Rattle.gix_ref_moves.specs.declared.act.Act.TheVariants as acts
 use Rattle.gix_ref_moves.specs.declared.act.Move.{Move}

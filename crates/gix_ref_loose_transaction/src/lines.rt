@@ -4,7 +4,7 @@ ghost use Rattle.std.specs.Prelude.{◌≡◌, ◌++◌, ◌∷◌, [], None, Ok
 ghost use Rattle.bstr.specs.BStr.{bstr_bytes};
 ghost use Rattle.gix_hash_id.specs.Id.{id_of};
 ghost use Rattle.gix_object_lines.specs.Actor.{TellsTime};
-ghost use Rattle.gix_ref_format.specs.LogOwned.{written_text};
+ghost use Rattle.gix_ref_log.specs.LogOwned.{written_text};
 ghost use Rattle.gix_ref_moves.specs.declared.act.LogError.TheVariants.{Unspellable};
 ghost use Rattle.gix_ref_name.specs.Names.{name_of};
 ghost use Rattle.gix_ref_store.specs.Finds.{TellsState};
@@ -20,8 +20,8 @@ use gix_object_lines::lines::{Actor, ActorRef};
 use gix_object_lines::{ByteString, decode};
 use gix_ref_edit::{Change, LogChange, RefEdit};
 use gix_ref_file::Files;
-use gix_ref_format::log::{Line, write};
 use gix_ref_format::packed::Buffer;
+use gix_ref_log::{Line, write};
 use gix_ref_moves::LogError;
 use gix_ref_name::{FullNameRef, Target};
 use gix_ref_store::store::file::find::ExistingError;

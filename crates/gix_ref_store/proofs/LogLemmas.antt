@@ -2,8 +2,8 @@
 use Rattle.std.proofs.Common.{◌≡◌, ◌∙◌, sym, ap, ℕ, List, [], length}
 use Rattle.std.specs.Prelude.{Result, Err, IsErrOf}
 use Rattle.gix_ref_file.specs.declared.files.FileError.TheVariants as files
-use Rattle.gix_ref_format.specs.declared.log.iter.error.IoError.{IoError}
-use Rattle.gix_ref_format.specs.declared.log.iter.error.IoError.TheVariants as io
+use Rattle.gix_ref_log.specs.declared.iter.error.IoError.{IoError}
+use Rattle.gix_ref_log.specs.declared.iter.error.IoError.TheVariants as io
 use Rattle.gix_ref_store.specs.Logs.{BackFault, MayTell}
 use Rattle.gix_ref_store.specs.declared.store.file.log.Error.{Error}
 use Rattle.gix_ref_store.specs.declared.store.file.log.Error.TheVariants.{Io, Memory}

@@ -1,6 +1,6 @@
 -- Readers of logs from their end, as they are made.
 use Rattle.std.specs.Prelude.{ℕ, ◌≡◌, List, length}
-use Rattle.gix_ref_format.specs.declared.log.iter.backward.Reverse.{Reverse}
+use Rattle.gix_ref_log.specs.declared.iter.backward.Reverse.{Reverse}
 use Rattle.gix_ref_store.specs.Places.{log_place}
 use Rattle.gix_ref_store.specs.Stores.{base_of}
 use Rattle.gix_ref_store.specs.declared.store.file.Store.{Store}

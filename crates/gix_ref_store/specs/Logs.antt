@@ -4,10 +4,10 @@ use Rattle.std.specs.Prelude.{reverse as reversed}
 use Rattle.gix_ref_file.specs.Tree.{Tree, node_at, bytes_of}
 use Rattle.gix_ref_file.specs.declared.files.FileError.{FileError}
 use Rattle.gix_ref_file.specs.declared.files.FileError.TheVariants as files
-use Rattle.gix_ref_format.specs.LogLine.{split_lines}
-use Rattle.gix_ref_format.specs.LogForward.{Lines}
-use Rattle.gix_ref_format.specs.LogBackward.{Stand, StandsAt}
-use Rattle.gix_ref_format.specs.declared.log.iter.error.IoError.TheVariants as io
+use Rattle.gix_ref_log.specs.LogLine.{split_lines}
+use Rattle.gix_ref_log.specs.LogForward.{Lines}
+use Rattle.gix_ref_log.specs.LogBackward.{Stand, StandsAt}
+use Rattle.gix_ref_log.specs.declared.iter.error.IoError.TheVariants as io
 use Rattle.gix_ref_store.specs.Places.{log_place}
 use Rattle.gix_ref_store.specs.Stores.{base_of}
 use Rattle.gix_ref_store.specs.declared.store.file.Store.{Store}

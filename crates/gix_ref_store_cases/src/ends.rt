@@ -5,7 +5,7 @@ use case_page::Page;
 use case_store::Store as Objects;
 use gix_hash::ObjectId;
 use gix_ref_file::MemoryFiles;
-use gix_ref_format::log::iter::Forward;
+use gix_ref_log::iter::Forward;
 use gix_ref_name::{FullNameRef, PartialNameRef};
 use gix_ref_store::Reference;
 use gix_ref_store::store::file::log::Error;

@@ -3,9 +3,9 @@
 use case_page::Page;
 use gix_hash::Kind;
 use gix_ref_file::MemoryFiles;
-use gix_ref_format::log::Line;
-use gix_ref_format::log::iter::{self, Forward};
 use gix_ref_format::loose;
+use gix_ref_log::Line;
+use gix_ref_log::iter::{self, Forward};
 use gix_ref_name::{FullNameRef, Target};
 use gix_ref_store::Reference;
 use gix_ref_store::store::file::log::Error;

@@ -2,7 +2,7 @@
 opened, and then every reading command tells what the plain repository with that change tells. Changes for which several causes hold
 stand in history_actions_cases."""
 
-from cases import HEAD, KINDS, told
+from streams import HEAD, KINDS, told
 from folder_causes import PACKED_HEADER, Names, as_word, causes, digits_at, header
 from git_moves import Moved
 from plain import Plain

@@ -50,7 +50,7 @@ SHA256 = (
     "a6ea586f96bdd332227d20c2e812e14f7ace606b1a953a0844bcf10a3160b2f8"
 ).split()
 
-# The commits of scripts/cases.py's logs, by their seconds, as `git rev-list` printed them: of itself for `newest`, with `--date-order`
+# The commits of scripts/logs.py, by their seconds, as `git rev-list` printed them: of itself for `newest`, with `--date-order`
 # and `--topo-order`, and with `--first-parent`. A hidden commit is `^` there.
 LISTS = {
     ("newest", "all"): {
@@ -73,7 +73,7 @@ LISTS = {
     },
 }
 
-# How many ids `git rev-parse --disambiguate` printed for these digits, in repositories with the objects of scripts/cases.py's short ids.
+# How many ids `git rev-parse --disambiguate` printed for these digits, in repositories with the objects of scripts/short_ids.py.
 BEGUN = {
     "sha1": {"6668": 2, "e3f1": 2, "b6fc": 1, "E3F1": 2, "8917": 1},
     "sha256": {"81c6": 2, "9a2b": 2, "8aec": 1, "9A2B": 2, "ff8f": 1},

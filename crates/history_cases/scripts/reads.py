@@ -1,4 +1,4 @@
-"""Which objects a command must ask for, told over the plain repository's whole file maps: the counts of readings in cases.py are held
+"""Which objects a command must ask for, told over the plain repository's whole file maps: the counts of readings by hand are held
 against this.
 
 Each word asks once for the object that its name holds, or whose id it begins, since that may be a commit, a tag or neither. Besides, a

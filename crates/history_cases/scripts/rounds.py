@@ -4,7 +4,7 @@ more, and a round behind it. What each stop leaves is the repository before the 
 from copy import deepcopy
 
 from case_words import word
-from cases import KINDS, PACK, PUT_HELLO, branch, move, tag, told
+from streams import KINDS, PACK, PUT_HELLO, branch, move, tag, told
 from plain import Plain
 
 MAIN, X, Y, V, W = b"refs/heads/main", b"refs/heads/x", b"refs/heads/y", b"refs/tags/v", b"refs/tags/w"

@@ -9,7 +9,7 @@ use Rattle.gix_hash_id.specs.Spelling.{IsHexOf}
 use Rattle.gix_hash_id.specs.declared.kind.Kind.{Kind}
 use Rattle.gix_object_lines.specs.NameTest.{is_partial_name, is_full_name, is_capitals, has_slash}
 use Rattle.gix_ref_name.specs.Targets.{ToObject, ToName}
-use Rattle.gix_ref_format.specs.LogLine.{line_text as log_line_text}
+use Rattle.gix_ref_log.specs.LogLine.{line_text as log_line_text}
 use Rattle.gix_ref_format.specs.Lookup.{packed_key}
 use Rattle.gix_ref_format.specs.Loose.{loose_target, loose_text, referent, leading_id, is_symbolic, ends_word}
 use Rattle.gix_ref_format.proofs.WrittenLemmas.{name_reads}

@@ -3,7 +3,7 @@ use Rattle.std.specs.Prelude.{◌≡◌, not, ◌&&◌, ◌∷◌, filter, Optio
 use Rattle.gix_hash_id.specs.Id.{Id}
 use Rattle.gix_hash_id.specs.declared.kind.Kind.{Kind}
 use Rattle.gix_ref_name.specs.Targets.{ToObject, ToName}
-use Rattle.gix_ref_format.specs.LogLine.{line_text}
+use Rattle.gix_ref_log.specs.LogLine.{line_text}
 use Rattle.gix_ref_format.specs.Lookup.{packed_key, word_names}
 use Rattle.gix_ref_format.specs.Loose.{loose_target}
 use Rattle.history_model.specs.Bytes.{Bytes, begins, line}

@@ -3,16 +3,16 @@
 ghost use Rattle.std.specs.Prelude.{◌≡◌, [], None, is_some, length, option_map, IfOk, IfErr, IfSome, IsSome, IsErrOf};
 ghost use Rattle.gix_ref_file.specs.Tree.{bytes_at};
 ghost use Rattle.gix_ref_name.specs.Names.{name_of};
-ghost use Rattle.gix_ref_format.specs.LogForward.{lines_of};
-ghost use Rattle.gix_ref_format.specs.LogReverse.{stand_of};
+ghost use Rattle.gix_ref_log.specs.LogForward.{lines_of};
+ghost use Rattle.gix_ref_log.specs.LogReverse.{stand_of};
 ghost use Rattle.gix_ref_store.specs.Logs.{ReadsForward, ReadsBackward, BackFault, MayTell, log_text, told_of};
 ghost use Rattle.gix_ref_store.specs.LogReaders.{IsBegun, IsOfLog};
 ghost use Rattle.gix_ref_store.specs.declared.store.file.log.Error.TheVariants.{Io, Memory};
-ghost use Rattle.gix_ref_format.specs.declared.log.iter.error.IoError.TheVariants.{NoBuffer};
+ghost use Rattle.gix_ref_log.specs.declared.iter.error.IoError.TheVariants.{NoBuffer};
 
 use crate::store::file::Store;
 use gix_ref_file::{FileError, Files, Place};
-use gix_ref_format::log::iter::{Forward, IoError, ReadAt, Reverse, forward, reverse};
+use gix_ref_log::iter::{Forward, IoError, ReadAt, Reverse, forward, reverse};
 use gix_ref_name::FullNameRef;
 use std::alloc::{AllocError, Global};
 use thiserror::Error;

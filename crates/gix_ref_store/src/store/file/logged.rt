@@ -2,15 +2,15 @@
 
 ghost use Rattle.std.specs.Prelude.{IfErr, IfOk, IfSome, option_map};
 ghost use Rattle.gix_ref_name.specs.Names.{name_of};
-ghost use Rattle.gix_ref_format.specs.LogForward.{lines_of};
-ghost use Rattle.gix_ref_format.specs.LogReverse.{stand_of};
+ghost use Rattle.gix_ref_log.specs.LogForward.{lines_of};
+ghost use Rattle.gix_ref_log.specs.LogReverse.{stand_of};
 ghost use Rattle.gix_ref_store.specs.Logs.{ReadsForward, ReadsBackward, BackFault, MayTell, log_text};
 ghost use Rattle.gix_ref_store.specs.LogReaders.{IsBegun, IsOfLog};
 
 use crate::store::file::Store;
 use crate::store::file::log::{Error, LogFile};
 use gix_ref_file::Files;
-use gix_ref_format::log::iter::{Forward, Reverse};
+use gix_ref_log::iter::{Forward, Reverse};
 use gix_ref_name::FullNameRef;
 use std::alloc::Global;
 

@@ -1,18 +1,18 @@
 //! The logs of loose references.
 
 ghost use Rattle.std.specs.Prelude.{◌≡◌, [], ℕ, List, None, is_some, length, IfErr, IfOk, IfSome, IsSome, IsErrOf, option_map};
-ghost use Rattle.gix_ref_format.specs.LogForward.{lines_of};
-ghost use Rattle.gix_ref_format.specs.LogReverse.{stand_of};
+ghost use Rattle.gix_ref_log.specs.LogForward.{lines_of};
+ghost use Rattle.gix_ref_log.specs.LogReverse.{stand_of};
 ghost use Rattle.gix_ref_store.specs.Logs.{ReadsForward, ReadsBackward, BackFault, MayTell, log_text};
 ghost use Rattle.gix_ref_store.specs.LogReaders.{IsBegun, IsOfLog};
 ghost use Rattle.gix_ref_store.specs.declared.store.file.log.Error.TheVariants.{Io};
-ghost use Rattle.gix_ref_format.specs.declared.log.iter.error.IoError.TheVariants.{NoBuffer};
+ghost use Rattle.gix_ref_log.specs.declared.iter.error.IoError.TheVariants.{NoBuffer};
 
 use crate::store::file::Store;
 use crate::store::file::log::{Error, LogFile};
 use gix_ref_file::Files;
-use gix_ref_format::log::iter::{Forward, Reverse};
 use gix_ref_format::loose::Reference;
+use gix_ref_log::iter::{Forward, Reverse};
 use std::alloc::Global;
 
 /// What a loose reference tells of its log, with its store.

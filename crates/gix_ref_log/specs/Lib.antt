@@ -1,0 +1,9 @@
+pub mod LogLine
+pub mod LogCuts
+pub mod LogViews
+pub mod LogOwned
+pub mod LogForward
+pub mod LogFound
+pub mod LogPlace
+pub mod LogBackward
+pub mod LogReverse

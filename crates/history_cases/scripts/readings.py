@@ -1,0 +1,54 @@
+"""Rows of how many objects a command reads, and of readers that fail."""
+
+import reads
+from case_words import word
+from plain import Plain, Reader
+from streams import FEW, INPUT, KINDS, MANY, ONE, PUT_HELLO, ROWS, branch, log_at, reading, tag, told
+
+
+def asking(kind, made, commands):
+    """Which of these commands ask for an object, and which for a name."""
+    plain, rows_, objects, names = Plain(kind), (), [], []
+    plain.run(made)
+    for at, text in enumerate(commands):
+        command = Reader(text).command()
+        objects += [at] if reads.objects(plain, rows_, command) else []
+        names += [at] if reads.names(command) else []
+        rows_ = set(plain.commits) if command == ("index",) else rows_
+    return objects, names
+
+
+def readings():
+    """How many objects are read: what the name holds, to see whether it is a tag, then the commit, the trees on the way, and no content but
+    the one that is asked for."""
+    asked = [(b"show main\n", 2), (b"files main\n", 5), (b"show main path 5\na/b/c\n", 6), (b"show main path 1\nd\n", 4),
+             (b"show main path 3\na/b\n", 4), (b"show main path 5\na/b/x\n", 5)]
+    for kind in KINDS:
+        for commit in (FEW, MANY):
+            for command, count in asked:
+                reading(kind, commit + ONE, command, count)
+        # A tag is read, and then its commit, of which a row may tell.
+        tagged = PUT_HELLO + tag(b"refs/tags/v new main")
+        held = Plain(kind)
+        held.run(tagged)
+        for command, count in [(b"show v\n", 2), (b"files v\n", 3), (b"show %s\n" % held.names[b"refs/tags/v"][:9], 2),
+                               (b"log breadth all +v\n", 2)]:
+            reading(kind, tagged, command, count)
+        reading(kind, tagged + b"index\n", b"log breadth all +v\n", 1)
+        # A log with paths walks, and then reads each commit with its first parent, and of both each tree on the paths once.
+        three = branch(b"refs/heads/m new", 1, b"put file 1 1\na\nx\n") + branch(b"refs/heads/m any", 2, b"put file 3 1\nb/c\ny\n") \
+            + branch(b"refs/heads/m any", 3, b"put file 1 1\na\nz\n")
+        for paths, count in [((b"a",), 4 + 10), ((b"a", b"b"), 4 + 10), ((b"b/c", b"a", b"b/d"), 4 + 13), ((b"b/c", b"b", b"b/c"), 4 + 13),
+                             ((b"a/x", b"q/r"), 4 + 10), ((), 4)]:
+            reading(kind, three, log_at(b"breadth all +m", *paths), count)
+            reading(kind, three + b"index\n", log_at(b"breadth all +m", *paths), count - 3)
+
+
+def readers():
+    """A reader that fails behind so many bytes: the commands that came whole are answered."""
+    for kind in KINDS:
+        ended, replies = Plain(kind).run(INPUT)
+        for room in range(len(INPUT) + 2):
+            whole = [(reply, end) for reply, end in replies if end <= room]
+            ROWS.append((f"{kind} create open drops:{room}:{word(INPUT)} failed",
+                         f"created opened {told(ended if room > len(INPUT) else 'Read', whole)} sound"))
