@@ -1,7 +1,7 @@
 //! The words of a line, and the row of a commit that they spell.
 
 use crate::numbers::{id, ids};
-use gix_traverse_commit::{ParentIds, Row};
+use gix_traverse_commit_graph::{ParentIds, Row};
 use std::alloc::Global;
 
 /// The words between spaces. `None` where no memory is left.

@@ -1,42 +1,35 @@
 -- What a walk gives next, and why it ends early.
-use Rattle.std.specs.Prelude.{◌≡◌, ◌⊎◌, ◌<◌, ◌≤◌, ◌+◌, ℕ, IfOk, IfErr, IfSome, IfNone, IsNone, OnErr, Bool, true, false, List, [], ◌∷◌, ◌++◌, length, Option, None, Some, IsSome, ℤ, Result, Contains, take, ⊤, OnOk}
+use Rattle.std.specs.Prelude.{◌≡◌, ◌⊎◌, ◌<◌, ◌≤◌, ◌+◌, ℕ, IfOk, IfErr, IfSome, IfNone, IsNone, OnErr, Bool, true, false, List, [], ◌∷◌, ◌++◌, length, Option, None, IsSome, Result, Contains, take, OnOk}
 use Rattle.gix_hash_id.specs.Id.{Id, id_of}
 use Rattle.gix_hash_id.specs.declared.object_id.ObjectId.{ObjectId}
 use Rattle.gix_object_find.specs.Existing as object
 use Rattle.gix_object_find.specs.Table.{Table}
 use Rattle.gix_object_lines.specs.declared.kind.Kind.TheVariants as kinds
-use Rattle.gix_traverse_commit.specs.Commits.{Commit, Commits, asked_parents}
+use Rattle.gix_traverse_commit_graph.specs.Commits.{Commit, Commits, asked_parents}
 use Rattle.gix_object_lines.specs.Counts.{one_more}
-use Rattle.gix_traverse_commit.specs.Fetching.{ReadFault, TimeFault, TimeIsTold, HasRowsGeneration}
-use Rattle.gix_traverse_commit.specs.Known.{KnownCommits, turns_of}
-use Rattle.gix_traverse_commit.specs.Meeting.{Asks, CountsAll, CountsOne, CountsTimes, IsFresh, MarksAll, MarksMet, accepted}
-use Rattle.gix_traverse_commit.specs.Nodes.{is_met}
-use Rattle.gix_traverse_commit.specs.Painting.{Paints, PaintsSome, ReachedFrom, StaysPainted, StopsPainting}
-use Rattle.gix_traverse_commit.specs.Queueing.{QueuesSome}
-use Rattle.gix_traverse_commit.specs.Rows.{AllHeld, Holds}
-use Rattle.gix_traverse_commit.specs.Told.{AreTold, rows_of}
-use Rattle.gix_traverse_commit.specs.Order.{At, IsListOf}
-use Rattle.gix_traverse_commit.specs.Sorting.{IsNextIn, timing_of}
-use Rattle.gix_traverse_commit.specs.Timely.{AllRowed, LetsWaitIn, TakesTurn}
-use Rattle.gix_traverse_commit.specs.declared.fetch.FetchError.{FetchError}
-use Rattle.gix_traverse_commit.specs.declared.fetch.FetchError.TheVariants as fetch
-use Rattle.gix_traverse_commit.specs.declared.info.Info.{Info}
-use Rattle.gix_traverse_commit.specs.Nodes.{Node}
-use Rattle.gix_traverse_commit.specs.declared.parents.Parents.{Parents}
-use Rattle.gix_traverse_commit.specs.declared.rows.Row.{Row}
-use Rattle.gix_traverse_commit.specs.declared.simple.faults.Error.{Error}
-use Rattle.gix_traverse_commit.specs.declared.simple.faults.Error.TheVariants as fault
-use Rattle.gix_traverse_commit.specs.declared.simple.faults.HiddenGraphError.TheVariants as hidden_fault
+use Rattle.gix_traverse_commit_known.specs.Fetching.{TimeIsTold, HasRowsGeneration}
+use Rattle.gix_traverse_commit_known.specs.Known.{KnownCommits, turns_of}
+use Rattle.gix_traverse_commit_known.specs.Meeting.{Asks, CountsAll, CountsOne, CountsTimes, IsFresh, MarksAll, MarksMet, accepted}
+use Rattle.gix_traverse_commit_known.specs.Nodes.{is_met, Node}
+use Rattle.gix_traverse_commit_known.specs.Painting.{Paints, PaintsSome, ReachedFrom, StaysPainted}
+use Rattle.gix_traverse_commit_known.specs.Queueing.{QueuesSome}
+use Rattle.gix_traverse_commit_graph.specs.Rows.{AllHeld, Holds}
+use Rattle.gix_traverse_commit_known.specs.Told.{AreTold, rows_of}
+use Rattle.gix_traverse_commit_graph.specs.Order.{IsListOf}
+use Rattle.gix_traverse_commit_graph.specs.Sorting.{timing_of, IsTime}
+use Rattle.gix_traverse_commit_known.specs.Timely.{AllRowed, LetsWaitIn, TakesTurn}
+use Rattle.gix_traverse_commit_graph.specs.declared.info.Info.{Info}
+use Rattle.gix_traverse_commit_graph.specs.declared.parents.Parents.{Parents}
+use Rattle.gix_traverse_commit_graph.specs.declared.rows.Row.{Row}
+use Rattle.gix_traverse_commit_known.specs.declared.faults.Error.{Error}
+use Rattle.gix_traverse_commit_known.specs.declared.faults.Error.TheVariants as fault
 use Rattle.gix_traverse_commit.specs.declared.simple.Simple.{Simple}
-use Rattle.gix_traverse_commit.specs.declared.simple.sorting.Sorting.{Sorting}
-use Rattle.gix_traverse_commit.specs.declared.simple.sorting.Timing.{Timing}
-use Rattle.gix_traverse_commit.specs.declared.simple.waiting.Turn.{Turn}
-use Rattle.gix_traverse_commit.specs.Simply.{GainsNone, StaysAsked, TakesOne, left_of, Asked, timing, request_in, Answers, IsSure, IsMade, IsUnderWay, Stands, IsOver}
-
--- the commit's time, where the walk goes by time
-abbrev pub IsTime : Option Timing → Commit ObjectId → Option ℤ → Type 0
-IsTime None commit time = time ≡ None
-IsTime (Some _) commit time = time ≡ Some commit.time
+use Rattle.gix_traverse_commit_graph.specs.declared.sorting.Sorting.{Sorting}
+use Rattle.gix_traverse_commit_graph.specs.declared.sorting.Timing.{Timing}
+use Rattle.gix_traverse_commit_known.specs.declared.waiting.Turn.{Turn}
+use Rattle.gix_traverse_commit.specs.Simply.{GainsNone, StaysAsked, TakesOne, left_of, IsMade, IsUnderWay, Stands, IsOver}
+use Rattle.gix_traverse_commit_known.specs.Asked.{Asked, timing, Answers, IsSure, IsTurn}
+use Rattle.gix_traverse_commit_known.specs.Faults.{SimpleFault, StopsFetch}
 
 -- what is given of a commit
 pub record IsInfo (g : Commits ObjectId) (rows : List Row) (parents : Parents) (sorting : Sorting)
@@ -44,71 +37,6 @@ pub record IsInfo (g : Commits ObjectId) (rows : List Row) (parents : Parents) (
   pub parents_asked : info.parent_ids.items ≡ asked_parents parents g info.id
   pub by_row : HasRowsGeneration rows info.id info.generation
   pub timed : IsTime (timing_of parents sorting) (g info.id) info.commit_time
-
-abbrev pub error_of : FetchError → Error
-error_of (fetch.Find error) = fault.Find error
-error_of (fetch.ObjectDecode error) = fault.ObjectDecode error
-error_of fetch.Memory = fault.Memory
-
-abbrev pub hidden_error : FetchError → Error
-hidden_error (fetch.Find error) = fault.HiddenGraph (hidden_fault.Find error)
-hidden_error (fetch.ObjectDecode error) = fault.HiddenGraph (hidden_fault.ObjectDecode error)
-hidden_error fetch.Memory = fault.Memory
-
--- a commit whose turn it is isn't read, for this cause
-abbrev pub StopsAt : (ObjectId → Type 0) → Parents → Type 0 → Type 0 → List Row → Table → FetchError
-    → Type 0
-StopsAt Turn along honest may_fail rows table error =
-    (id : ObjectId) × Turn id × ReadFault along honest may_fail rows table id error
-
--- this commit isn't read, for this cause
-abbrev pub StopsFetch : Parents → Type 0 → Type 0 → List Row → Table → ObjectId → Error → Type 0
-StopsFetch along honest may_fail rows table id (fault.Find error) =
-    ReadFault along honest may_fail rows table id (fetch.Find error)
-StopsFetch along honest may_fail rows table id (fault.ObjectDecode error) =
-    ReadFault along honest may_fail rows table id (fetch.ObjectDecode error)
-StopsFetch along honest may_fail rows table id (fault.HiddenGraph error) = ⊥
-StopsFetch along honest may_fail rows table id fault.Memory = ⊤
-
--- why the walk ends: a commit whose turn it is, or one that the hidden commits reach, isn't read
-abbrev pub SimpleFault : (ObjectId → Type 0) → Parents → Type 0 → Type 0 → List Row → Table
-    → List ObjectId → Error → Type 0
-SimpleFault Turn along honest may_fail rows table hidden (fault.Find error) =
-    StopsAt Turn along honest may_fail rows table (fetch.Find error)
-SimpleFault Turn along honest may_fail rows table hidden (fault.ObjectDecode error) =
-    StopsAt Turn along honest may_fail rows table (fetch.ObjectDecode error)
-SimpleFault Turn along honest may_fail rows table hidden
-    (fault.HiddenGraph (hidden_fault.Find error)) =
-    StopsPainting honest may_fail rows table hidden (fetch.Find error)
-SimpleFault Turn along honest may_fail rows table hidden
-    (fault.HiddenGraph (hidden_fault.ObjectDecode error)) =
-    StopsPainting honest may_fail rows table hidden (fetch.ObjectDecode error)
-SimpleFault Turn along honest may_fail rows table hidden fault.Memory = ⊤
-
--- its turn is next
-abbrev pub IsTurn : Commits ObjectId → Asked → List ObjectId → ObjectId → Type 0
-IsTurn g a listed id = IsNextIn (timing a) g (request_in (timing a) a) listed id
-
--- the first of the wanted tips whose time isn't read, for this cause
-pub record IsFirstUnread (honest may_fail : Type 0) (rows : List Row) (table : Table)
-    (tips : List ObjectId) (wanted : ObjectId → Type 0) (error : FetchError) : Type 0 where
-  pub id : ObjectId
-  pub place : ℕ
-  pub at : At tips place id
-  pub is_wanted : wanted id
-  pub cause : TimeFault honest may_fail rows table id error
-  pub before : honest → (x : ObjectId) → Contains (take place tips) x → wanted x
-      → TimeIsTold rows table x
-
--- why the time of one of these tips isn't read
-abbrev pub TipFault : Type 0 → Type 0 → List Row → Table → List ObjectId → (ObjectId → Type 0)
-    → Error → Type 0
-TipFault honest may_fail rows table tips wanted (fault.Find error) =
-    IsFirstUnread honest may_fail rows table tips wanted (fetch.Find error)
-TipFault honest may_fail rows table tips wanted (fault.ObjectDecode error) =
-    IsFirstUnread honest may_fail rows table tips wanted (fetch.ObjectDecode error)
-TipFault honest may_fail rows table tips wanted (fault.HiddenGraph error) = ⊥
-TipFault honest may_fail rows table tips wanted fault.Memory = ⊤
 
 -- the commit isn't met
 abbrev pub IsUnmet : List Node → ObjectId → Type 0

@@ -1,28 +1,25 @@
 -- What a walk is asked for, and where it stands.
-use Rattle.std.specs.Prelude.{◌≡◌, ◌⊎◌, ◌↔◌, ◌≤◌, ◌+◌, ℕ, Bool, true, false, not, ◌&&◌, List, [], ◌∷◌, ◌++◌, length, Option, None, Some, Contains, map, if◌then◌else◌}
+use Rattle.std.specs.Prelude.{◌≡◌, ◌⊎◌, ◌↔◌, ◌≤◌, ◌+◌, ℕ, Bool, true, false, ◌&&◌, List, [], ◌∷◌, ◌++◌, length, Option, None, Some, Contains, if◌then◌else◌}
 use Rattle.std.specs.List.{sum_by}
 use Rattle.gix_hash_id.specs.Id.{Id, id_of}
 use Rattle.gix_hash_id.specs.declared.kind.Kind as hash
 use Rattle.gix_hash_id.specs.declared.object_id.ObjectId.{ObjectId}
-use Rattle.gix_traverse_commit.specs.Commits.{Commits, WalkRequest, asked_parents}
-use Rattle.gix_traverse_commit.specs.Ending.{NoneGains, is_empty, may_come, times_in, times_waiting}
-use Rattle.gix_traverse_commit.specs.Known.{turns_of, waited_of}
-use Rattle.gix_traverse_commit.specs.Keeping.{Kept, KeptAll}
-use Rattle.gix_traverse_commit.specs.Nodes.{is_asked, is_hidden, is_met}
-use Rattle.gix_traverse_commit.specs.Painting.{IsUnpainted, ReachedFrom}
-use Rattle.gix_traverse_commit.specs.Rows.{Holds}
-use Rattle.gix_traverse_commit.specs.Told.{rows_of}
-use Rattle.gix_traverse_commit.specs.Standing.{Reads}
-use Rattle.gix_traverse_commit.specs.Order.{IsOpen}
-use Rattle.gix_traverse_commit.specs.Sorting.{ComesFirst, InOrder, cutoff_in, timing_of}
-use Rattle.gix_traverse_commit.specs.Timely.{IsChosenSoFar, IsMetSoFar, keep_since}
-use Rattle.gix_traverse_commit.specs.declared.fetch.Source.{Source}
-use Rattle.gix_traverse_commit.specs.Nodes.{Node}
-use Rattle.gix_traverse_commit.specs.declared.parents.Parents.{Parents}
-use Rattle.gix_traverse_commit.specs.declared.rows.Row.{Row}
+use Rattle.gix_traverse_commit_graph.specs.Commits.{Commits, asked_parents}
+use Rattle.gix_traverse_commit_known.specs.Ending.{NoneGains, is_empty, may_come, times_in, times_waiting, known_ids}
+use Rattle.gix_traverse_commit_known.specs.Known.{turns_of, waited_of}
+use Rattle.gix_traverse_commit_known.specs.Keeping.{Kept, KeptAll}
+use Rattle.gix_traverse_commit_known.specs.Nodes.{is_hidden, is_met}
+use Rattle.gix_traverse_commit_known.specs.Painting.{ReachedFrom}
+use Rattle.gix_traverse_commit_known.specs.Told.{rows_of}
+use Rattle.gix_traverse_commit_graph.specs.Standing.{Reads}
+use Rattle.gix_traverse_commit_graph.specs.Order.{IsOpen}
+use Rattle.gix_traverse_commit_graph.specs.Sorting.{ComesFirst}
+use Rattle.gix_traverse_commit_known.specs.Timely.{IsChosenSoFar, IsMetSoFar, keep_since}
+use Rattle.gix_traverse_commit_known.specs.declared.fetch.Source.{Source}
+use Rattle.gix_traverse_commit_graph.specs.declared.rows.Row.{Row}
 use Rattle.gix_traverse_commit.specs.declared.simple.Simple.{Simple}
-use Rattle.gix_traverse_commit.specs.declared.simple.sorting.Sorting.{Sorting}
-use Rattle.gix_traverse_commit.specs.declared.simple.sorting.Timing.{Timing}
+use Rattle.gix_traverse_commit_graph.specs.declared.sorting.Timing.{Timing}
+use Rattle.gix_traverse_commit_known.specs.Asked.{AcceptsAs, AreRefused, Asked, IsKnown, keep_of, timing}
 
 -- ---- what a clause says of a walk
 
@@ -78,10 +75,6 @@ TakesOne before id after =
     → may_come after.known.nodes (times_queued after) (id_of x) + times_in (id ∷ []) (id_of x)
     ≤ may_come before.known.nodes (times_queued before) (id_of x)
 
--- the ids of the rows, and these
-abbrev pub known_ids : List Row → List Id → List Id
-known_ids rows ids = map (λ (row : Row). id_of row.id) rows ++ ids
-
 -- what is left of a walk, of the ids of its rows and these: each once where it isn't met, and as often as it is queued or waits. An id
 -- that is a row's and one of these as well counts twice
 abbrev pub left_of : {F P : Type 0} → List Id → Simple F P → ℕ
@@ -97,65 +90,6 @@ pub record StaysAsked {F P : Type 0} (before after : Simple F P) : Type 0 where
   pub parents : after.parents ≡ before.parents
   pub sorting : after.sorting ≡ before.sorting
   pub hidden : after.hidden.items ≡ before.hidden.items
-
--- what a walk is asked for
-pub record Asked : Type 0 where
-  pub tips : List ObjectId
-  pub hidden : List ObjectId
-  pub parents : Parents
-  pub sorting : Sorting
-  pub accepts : Id → Bool
-
--- the order by time, where it goes by time
-abbrev pub timing : Asked → Option Timing
-timing a = timing_of a.parents a.sorting
-
--- the same in the words of all walks
-abbrev pub request_in : Option Timing → Asked → WalkRequest ObjectId
-request_in t a =
-    record {
-      tips =
-          a.tips;
-      hidden =
-          a.hidden;
-      parents = a.parents;
-      since = cutoff_in t;
-      accepts = λ x. a.accepts (id_of x);
-    }
-
--- the list is what the walk is asked for
-abbrev pub Answers : Commits ObjectId → Asked → List ObjectId → Type 0
-Answers g a listed = InOrder (timing a) g (request_in (timing a) a) listed
-
--- it goes in breadth order, or over a store whose lookups don't fail
-abbrev pub IsSure : Type 0 → Asked → Type 0
-IsSure may_fail a = (timing a ≡ None) ⊎ (¬ may_fail)
-
--- the tips that are refused are marked, and of the others only what is refused; nothing is painted
-pub record AreRefused (accepts : Id → Bool) (tips : List ObjectId)
-    (nodes : List Node) : Type 0 where
-  pub refused : (x : ObjectId) → is_met nodes x ≡ true → accepts (id_of x) ≡ false
-  pub accepted : (x : ObjectId) → Contains tips x → is_met nodes x ≡ false
-      → accepts (id_of x) ≡ true
-  pub unpainted : IsUnpainted nodes
-
--- the same, where the predicate was asked of these tips
-pub record AreAsked (accepts : Id → Bool) (tips : List ObjectId) (nodes : List Node) : Type 0 where
-  pub refused : (x : ObjectId) → is_met nodes x ≡ true → accepts (id_of x) ≡ false
-  pub accepted : (x : ObjectId) → Contains tips x → is_met nodes x ≡ false
-      → accepts (id_of x) ≡ true
-  pub asked : (x : ObjectId) → is_asked nodes x ≡ true → is_met nodes x ≡ false
-      → accepts (id_of x) ≡ true
-  pub unpainted : IsUnpainted nodes
-
--- the walk goes to no commit that the predicate refuses, and of those that weren't met to each that it accepts
-pub record AcceptsAs (accepts : Id → Bool) (nodes : List Node) (a : Asked) : Type 0 where
-  pub given : (x : ObjectId) → a.accepts (id_of x) ≡ true → accepts (id_of x) ≡ true
-  pub unmet : (x : ObjectId) → is_met nodes x ≡ false → accepts (id_of x) ≡ a.accepts (id_of x)
-
--- the commit has a row, or is among these ids
-abbrev pub IsKnown : List Row → List Id → ObjectId → Type 0
-IsKnown rows ids x = Holds rows x ⊎ Contains ids (id_of x)
 
 -- a walk that has not begun, from these tips
 pub record IsNew {F P : Type 0} (accepts : P → Id → Bool) (a : Asked)
@@ -203,10 +137,6 @@ pub record IsPaintedFor {F P : Type 0} (accepts : P → Id → Bool) (g : Commit
   pub painted : (x : ObjectId) → (is_hidden walk.known.nodes x ≡ true) ↔ ReachedFrom g a.hidden x
   pub empty : walk.known.queue ≡ []
   pub none_waits : turns_of walk.known ≡ []
-
--- accepted, and not hidden
-abbrev pub keep_of : (ObjectId → Bool) → (Id → Bool) → ObjectId → Bool
-keep_of hides accepts x = not (hides x) && accepts (id_of x)
 
 -- a walk that has begun and given this list, of commits that have a row or are among these ids: the list with its queue has
 -- all that the list's parents name

@@ -1,24 +1,38 @@
 //! Walks over commits, after the module `commit` of the crate `gix-traverse` 0.61.
 #![tactic(auto)]
 
-mod accept;
-mod either;
-pub mod fetch;
-mod info;
-pub mod known;
-pub mod laws;
-pub mod nodes;
 pub mod paint;
-mod parents;
-mod rows;
-pub mod sample;
 pub mod simple;
-mod walk;
 
-pub use crate::accept::{Accept, All};
-pub use crate::either::{Either, find};
-pub use crate::info::{Info, ParentIds};
-pub use crate::parents::Parents;
-pub use crate::rows::{GENERATION_LIMIT, Graph, Row, RowsError};
+/// Reading the commits that a walk comes to.
+pub mod fetch {
+    pub use gix_traverse_commit_known::fetch::{FetchError, Fetched, Source, asked_of};
+}
+
+/// The commits that a walk knows, and those that are queued or wait, by their numbers.
+pub mod known {
+    pub use gix_traverse_commit_known::known::Known;
+}
+
+/// Laws over the definitions alone.
+pub mod laws {
+    pub use gix_traverse_commit_graph::laws::{
+        breadth_is_one, orders_list_one_set, topological_is_one,
+    };
+}
+
+/// The commits that a walk knows, by their numbers, and what was marked of each.
+pub mod nodes {
+    pub use gix_traverse_commit_known::nodes::{Marks, Nodes, Number};
+}
+
+/// The sample history, by the definitions.
+pub mod sample {
+    pub use gix_traverse_commit_graph::sample::{rows, slow_rows};
+}
+
 pub use crate::simple::Simple;
-pub use crate::walk::{WalkError, breadth_first};
+pub use gix_traverse_commit_graph::{
+    GENERATION_LIMIT, Graph, Info, ParentIds, Parents, Row, RowsError, WalkError, breadth_first,
+};
+pub use gix_traverse_commit_known::{Accept, All, Either, find};

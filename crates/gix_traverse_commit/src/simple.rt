@@ -5,35 +5,45 @@ ghost use Rattle.std.specs.Iterator.{at_most};
 ghost use Rattle.gix_hash_id.specs.Id.{Id};
 ghost use Rattle.gix_hash_id.specs.declared.object_id.ObjectId.{ObjectId};
 ghost use Rattle.gix_object_commit_tokens.specs.Tokens.{place_of, start};
-ghost use Rattle.gix_traverse_commit.specs.Commits.{Commits};
-ghost use Rattle.gix_traverse_commit.specs.Fetching.{TimeIsTold};
-ghost use Rattle.gix_traverse_commit.specs.Meeting.{AsksOnce, CountsTimes, accepted};
-ghost use Rattle.gix_traverse_commit.specs.Rows.{AllHeld};
-ghost use Rattle.gix_traverse_commit.specs.Simply.{Asked, GainsNone, HasAhead, IsMade, IsUnderWay, IsOver, IsKnown, answers_left, predicate_of, source_of, objects_of, graph_of, lookups_of, content_of, kind_of};
-ghost use Rattle.gix_traverse_commit.specs.Giving.{IsAccepted, TipFault, GivesNext};
-ghost use Rattle.gix_traverse_commit.specs.Sorting.{IsByTime, timing_of};
-ghost use Rattle.gix_traverse_commit.specs.Told.{rows_of};
-ghost use Rattle.gix_traverse_commit.specs.declared.parents.Parents.TheVariants.{All as AllParents};
-ghost use Rattle.gix_traverse_commit.specs.declared.simple.sorting.Sorting.TheVariants.{BreadthFirst};
-ghost use Rattle.gix_traverse_commit.specs.declared.simple.faults.Error.TheVariants.{Memory};
+ghost use Rattle.gix_traverse_commit_graph.specs.Commits.{Commits};
+ghost use Rattle.gix_traverse_commit_known.specs.Fetching.{TimeIsTold};
+ghost use Rattle.gix_traverse_commit_known.specs.Meeting.{AsksOnce, CountsTimes, accepted};
+ghost use Rattle.gix_traverse_commit_graph.specs.Rows.{AllHeld};
+ghost use Rattle.gix_traverse_commit_known.specs.Asked.{Asked, IsKnown};
+ghost use Rattle.gix_traverse_commit.specs.Simply.{GainsNone, HasAhead, IsMade, IsUnderWay, IsOver, answers_left, predicate_of, source_of, objects_of, graph_of, lookups_of, content_of, kind_of};
+ghost use Rattle.gix_traverse_commit.specs.Giving.{IsAccepted, GivesNext};
+ghost use Rattle.gix_traverse_commit_known.specs.Faults.{TipFault};
+ghost use Rattle.gix_traverse_commit_graph.specs.Sorting.{IsByTime, timing_of};
+ghost use Rattle.gix_traverse_commit_known.specs.Told.{rows_of};
+ghost use Rattle.gix_traverse_commit_graph.specs.declared.parents.Parents.TheVariants.{All as AllParents};
+ghost use Rattle.gix_traverse_commit_graph.specs.declared.sorting.Sorting.TheVariants.{BreadthFirst};
+ghost use Rattle.gix_traverse_commit_known.specs.declared.faults.Error.TheVariants.{Memory};
 
-mod anew;
-mod faults;
-mod meet;
-pub mod sorting;
 mod steps;
 mod timed;
-pub mod waiting;
 
-use crate::fetch::Source;
-use crate::known::Known;
-pub use crate::simple::faults::{Error, HiddenGraphError};
-use crate::simple::meet::ask_tips;
-pub use crate::simple::sorting::{CommitTimeOrder, Sorting};
-use crate::{Accept, All, Graph, Info, Parents};
+/// The orders of a walk.
+pub mod sorting {
+    pub use gix_traverse_commit_graph::sorting::{
+        CommitTimeOrder, Sorting, Timing, is_in_time, shown_time, time_order,
+    };
+}
+
+/// The commits that wait in a walk by time, by their numbers, in the order of their times.
+pub mod waiting {
+    pub use gix_traverse_commit_known::waiting::{Pending, Turn, Waiting};
+}
+
 use gix_hash::{Kind, ObjectId};
 use gix_object_commit_tokens::CommitRefIter;
 use gix_object_find::Find;
+pub use gix_traverse_commit_graph::sorting::{CommitTimeOrder, Sorting};
+use gix_traverse_commit_graph::{Graph, Info, Parents};
+pub use gix_traverse_commit_known::faults::{Error, HiddenGraphError};
+use gix_traverse_commit_known::fetch::Source;
+use gix_traverse_commit_known::known::Known;
+use gix_traverse_commit_known::meet::ask_tips;
+use gix_traverse_commit_known::{Accept, All};
 use std::alloc::Global;
 
 /// A walk over the commits that some tips reach, past none that the predicate refuses or a hidden commit reaches, each once.

@@ -4,11 +4,11 @@ use Rattle.std.specs.Prelude.{Result, Ok, Err, IfOk, IfErr, OnErr, IfSome, IfNon
 use Rattle.std.specs.Iterator.{MakesProgress, at_most}
 use Rattle.gix_hash_id.specs.Id.{Id, id_of}
 use Rattle.gix_hash_id.specs.declared.object_id.ObjectId.{ObjectId}
-use Rattle.gix_traverse_commit.specs.Commits.{Commits}
-use Rattle.gix_traverse_commit.specs.Ending.{is_empty}
-use Rattle.gix_traverse_commit.specs.declared.info.Info.{Info}
-use Rattle.gix_traverse_commit.specs.declared.parents.Parents.{Parents}
-use Rattle.gix_traverse_commit.specs.declared.rows.Row.{Row}
+use Rattle.gix_traverse_commit_graph.specs.Commits.{Commits}
+use Rattle.gix_traverse_commit_known.specs.Ending.{is_empty}
+use Rattle.gix_traverse_commit_graph.specs.declared.info.Info.{Info}
+use Rattle.gix_traverse_commit_graph.specs.declared.parents.Parents.{Parents}
+use Rattle.gix_traverse_commit_graph.specs.declared.rows.Row.{Row}
 use Rattle.gix_traverse_topo.specs.Giving.{AsksEach, AsksFault, AsksRest, GivesNext, answers_left, left_of}
 use Rattle.gix_traverse_topo.specs.Standing.{Answers, IsInfo, IsTurn, NoneReachesItself, Stands, all_accepted, topo_request}
 use Rattle.gix_traverse_topo.specs.Waiting.{waiting}
@@ -16,7 +16,7 @@ use Rattle.gix_traverse_topo.specs.declared.error.Error.{Error}
 use Rattle.gix_traverse_topo.specs.declared.error.Error.TheVariants.{Memory}
 use Rattle.gix_traverse_topo.specs.declared.init.Sorting.{Sorting}
 use Rattle.gix_traverse_topo.specs.declared.iter.Topo.{Topo}
-use Rattle.gix_traverse_commit.proofs.Ending.{empty_from, empty_test, fewer_left, none_left}
+use Rattle.gix_traverse_commit_known.proofs.Ending.{empty_from, empty_test, fewer_left, none_left}
 
 ok_then : (r : Option (Result Info Error)) (P Q : Info → Type 0) → IfSome r (λ a. IfOk a P) → ((info : Info) → P info → Q info) → IfSome r (λ a. IfOk a Q)
 ok_then None P Q h f = tt

@@ -4,13 +4,13 @@ use Rattle.std.specs.Prelude.{min}
 use Rattle.std.proofs.lemmas.Option.{slice_get_within}
 use Rattle.gix_hash_id.specs.declared.object_id.ObjectId.{ObjectId}
 use Rattle.gix_object_lines.specs.Counts.{one_more}
-use Rattle.gix_traverse_commit.specs.Meeting.{CountsAll, CountsOne}
-use Rattle.gix_traverse_commit.specs.Order.{At}
-use Rattle.gix_traverse_commit.specs.declared.rows.Row.{Row}
-use Rattle.gix_traverse_commit.proofs.Lists.{none_at_nil}
-use Rattle.gix_traverse_commit.proofs.Meeting.{counts_more, counts_one}
+use Rattle.gix_traverse_commit_known.specs.Meeting.{CountsAll, CountsOne}
+use Rattle.gix_traverse_commit_graph.specs.Order.{At}
+use Rattle.gix_traverse_commit_graph.specs.declared.rows.Row.{Row}
+use Rattle.gix_traverse_commit_graph.proofs.Lists.{none_at_nil}
+use Rattle.gix_traverse_commit_known.proofs.Meeting.{counts_more, counts_one}
 use Rattle.gix_traverse_topo.proofs.Turns.{take_whole}
-use Rattle.gix_traverse_commit.proofs.Simply.{take_push}
+use Rattle.gix_traverse_commit_known.proofs.Simply.{take_push}
 
 -- one was asked for each time that one more was read, as far as the counter goes
 pub record IsCountedFrom (first few count many : ℕ) : Type 0 where

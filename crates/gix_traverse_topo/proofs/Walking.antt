@@ -6,17 +6,17 @@ use Rattle.std.proofs.lemmas.Option.{slice_get_within, slice_get-get_or}
 use Rattle.gix_hash_id.specs.declared.object_id.ObjectId.{ObjectId}
 use Rattle.gix_hash_id.specs.declared.object_id.ObjectId.TheVariants.{Sha1}
 use Rattle.gix_object_find.specs.Table.{Table}
-use Rattle.gix_traverse_commit.specs.Commits.{Commits, asked, asked_parents, Reached}
-use Rattle.gix_traverse_commit.specs.Numbered.{same_id}
-use Rattle.gix_traverse_commit.specs.Order.{At, Named}
-use Rattle.gix_traverse_commit.specs.Reading.{Read}
-use Rattle.gix_traverse_commit.specs.Standing.{NotIn}
-use Rattle.gix_traverse_commit.specs.declared.parents.Parents.{Parents}
-use Rattle.gix_traverse_commit.specs.declared.rows.Row.{Row}
-use Rattle.gix_traverse_commit.proofs.Frontier.{read_none, read_next, read_all}
-use Rattle.gix_traverse_commit.proofs.Lists.{at_one, at_push, once_push, take_agree, three}
-use Rattle.gix_traverse_commit.proofs.Ids.{same_id_apart}
-use Rattle.gix_traverse_commit.proofs.Slow.{any_from_contains}
+use Rattle.gix_traverse_commit_graph.specs.Commits.{Commits, asked, asked_parents, Reached}
+use Rattle.gix_traverse_commit_graph.specs.Numbered.{same_id}
+use Rattle.gix_traverse_commit_graph.specs.Order.{At, Named}
+use Rattle.gix_traverse_commit_graph.specs.Reading.{Read}
+use Rattle.gix_traverse_commit_graph.specs.Standing.{NotIn}
+use Rattle.gix_traverse_commit_graph.specs.declared.parents.Parents.{Parents}
+use Rattle.gix_traverse_commit_graph.specs.declared.rows.Row.{Row}
+use Rattle.gix_traverse_commit_graph.proofs.Frontier.{read_none, read_next, read_all}
+use Rattle.gix_traverse_commit_graph.proofs.Lists.{at_one, at_push, once_push, take_agree, three}
+use Rattle.gix_traverse_commit_graph.proofs.Ids.{same_id_apart}
+use Rattle.gix_traverse_commit_graph.proofs.Slow.{any_from_contains}
 use Rattle.gix_traverse_topo.specs.Meeting.{IsRow, Met, Walks}
 use Rattle.gix_traverse_topo.specs.Nodes.{all_facts, counts, EachCount, IsOnce, AreFacts, NamesAre, ParentsFrom, ParentsIn}
 use Rattle.gix_traverse_topo.specs.Turns.{names_of, times}
@@ -27,7 +27,7 @@ use Rattle.gix_traverse_topo.proofs.Counting.{names_as, names_more, names_none, 
 use Rattle.gix_traverse_topo.proofs.Degree.{total_push}
 use Rattle.gix_traverse_topo.proofs.Meeting.{MetSo, asked_same, at_back, at_length_append, keys_more, length_map, map_push, meet_more, met_all, met_once, row_met}
 use Rattle.gix_traverse_topo.proofs.Updates.{at_within, whole}
-use Rattle.gix_traverse_commit.proofs.Simply.{take_push}
+use Rattle.gix_traverse_commit_known.proofs.Simply.{take_push}
 
 long_told : (nodes : List Node) → length (all_facts nodes) ≡ length nodes
 long_told nodes = length_map (λ (node : Node). node.facts) nodes

@@ -2,13 +2,13 @@
 use Rattle.std.specs.Prelude.{◌≡◌, ℕ, ◌+◌, ◌<◌, ◌≤◌, pos, List, [], map, Contains, IsSome, IfSome, None, Some}
 use Rattle.gix_hash_id.specs.declared.object_id.ObjectId.{ObjectId}
 use Rattle.gix_object_find.specs.Table.{Table}
-use Rattle.gix_traverse_commit.specs.Commits.{Commits}
-use Rattle.gix_traverse_commit.specs.Fetching.{HasRowsGeneration}
-use Rattle.gix_traverse_commit.specs.Order.{At}
-use Rattle.gix_traverse_commit.specs.Told.{AreTold}
-use Rattle.gix_traverse_commit.specs.declared.rows.Row.{Row}
-use Rattle.gix_traverse_commit.specs.declared.fetch.FetchError.{FetchError}
-use Rattle.gix_traverse_commit.specs.declared.fetch.FetchError.TheVariants as fetch
+use Rattle.gix_traverse_commit_graph.specs.Commits.{Commits}
+use Rattle.gix_traverse_commit_known.specs.Fetching.{HasRowsGeneration}
+use Rattle.gix_traverse_commit_graph.specs.Order.{At}
+use Rattle.gix_traverse_commit_known.specs.Told.{AreTold}
+use Rattle.gix_traverse_commit_graph.specs.declared.rows.Row.{Row}
+use Rattle.gix_traverse_commit_known.specs.declared.fetch.FetchError.{FetchError}
+use Rattle.gix_traverse_commit_known.specs.declared.fetch.FetchError.TheVariants as fetch
 use Rattle.gix_traverse_topo.specs.Faults.{IsFaultOf, error_of}
 use Rattle.gix_traverse_topo.specs.declared.known.Node.{Node}
 use Rattle.gix_traverse_topo.specs.declared.known.Facts.{Facts}

@@ -6,7 +6,7 @@ ghost use Rattle.gix_traverse_topo.specs.declared.error.Error.TheVariants.{Find,
 
 use gix_object_find::find::existing_iter;
 use gix_object_lines::decode;
-use gix_traverse_commit::fetch::FetchError;
+use gix_traverse_commit_known::fetch::FetchError;
 use std::alloc::{AllocError, AllocFailed};
 
 /// Why a walk isn't built, or ends early.

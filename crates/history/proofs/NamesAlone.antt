@@ -27,8 +27,8 @@ use Rattle.history_steps.proofs.PassedNames.{moving_stops, nothing_stops, values
 use Rattle.history_steps.proofs.TreePuts.{halves_stand}
 use Rattle.history_store.specs.Face.{ids_of_objects}
 use Rattle.history_store.specs.Packing.{KeepsRecords}
-use Rattle.gix_traverse_commit.specs.Told.{rows_of}
-use Rattle.gix_traverse_commit.specs.declared.rows.Row.{Row}
+use Rattle.gix_traverse_commit_known.specs.Told.{rows_of}
+use Rattle.gix_traverse_commit_graph.specs.declared.rows.Row.{Row}
 use Rattle.history.specs.Acts.{Acts}
 use Rattle.history.specs.Face.{objects_part, names_part, rows_in, KeepsAllButNames}
 use Rattle.history.specs.Indexed.{AgreeRows}

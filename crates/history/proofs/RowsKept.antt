@@ -6,11 +6,11 @@ use Rattle.std.specs.declared.alloc.Global.{Global}
 use Rattle.std.proofs.lemmas.List.{length-map}
 use Rattle.gix_hash_id.specs.Id.{Id, id_of}
 use Rattle.gix_hash_id.specs.declared.kind.Kind.{Kind}
-use Rattle.gix_traverse_commit.specs.Rows.{AreRows, IsRowsFault}
-use Rattle.gix_traverse_commit.specs.declared.rows.Row.{Row}
-use Rattle.gix_traverse_commit.specs.declared.rows.RowsError.{RowsError}
-use Rattle.gix_traverse_commit.specs.declared.rows.RowsError.TheVariants as rows_errors
-use Rattle.gix_traverse_commit.proofs.Lists.{none_at_nil}
+use Rattle.gix_traverse_commit_graph.specs.Rows.{AreRows, IsRowsFault}
+use Rattle.gix_traverse_commit_graph.specs.declared.rows.Row.{Row}
+use Rattle.gix_traverse_commit_graph.specs.declared.rows.RowsError.{RowsError}
+use Rattle.gix_traverse_commit_graph.specs.declared.rows.RowsError.TheVariants as rows_errors
+use Rattle.gix_traverse_commit_graph.proofs.Lists.{none_at_nil}
 use Rattle.history_model.specs.Answers as model
 use Rattle.history_model.specs.Answers.{Answers, counted, is_counted, row_of, rows_of}
 use Rattle.history_model.specs.Commands.{Command, Commit, Tag, Move, Rename, Delete, Switch, Pack, Index, Names, Files, Past, Log, Show}

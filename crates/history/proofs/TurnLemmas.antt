@@ -23,7 +23,7 @@ use Rattle.history.specs.declared.running.RunError.TheVariants.{Read, Write}
 use Rattle.history.specs.declared.reply.Reply as own
 use Rattle.gix_ref_file.specs.History.{History, HasRisen}
 use Rattle.history_model.specs.Moments.{Moment, Traces, HasFailedCall as Failed}
-use Rattle.gix_traverse_commit.specs.declared.rows.Row.{Row}
+use Rattle.gix_traverse_commit_graph.specs.declared.rows.Row.{Row}
 use Rattle.history.specs.Acts.{IsAnswer}
 use Rattle.history.specs.Indexed.{FollowsRows}
 use Rattle.history.specs.Packing.{AllPackAsSaid}

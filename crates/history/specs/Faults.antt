@@ -4,8 +4,8 @@ use Rattle.gix_ref_file.specs.declared.files.FileError.{FileError}
 use Rattle.gix_ref_file.specs.declared.files.FileError.TheVariants as file
 use Rattle.gix_object_find.specs.declared.find.Error as find
 use Rattle.gix_object_find.specs.declared.find.Error.TheVariants as found
-use Rattle.gix_traverse_commit.specs.declared.rows.RowsError.{RowsError}
-use Rattle.gix_traverse_commit.specs.declared.rows.RowsError.TheVariants as rows
+use Rattle.gix_traverse_commit_graph.specs.declared.rows.RowsError.{RowsError}
+use Rattle.gix_traverse_commit_graph.specs.declared.rows.RowsError.TheVariants as rows
 use Rattle.history_model.specs.declared.Fault.{Fault}
 use Rattle.history_model.specs.declared.Fault.TheVariants.{Memory, File, IdTaken}
 use Rattle.history_files.specs.declared.error.ReadError.{ReadError}

@@ -7,7 +7,7 @@ use Rattle.history_model.specs.StandsFor.{StandsWhole}
 use Rattle.history_model.specs.Recovery.{recovered}
 use Rattle.history.specs.declared.repository.Repository.{Repository}
 use Rattle.std.specs.FinMap.{contains_key}
-use Rattle.gix_traverse_commit.specs.Told.{rows_of}
+use Rattle.gix_traverse_commit_known.specs.Told.{rows_of}
 use Rattle.gix_hash_id.specs.Id.{Id}
 use Rattle.history.specs.Face.{objects_part, names_part, known_ids, rows_in}
 use Rattle.history.specs.Indexed.{AgreeRows}

@@ -3,7 +3,7 @@
 ghost use Rattle.std.specs.Prelude.{◌≡◌, IfOk, OnErr, OnOk, Some, is_some};
 ghost use Rattle.std.specs.FinMap.{get};
 ghost use Rattle.gix_hash_id.specs.Id.{id_of};
-ghost use Rattle.gix_traverse_commit.specs.Rows.{AreRows};
+ghost use Rattle.gix_traverse_commit_graph.specs.Rows.{AreRows};
 ghost use Rattle.history_model.specs.Answers as model;
 ghost use Rattle.history_model.specs.Commands as orders;
 ghost use Rattle.history_model.specs.Objects.{Value};
@@ -23,7 +23,7 @@ use crate::stopped::Stopped;
 use gix_hash::ObjectId;
 use gix_object::{Commit, FindHeader, Kind as ObjectKind};
 use gix_ref_file::Files;
-use gix_traverse_commit::{Graph, Row};
+use gix_traverse_commit_graph::{Graph, Row};
 use history_model::Fault;
 use history_rows::{Told, rows_of};
 use history_walks::{Order, Parents, Request};

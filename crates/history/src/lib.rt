@@ -42,7 +42,7 @@ pub mod lookups {
 }
 
 pub use gix_hash::{Kind, ObjectId, Prefix, oid};
-pub use gix_traverse_commit::{Graph, Row};
+pub use gix_traverse_commit_graph::{Graph, Row};
 pub use history_model::{Cause, End, Fault};
 pub use history_opening::{NamedBy, OpenError, OpenRefusal};
 pub use history_recovery::{RecoverError, recover};

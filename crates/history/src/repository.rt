@@ -3,7 +3,7 @@
 ghost use Rattle.std.specs.Prelude.{◌≡◌, option_map};
 
 use gix_ref_file::Files;
-use gix_traverse_commit::Graph;
+use gix_traverse_commit_graph::Graph;
 use history_store::{Names, Objects};
 
 /// A repository over two file trees: one holds the objects, the other HEAD, the names and their logs.

@@ -7,7 +7,7 @@ ghost use Rattle.history.specs.Faults.{file_fault, fault_of_put, find_fault, rea
 
 use gix_object::find;
 use gix_ref_file::FileError;
-use gix_traverse_commit::RowsError;
+use gix_traverse_commit_graph::RowsError;
 use history_files::ReadError;
 use history_model::{Cause, Fault};
 use history_store::PutMadeError;

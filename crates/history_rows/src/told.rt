@@ -1,7 +1,7 @@
 //! What is told of a commit.
 
 use gix_hash::ObjectId;
-use gix_traverse_commit::ParentIds;
+use gix_traverse_commit_graph::ParentIds;
 
 /// What is told of a stored commit, of which its row is made.
 #[derive(Debug, Drop)]

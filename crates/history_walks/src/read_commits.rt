@@ -2,8 +2,9 @@
 
 ghost use Rattle.std.specs.Prelude.{⊤, true, List, Contains, IfOk, IfErr};
 ghost use Rattle.gix_hash_id.specs.declared.object_id.ObjectId.{ObjectId};
-ghost use Rattle.gix_traverse_commit.specs.Simply.{Answers, Asked, IsMade, IsSure, graph_of, objects_of};
-ghost use Rattle.gix_traverse_commit.specs.Told.{rows_of};
+ghost use Rattle.gix_traverse_commit_known.specs.Asked.{Answers, Asked, IsSure};
+ghost use Rattle.gix_traverse_commit.specs.Simply.{IsMade, graph_of, objects_of};
+ghost use Rattle.gix_traverse_commit_known.specs.Told.{rows_of};
 ghost use Rattle.history_walks.specs.Asking.{OverTable};
 ghost use Rattle.history_walks.specs.Faults.{IsMet, WalkFault};
 ghost use Rattle.history_walks.specs.ReadCommits.{AreKept, ids_of, table_of};

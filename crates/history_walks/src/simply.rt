@@ -1,9 +1,10 @@
 //! Lists in breadth order and by time.
 
 ghost use Rattle.std.specs.Prelude.{◌≡◌, true, IfOk, IfErr};
-ghost use Rattle.gix_traverse_commit.specs.declared.parents.Parents.TheVariants.{All as AllParents};
-ghost use Rattle.gix_traverse_commit.specs.Simply.{Answers, Asked, IsMade, IsSure, graph_of, objects_of};
-ghost use Rattle.gix_traverse_commit.specs.Told.{rows_of};
+ghost use Rattle.gix_traverse_commit_graph.specs.declared.parents.Parents.TheVariants.{All as AllParents};
+ghost use Rattle.gix_traverse_commit_known.specs.Asked.{Answers, Asked, IsSure};
+ghost use Rattle.gix_traverse_commit.specs.Simply.{IsMade, graph_of, objects_of};
+ghost use Rattle.gix_traverse_commit_known.specs.Told.{rows_of};
 ghost use Rattle.history_walks.specs.Asking.{OverTable};
 ghost use Rattle.history_walks.specs.Faults.{WalkFault};
 ghost use Rattle.history_walks.specs.Simply.{asked};

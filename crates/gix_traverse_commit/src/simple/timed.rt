@@ -3,32 +3,33 @@
 ghost use Rattle.std.specs.Prelude.{◌≡◌, ◌⊎◌, ◌∷◌, ℕ, ℤ, ◌≤◌, ◌+◌, ◌&&◌, not, List, Bool, true, length, if◌then◌else◌, [], false, Contains, IfOk, IfErr, IsOk, OnOk};
 ghost use Rattle.gix_hash_id.specs.Id.{Id, id_of};
 ghost use Rattle.gix_hash_id.specs.declared.object_id.ObjectId.{ObjectId};
-ghost use Rattle.gix_traverse_commit.specs.Ending.{NoneGains, times_in, times_waiting};
+ghost use Rattle.gix_traverse_commit_known.specs.Ending.{NoneGains, times_in, times_waiting};
 ghost use Rattle.gix_object_lines.specs.Counts.{one_more};
-ghost use Rattle.gix_traverse_commit.specs.Fetching.{TimeIsTold};
-ghost use Rattle.gix_traverse_commit.specs.Known.{turns_of};
-ghost use Rattle.gix_traverse_commit.specs.Meeting.{Asks, CountsAll, IsFresh, MarksAll, MarksMet, accepted, fresh, unmet};
-ghost use Rattle.gix_traverse_commit.specs.Nodes.{is_met, is_hidden};
-ghost use Rattle.gix_traverse_commit.specs.Numbered.{same_id};
-ghost use Rattle.gix_traverse_commit.specs.Order.{At, IsListOf, IsOpen};
-ghost use Rattle.gix_traverse_commit.specs.Queueing.{QueuesSome};
-ghost use Rattle.gix_traverse_commit.specs.Rows.{AllHeld, Holds};
-ghost use Rattle.gix_traverse_commit.specs.Giving.{IsReadBefore, IsUnmet, TipFault};
-ghost use Rattle.gix_traverse_commit.specs.Sorting.{in_time};
-ghost use Rattle.gix_traverse_commit.specs.Timely.{AllRowed, CountsAs, IsMetSoFar, Joins, LetsWait, keep_since, turn_of};
-ghost use Rattle.gix_traverse_commit.specs.Told.{OverSure, OverTold, rows_of};
-ghost use Rattle.gix_traverse_commit.specs.declared.simple.faults.Error.TheVariants.{Memory};
+ghost use Rattle.gix_traverse_commit_known.specs.Fetching.{TimeIsTold};
+ghost use Rattle.gix_traverse_commit_known.specs.Known.{turns_of};
+ghost use Rattle.gix_traverse_commit_known.specs.Meeting.{Asks, CountsAll, IsFresh, MarksAll, MarksMet, accepted, fresh, unmet};
+ghost use Rattle.gix_traverse_commit_known.specs.Nodes.{is_met, is_hidden};
+ghost use Rattle.gix_traverse_commit_graph.specs.Numbered.{same_id};
+ghost use Rattle.gix_traverse_commit_graph.specs.Order.{At, IsListOf, IsOpen};
+ghost use Rattle.gix_traverse_commit_known.specs.Queueing.{QueuesSome};
+ghost use Rattle.gix_traverse_commit_graph.specs.Rows.{AllHeld, Holds};
+ghost use Rattle.gix_traverse_commit.specs.Giving.{IsReadBefore, IsUnmet};
+ghost use Rattle.gix_traverse_commit_known.specs.Faults.{TipFault};
+ghost use Rattle.gix_traverse_commit_graph.specs.Sorting.{in_time};
+ghost use Rattle.gix_traverse_commit_known.specs.Timely.{AllRowed, CountsAs, IsMetSoFar, Joins, LetsWait, keep_since, turn_of};
+ghost use Rattle.gix_traverse_commit_known.specs.Told.{OverSure, OverTold, rows_of};
+ghost use Rattle.gix_traverse_commit_known.specs.declared.faults.Error.TheVariants.{Memory};
 
-use crate::Accept;
-use crate::fetch::{FetchError, Source};
-use crate::known::Known;
-use crate::nodes::Marks;
 use crate::simple::Error;
-use crate::simple::meet::mark_met;
-use crate::simple::sorting::is_in_time;
-use crate::simple::waiting::Turn;
 use gix_hash::ObjectId;
 use gix_object_find::Find;
+use gix_traverse_commit_graph::sorting::is_in_time;
+use gix_traverse_commit_known::Accept;
+use gix_traverse_commit_known::fetch::{FetchError, Source};
+use gix_traverse_commit_known::known::Known;
+use gix_traverse_commit_known::meet::mark_met;
+use gix_traverse_commit_known::nodes::Marks;
+use gix_traverse_commit_known::waiting::Turn;
 
 // The committer's seconds, and 0 where they aren't read. It is `Memory` where no memory is left.
 fn seconds_or_zero<F: Find>(source: &mut Source<F>, id: &ObjectId) -> Result<i64, Error>

@@ -2,8 +2,8 @@ use Rattle.std.proofs.Common.{◌≡◌, ◌∙◌, ap, not, sym, subst, true}
 use Rattle.gix_hash_id.specs.Id.{Id}
 use Rattle.gix_traverse_commit.specs.Giving.{GivesNext}
 use Rattle.gix_traverse_commit.specs.Simply.{graph_of, objects_of}
-use Rattle.gix_traverse_commit.specs.Told.{rows_of}
-use Rattle.gix_traverse_commit.specs.declared.accept.All.{All}
+use Rattle.gix_traverse_commit_known.specs.Told.{rows_of}
+use Rattle.gix_traverse_commit_known.specs.declared.accept.All.{All}
 use Rattle.history_walks.specs.Faults.{WalkFault, as_walked}
 use Rattle.history_walks.specs.declared.error.WalkError.TheVariants.{Memory}
 use Rattle.history_walks.proofs.Reading.{HasRead, none_told, one_read, one_rowed, some_told}

@@ -1,9 +1,9 @@
 use Rattle.std.proofs.Common.{◌≡◌, ◌∙◌, sym, subst, List}
 use Rattle.gix_hash_id.specs.Id.{Id}
 use Rattle.gix_hash_id.specs.declared.object_id.ObjectId.{ObjectId}
-use Rattle.gix_traverse_commit.specs.declared.accept.All.{All}
+use Rattle.gix_traverse_commit_known.specs.declared.accept.All.{All}
 use Rattle.gix_traverse_commit.specs.Simply.{graph_of, objects_of}
-use Rattle.gix_traverse_commit.specs.Told.{rows_of}
+use Rattle.gix_traverse_commit_known.specs.Told.{rows_of}
 use Rattle.history_walks.specs.Faults.{WalkFault, as_walked}
 use Rattle.history_walks.specs.declared.error.WalkError.TheVariants.{Memory}
 use Rattle.history_walks.proofs.Walking.{Given, all_given, one_more, stops_walk, told_error}

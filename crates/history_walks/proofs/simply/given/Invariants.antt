@@ -1,8 +1,9 @@
 use Rattle.std.proofs.Common.{◌≡◌, true, []}
 use Rattle.gix_hash_id.specs.declared.object_id.ObjectId.{ObjectId}
-use Rattle.gix_traverse_commit.specs.Commits.{Commits}
-use Rattle.gix_traverse_commit.specs.Simply.{Asked, IsMade, IsSure, Stands, graph_of, objects_of}
-use Rattle.gix_traverse_commit.specs.Told.{AreTold, rows_of}
+use Rattle.gix_traverse_commit_graph.specs.Commits.{Commits}
+use Rattle.gix_traverse_commit_known.specs.Asked.{Asked, IsSure}
+use Rattle.gix_traverse_commit.specs.Simply.{IsMade, Stands, graph_of, objects_of}
+use Rattle.gix_traverse_commit_known.specs.Told.{AreTold, rows_of}
 use Rattle.history_walks.proofs.simply.given.Given as goal
 
 -- the ids are what the walk gave so far

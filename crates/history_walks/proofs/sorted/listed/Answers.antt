@@ -1,4 +1,4 @@
-use Rattle.gix_traverse_commit.specs.Told.{rows_of}
+use Rattle.gix_traverse_commit_known.specs.Told.{rows_of}
 use Rattle.gix_traverse_topo.specs.Asking.{asked_of}
 use Rattle.history_walks.specs.Faults.{WalkFault, as_sorted}
 use Rattle.history_walks.proofs.Walking.{sorted_lists, sorted_refused, told_error, unbuilt}

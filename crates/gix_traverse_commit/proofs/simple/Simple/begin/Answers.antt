@@ -1,33 +1,35 @@
 use Rattle.std.proofs.Common.{inl, inr, arith, Bool, true, ℕ, ◌≡◌, ◌↔◌, ◌≤◌, ◌+◌, sym, ◌∙◌, ap, refl, subst, List, [], Option, length}
 use Rattle.gix_hash_id.specs.declared.object_id.ObjectId.{ObjectId}
 use Rattle.gix_hash_id.specs.Id.{Id}
-use Rattle.gix_traverse_commit.specs.Ending.{times_in, times_waiting}
-use Rattle.gix_traverse_commit.specs.Painting.{CountsUnpainted, PaintFault, Paints, ReachedFrom, CountsUnread, PaintsSome}
-use Rattle.gix_traverse_commit.specs.Order.{IsListOf}
-use Rattle.gix_traverse_commit.specs.Rows.{AllHeld}
+use Rattle.gix_traverse_commit_known.specs.Ending.{times_in, times_waiting}
+use Rattle.gix_traverse_commit_known.specs.Painting.{CountsUnpainted, PaintFault, Paints, ReachedFrom, CountsUnread, PaintsSome}
+use Rattle.gix_traverse_commit_graph.specs.Order.{IsListOf}
+use Rattle.gix_traverse_commit_graph.specs.Rows.{AllHeld}
 use Rattle.std.specs.Prelude.{Contains, IsSome}
-use Rattle.gix_traverse_commit.specs.Meeting.{CountsAll, CountsTimes, IsFresh}
-use Rattle.gix_traverse_commit.specs.Known.{turns_of}
-use Rattle.gix_traverse_commit.specs.Nodes.{is_hidden}
-use Rattle.gix_traverse_commit.specs.Sorting.{timing_of}
-use Rattle.gix_traverse_commit.specs.Simply.{IsNew, IsSure, times_queued, timing}
-use Rattle.gix_traverse_commit.specs.Giving.{CountsHiddenFault, CountsUnbegun, IsAccepted, SimpleFault, hidden_error, IsWanted}
-use Rattle.gix_traverse_commit.specs.Timely.{AllRowed, LetsWaitIn}
-use Rattle.gix_traverse_commit.specs.Told.{AreTold, rows_of}
+use Rattle.gix_traverse_commit_known.specs.Meeting.{CountsAll, CountsTimes, IsFresh}
+use Rattle.gix_traverse_commit_known.specs.Known.{turns_of}
+use Rattle.gix_traverse_commit_known.specs.Nodes.{is_hidden}
+use Rattle.gix_traverse_commit_graph.specs.Sorting.{timing_of}
+use Rattle.gix_traverse_commit.specs.Simply.{IsNew, times_queued}
+use Rattle.gix_traverse_commit_known.specs.Asked.{IsSure, timing}
+use Rattle.gix_traverse_commit.specs.Giving.{CountsHiddenFault, CountsUnbegun, IsAccepted, IsWanted}
+use Rattle.gix_traverse_commit_known.specs.Faults.{SimpleFault, hidden_error}
+use Rattle.gix_traverse_commit_known.specs.Timely.{AllRowed, LetsWaitIn}
+use Rattle.gix_traverse_commit_known.specs.Told.{AreTold, rows_of}
 use Rattle.gix_object_find.specs.Table.{Table}
-use Rattle.gix_traverse_commit.specs.declared.fetch.FetchError.{FetchError}
-use Rattle.gix_traverse_commit.specs.declared.fetch.FetchError.TheVariants as fault
-use Rattle.gix_traverse_commit.specs.declared.parents.Parents.{Parents}
-use Rattle.gix_traverse_commit.specs.declared.rows.Row.{Row}
-use Rattle.gix_traverse_commit.specs.declared.simple.waiting.Turn.{Turn}
-use Rattle.gix_traverse_commit.specs.declared.simple.sorting.Timing.{Timing}
-use Rattle.gix_traverse_commit.specs.declared.simple.faults.Error.{Error}
+use Rattle.gix_traverse_commit_known.specs.declared.fetch.FetchError.{FetchError}
+use Rattle.gix_traverse_commit_known.specs.declared.fetch.FetchError.TheVariants as fault
+use Rattle.gix_traverse_commit_graph.specs.declared.parents.Parents.{Parents}
+use Rattle.gix_traverse_commit_graph.specs.declared.rows.Row.{Row}
+use Rattle.gix_traverse_commit_known.specs.declared.waiting.Turn.{Turn}
+use Rattle.gix_traverse_commit_graph.specs.declared.sorting.Timing.{Timing}
+use Rattle.gix_traverse_commit_known.specs.declared.faults.Error.{Error}
 use Rattle.gix_traverse_commit.proofs.ByTime.{timing_same, under_source}
-use Rattle.gix_traverse_commit.proofs.Ending.{gains_more, gains_same}
-use Rattle.gix_traverse_commit.proofs.Meeting.{list_same}
-use Rattle.gix_traverse_commit.proofs.Simply.{accepts_more}
-use Rattle.gix_traverse_commit.proofs.Times.{met_or_accepted}
-use Rattle.gix_traverse_commit.proofs.Awaiting.{waits_in}
+use Rattle.gix_traverse_commit_known.proofs.Ending.{gains_more, gains_same}
+use Rattle.gix_traverse_commit_known.proofs.Meeting.{list_same}
+use Rattle.gix_traverse_commit_known.proofs.Simply.{accepts_more}
+use Rattle.gix_traverse_commit_known.proofs.Times.{met_or_accepted}
+use Rattle.gix_traverse_commit_known.proofs.Awaiting.{waits_in}
 use Rattle.gix_traverse_commit.proofs.Counting.{paints_none}
 use Rattle.std.proofs.lemmas.Result.{err_from_is_err_and}
 use Rattle.gix_traverse_commit.proofs.simple.Simple.begin.Goals as goal

@@ -2,27 +2,28 @@ use Rattle.std.proofs.Common.{rules, ◌+◌, ◌≡◌, sym, ◌∙◌, refl, s
 use Rattle.std.specs.Prelude.{Contains, not, ◌&&◌, IsSome}
 use Rattle.gix_hash_id.specs.Id.{id_of}
 use Rattle.gix_hash_id.specs.declared.object_id.ObjectId.{ObjectId}
-use Rattle.gix_traverse_commit.specs.Commits.{asked_parents}
-use Rattle.gix_traverse_commit.specs.Meeting.{CountsTimes, IsFresh, MarksAll}
-use Rattle.gix_traverse_commit.specs.Order.{IsListOf}
-use Rattle.gix_traverse_commit.specs.Known.{turns_of}
-use Rattle.gix_traverse_commit.specs.Nodes.{is_hidden, is_met}
-use Rattle.gix_traverse_commit.specs.Rows.{AllHeld}
-use Rattle.gix_traverse_commit.specs.Simply.{keep_of, times_queued, timing}
-use Rattle.gix_traverse_commit.specs.Sorting.{in_time, timing_of}
-use Rattle.gix_traverse_commit.specs.Timely.{AllRowed, IsMetSoFar, keep_since, LetsWaitIn}
-use Rattle.gix_traverse_commit.specs.Told.{rows_of}
-use Rattle.gix_traverse_commit.specs.declared.rows.Row.{Row}
-use Rattle.gix_traverse_commit.specs.declared.simple.waiting.Turn.{Turn}
-use Rattle.gix_traverse_commit.specs.declared.simple.sorting.Timing.{Timing}
-use Rattle.gix_traverse_commit.specs.Ending.{NoneGains, times_in, times_waiting}
-use Rattle.gix_traverse_commit.proofs.Ending.{gains_before, gains_behind}
+use Rattle.gix_traverse_commit_graph.specs.Commits.{asked_parents}
+use Rattle.gix_traverse_commit_known.specs.Meeting.{CountsTimes, IsFresh, MarksAll}
+use Rattle.gix_traverse_commit_graph.specs.Order.{IsListOf}
+use Rattle.gix_traverse_commit_known.specs.Known.{turns_of}
+use Rattle.gix_traverse_commit_known.specs.Nodes.{is_hidden, is_met}
+use Rattle.gix_traverse_commit_graph.specs.Rows.{AllHeld}
+use Rattle.gix_traverse_commit_known.specs.Asked.{keep_of, timing}
+use Rattle.gix_traverse_commit.specs.Simply.{times_queued}
+use Rattle.gix_traverse_commit_graph.specs.Sorting.{in_time, timing_of}
+use Rattle.gix_traverse_commit_known.specs.Timely.{AllRowed, IsMetSoFar, keep_since, LetsWaitIn}
+use Rattle.gix_traverse_commit_known.specs.Told.{rows_of}
+use Rattle.gix_traverse_commit_graph.specs.declared.rows.Row.{Row}
+use Rattle.gix_traverse_commit_known.specs.declared.waiting.Turn.{Turn}
+use Rattle.gix_traverse_commit_graph.specs.declared.sorting.Timing.{Timing}
+use Rattle.gix_traverse_commit_known.specs.Ending.{NoneGains, times_in, times_waiting}
+use Rattle.gix_traverse_commit_known.proofs.Ending.{gains_before, gains_behind}
 use Rattle.gix_traverse_commit.proofs.ByTime.{is_sure, timing_same}
-use Rattle.gix_traverse_commit.specs.Keeping.{KeptAll}
-use Rattle.gix_traverse_commit.proofs.Chosen.{chosen_none, met_tips}
-use Rattle.gix_traverse_commit.proofs.Keeping.{kept_none}
-use Rattle.gix_traverse_commit.proofs.Simply.{accepts_more, kept_tip, refused_tip}
-use Rattle.gix_traverse_commit.proofs.Timely.{in_nil, met_none}
+use Rattle.gix_traverse_commit_known.specs.Keeping.{KeptAll}
+use Rattle.gix_traverse_commit_known.proofs.Chosen.{chosen_none, met_tips}
+use Rattle.gix_traverse_commit_known.proofs.Keeping.{kept_none}
+use Rattle.gix_traverse_commit_known.proofs.Simply.{accepts_more, kept_tip, refused_tip}
+use Rattle.gix_traverse_commit_known.proofs.Timely.{in_nil, met_none}
 use Rattle.gix_traverse_commit.proofs.simple.Simple.line_up.Goals as goal
 use Rattle.std.proofs.lemmas.Bool.{and_parts}
 

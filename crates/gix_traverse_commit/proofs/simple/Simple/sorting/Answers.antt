@@ -2,17 +2,18 @@ use Rattle.std.proofs.Common.{◌≡◌, ◌≤◌, ◌+◌, ◌∙◌, sym, ref
 use Rattle.std.proofs.lemmas.Result.{err_from_is_err_and}
 use Rattle.std.specs.Prelude.{Contains}
 use Rattle.gix_hash_id.specs.declared.object_id.ObjectId.{ObjectId}
-use Rattle.gix_traverse_commit.specs.Fetching.{TimeIsTold}
-use Rattle.gix_traverse_commit.specs.Meeting.{CountsTimes, accepted, unmet}
-use Rattle.gix_traverse_commit.specs.Rows.{AllHeld}
-use Rattle.gix_traverse_commit.specs.Sorting.{timing_of}
-use Rattle.gix_traverse_commit.specs.declared.parents.Parents.TheVariants.{All}
+use Rattle.gix_traverse_commit_known.specs.Fetching.{TimeIsTold}
+use Rattle.gix_traverse_commit_known.specs.Meeting.{CountsTimes, accepted, unmet}
+use Rattle.gix_traverse_commit_graph.specs.Rows.{AllHeld}
+use Rattle.gix_traverse_commit_graph.specs.Sorting.{timing_of}
+use Rattle.gix_traverse_commit_graph.specs.declared.parents.Parents.TheVariants.{All}
 use Rattle.gix_traverse_commit.specs.Simply.{IsNew, IsOver}
-use Rattle.gix_traverse_commit.specs.Giving.{IsAccepted, IsUnmet, TipFault}
-use Rattle.gix_traverse_commit.specs.Told.{rows_of}
-use Rattle.gix_traverse_commit.proofs.Meeting.{unmet_accepted}
-use Rattle.gix_traverse_commit.proofs.Pending.{none_held}
-use Rattle.gix_traverse_commit.proofs.Times.{met_or_accepted, tip_fault_more}
+use Rattle.gix_traverse_commit.specs.Giving.{IsAccepted, IsUnmet}
+use Rattle.gix_traverse_commit_known.specs.Faults.{TipFault}
+use Rattle.gix_traverse_commit_known.specs.Told.{rows_of}
+use Rattle.gix_traverse_commit_known.proofs.Meeting.{unmet_accepted}
+use Rattle.gix_traverse_commit_known.proofs.Pending.{none_held}
+use Rattle.gix_traverse_commit_known.proofs.Times.{met_or_accepted, tip_fault_more}
 use Rattle.gix_traverse_commit.proofs.simple.Simple.sorting.Goals as goal
 
 pub returns-clause-made : goal.returns-clause-made

@@ -1,25 +1,26 @@
 use Rattle.std.proofs.Common.{ap, arith, rules, ◌≡◌, sym, ◌∙◌, refl, subst, inl, inr, List, [], ◌∷◌, ◌++◌, length, Some, None, Option, true, false}
 use Rattle.gix_hash_id.specs.Id.{Id}
 use Rattle.gix_hash_id.specs.declared.object_id.ObjectId.{ObjectId}
-use Rattle.gix_traverse_commit.specs.Commits.{Commits, asked_parents}
-use Rattle.gix_traverse_commit.specs.Nodes.{Node, is_hidden, is_met}
-use Rattle.gix_traverse_commit.specs.Simply.{AcceptsAs, Answers, Asked, IsUnderWay, keep_of}
-use Rattle.gix_traverse_commit.specs.Sorting.{timing_of}
-use Rattle.gix_traverse_commit.specs.Timely.{AllRowed, IsMetSoFar, IsTaken, keep_since, TakesTurn}
-use Rattle.gix_traverse_commit.specs.Keeping.{Kept}
-use Rattle.gix_traverse_commit.specs.Order.{IsOpen}
-use Rattle.gix_traverse_commit.specs.Rows.{AllHeld}
-use Rattle.gix_traverse_commit.specs.Known.{turns_of}
-use Rattle.gix_traverse_commit.specs.Told.{rows_of}
-use Rattle.gix_traverse_commit.specs.declared.simple.sorting.Timing.{Timing}
-use Rattle.gix_traverse_commit.specs.Ending.{times_in, times_waiting}
-use Rattle.gix_traverse_commit.specs.declared.simple.waiting.Turn.{Turn}
-use Rattle.gix_traverse_commit.proofs.Ending.{taken_less, times_first}
+use Rattle.gix_traverse_commit_graph.specs.Commits.{Commits, asked_parents}
+use Rattle.gix_traverse_commit_known.specs.Nodes.{Node, is_hidden, is_met}
+use Rattle.gix_traverse_commit_known.specs.Asked.{AcceptsAs, Answers, Asked, keep_of}
+use Rattle.gix_traverse_commit.specs.Simply.{IsUnderWay}
+use Rattle.gix_traverse_commit_graph.specs.Sorting.{timing_of}
+use Rattle.gix_traverse_commit_known.specs.Timely.{AllRowed, IsMetSoFar, IsTaken, keep_since, TakesTurn}
+use Rattle.gix_traverse_commit_known.specs.Keeping.{Kept}
+use Rattle.gix_traverse_commit_graph.specs.Order.{IsOpen}
+use Rattle.gix_traverse_commit_graph.specs.Rows.{AllHeld}
+use Rattle.gix_traverse_commit_known.specs.Known.{turns_of}
+use Rattle.gix_traverse_commit_known.specs.Told.{rows_of}
+use Rattle.gix_traverse_commit_graph.specs.declared.sorting.Timing.{Timing}
+use Rattle.gix_traverse_commit_known.specs.Ending.{times_in, times_waiting}
+use Rattle.gix_traverse_commit_known.specs.declared.waiting.Turn.{Turn}
+use Rattle.gix_traverse_commit_known.proofs.Ending.{taken_less, times_first}
 use Rattle.gix_traverse_commit.proofs.ByTime.{none_some, one_timing, timing_same, since_end, since_turn}
-use Rattle.gix_traverse_commit.proofs.Chosen.{taken_chosen, taken_met}
-use Rattle.gix_traverse_commit.proofs.Keeping.{kept_pop}
-use Rattle.gix_traverse_commit.proofs.Simply.{held_first, kept_breadth, kept_turn}
-use Rattle.gix_traverse_commit.proofs.Timely.{taken_some}
+use Rattle.gix_traverse_commit_known.proofs.Chosen.{taken_chosen, taken_met}
+use Rattle.gix_traverse_commit_known.proofs.Keeping.{kept_pop}
+use Rattle.gix_traverse_commit_known.proofs.Simply.{held_first, kept_breadth, kept_turn}
+use Rattle.gix_traverse_commit_known.proofs.Timely.{taken_some}
 use Rattle.std.specs.Prelude.{IsSome}
 use Rattle.gix_traverse_commit.proofs.simple.Simple.take.Goals as goal
 

@@ -1,6 +1,6 @@
 use Rattle.std.proofs.Common.{inl, inr}
 use Rattle.gix_traverse_commit.specs.Simply.{times_queued}
-use Rattle.gix_traverse_commit.proofs.Ending.{gains_none}
+use Rattle.gix_traverse_commit_known.proofs.Ending.{gains_none}
 use Rattle.gix_traverse_commit.proofs.Rest.{begun_to, rest_turned}
 use Rattle.gix_traverse_commit.proofs.simple.Simple.turn.Goals as goal
 use Rattle.std.proofs.lemmas.Bool.{false_from_ne_true}

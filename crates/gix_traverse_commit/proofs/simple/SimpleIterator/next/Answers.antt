@@ -2,28 +2,31 @@ use Rattle.std.proofs.Common.{inl, inr, pos, ◌<◌, ◌≡◌, ◌∙◌, sym,
 use Rattle.gix_hash_id.specs.Id.{id_of}
 use Rattle.gix_hash_id.specs.declared.object_id.ObjectId.{ObjectId}
 use Rattle.std.specs.List.{sum_by}
-use Rattle.gix_traverse_commit.specs.Ending.{may_come, times_in}
-use Rattle.gix_traverse_commit.specs.Meeting.{CountsOne, IsFresh, MarksMet}
-use Rattle.gix_traverse_commit.specs.Simply.{timing, IsAtTurn, IsOver, IsKnown, IsSure, IsUnderWay, is_over, known_ids, left_of, times_queued}
-use Rattle.gix_traverse_commit.specs.Giving.{CountsBeginning, CountsUnbegun, IsWanted, CountsFault, CountsUpTo, IsContentOf, IsInfo, IsTurn, StopsFetch, ComesInTurn, FailsInTurn, IsMetWith, KeepsOrder}
-use Rattle.gix_traverse_commit.specs.Rows.{Holds}
-use Rattle.gix_traverse_commit.specs.Sorting.{timing_of}
-use Rattle.gix_traverse_commit.specs.Known.{turns_of}
-use Rattle.gix_traverse_commit.specs.Told.{AreTold, rows_of}
-use Rattle.gix_traverse_commit.specs.declared.parents.Parents.{Parents}
-use Rattle.gix_traverse_commit.specs.declared.rows.Row.{Row}
-use Rattle.gix_traverse_commit.specs.declared.simple.sorting.Sorting.{Sorting}
+use Rattle.gix_traverse_commit_known.specs.Ending.{may_come, times_in, known_ids}
+use Rattle.gix_traverse_commit_known.specs.Meeting.{CountsOne, IsFresh, MarksMet}
+use Rattle.gix_traverse_commit_known.specs.Asked.{timing, IsKnown, IsSure, IsTurn}
+use Rattle.gix_traverse_commit.specs.Simply.{IsAtTurn, IsOver, IsUnderWay, is_over, left_of, times_queued}
+use Rattle.gix_traverse_commit.specs.Giving.{CountsBeginning, CountsUnbegun, IsWanted, CountsFault, CountsUpTo, IsContentOf, IsInfo, ComesInTurn, FailsInTurn, IsMetWith, KeepsOrder}
+use Rattle.gix_traverse_commit_known.specs.Faults.{StopsFetch}
+use Rattle.gix_traverse_commit_graph.specs.Rows.{Holds}
+use Rattle.gix_traverse_commit_graph.specs.Sorting.{timing_of}
+use Rattle.gix_traverse_commit_known.specs.Known.{turns_of}
+use Rattle.gix_traverse_commit_known.specs.Told.{AreTold, rows_of}
+use Rattle.gix_traverse_commit_graph.specs.declared.parents.Parents.{Parents}
+use Rattle.gix_traverse_commit_graph.specs.declared.rows.Row.{Row}
+use Rattle.gix_traverse_commit_graph.specs.declared.sorting.Sorting.{Sorting}
 use Rattle.gix_traverse_commit.proofs.ByTime.{at_fewer, at_order, timing_same}
-use Rattle.gix_traverse_commit.proofs.Awaiting.{none_awaited}
+use Rattle.gix_traverse_commit_known.proofs.Awaiting.{none_awaited}
 use Rattle.gix_traverse_commit.proofs.Counting.{meets_moved}
-use Rattle.gix_traverse_commit.proofs.Ending.{fewer_left, left_falls, none_left, over_from, over_test}
+use Rattle.gix_traverse_commit_known.proofs.Ending.{fewer_left, left_falls, none_left}
+use Rattle.gix_traverse_commit.proofs.Over.{over_from, over_test}
 use Rattle.gix_traverse_commit.proofs.Rest.{made_order}
-use Rattle.gix_traverse_commit.proofs.Simply.{fault_more, fetch_fault}
+use Rattle.gix_traverse_commit_known.proofs.Simply.{fault_more, fetch_fault}
 use Rattle.std.specs.Prelude.{IsSome}
-use Rattle.gix_traverse_commit.specs.Commits.{Commits}
-use Rattle.gix_traverse_commit.specs.Nodes.{Node, is_hidden}
-use Rattle.gix_traverse_commit.specs.Timely.{LetsWaitIn, TakesTurn}
-use Rattle.gix_traverse_commit.specs.declared.simple.sorting.Timing.{Timing}
+use Rattle.gix_traverse_commit_graph.specs.Commits.{Commits}
+use Rattle.gix_traverse_commit_known.specs.Nodes.{Node, is_hidden}
+use Rattle.gix_traverse_commit_known.specs.Timely.{LetsWaitIn, TakesTurn}
+use Rattle.gix_traverse_commit_graph.specs.declared.sorting.Timing.{Timing}
 use Rattle.gix_traverse_commit.proofs.simple.SimpleIterator.next.Goals as goal
 
 no_way : false ≡ true → ⊥

@@ -1,19 +1,19 @@
 use Rattle.std.proofs.Common.{List, ap, arith, rules, ◌≡◌, refl, false, true, sym, subst}
 use Rattle.std.specs.Prelude.{not, ◌&&◌, Contains}
-use Rattle.gix_traverse_commit.specs.Known.{turns_of}
-use Rattle.gix_traverse_commit.specs.Nodes.{is_hidden, is_met}
-use Rattle.gix_traverse_commit.specs.Sorting.{in_time}
-use Rattle.gix_traverse_commit.specs.Timely.{turn_of, LetsWait}
-use Rattle.gix_traverse_commit.specs.Ending.{times_waiting}
-use Rattle.gix_traverse_commit.specs.declared.simple.waiting.Turn.{Turn}
-use Rattle.gix_traverse_commit.proofs.Ending.{gains_met, gains_none, gains_same}
-use Rattle.gix_traverse_commit.proofs.Keeping.{met_itself, met_more}
-use Rattle.gix_traverse_commit.proofs.Timely.{both_pass, joins_same}
+use Rattle.gix_traverse_commit_known.specs.Known.{turns_of}
+use Rattle.gix_traverse_commit_known.specs.Nodes.{is_hidden, is_met}
+use Rattle.gix_traverse_commit_graph.specs.Sorting.{in_time}
+use Rattle.gix_traverse_commit_known.specs.Timely.{turn_of, LetsWait}
+use Rattle.gix_traverse_commit_known.specs.Ending.{times_waiting}
+use Rattle.gix_traverse_commit_known.specs.declared.waiting.Turn.{Turn}
+use Rattle.gix_traverse_commit_known.proofs.Ending.{gains_met, gains_none, gains_same}
+use Rattle.gix_traverse_commit_known.proofs.Keeping.{met_itself, met_more}
+use Rattle.gix_traverse_commit_known.proofs.Timely.{both_pass, joins_same}
 use Rattle.gix_hash_id.specs.declared.object_id.ObjectId.{ObjectId}
-use Rattle.gix_traverse_commit.specs.Meeting.{CountsAll, fresh}
-use Rattle.gix_traverse_commit.proofs.Awaiting.{fresh_alone, hidden_none, met_none, waits_none, waits_one}
-use Rattle.gix_traverse_commit.specs.Told.{rows_of}
-use Rattle.gix_traverse_commit.proofs.Meeting.{counts_one}
+use Rattle.gix_traverse_commit_known.specs.Meeting.{CountsAll, fresh}
+use Rattle.gix_traverse_commit_known.proofs.Awaiting.{fresh_alone, hidden_none, met_none, waits_none, waits_one}
+use Rattle.gix_traverse_commit_known.specs.Told.{rows_of}
+use Rattle.gix_traverse_commit_known.proofs.Meeting.{counts_one}
 use Rattle.gix_traverse_commit.proofs.simple.timed.await_tip.Goals as goal
 
 pub returns-then-not-marks-clause-waits : goal.returns-then-not-marks-clause-waits

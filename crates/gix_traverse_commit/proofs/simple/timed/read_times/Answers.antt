@@ -4,17 +4,18 @@ use Rattle.std.proofs.lemmas.Option.{slice_get-get_or}
 use Rattle.std.proofs.lemmas.Result.{err_from_is_err_and}
 use Rattle.gix_hash_id.specs.declared.object_id.ObjectId.{ObjectId}
 use Rattle.gix_hash_id.specs.declared.object_id.ObjectId.TheVariants.{Sha1}
-use Rattle.gix_traverse_commit.specs.Meeting.{CountsAll, unmet}
-use Rattle.gix_traverse_commit.specs.Rows.{Holds}
-use Rattle.gix_traverse_commit.specs.Giving.{IsReadBefore, IsUnmet, TipFault}
-use Rattle.gix_traverse_commit.specs.Fetching.{TimeIsTold}
-use Rattle.gix_traverse_commit.proofs.Chosen.{take_all}
-use Rattle.gix_traverse_commit.proofs.Simply.{in_push, take_push}
-use Rattle.gix_traverse_commit.proofs.Timely.{in_nil}
-use Rattle.gix_traverse_commit.specs.Told.{rows_of}
-use Rattle.gix_traverse_commit.specs.declared.rows.Row.{Row}
-use Rattle.gix_traverse_commit.proofs.Lists.{contains_from_at}
-use Rattle.gix_traverse_commit.proofs.Meeting.{unmet_more}
+use Rattle.gix_traverse_commit_known.specs.Meeting.{CountsAll, unmet}
+use Rattle.gix_traverse_commit_graph.specs.Rows.{Holds}
+use Rattle.gix_traverse_commit.specs.Giving.{IsReadBefore, IsUnmet}
+use Rattle.gix_traverse_commit_known.specs.Faults.{TipFault}
+use Rattle.gix_traverse_commit_known.specs.Fetching.{TimeIsTold}
+use Rattle.gix_traverse_commit_known.proofs.Chosen.{take_all}
+use Rattle.gix_traverse_commit_known.proofs.Simply.{in_push, take_push}
+use Rattle.gix_traverse_commit_known.proofs.Timely.{in_nil}
+use Rattle.gix_traverse_commit_known.specs.Told.{rows_of}
+use Rattle.gix_traverse_commit_graph.specs.declared.rows.Row.{Row}
+use Rattle.gix_traverse_commit_graph.proofs.Lists.{contains_from_at}
+use Rattle.gix_traverse_commit_known.proofs.Meeting.{unmet_more}
 use Rattle.gix_traverse_commit.proofs.simple.timed.read_times.Goals as goal
 
 pub returns-in_err-read_time-clause-rowed : goal.returns-in_err-read_time-clause-rowed

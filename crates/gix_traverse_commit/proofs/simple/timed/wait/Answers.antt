@@ -2,13 +2,13 @@ use Rattle.std.proofs.Common.{rules, ◌≡◌, ◌∙◌, ap, sym, subst, List,
 use mir.Syntax.{w64}
 use mir.Val.{of_z, to_z}
 use Rattle.gix_hash_id.specs.declared.object_id.ObjectId.{ObjectId}
-use Rattle.gix_traverse_commit.specs.Sorting.{in_time}
-use Rattle.gix_traverse_commit.specs.Timely.{Joins, turn_of}
-use Rattle.gix_traverse_commit.specs.Known.{turns_of}
-use Rattle.gix_traverse_commit.specs.Told.{rows_of}
-use Rattle.gix_traverse_commit.specs.declared.simple.waiting.Turn.{Turn}
-use Rattle.gix_traverse_commit.proofs.Timely.{joins_none, joins_rowed, joins_same}
-use Rattle.gix_traverse_commit.proofs.Queueing.{some_none, some_one}
+use Rattle.gix_traverse_commit_graph.specs.Sorting.{in_time}
+use Rattle.gix_traverse_commit_known.specs.Timely.{Joins, turn_of}
+use Rattle.gix_traverse_commit_known.specs.Known.{turns_of}
+use Rattle.gix_traverse_commit_known.specs.Told.{rows_of}
+use Rattle.gix_traverse_commit_known.specs.declared.waiting.Turn.{Turn}
+use Rattle.gix_traverse_commit_known.proofs.Timely.{joins_none, joins_rowed, joins_same}
+use Rattle.gix_traverse_commit_known.proofs.Queueing.{some_none, some_one}
 use Rattle.gix_traverse_commit.proofs.simple.timed.wait.Goals as goal
 
 abbrev turn : ℤ → ObjectId → Turn

@@ -1,11 +1,11 @@
 use Rattle.std.proofs.Common.{◌≡◌, sym, subst, arith}
 use Rattle.gix_hash_id.specs.declared.object_id.ObjectId.{ObjectId}
-use Rattle.gix_traverse_commit.specs.Numbered.{same_id}
-use Rattle.gix_traverse_commit.specs.Order.{At}
-use Rattle.gix_traverse_commit.proofs.Ids.{same_from_test}
+use Rattle.gix_traverse_commit_graph.specs.Numbered.{same_id}
+use Rattle.gix_traverse_commit_graph.specs.Order.{At}
+use Rattle.gix_traverse_commit_graph.proofs.Ids.{same_from_test}
 use Rattle.gix_traverse_topo.proofs.Meeting.{not_among}
 use Rattle.gix_traverse_topo.proofs.known.Known.number_of.Goals as goal
-use Rattle.gix_traverse_commit.proofs.NodeLemmas.{find_passes}
+use Rattle.gix_traverse_commit_known.proofs.NodeLemmas.{find_passes}
 
 pub returns-in_err-place-clause-none : goal.returns-in_err-place-clause-none
 returns-in_err-place-clause-none c = rw c.from_residual.ensures (λ once n a. absurd (not_among c.args.self.now.ids.keys n c.args.id.now (sym c.in_err-place.ensures.found) a))

@@ -1,6 +1,6 @@
 use Rattle.std.proofs.Common.{◌∙◌, ap, sym, subst, Err, List}
 use Rattle.std.proofs.lemmas.Result.{err_from_is_err_and}
-use Rattle.gix_traverse_commit.specs.declared.rows.Row.{Row}
+use Rattle.gix_traverse_commit_graph.specs.declared.rows.Row.{Row}
 use Rattle.history_model.specs.Answers.{rows_of}
 use Rattle.history_rows.specs.Rows.{AreTheRows}
 use Rattle.history.proofs.RowsKept.{index_answered, index_stopped, index_unmade, rows_agree, rows_serve}

@@ -1,5 +1,0 @@
-use Rattle.std.proofs.Common.{◌≡◌, ◌++◌, take}
-use Rattle.gix_traverse_commit.proofs.known.push_all.Given as goal
-
-abbrev pub invariant-numbers : goal.invariant-numbers
-invariant-numbers l = l.queue.items ≡ l.fn.queue.items ++ take l.number-index l.numbers

@@ -1,0 +1,12 @@
+pub mod Lists
+pub mod Unique
+pub mod Frontier
+pub mod Slow
+pub mod Turn
+pub mod Listing
+pub mod Check
+pub mod Cutoff
+pub mod SampleRows
+pub mod Ids
+pub mod RowLemmas
+pub mod Walked

@@ -1,0 +1,13 @@
+pub mod Commits
+pub mod Order
+pub mod Walks
+pub mod Reading
+pub mod Turns
+pub mod Sorting
+pub mod Slow
+pub mod Check
+pub mod Sample
+pub mod Rows
+pub mod Numbered
+pub mod RowCommits
+pub mod Standing

@@ -1,0 +1,15 @@
+pub mod Told
+pub mod Times
+pub mod Keeping
+pub mod Painting
+pub mod NodeLemmas
+pub mod Pending
+pub mod Waiting
+pub mod Ending
+pub mod Simply
+pub mod Timely
+pub mod Chosen
+pub mod Awaiting
+pub mod Meeting
+pub mod Queueing
+pub mod KnownLemmas

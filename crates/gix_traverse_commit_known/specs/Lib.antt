@@ -1,0 +1,13 @@
+pub mod Told
+pub mod Fetching
+pub mod Nodes
+pub mod Waiting
+pub mod Known
+pub mod Queueing
+pub mod Meeting
+pub mod Keeping
+pub mod Painting
+pub mod Timely
+pub mod Ending
+pub mod Asked
+pub mod Faults

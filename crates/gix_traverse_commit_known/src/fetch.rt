@@ -1,0 +1,248 @@
+//! Reading the commits that a walk comes to.
+
+ghost use Rattle.std.specs.Prelude.{◌≡◌, ◌≢◌, ◌⊎◌, ◌≤◌, ◌+◌, [], Contains, IfOk, IfErr, IsOk, OnOk, map, unwrap_or, pos};
+ghost use Rattle.gix_hash_id.specs.Id.{id_of};
+ghost use Rattle.gix_hash_id.specs.declared.object_id.ObjectId.{ObjectId};
+ghost use Rattle.gix_object_commit_tokens.specs.Tokens.{place_of};
+ghost use Rattle.gix_object_find.specs.Existing.{KindFault, Stands};
+ghost use Rattle.gix_object_lines.specs.declared.kind.Kind.TheVariants as kinds;
+ghost use Rattle.gix_traverse_commit_graph.specs.Commits.{asked_parents, asked};
+ghost use Rattle.gix_object_lines.specs.Counts.{one_more};
+ghost use Rattle.gix_traverse_commit_known.specs.Fetching.{ReadsParents, HasRowsGeneration, ParentsFault, FetchFault, ReadFault, TimeFault, TimeIsTold, find_error};
+ghost use Rattle.gix_traverse_commit_graph.specs.Rows.{AllHeld, Holds};
+ghost use Rattle.gix_traverse_commit_known.specs.Timely.{CountsAs};
+ghost use Rattle.gix_traverse_commit_known.specs.Told.{OverSure, OverTold, rows_of};
+ghost use Rattle.gix_traverse_commit_known.specs.declared.fetch.FetchError.TheVariants.{ObjectDecode, Memory};
+
+use crate::either::{row_in, seconds};
+use gix_hash::ObjectId;
+use gix_object_commit_tokens::CommitRefIter;
+use gix_object_commit_tokens::ref_iter::Token;
+use gix_object_find::Find;
+use gix_object_find::find::{self as lookup, existing_iter};
+use gix_object_lines::{Kind, decode};
+use gix_traverse_commit_graph::{Graph, ParentIds, Parents};
+use std::alloc::{AllocError, AllocFailed, Global};
+
+/// Why a commit isn't read.
+#[derive(Debug, Clone, Copy, PartialEq, Eq)]
+pub enum FetchError {
+    /// It isn't found.
+    Find(existing_iter::Error),
+    /// Its object's lines aren't those of a commit.
+    ObjectDecode(decode::Error),
+    /// There is no memory.
+    Memory,
+}
+
+impl From<existing_iter::Error> for FetchError {
+    ghost from_gives = { λ error given. given ≡ find_error error };
+
+    fn from(error: existing_iter::Error) -> FetchError {
+        match error {
+            existing_iter::Error::Find(lookup::Error::Memory) => FetchError::Memory,
+            other => FetchError::Find(other),
+        }
+    }
+}
+
+impl From<decode::Error> for FetchError {
+    ghost from_gives = { λ error given. given ≡ ObjectDecode error };
+
+    fn from(error: decode::Error) -> FetchError {
+        FetchError::ObjectDecode(error)
+    }
+}
+
+impl From<AllocError> for FetchError {
+    ghost from_gives = { λ _ given. given ≡ Memory };
+
+    fn from(_error: AllocError) -> FetchError {
+        FetchError::Memory
+    }
+}
+
+impl<T: Drop> From<AllocFailed<T>> for FetchError {
+    ghost from_gives = { λ _ given. given ≡ Memory };
+
+    fn from(_refused: AllocFailed<T>) -> FetchError {
+        FetchError::Memory
+    }
+}
+
+/// What a walk reads of a commit.
+#[derive(Drop)]
+pub struct Fetched {
+    /// The ids of the parents that were asked for.
+    pub parents: ParentIds,
+    /// The committer's seconds, where the commit tells them.
+    pub time: Option<i64>,
+    /// The generation in its row, where it has one.
+    pub generation: Option<u32>,
+}
+
+/// The parents that a walk goes along, of all.
+pub fn asked_of(parents: &[ObjectId], along: Parents) -> &[ObjectId]
+    ensures { result.now ≡ asked along parents.now }
+{
+    match along {
+        Parents::All => parents,
+        Parents::First => {
+            if parents.is_empty() {
+                parents
+            } else {
+                &parents[..1]
+            }
+        }
+    }
+}
+
+// The ids of the parents that are asked for, from the parts to come.
+fn read_parents(
+    alloc: Global,
+    reader: CommitRefIter<'_>,
+    along: Parents,
+) -> Result<ParentIds, FetchError>
+    ensures told { IfOk result (λ ids. ReadsParents along (place_of reader.entry)
+        (map id_of ids.items)) }
+    ensures refused { IfErr result (ParentsFault along (place_of reader.entry)) }
+{
+    let mut ids = ParentIds::new(alloc);
+    'tokens: for token in reader {
+        match token? {
+            Token::Tree(_) => {}
+            Token::Parent(id) => {
+                ids.push(id)?;
+                match along {
+                    Parents::All => {}
+                    Parents::First => return Ok(ids),
+                }
+            }
+            _ => return Ok(ids),
+        }
+    }
+    Ok(ids)
+}
+
+// Puts the content of the commit of this id into the buffer.
+fn load<F: Find>(
+    objects: &F,
+    id: &ObjectId,
+    buffer: &mut Vec<u8>,
+) -> Result<(), existing_iter::Error>
+    ensures stood { F.is_honest objects.now
+        → OnOk result (Stands (F.table objects.now) (id_of id.now) kinds.Commit buffer.new.items) }
+    ensures listed { IfOk result (λ _. Contains (F.ids objects.now) (id_of id.now)) }
+    ensures refused { IfErr result (KindFault (F.is_honest objects.now) (F.may_fail objects.now)
+        (F.table objects.now) (id_of id.now) kinds.Commit) }
+{
+    match objects.find_into(id.as_oid(), buffer)? {
+        Some(Kind::Commit) => Ok(()),
+        Some(actual) => Err(existing_iter::Error::ObjectKind {
+            oid: *id,
+            actual,
+            expected: Kind::Commit,
+        }),
+        None => Err(existing_iter::Error::NotFound { oid: *id }),
+    }
+}
+
+/// Where a walk reads commits from: rows first, else objects. It counts the objects that it asks for.
+#[derive(Drop)]
+pub struct Source<F> {
+    /// The objects, asked where there is no row.
+    pub objects: F,
+    /// The rows, asked first.
+    pub rows: Option<Graph>,
+    /// The content of the object that was read last, and nothing where a row was.
+    pub buffer: Vec<u8>,
+    /// How many objects were asked for.
+    pub lookups: usize,
+}
+
+impl<F: Find> Source<F> {
+    /// What the commit of this id is.
+    pub fn fetch(&mut self, id: &ObjectId, along: Parents) -> Result<Fetched, FetchError>
+        ensures objects { self.new.objects ≡ self.old.objects }
+        ensures rows { self.new.rows ≡ self.old.rows }
+        ensures parents { OverTold F.is_honest F.table self.old
+            (λ g. IfOk result (λ commit. commit.parents.items ≡ asked_parents along g id.now)) }
+        ensures time { OverTold F.is_honest F.table self.old
+            (λ g. IfOk result (λ commit. unwrap_or commit.time (pos 0) ≡ (g id.now).time)) }
+        ensures generation { IfOk result (λ commit. HasRowsGeneration (rows_of self.old.rows) id.now
+            commit.generation) }
+        ensures listed { IfOk result (λ _. Holds (rows_of self.old.rows) id.now
+            ⊎ Contains (F.ids self.old.objects) (id_of id.now)) }
+        ensures rowed { Holds (rows_of self.old.rows) id.now
+            → (self.new.lookups ≡ self.old.lookups) × (self.new.buffer.items ≡ []) }
+        ensures closed { Holds (rows_of self.old.rows) id.now
+            → IfOk result (λ commit. AllHeld (rows_of self.old.rows) commit.parents.items) }
+        ensures counted { self.new.lookups ≤ self.old.lookups + 1 }
+        ensures rising { self.old.lookups ≤ self.new.lookups }
+        ensures asked { (¬ Holds (rows_of self.old.rows) id.now)
+            → self.new.lookups ≡ one_more self.old.lookups }
+        ensures content { F.is_honest self.old.objects → ¬ Holds (rows_of self.old.rows) id.now
+            → OnOk result (Stands (F.table self.old.objects) (id_of id.now) kinds.Commit
+            self.new.buffer.items) }
+        ensures refused { IfErr result (FetchFault (F.is_honest self.old.objects)
+            (F.may_fail self.old.objects) (rows_of self.old.rows) (F.table self.old.objects)
+            id.now) }
+        ensures unread { IfErr result (ReadFault along (F.is_honest self.old.objects)
+            (F.may_fail self.old.objects) (rows_of self.old.rows) (F.table self.old.objects)
+            id.now) }
+    {
+        let alloc: Global = *self.buffer.allocator();
+        if let Some(row) = row_in(self.rows.as_ref(), id) {
+            self.buffer.clear();
+            return Ok(Fetched {
+                parents: ParentIds::from_slice(alloc, asked_of(row.parents.as_slice(), along))?,
+                time: Some(row.time),
+                generation: Some(row.generation),
+            });
+        }
+        self.lookups = self.lookups.saturating_add(1);
+        load(&self.objects, id, &mut self.buffer)?;
+        let reader = CommitRefIter::from_bytes(self.buffer.as_slice(), id.kind());
+        Ok(Fetched {
+            parents: read_parents(alloc, reader, along)?,
+            time: seconds(reader).ok(),
+            generation: None,
+        })
+    }
+
+    /// The committer's seconds of the commit of this id. It is `ObjectDecode` where its object tells no committer.
+    pub fn seconds(&mut self, id: &ObjectId) -> Result<i64, FetchError>
+        ensures objects { self.new.objects ≡ self.old.objects }
+        ensures rows { self.new.rows ≡ self.old.rows }
+        ensures time { OverTold F.is_honest F.table self.old
+            (λ g. IfOk result (λ seconds. seconds ≡ (g id.now).time)) }
+        ensures told { F.is_honest self.old.objects
+            → IfOk result (λ _. TimeIsTold (rows_of self.old.rows) (F.table self.old.objects)
+            id.now) }
+        ensures none { OverSure F.is_honest F.may_fail F.table self.old
+            (λ g. IfErr result (λ error. error ≢ Memory → (g id.now).time ≡ pos 0)) }
+        ensures unread { OverTold F.is_honest F.table self.old
+            (λ g. IfErr result (λ error. error ≢ Memory
+            → CountsAs (F.may_fail self.old.objects) g id.now (pos 0))) }
+        ensures rowed { Holds (rows_of self.old.rows) id.now → IsOk result
+            × (self.new.lookups ≡ self.old.lookups) }
+        ensures asked { (¬ Holds (rows_of self.old.rows) id.now)
+            → self.new.lookups ≡ one_more self.old.lookups }
+        ensures counted { self.new.lookups ≤ self.old.lookups + 1 }
+        ensures rising { self.old.lookups ≤ self.new.lookups }
+        ensures refused { IfErr result (TimeFault (F.is_honest self.old.objects)
+            (F.may_fail self.old.objects) (rows_of self.old.rows) (F.table self.old.objects)
+            id.now) }
+    {
+        if let Some(row) = row_in(self.rows.as_ref(), id) {
+            return Ok(row.time);
+        }
+        self.lookups = self.lookups.saturating_add(1);
+        load(&self.objects, id, &mut self.buffer)?;
+        let reader = CommitRefIter::from_bytes(self.buffer.as_slice(), id.kind());
+        match seconds(reader) {
+            Ok(seconds) => Ok(seconds),
+            Err(error) => Err(FetchError::ObjectDecode(error)),
+        }
+    }
+}

@@ -1,0 +1,208 @@
+//! Meeting commits: tips and parents, each once.
+
+ghost use Rattle.std.specs.Prelude.{◌≡◌, List, Bool, true, false, not, ◌&&◌, [], ◌∷◌, ◌++◌, length, if◌then◌else◌, Contains, OnOk};
+ghost use Rattle.gix_hash_id.specs.Id.{id_of};
+ghost use Rattle.gix_hash_id.specs.declared.object_id.ObjectId.{ObjectId};
+ghost use Rattle.gix_traverse_commit_known.specs.Ending.{NoneGains, times_in};
+ghost use Rattle.gix_traverse_commit_known.specs.Keeping.{Kept, KeptAll};
+ghost use Rattle.gix_traverse_commit_known.specs.Meeting.{Asks, AsksOnce, IsFresh, MarksAll, MarksMet, fresh};
+ghost use Rattle.gix_traverse_commit_known.specs.Known.{turns_of};
+ghost use Rattle.gix_traverse_commit_known.specs.Nodes.{is_asked, is_met, is_hidden};
+ghost use Rattle.gix_traverse_commit_graph.specs.Numbered.{same_id};
+ghost use Rattle.gix_traverse_commit_known.specs.Queueing.{QueuesBehind};
+ghost use Rattle.gix_traverse_commit_graph.specs.Rows.{AllHeld};
+ghost use Rattle.gix_traverse_commit_known.specs.Asked.{AreAsked, AreRefused};
+ghost use Rattle.gix_traverse_commit_graph.specs.Standing.{Reads};
+ghost use Rattle.gix_traverse_commit_graph.specs.declared.rows.Row.{Row};
+
+use crate::Accept;
+use crate::known::Known;
+use crate::nodes::Marks;
+use gix_hash::ObjectId;
+use std::alloc::AllocError;
+
+// Asks the predicate of a tip of which it was not asked.
+fn ask_tip<P: Accept>(known: &mut Known, predicate: &mut P, tip: ObjectId) -> Result<(), AllocError>
+    ensures accepts { P.accepts predicate.new ≡ P.accepts predicate.old }
+    ensures asked { OnOk result ((tips : List ObjectId)
+        → AreAsked (P.accepts predicate.old) tips known.old.nodes
+        → AreAsked (P.accepts predicate.old) (tips ++ tip ∷ []) known.new.nodes) }
+    ensures queue { OnOk result (known.new.queue ≡ known.old.queue) }
+    ensures turns { OnOk result (turns_of known.new ≡ turns_of known.old) }
+    ensures marked { OnOk result ((q : ObjectId) → is_asked known.new.nodes q
+        ≡ (if same_id tip q then true else is_asked known.old.nodes q)) }
+    ensures once { OnOk result (Asks P.goes (if is_asked known.old.nodes tip then [] else tip ∷ [])
+        predicate.old predicate.new) }
+{
+    let marks = known.marks(&tip);
+    if marks.asked {
+        return Ok(());
+    }
+    let accepted = predicate.accept(tip.as_oid());
+    known.mark(
+        tip,
+        Marks {
+            asked: true,
+            met: !accepted,
+            hidden: marks.hidden,
+        },
+    )?;
+    Ok(())
+}
+
+/// Asks the predicate of each tip once, and marks those that it refuses.
+pub fn ask_tips<P: Accept>(
+    known: &mut Known,
+    predicate: &mut P,
+    tips: &[ObjectId],
+) -> Result<(), AllocError>
+    ensures accepts { P.accepts predicate.new ≡ P.accepts predicate.old }
+    ensures asked { OnOk result (AreAsked (P.accepts predicate.old) [] known.old.nodes
+        → AreRefused (P.accepts predicate.old) tips.now known.new.nodes) }
+    ensures queue { OnOk result (known.new.queue ≡ known.old.queue) }
+    ensures turns { OnOk result (turns_of known.new ≡ turns_of known.old) }
+    ensures once { OnOk result (((x : ObjectId) → is_asked known.old.nodes x ≡ false)
+        → AsksOnce P.goes (Contains tips.now) predicate.old predicate.new) }
+{
+    'tips: for tip in tips {
+        ask_tip(known, predicate, *tip)?;
+    }
+    Ok(())
+}
+
+/// Marks a commit as met.
+pub fn mark_met(known: &mut Known, id: ObjectId, marks: Marks) -> Result<(), AllocError>
+    ensures met { OnOk result ((q : ObjectId) → is_met known.new.nodes q
+        ≡ (if same_id id q then true else is_met known.old.nodes q)) }
+    ensures hidden { OnOk result (is_hidden known.old.nodes id ≡ marks.hidden
+        → (q : ObjectId) → is_hidden known.new.nodes q ≡ is_hidden known.old.nodes q) }
+    ensures queue { OnOk result (known.new.queue ≡ known.old.queue) }
+    ensures turns { OnOk result (turns_of known.new ≡ turns_of known.old) }
+    ensures behind { OnOk result (QueuesBehind known.old [] known.new) }
+{
+    known.mark(id, marks.as_met())
+}
+
+// Marks a commit as met, and queues it last.
+fn queue_met(known: &mut Known, id: ObjectId, marks: Marks) -> Result<(), AllocError>
+    ensures met { OnOk result ((q : ObjectId) → is_met known.new.nodes q
+        ≡ (if same_id id q then true else is_met known.old.nodes q)) }
+    ensures turns { OnOk result (turns_of known.new ≡ turns_of known.old) }
+    ensures hidden { OnOk result (is_hidden known.old.nodes id ≡ marks.hidden
+        → (q : ObjectId) → is_hidden known.new.nodes q ≡ is_hidden known.old.nodes q) }
+    ensures queued { OnOk result (known.new.queue ≡ known.old.queue ++ id ∷ []) }
+{
+    known.enqueue(id, marks.as_met())
+}
+
+// Queues a tip that is not hidden and was not met.
+fn queue_tip(known: &mut Known, id: ObjectId) -> Result<(), AllocError>
+    ensures met { OnOk result ((q : ObjectId) → is_met known.new.nodes q
+        ≡ (if same_id id q then true else is_met known.old.nodes q)) }
+    ensures turns { OnOk result (turns_of known.new ≡ turns_of known.old) }
+    ensures hidden { OnOk result ((q : ObjectId) → is_hidden known.new.nodes q
+        ≡ is_hidden known.old.nodes q) }
+    ensures queued { OnOk result (known.new.queue
+        ≡ (if is_met known.old.nodes id then known.old.queue
+        else (if not (is_hidden known.old.nodes id) then known.old.queue ++ id ∷ []
+        else known.old.queue))) }
+{
+    let marks = known.marks(&id);
+    if marks.met {
+        return Ok(());
+    }
+    if !marks.hidden {
+        return queue_met(known, id, marks);
+    }
+    mark_met(known, id, marks)
+}
+
+/// Queues the tips that are accepted and not hidden, each once.
+pub fn queue_tips(known: &mut Known, tips: &[ObjectId]) -> Result<(), AllocError>
+    ensures turns { OnOk result (turns_of known.new ≡ turns_of known.old) }
+    ensures hidden { OnOk result ((q : ObjectId) → is_hidden known.new.nodes q
+        ≡ is_hidden known.old.nodes q) }
+    ensures grown { OnOk result ((q : ObjectId) → is_met known.old.nodes q ≡ true
+        → is_met known.new.nodes q ≡ true) }
+    ensures rowed { OnOk result ((rows : List Row) → AllHeld rows known.old.queue
+        → AllHeld rows tips.now → AllHeld rows known.new.queue) }
+    ensures left { OnOk result (NoneGains known.old.nodes (times_in known.old.queue) known.new.nodes
+        (times_in known.new.queue)) }
+    ensures walked { OnOk result ((along : ObjectId → List ObjectId) (keep : ObjectId → Bool)
+        → ((x : ObjectId) → Contains tips.now x → is_met known.old.nodes x ≡ false
+        → keep x ≡ not (is_hidden known.old.nodes x))
+        → Kept along tips.now keep (is_met known.old.nodes) known.old.queue 0 0
+        → KeptAll along tips.now keep (is_met known.new.nodes) known.new.queue 0) }
+    ensures met { OnOk result (MarksAll known.old.nodes tips.now known.new.nodes) }
+{
+    'tips: for tip in tips {
+        queue_tip(known, *tip)?;
+    }
+    Ok(())
+}
+
+// Queues a commit that was not met, is not hidden and is accepted.
+fn meet<P: Accept>(known: &mut Known, predicate: &mut P, id: ObjectId) -> Result<(), AllocError>
+    ensures accepts { P.accepts predicate.new ≡ P.accepts predicate.old }
+    ensures met { OnOk result ((q : ObjectId) → is_met known.new.nodes q
+        ≡ (if is_hidden known.old.nodes id
+        then is_met known.old.nodes q else
+        (if same_id id q then true else is_met known.old.nodes q))) }
+    ensures turns { OnOk result (turns_of known.new ≡ turns_of known.old) }
+    ensures hidden { OnOk result ((q : ObjectId) → is_hidden known.new.nodes q
+        ≡ is_hidden known.old.nodes q) }
+    ensures queued { OnOk result (known.new.queue ≡
+        (if is_met known.old.nodes id then known.old.queue
+        else (if not (is_hidden known.old.nodes id) && P.accepts predicate.old (id_of id)
+        then known.old.queue ++ id ∷ [] else known.old.queue))) }
+    ensures asked { OnOk result (Asks P.goes
+        (fresh known.old.nodes id) predicate.old predicate.new) }
+{
+    let marks = known.marks(&id);
+    if marks.hidden {
+        return Ok(());
+    }
+    if marks.met {
+        return Ok(());
+    }
+    if predicate.accept(id.as_oid()) {
+        return queue_met(known, id, marks);
+    }
+    mark_met(known, id, marks)
+}
+
+/// Queues the parents of a commit that were not met, are not hidden and are accepted.
+pub fn meet_parents<P: Accept>(
+    known: &mut Known,
+    predicate: &mut P,
+    parents: &[ObjectId],
+) -> Result<(), AllocError>
+    ensures accepts { P.accepts predicate.new ≡ P.accepts predicate.old }
+    ensures turns { OnOk result (turns_of known.new ≡ turns_of known.old) }
+    ensures hidden { OnOk result ((q : ObjectId) → is_hidden known.new.nodes q
+        ≡ is_hidden known.old.nodes q) }
+    ensures grown { OnOk result ((q : ObjectId) → is_met known.old.nodes q ≡ true
+        → is_met known.new.nodes q ≡ true) }
+    ensures rowed { OnOk result ((rows : List Row) → AllHeld rows known.old.queue
+        → AllHeld rows parents.now → AllHeld rows known.new.queue) }
+    ensures left { OnOk result (NoneGains known.old.nodes (times_in known.old.queue) known.new.nodes
+        (times_in known.new.queue)) }
+    ensures walked { OnOk result ((along : ObjectId → List ObjectId) (keep : ObjectId → Bool)
+        (tips listed : List ObjectId) (id : ObjectId)
+        → ((x : ObjectId) → is_met known.old.nodes x ≡ false
+        → keep x ≡ (not (is_hidden known.old.nodes x) && P.accepts predicate.old (id_of x)))
+        → parents.now ≡ along id
+        → Kept along tips keep (is_met known.old.nodes) (listed ++ known.old.queue)
+        (length listed) 0
+        → Reads (listed ++ known.old.queue) (length listed) id
+        → KeptAll along tips keep (is_met known.new.nodes) (listed ++ known.new.queue)
+        (length listed)) }
+    ensures asked { OnOk result (AsksOnce P.goes (IsFresh known.old.nodes parents.now) predicate.old
+        predicate.new) }
+    ensures marks { OnOk result (MarksMet known.old.nodes parents.now known.new.nodes) }
+{
+    'parents: for parent in parents {
+        meet(known, predicate, *parent)?;
+    }
+    Ok(())
+}
