@@ -1,5 +1,5 @@
 -- What edits say of packed records.
-use Rattle.std.proofs.Common.{◌≡◌, ◌≢◌, refl, sym, ◌∙◌, ap, subst, Bool, true, false, cond, List, [], ◌∷◌, ◌++◌, append_assoc, append-nil, length, map, ◌||◌, arith, Option, Some, None}
+use Rattle.std.proofs.Common.{◌≡◌, ◌≢◌, refl, sym, ◌∙◌, ap, subst, Bool, true, false, List, [], ◌∷◌, ◌++◌, append_assoc, append-nil, length, map, ◌||◌, arith, Option, Some, None}
 use Rattle.std.specs.Prelude.{is_some, option_map}
 use Rattle.std.specs.List.{list_any}
 use Rattle.std.specs.Option.{option_to_list}
@@ -29,12 +29,12 @@ use Rattle.gix_ref_store.specs.RefStates.{RefState, Stands, packed_text_in}
 use Rattle.gix_ref_store.specs.declared.reference.Reference.{Reference}
 use Rattle.gix_ref_transaction.specs.RecordEdits.{line_in}
 use Rattle.gix_ref_transaction.specs.declared.packed.RecordEdit.{RecordEdit}
-use Rattle.gix_ref_transaction.specs.PackedEdits.{IsBegun, place_of, lock_path_of}
+use Rattle.gix_ref_transaction.specs.PackedEdits.{IsBegun, lock_path_of}
 use Rattle.gix_ref_transaction.specs.Records.{records_in, IsTextOf, HoldsEdited}
 use Rattle.gix_ref_transaction.specs.declared.lock.Lock.{Lock}
 use Rattle.gix_ref_transaction.specs.declared.packed.Transaction.{Transaction}
 use Rattle.gix_ref_way.specs.Ways.{Bytes, file_at}
-use Rattle.gix_ref_repacking.specs.Repacking.{SaysOfRecord, SaysByKey, SayOfRecords, UpdatesRecord, WritesRecord, ChangesRecord, removal_line, changes_records, HoldsRecords, HoldsIf, AreRepacked}
+use Rattle.gix_ref_repacking.specs.Repacking.{SaysOfRecord, SaysByKey, SayOfRecords, UpdatesRecord, WritesRecord, ChangesRecord, removal_line, changes_records, HoldsRecords, AreRepacked}
 
 -- ---- one edit
 pub says_none : (packs : Option Table) (edit : RefEdit) → packed_key edit.name ≡ None → SaysOfRecord packs edit None
