@@ -5,26 +5,20 @@ use Rattle.gix_ref_edit.specs.declared.change.RefEdit.{RefEdit}
 use Rattle.gix_ref_store.specs.Places.{Base}
 use Rattle.gix_ref_transaction.specs.declared.packed.Transaction.{Transaction}
 use Rattle.gix_ref_moves.specs.declared.act.Move.{Move}
-use Rattle.gix_ref_loose_transaction.specs.Causes.{LockFault, RepackFault, SomeEditFault}
+use Rattle.gix_ref_repacking.specs.declared.error.RepackError.{RepackError}
+use Rattle.gix_ref_repacking.specs.declared.error.RepackError.TheVariants as repack
+use Rattle.gix_ref_loose_transaction.specs.Causes.{LockFault, SomeEditFault, of_repacking}
 use Rattle.gix_ref_loose_transaction.specs.LogLines.{Logging}
 use Rattle.gix_ref_loose_transaction.specs.Paths.{paths_apart, has_twice}
 use Rattle.gix_ref_loose_transaction.specs.declared.error.PrepareError.{PrepareError}
 use Rattle.gix_ref_loose_transaction.specs.declared.error.PrepareError.TheVariants as fault
 
 module _ (l : Logging) (b : Base) (tree : Tree) (may : Type 0) (edits : List RefEdit) where
-  pub by_records : (error : PrepareError) → RepackFault error → LockFault l b tree may edits error
-  by_records (fault.PackedTransactionAcquire e) h = tt
-  by_records (fault.PackedTransactionPrepare e) h = tt
-  by_records (fault.Resolve e) h = tt
-  by_records fault.Memory h = tt
-  by_records (fault.Packed e) h = absurd h
-  by_records (fault.PreprocessingFailed e) h = absurd h
-  by_records fault.SamePlace h = absurd h
-  by_records fault.LockAcquire h = absurd h
-  by_records fault.Io h = absurd h
-  by_records (fault.Refused e) h = absurd h
-  by_records (fault.ReferenceDecode e) h = absurd h
-  by_records (fault.CreateOrUpdateRefLog e) h = absurd h
+  pub by_records : (error : RepackError) → LockFault l b tree may edits (of_repacking error)
+  by_records (repack.PackedTransactionAcquire e) = tt
+  by_records (repack.PackedTransactionPrepare e) = tt
+  by_records (repack.Resolve e) = tt
+  by_records repack.Memory = tt
 
   pub by_edit : (error : PrepareError) → SomeEditFault l b tree may edits error → LockFault l b tree may edits error
   by_edit (fault.PackedTransactionAcquire e) (edit, among, full, h) = absurd h

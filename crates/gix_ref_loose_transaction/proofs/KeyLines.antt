@@ -14,7 +14,7 @@ use Rattle.gix_ref_format.specs.Lookup.{packed_key}
 use Rattle.gix_ref_packed.specs.Edited.{Line, line_at}
 use Rattle.gix_ref_store.specs.Places.{Base, place}
 use Rattle.gix_ref_way.specs.Ways.{Bytes}
-use Rattle.gix_ref_loose_transaction.specs.Repacking.{SaysOfRecord, SaysByKey, SayOfRecords, UpdatesRecord}
+use Rattle.gix_ref_repacking.specs.Repacking.{SaysOfRecord, SaysByKey, SayOfRecords, UpdatesRecord}
 use Rattle.gix_ref_loose_transaction.proofs.PathKeys.{one_place}
 
 inner : {A : Type 0} {r s : A} → Some r ≡ Some s → r ≡ s

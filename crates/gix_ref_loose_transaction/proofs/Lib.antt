@@ -1,7 +1,7 @@
 mod PathEnds
 mod Alikes
 mod Twice
-mod RecordLines
+mod Repacked
 mod LineLemmas
 mod PathKeys
 mod KeyLines

@@ -14,13 +14,13 @@ use Rattle.gix_ref_moves.specs.Moments.{SameButLocks}
 use Rattle.gix_ref_moves.specs.Moves.{IsNone, Once, all_paths}
 use Rattle.gix_ref_moves.specs.declared.act.Move.{Move}
 use Rattle.gix_ref_way.specs.Ways.{file_at}
-use Rattle.gix_ref_loose_transaction.specs.Modes.{objects_in, removes}
+use Rattle.gix_ref_repacking.specs.Modes.{objects_in, removes}
 use Rattle.gix_ref_loose_transaction.specs.Paths.{has_twice, paths_apart}
 use Rattle.gix_ref_loose_transaction.specs.Plans.{AllHold, AllPlanned}
 use Rattle.gix_ref_loose_transaction.specs.Reads.{AllGiveKind, AllReadBack, AreReadBack, IsAsPrepared, Prepared}
-use Rattle.gix_ref_loose_transaction.specs.Repacking.{AreRepacked, HoldsIf, SayOfRecords}
-use Rattle.gix_ref_loose_transaction.specs.declared.packed_refs.PackedRefs.{PackedRefs}
-use Rattle.gix_ref_loose_transaction.specs.declared.packed_refs.PackedRefs.TheVariants.{DeletionsOnly, DeletionsAndNonSymbolicUpdates, DeletionsAndNonSymbolicUpdatesRemoveLooseSourceReference}
+use Rattle.gix_ref_repacking.specs.Repacking.{AreRepacked, HoldsIf, SayOfRecords}
+use Rattle.gix_ref_repacking.specs.declared.packed_refs.PackedRefs.{PackedRefs}
+use Rattle.gix_ref_repacking.specs.declared.packed_refs.PackedRefs.TheVariants.{DeletionsOnly, DeletionsAndNonSymbolicUpdates, DeletionsAndNonSymbolicUpdatesRemoveLooseSourceReference}
 use Rattle.gix_ref_loose_transaction.proofs.RecordKinds.{edited_kinds, kept_kinds, said_kinds}
 use Rattle.gix_ref_loose_transaction.proofs.Twice.{once_of}
 

@@ -22,7 +22,7 @@ use Rattle.gix_ref_moves.proofs.OnWays.{once_moves}
 use Rattle.gix_ref_moves.proofs.PathLists.{all_weaker, all_both}
 use Rattle.gix_ref_loose_transaction.specs.Plans.{AllHold, AllPlanned, HoldsText, IsPlanOf}
 use Rattle.gix_ref_loose_transaction.specs.Reads.{Prepared, IsReadBack, AreReadBack, IsAsPrepared, IsOther, ReadsChanged, ReadsEdited, ReadsOnWay}
-use Rattle.gix_ref_loose_transaction.specs.Repacking.{HoldsIf, SaysOfRecord}
+use Rattle.gix_ref_repacking.specs.Repacking.{HoldsIf, SaysOfRecord}
 use Rattle.gix_ref_loose_transaction.proofs.KeyLines.{IsSaid, PlacesApart, SaidOf, all_said_of, no_line}
 use Rattle.gix_ref_loose_transaction.proofs.PathEnds.{place_free, packed_place_free}
 use Rattle.gix_ref_loose_transaction.proofs.Readings.{NewTold, OneEdit, told, same, new_told, none_told, reads_end, reads_on_way, no_key}

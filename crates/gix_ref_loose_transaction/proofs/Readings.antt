@@ -37,7 +37,7 @@ use Rattle.gix_ref_moves.specs.declared.act.Move.{Move}
 use Rattle.gix_ref_moves.specs.declared.act.Act.TheVariants.{Put, Note, Pack, Remove, Forget}
 use Rattle.gix_ref_loose_transaction.specs.Plans.{HoldsText, IsActOf, IsPlanOf, IsUpdateBy, IsDeletionBy, IsPut, is_packed_alone}
 use Rattle.gix_ref_loose_transaction.specs.Reads.{ReadsChanged, ReadsUpdated, ReadsDeleted, IsPeeledOf, IsReadBack}
-use Rattle.gix_ref_loose_transaction.specs.Repacking.{SaysOfRecord, SaysByKey, ChangesRecord, UpdatesRecord, HoldsRecords, changes_records, removal_line}
+use Rattle.gix_ref_repacking.specs.Repacking.{SaysOfRecord, SaysByKey, ChangesRecord, UpdatesRecord, HoldsRecords, changes_records, removal_line}
 use Rattle.gix_ref_loose_transaction.proofs.KeyLines.{IsSaid}
 
 inner : {A : Type 0} {r s : A} → Some r ≡ Some s → r ≡ s

@@ -35,7 +35,7 @@ use Rattle.gix_ref_store.specs.Peels.{TagNames, LeadsOver, PeelsTo}
 use Rattle.gix_ref_transaction.specs.Records.{records_in}
 use Rattle.gix_ref_way.specs.Ways.{Bytes}
 use Rattle.gix_ref_loose_transaction.specs.Reads.{AllGiveKind, GivesKind, IsOfKind}
-use Rattle.gix_ref_loose_transaction.specs.Repacking.{SaysOfRecord, SaysByKey, SayOfRecords, UpdatesRecord, TellsPeeled, removal_line}
+use Rattle.gix_ref_repacking.specs.Repacking.{SaysOfRecord, SaysByKey, SayOfRecords, UpdatesRecord, TellsPeeled, removal_line}
 
 inner : {A : Type 0} {r s : A} → Some r ≡ Some s → r ≡ s
 inner e = cc

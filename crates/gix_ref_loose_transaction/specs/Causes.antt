@@ -33,6 +33,8 @@ use Rattle.gix_ref_store.specs.declared.store.file.find.ExistingError.TheVariant
 use Rattle.gix_ref_store.specs.declared.store.file.follow.Error.{Error as FollowError}
 use Rattle.gix_ref_store.specs.declared.store.file.follow.Error.TheVariants as follow
 use Rattle.gix_ref_transaction.specs.declared.packed.Transaction.{Transaction}
+use Rattle.gix_ref_repacking.specs.declared.error.RepackError.{RepackError}
+use Rattle.gix_ref_repacking.specs.declared.error.RepackError.TheVariants as repack
 use Rattle.gix_ref_way.specs.Ways.{Bytes}
 use Rattle.gix_ref_loose_transaction.specs.Asked.{MeetsOf, points_of}
 use Rattle.gix_ref_loose_transaction.specs.Found.{points_at}
@@ -216,19 +218,11 @@ ReadyFault read b may_fail asked (CreateOrUpdateRefLog error) = ⊥
 ReadyFault read b may_fail asked (Resolve error) = ⊥
 
 -- packed records aren't locked, or the object isn't found whose id one is to tell
-abbrev pub RepackFault : PrepareError → Type 0
-RepackFault (PackedTransactionAcquire error) = Unit {0}
-RepackFault (PackedTransactionPrepare error) = Unit {0}
-RepackFault (Resolve error) = Unit {0}
-RepackFault Memory = Unit {0}
-RepackFault (Packed error) = ⊥
-RepackFault (PreprocessingFailed error) = ⊥
-RepackFault SamePlace = ⊥
-RepackFault LockAcquire = ⊥
-RepackFault Io = ⊥
-RepackFault (Refused why) = ⊥
-RepackFault (ReferenceDecode error) = ⊥
-RepackFault (CreateOrUpdateRefLog error) = ⊥
+abbrev pub of_repacking : RepackError → PrepareError
+of_repacking (repack.PackedTransactionAcquire error) = PackedTransactionAcquire error
+of_repacking (repack.PackedTransactionPrepare error) = PackedTransactionPrepare error
+of_repacking (repack.Resolve error) = Resolve error
+of_repacking repack.Memory = Memory
 
 -- they aren't locked: packed records aren't, or an edit is refused, or two paths are one
 abbrev pub LockFault : Logging → Base → Tree → Type 0 → List RefEdit → PrepareError → Type 0

@@ -2,10 +2,8 @@ pub mod Asked
 pub mod Found
 pub mod Paths
 pub mod Alike
-pub mod Modes
 pub mod Plans
 pub mod LogLines
-pub mod Repacking
 pub mod Causes
 pub mod Reads
 pub mod Parts

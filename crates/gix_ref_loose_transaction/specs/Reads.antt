@@ -22,7 +22,7 @@ use Rattle.gix_ref_moves.specs.Moves.{IsNone, all_paths}
 use Rattle.gix_ref_store.specs.Places.{Base, place, packed_place}
 use Rattle.gix_ref_store.specs.RefStates.{RefState, Stands, Absent, ref_state}
 use Rattle.gix_ref_loose_transaction.specs.Plans.{AllHold, AllPlanned, is_packed_alone}
-use Rattle.gix_ref_loose_transaction.specs.Repacking.{HoldsIf, SayOfRecords, TellsPeeled}
+use Rattle.gix_ref_repacking.specs.Repacking.{HoldsIf, SayOfRecords, TellsPeeled}
 use Rattle.gix_ref_moves.specs.declared.act.Move.{Move}
 
 -- ---- one name

@@ -7,6 +7,7 @@ use crate::asked::Refusal;
 use gix_ref_edit::PreProcessError;
 use gix_ref_format::packed::buffer;
 use gix_ref_moves::LogError;
+use gix_ref_repacking::RepackError;
 use gix_ref_store::store::file::{find, peel};
 use gix_ref_transaction::packed;
 use std::alloc::{AllocError, AllocFailed};
@@ -114,6 +115,25 @@ impl From<packed::Error> for PrepareError {
 
     fn from(error: packed::Error) -> Self {
         PrepareError::PackedTransactionAcquire(error)
+    }
+}
+
+impl From<RepackError> for PrepareError {
+    ghost use Rattle.gix_ref_loose_transaction.specs.Causes.{of_repacking};
+
+    ghost from_gives = { λ error e. e ≡ of_repacking error };
+
+    fn from(error: RepackError) -> Self {
+        match error {
+            RepackError::PackedTransactionAcquire(error) => {
+                PrepareError::PackedTransactionAcquire(error)
+            }
+            RepackError::PackedTransactionPrepare(error) => {
+                PrepareError::PackedTransactionPrepare(error)
+            }
+            RepackError::Resolve(error) => PrepareError::Resolve(error),
+            RepackError::Memory => PrepareError::Memory,
+        }
     }
 }
 

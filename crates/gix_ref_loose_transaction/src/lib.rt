@@ -6,12 +6,10 @@ mod error;
 mod finder;
 mod lines;
 mod once;
-mod packed_refs;
 mod plan;
-mod records;
 mod targets;
 pub mod transaction;
 
 pub use crate::asked::Refusal;
 pub use crate::error::PrepareError;
-pub use crate::packed_refs::PackedRefs;
+pub use gix_ref_repacking::PackedRefs;

@@ -1,5 +1,5 @@
 use Rattle.std.proofs.Common.{◌≡◌, ◌∙◌, false, refl, sym, ap, subst, List, Option, option_map, Vec, rules}
-use Rattle.std.proofs.lemmas.Result.{IfOk-weaker}
+use Rattle.std.proofs.lemmas.Result.{IfOk-weaker, err_from_is_err_and}
 use Rattle.std.specs.declared.alloc.Global.{Global}
 use Rattle.gix_ref_file.specs.Tree.{Tree}
 use Rattle.gix_ref_edit.specs.declared.change.RefEdit.{RefEdit}
@@ -14,15 +14,15 @@ use Rattle.gix_ref_moves.proofs.FileMoves.{now_of}
 use Rattle.gix_ref_moves.proofs.LockPaths.{locks_joined}
 use Rattle.gix_ref_loose_transaction.specs.LogLines.{AllLined, logging}
 use Rattle.gix_ref_loose_transaction.specs.Causes.{SomeEditFault}
-use Rattle.gix_ref_loose_transaction.specs.Modes.{objects_in, removes}
+use Rattle.gix_ref_repacking.specs.Modes.{objects_in, removes}
 use Rattle.gix_ref_loose_transaction.specs.Paths.{has_twice, paths_apart}
 use Rattle.gix_ref_loose_transaction.specs.Reads.{AllGiveKind, AllReadBack}
-use Rattle.gix_ref_loose_transaction.specs.Repacking.{AreRepacked}
+use Rattle.gix_ref_repacking.specs.Repacking.{AreRepacked}
 use Rattle.std.specs.Prelude.{IfOk}
 use Rattle.gix_ref_transaction.specs.declared.packed.Transaction.{Transaction as Packed}
 use Rattle.gix_ref_loose_transaction.specs.Plans.{AllPlanned, AllTested}
-use Rattle.gix_ref_loose_transaction.proofs.Faults.{by_edit}
-use Rattle.gix_ref_loose_transaction.proofs.RecordLines.{repacked_on}
+use Rattle.gix_ref_loose_transaction.proofs.Faults.{by_edit, by_records}
+use Rattle.gix_ref_loose_transaction.proofs.Repacked.{repacked_on}
 use Rattle.gix_ref_loose_transaction.proofs.Plannings.{among_alike, tested_alike, ok_three, ok_four, all_lined_alike, some_fault_alike}
 use Rattle.gix_ref_loose_transaction.proofs.transaction.locked.Goals as goal
 
@@ -92,6 +92,13 @@ returns-in-Ok-clause-repacked g c = λ honest told known.
     ok_four _ _ _ _ c.finish.result (λ t es ps still. subst (λ (v : Vec RefEdit Global). AreRepacked b packs old (g.F.Files.history c.finish.new.store.files).tree v.items t.packed) (sym es)
     (subst (λ (p : Option Packed). AreRepacked b packs old (g.F.Files.history c.finish.new.store.files).tree c.args.edits.items p) (sym ps)
     (subst (λ (x : Tree). AreRepacked b packs old x c.args.edits.items records) (sym (ap (λ s. (g.F.Files.history s.files).tree) still)) all))) c.finish.ensures.edits c.finish.ensures.packed c.finish.ensures.still
+
+pub returns-in_err-records-clause-causes : goal.returns-in_err-records-clause-causes
+returns-in_err-records-clause-causes g c = λ honest.
+    let tree = (g.F.Files.history c.args.store.now.files).tree in
+    let l = logging c.args.store.now.options (reads_with c.args.store.now tree c.args.packed) c.args.committer in
+    let p = err_from_is_err_and c.from_residual.result c.from_residual.ensures.1 in
+    rw (p.1, p.2) (by_records l (base_of c.args.store.now) tree g.F.Files.reading_may_fail c.args.edits.items c.in_err-records.field-0.0)
 
 pub returns-in-Err-clause-causes : goal.returns-in-Err-clause-causes
 returns-in-Err-clause-causes g c = λ honest.

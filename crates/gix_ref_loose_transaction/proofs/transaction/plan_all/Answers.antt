@@ -10,7 +10,7 @@ use Rattle.gix_ref_moves.specs.Moments.{SameButLocks}
 use Rattle.gix_ref_moves.proofs.FileMoves.{now_of}
 use Rattle.gix_ref_moves.proofs.LockPaths.{locks_joined}
 use Rattle.gix_ref_loose_transaction.specs.LogLines.{line_in, logging}
-use Rattle.gix_ref_loose_transaction.specs.Modes.{removes}
+use Rattle.gix_ref_repacking.specs.Modes.{removes}
 use Rattle.gix_ref_loose_transaction.specs.Plans.{IsTested, IsPlanOf}
 use Rattle.gix_ref_loose_transaction.proofs.Plannings.{LinedIn, among_alike, keeps_joined, zipping_begins, testing_begins, one_zipped, one_tested, zipping_ends, testing_ends, holding_ends, is_among, lined_alike, fault_alike}
 use Rattle.gix_ref_loose_transaction.proofs.transaction.plan_all.Goals as goal

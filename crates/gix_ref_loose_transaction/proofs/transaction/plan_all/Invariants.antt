@@ -4,7 +4,7 @@ use Rattle.gix_ref_store.specs.Lookups.{reads_with}
 use Rattle.gix_ref_store.specs.Stores.{base_of}
 use Rattle.gix_ref_moves.specs.Moments.{SameButLocks}
 use Rattle.gix_ref_loose_transaction.specs.LogLines.{logging}
-use Rattle.gix_ref_loose_transaction.specs.Modes.{removes}
+use Rattle.gix_ref_repacking.specs.Modes.{removes}
 use Rattle.gix_ref_loose_transaction.specs.Plans.{IsPlanOf, KeepsFiles}
 use Rattle.gix_ref_loose_transaction.proofs.Plannings.{ZippedSoFar, TestedSoFar, LinedIn}
 use Rattle.gix_ref_loose_transaction.proofs.transaction.plan_all.Given as goal

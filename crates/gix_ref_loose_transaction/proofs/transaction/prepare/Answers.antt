@@ -3,7 +3,7 @@ use Rattle.gix_ref_file.proofs.Histories.{adds_weaker}
 use Rattle.gix_ref_moves.specs.Moments.{SameButLocks}
 use Rattle.gix_ref_moves.proofs.FileMoves.{now_of}
 use Rattle.gix_ref_store.specs.Stores.{base_of}
-use Rattle.gix_ref_loose_transaction.specs.Modes.{objects_in, removes}
+use Rattle.gix_ref_repacking.specs.Modes.{objects_in, removes}
 use Rattle.gix_ref_loose_transaction.specs.Reads.{prepared_of}
 use Rattle.gix_ref_loose_transaction.proofs.Alikes.{reads_alike}
 use Rattle.gix_ref_loose_transaction.proofs.Plannings.{ok_five}

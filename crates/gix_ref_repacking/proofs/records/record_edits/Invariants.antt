@@ -1,9 +1,9 @@
 use Rattle.std.proofs.Common.{length, map, option_map}
 use Rattle.std.specs.Prelude.{IfSome}
 use Rattle.gix_ref_transaction.specs.RecordEdits.{line_in}
-use Rattle.gix_ref_loose_transaction.specs.Modes.{objects_in}
-use Rattle.gix_ref_loose_transaction.proofs.RecordLines.{SaidSoFar}
-use Rattle.gix_ref_loose_transaction.proofs.records.record_edits.Given as goal
+use Rattle.gix_ref_repacking.specs.Modes.{objects_in}
+use Rattle.gix_ref_repacking.proofs.RecordLines.{SaidSoFar}
+use Rattle.gix_ref_repacking.proofs.records.record_edits.Given as goal
 
 -- what all edits but those left say
 abbrev pub invariant-edits : goal.invariant-edits

@@ -1,5 +1,5 @@
 -- What edits say of packed records.
-use Rattle.std.proofs.Common.{◌≡◌, ◌≢◌, refl, sym, ◌∙◌, ap, subst, Bool, true, false, cond, List, [], ◌∷◌, ◌++◌, append_assoc, append-nil, length, map, ◌||◌, arith, Option, Some, None}
+use Rattle.std.proofs.Common.{◌≡◌, ◌≢◌, refl, sym, ◌∙◌, ap, subst, Bool, true, false, List, [], ◌∷◌, ◌++◌, append_assoc, append-nil, length, map, ◌||◌, arith, Option, Some, None}
 use Rattle.std.specs.Prelude.{is_some, option_map}
 use Rattle.std.specs.List.{list_any}
 use Rattle.std.specs.Option.{option_to_list}
@@ -29,13 +29,12 @@ use Rattle.gix_ref_store.specs.RefStates.{RefState, Stands, packed_text_in}
 use Rattle.gix_ref_store.specs.declared.reference.Reference.{Reference}
 use Rattle.gix_ref_transaction.specs.RecordEdits.{line_in}
 use Rattle.gix_ref_transaction.specs.declared.packed.RecordEdit.{RecordEdit}
-use Rattle.gix_ref_transaction.specs.PackedEdits.{IsBegun, place_of, lock_path_of}
+use Rattle.gix_ref_transaction.specs.PackedEdits.{IsBegun, lock_path_of}
 use Rattle.gix_ref_transaction.specs.Records.{records_in, IsTextOf, HoldsEdited}
 use Rattle.gix_ref_transaction.specs.declared.lock.Lock.{Lock}
 use Rattle.gix_ref_transaction.specs.declared.packed.Transaction.{Transaction}
 use Rattle.gix_ref_way.specs.Ways.{Bytes, file_at}
-use Rattle.gix_ref_loose_transaction.specs.Plans.{KeepsFiles}
-use Rattle.gix_ref_loose_transaction.specs.Repacking.{SaysOfRecord, SaysByKey, SayOfRecords, UpdatesRecord, WritesRecord, ChangesRecord, removal_line, changes_records, HoldsRecords, HoldsIf, AreRepacked}
+use Rattle.gix_ref_repacking.specs.Repacking.{SaysOfRecord, SaysByKey, SayOfRecords, UpdatesRecord, WritesRecord, ChangesRecord, removal_line, changes_records, HoldsRecords, AreRepacked}
 
 -- ---- one edit
 pub says_none : (packs : Option Table) (edit : RefEdit) → packed_key edit.name ≡ None → SaysOfRecord packs edit None
@@ -117,24 +116,6 @@ changed_records b packs kind place stands old new edits lines t known changes of
 
 pub unchanged_records : (b : Base) (packs : Option Table) (stands : Bool) (old new : Tree) (edits : List RefEdit) (lines : List Line) → stands ≡ is_some (packed_text_in b old) → changes_records stands lines ≡ false → SayOfRecords packs edits lines → AreRepacked b packs old new edits None
 unchanged_records b packs stands old new edits lines known changes say = (lines, say, ap (λ (s : Bool). changes_records s lines) (sym known) ∙ changes)
-
-pub repacked_on : (b : Base) (packs : Option Table) (old mid new : Tree) (edits : List RefEdit) (t : Option Transaction) → KeepsFiles mid new → AreRepacked b packs old mid edits t → AreRepacked b packs old new edits t
-repacked_on b packs old mid new edits None keeps all = all
-repacked_on b packs old mid new edits (Some t) keeps (lines, say, (changes, holds)) = (
-  lines,
-  say,
-  (
-    changes,
-    record {
-      here = holds.here;
-      written = holds.written;
-      keeps = holds.keeps;
-      text = holds.text;
-      holds = keeps (lock_path_of t) holds.text holds.holds;
-      told = holds.told;
-    },
-  ),
-)
 
 pub any_line : (p : Line → Bool) (edits : List RecordEdit) → list_any (λ edit. p (line_in edit)) edits ≡ list_any p (map line_in edits)
 any_line p [] = refl

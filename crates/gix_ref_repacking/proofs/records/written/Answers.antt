@@ -3,8 +3,8 @@ use Rattle.gix_ref_file.proofs.Histories.{adds_weaker}
 use Rattle.gix_ref_transaction.specs.Locks.{lock_of}
 use Rattle.gix_ref_moves.proofs.LockPaths.{locks_joined, one_lock}
 use Rattle.gix_ref_transaction.specs.RecordEdits.{line_in}
-use Rattle.gix_ref_loose_transaction.proofs.RecordLines.{holds_records}
-use Rattle.gix_ref_loose_transaction.proofs.records.written.Goals as goal
+use Rattle.gix_ref_repacking.proofs.RecordLines.{holds_records}
+use Rattle.gix_ref_repacking.proofs.records.written.Goals as goal
 
 pub returns-in_err-begun-clause-moments : goal.returns-in_err-begun-clause-moments
 returns-in_err-begun-clause-moments g c = λ honest.

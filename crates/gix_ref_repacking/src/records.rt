@@ -1,6 +1,6 @@
 //! The packed records of references that are removed, and of those that are packed.
 
-ghost use Rattle.std.specs.Prelude.{◌≡◌, ◌≢◌, ◌||◌, ◌++◌, [], is_some, map, option_map, IfErr, IfOk, IfSome, OnOk, Some};
+ghost use Rattle.std.specs.Prelude.{◌≡◌, ◌≢◌, ◌||◌, ◌++◌, [], is_some, map, option_map, IfOk, IfSome, OnOk, Some};
 ghost use Rattle.std.specs.List.{list_any};
 ghost use Rattle.std.specs.Option.{option_to_list};
 ghost use Rattle.gix_hash_id.specs.Id.{id_of};
@@ -10,12 +10,11 @@ ghost use Rattle.gix_ref_store.specs.RefStates.{packed_text_in};
 ghost use Rattle.gix_ref_store.specs.Stores.{base_of};
 ghost use Rattle.gix_ref_name.specs.Targets.{target_view};
 ghost use Rattle.gix_ref_transaction.specs.RecordEdits as record_edits;
-ghost use Rattle.gix_ref_loose_transaction.specs.Causes.{RepackFault};
-ghost use Rattle.gix_ref_loose_transaction.specs.Modes.{objects_in};
-ghost use Rattle.gix_ref_loose_transaction.specs.Repacking as spec;
-ghost use Rattle.gix_ref_loose_transaction.specs.Repacking.{AddsSaid, AreRepacked, HoldsRecords, SaysOfRecord, SayOfRecords, TellsPeeled, UpdatesRecord, removal_line};
+ghost use Rattle.gix_ref_repacking.specs.Modes.{objects_in};
+ghost use Rattle.gix_ref_repacking.specs.Repacking as spec;
+ghost use Rattle.gix_ref_repacking.specs.Repacking.{AddsSaid, AreRepacked, HoldsRecords, SaysOfRecord, SayOfRecords, TellsPeeled, UpdatesRecord, removal_line};
 
-use crate::error::PrepareError;
+use crate::error::RepackError;
 use crate::packed_refs::PackedRefs;
 use gix_hash::{Kind, ObjectId};
 use gix_object_find::Find;
@@ -29,14 +28,19 @@ use gix_ref_store::store::file::{ReferenceExt, Store};
 use gix_ref_transaction::packed::{RecordEdit, Transaction};
 use std::alloc::Global;
 
-// Begins a transaction of the packed references and prepares it, where the edits change records.
-pub(crate) fn repack<F: Files, O: Find>(
+/// Begins a transaction of the packed references and prepares it, where the edits change records: its lock is then held, and has the new
+/// text. `None` where none changes. `packed` is what the caller has read of the file, `None` where none stands. The records of references
+/// that are deleted go; where `packed_refs` packs updates, each update to an object gets one, with the id that tags lead to where it is
+/// another. Names of which each worktree has its own have none.
+///
+/// At each moment each file but locks is as before. After an error the lock has gone, as far as that succeeds.
+pub fn repack<F: Files, O: Find>(
     alloc: Global,
     store: &mut Store<F>,
     packed: Option<&Buffer>,
     edits: &[RefEdit],
     packed_refs: &PackedRefs<'_, O>,
-) -> Result<Option<Transaction>, PrepareError>
+) -> Result<Option<Transaction>, RepackError>
     ensures honest { F.is_honest store.old.files → F.is_honest store.new.files }
     ensures base { base_of store.new ≡ base_of store.old }
     ensures options { store.new.options ≡ store.old.options }
@@ -46,7 +50,6 @@ pub(crate) fn repack<F: Files, O: Find>(
         is_some packed.entry ≡ is_some (packed_text_in b old)
         → IfOk result (AreRepacked b (option_map O.table (objects_in packed_refs.now)) old
         (F.history store.new.files).tree edits.now) }
-    ensures failed { IfErr result RepackFault }
 {
     let lines = record_edits(alloc, &*store, edits, packed_refs)?;
     if !change_records(packed.is_some(), &lines) {
@@ -65,13 +68,12 @@ fn written<F: Files>(
     place: &[u8],
     kind: Kind,
     lines: Vec<RecordEdit>,
-) -> Result<Transaction, PrepareError>
+) -> Result<Transaction, RepackError>
     ensures honest { F.is_honest files.old → F.is_honest files.new }
     ensures moments { Passes F.is_honest F.history files.old files.new SameButLocks }
     ensures held { F.is_honest files.old → lines.items ≢ []
         → IfOk result (HoldsRecords kind place.now (F.history files.old).tree
         (F.history files.new).tree (map record_edits.line_in lines.items)) }
-    ensures failed { IfErr result RepackFault }
 {
     let begun = Transaction::new(alloc, files, place, kind)?;
     let prepared = begun.prepare(alloc, files, lines)?;
@@ -100,11 +102,10 @@ fn record_edits<F: Files, O: Find>(
     store: &Store<F>,
     edits: &[RefEdit],
     packed_refs: &PackedRefs<'_, O>,
-) -> Result<Vec<RecordEdit>, PrepareError>
-    ensures say { F.is_honest store.now.files → IfSome (objects_in packed_refs.now) O.is_honest
+) -> Result<Vec<RecordEdit>, RepackError>
+    ensures { F.is_honest store.now.files → IfSome (objects_in packed_refs.now) O.is_honest
         → let packs = option_map O.table (objects_in packed_refs.now) in
         IfOk result (λ lines. SayOfRecords packs edits.now (map record_edits.line_in lines.items)) }
-    ensures failed { IfErr result RepackFault }
 {
     let mut lines = Vec::new(alloc);
     let mut rest = edits;
@@ -122,12 +123,11 @@ fn add_record_edit<F: Files, O: Find>(
     edit: &RefEdit,
     packed_refs: &PackedRefs<'_, O>,
     lines: &mut Vec<RecordEdit>,
-) -> Result<(), PrepareError>
-    ensures says { F.is_honest store.now.files → IfSome (objects_in packed_refs.now) O.is_honest
+) -> Result<(), RepackError>
+    ensures { F.is_honest store.now.files → IfSome (objects_in packed_refs.now) O.is_honest
         → let packs = option_map O.table (objects_in packed_refs.now) in
         OnOk result (AddsSaid packs edit.now (map record_edits.line_in lines.old.items)
         (map record_edits.line_in lines.new.items)) }
-    ensures failed { IfErr result RepackFault }
 {
     let own = record_edit(alloc, store, edit, packed_refs)?;
     push_some(lines, own)?;
@@ -135,11 +135,10 @@ fn add_record_edit<F: Files, O: Find>(
 }
 
 // Adds it, where there is one.
-fn push_some(lines: &mut Vec<RecordEdit>, own: Option<RecordEdit>) -> Result<(), PrepareError>
-    ensures added { OnOk result (map record_edits.line_in lines.new.items
+fn push_some(lines: &mut Vec<RecordEdit>, own: Option<RecordEdit>) -> Result<(), RepackError>
+    ensures { OnOk result (map record_edits.line_in lines.new.items
         ≡ map record_edits.line_in lines.old.items
         ++ option_to_list (option_map record_edits.line_in own)) }
-    ensures failed { IfErr result RepackFault }
 {
     if let Some(line) = own {
         lines.push(line)?;
@@ -153,11 +152,10 @@ fn record_edit<F: Files, O: Find>(
     store: &Store<F>,
     edit: &RefEdit,
     packed_refs: &PackedRefs<'_, O>,
-) -> Result<Option<RecordEdit>, PrepareError>
-    ensures says { F.is_honest store.now.files → IfSome (objects_in packed_refs.now) O.is_honest
+) -> Result<Option<RecordEdit>, RepackError>
+    ensures { F.is_honest store.now.files → IfSome (objects_in packed_refs.now) O.is_honest
         → let packs = option_map O.table (objects_in packed_refs.now) in
         IfOk result (λ own. SaysOfRecord packs edit.now (option_map record_edits.line_in own)) }
-    ensures failed { IfErr result RepackFault }
 {
     let Some(key) = key_of(edit.name.to_path()) else {
         return Ok(None);
@@ -169,9 +167,8 @@ fn record_edit<F: Files, O: Find>(
 }
 
 // The record goes with the reference.
-fn removal_of(alloc: Global, key: &[u8], log: RefLog) -> Result<Option<RecordEdit>, PrepareError>
-    ensures says { IfOk result (λ own. option_map record_edits.line_in own ≡ removal_line log key.now) }
-    ensures failed { IfErr result RepackFault }
+fn removal_of(alloc: Global, key: &[u8], log: RefLog) -> Result<Option<RecordEdit>, RepackError>
+    ensures { IfOk result (λ own. option_map record_edits.line_in own ≡ removal_line log key.now) }
 {
     match log {
         RefLog::AndReference => Ok(Some(RecordEdit::Remove {
@@ -189,12 +186,11 @@ fn update_of<F: Files, O: Find>(
     log: &LogChange,
     new: &Target,
     packed_refs: &PackedRefs<'_, O>,
-) -> Result<Option<RecordEdit>, PrepareError>
-    ensures says { F.is_honest store.now.files → IfSome (objects_in packed_refs.now) O.is_honest
+) -> Result<Option<RecordEdit>, RepackError>
+    ensures { F.is_honest store.now.files → IfSome (objects_in packed_refs.now) O.is_honest
         → let packs = option_map O.table (objects_in packed_refs.now) in
         IfOk result (λ own. UpdatesRecord packs log.now.mode (target_view new.now) key.now
         (option_map record_edits.line_in own)) }
-    ensures failed { IfErr result RepackFault }
 {
     let Some(objects) = packed_refs.objects() else {
         return Ok(None);
@@ -218,11 +214,10 @@ fn record_of<F: Files, O: Find>(
     key: &[u8],
     id: ObjectId,
     objects: &O,
-) -> Result<RecordEdit, PrepareError>
-    ensures says { F.is_honest store.now.files → O.is_honest objects.now
+) -> Result<RecordEdit, RepackError>
+    ensures { F.is_honest store.now.files → O.is_honest objects.now
         → IfOk result (λ own. spec.WritesRecord (O.table objects.now)
         (id_of id) key.now (Some (record_edits.line_in own))) }
-    ensures failed { IfErr result RepackFault }
 {
     let name = key_name(alloc, key)?;
     let object = peeled(alloc, store, key_name(alloc, key)?, id, objects)?;
@@ -240,10 +235,9 @@ fn peeled<F: Files, O: Find>(
     name: FullName,
     id: ObjectId,
     objects: &O,
-) -> Result<Option<ObjectId>, PrepareError>
-    ensures told { F.is_honest store.now.files → O.is_honest objects.now → IfOk result (λ peeled.
+) -> Result<Option<ObjectId>, RepackError>
+    ensures { F.is_honest store.now.files → O.is_honest objects.now → IfOk result (λ peeled.
         TellsPeeled (O.table objects.now) (id_of id) (option_map id_of peeled)) }
-    ensures failed { IfErr result RepackFault }
 {
     let found = Reference {
         name,
@@ -257,12 +251,11 @@ fn peeled<F: Files, O: Find>(
     Ok(Some(end))
 }
 
-fn key_name(alloc: Global, key: &[u8]) -> Result<FullName, PrepareError>
-    ensures name { IfOk result (λ name. name ≡ key.now) }
-    ensures failed { IfErr result RepackFault }
+fn key_name(alloc: Global, key: &[u8]) -> Result<FullName, RepackError>
+    ensures { IfOk result (λ name. name ≡ key.now) }
 {
     match FullName::from_bytes(alloc, key) {
         Ok(name) => Ok(name),
-        Err(_) => Err(PrepareError::Memory),
+        Err(_) => Err(RepackError::Memory),
     }
 }

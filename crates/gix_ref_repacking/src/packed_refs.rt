@@ -1,7 +1,7 @@
 //! Which changes of references reach the packed ones.
 
 ghost use Rattle.std.specs.Prelude.{◌≡◌, option_copied};
-ghost use Rattle.gix_ref_loose_transaction.specs.Modes as spec;
+ghost use Rattle.gix_ref_repacking.specs.Modes as spec;
 
 /// Which changes reach the packed references. Those that each worktree has of its own (names of capital letters, and names below
 /// `refs/bisect/`, `refs/rewritten/` and `refs/worktree/`) are never packed: their own files are written in each mode.
@@ -16,8 +16,8 @@ pub enum PackedRefs<'f, O> {
 }
 
 impl<'f, O> PackedRefs<'f, O> {
-    // The objects that tell what tags lead to, where updates are packed.
-    pub(crate) fn objects(&self) -> Option<&'f O>
+    /// The objects that tell what tags lead to, where updates are packed.
+    pub fn objects(&self) -> Option<&'f O>
         ensures { option_copied result ≡ spec.objects_in self.now }
     {
         match self {
@@ -29,8 +29,8 @@ impl<'f, O> PackedRefs<'f, O> {
         }
     }
 
-    // Whether the own files of references go that are packed.
-    pub(crate) fn removes(&self) -> bool
+    /// Whether the own files of references go that are packed.
+    pub fn removes(&self) -> bool
         ensures { result ≡ spec.removes self.now }
     {
         match self {

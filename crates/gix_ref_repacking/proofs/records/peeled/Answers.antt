@@ -4,11 +4,11 @@ use Rattle.gix_hash_id.specs.OrderLaws.{id_eq-same}
 use Rattle.gix_ref_name.specs.declared.target.Target.TheVariants.{Object}
 use Rattle.gix_ref_store.specs.Lookups.{reads_with}
 use Rattle.gix_ref_store.specs.Peels.{PeelsTo}
-use Rattle.gix_ref_loose_transaction.proofs.RecordLines.{peels_own}
-use Rattle.gix_ref_loose_transaction.proofs.records.peeled.Goals as goal
+use Rattle.gix_ref_repacking.proofs.RecordLines.{peels_own}
+use Rattle.gix_ref_repacking.proofs.records.peeled.Goals as goal
 
-pub returns-then-eq-clause-told : goal.returns-then-eq-clause-told
-returns-then-eq-clause-told g c = λ honest told.
+pub returns-then-eq : goal.returns-then-eq
+returns-then-eq g c = λ honest told.
     let end = id_of c.in_ok-end.end in
     let id = id_of c.args.id in
     let table = g.O.Lookup.table c.args.objects.now in

@@ -1,7 +1,7 @@
 -- Which changes of references reach the packed ones.
 use Rattle.std.specs.Prelude.{Bool, true, false, Option, Some, None}
-use Rattle.gix_ref_loose_transaction.specs.declared.packed_refs.PackedRefs.{PackedRefs}
-use Rattle.gix_ref_loose_transaction.specs.declared.packed_refs.PackedRefs.TheVariants.{DeletionsOnly, DeletionsAndNonSymbolicUpdates, DeletionsAndNonSymbolicUpdatesRemoveLooseSourceReference}
+use Rattle.gix_ref_repacking.specs.declared.packed_refs.PackedRefs.{PackedRefs}
+use Rattle.gix_ref_repacking.specs.declared.packed_refs.PackedRefs.TheVariants.{DeletionsOnly, DeletionsAndNonSymbolicUpdates, DeletionsAndNonSymbolicUpdatesRemoveLooseSourceReference}
 
 -- the objects that tell what tags lead to, where updates are packed
 abbrev pub objects_in : {O : Type 0} → PackedRefs O → Option O

@@ -1,6 +1,6 @@
 -- What edits make of packed records (git-pack-refs; gitrepository-layout, "packed-refs"): the records of what is removed go, and those of
 -- updates to objects come where updates are packed. Names of which each worktree has its own have no record.
-use Rattle.std.specs.Prelude.{ℕ, ◌≡◌, ◌≢◌, ◌||◌, Bool, true, false, is_some, List, [], ◌∷◌, ◌++◌, Option, Some, None, option_map}
+use Rattle.std.specs.Prelude.{◌≡◌, ◌≢◌, ◌||◌, Bool, true, false, is_some, List, [], ◌∷◌, ◌++◌, Option, Some, None, option_map}
 use Rattle.std.specs.List.{list_any}
 use Rattle.std.specs.Option.{option_to_list}
 use Rattle.gix_hash_id.specs.Id.{Id}

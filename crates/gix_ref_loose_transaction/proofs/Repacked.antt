@@ -1,0 +1,28 @@
+-- The lock of packed records, while other locks are made.
+use Rattle.std.proofs.Common.{List, Option, Some, None}
+use Rattle.gix_object_find.specs.Table.{Table}
+use Rattle.gix_ref_file.specs.Tree.{Tree}
+use Rattle.gix_ref_edit.specs.declared.change.RefEdit.{RefEdit}
+use Rattle.gix_ref_store.specs.Places.{Base}
+use Rattle.gix_ref_transaction.specs.PackedEdits.{lock_path_of}
+use Rattle.gix_ref_transaction.specs.declared.packed.Transaction.{Transaction}
+use Rattle.gix_ref_repacking.specs.Repacking.{AreRepacked}
+use Rattle.gix_ref_loose_transaction.specs.Plans.{KeepsFiles}
+
+pub repacked_on : (b : Base) (packs : Option Table) (old mid new : Tree) (edits : List RefEdit) (t : Option Transaction) → KeepsFiles mid new → AreRepacked b packs old mid edits t → AreRepacked b packs old new edits t
+repacked_on b packs old mid new edits None keeps all = all
+repacked_on b packs old mid new edits (Some t) keeps (lines, say, (changes, holds)) = (
+  lines,
+  say,
+  (
+    changes,
+    record {
+      here = holds.here;
+      written = holds.written;
+      keeps = holds.keeps;
+      text = holds.text;
+      holds = keeps (lock_path_of t) holds.text holds.holds;
+      told = holds.told;
+    },
+  ),
+)

@@ -1,6 +1,0 @@
-use Rattle.std.proofs.Common.{option_map}
-use Rattle.gix_ref_transaction.specs.RecordEdits.{line_in}
-use Rattle.gix_ref_loose_transaction.proofs.records.add_record_edit.Goals as goal
-
-pub returns-clause-says : goal.returns-clause-says
-returns-clause-says g c = λ honest told. (option_map line_in c.in_ok-own.own, c.in_ok-own.ensures.says honest told, c.in_ok-push_some.ensures.added)
