@@ -1,7 +1,8 @@
 //! Cases of `gix_traverse_commit` over rows.
 
-mod history;
+mod answers;
 mod infos;
+mod shown;
 mod walks;
 
-pub use history::History;
+pub use answers::put_answer;

@@ -3,35 +3,30 @@
 
 mod bench;
 mod commit;
+mod rows;
 mod topo;
 mod tree;
 mod walk;
 
+use crate::rows::Rows;
 use crate::tree::Walks;
+use case_page::Page;
 use std::alloc::{AllocError, Global};
 use std::io;
 
 /// What the lines so far have given, in each family that keeps something.
 #[derive(Drop)]
 struct Histories {
-    commit: commit::History,
-    topo: topo::History,
+    commit: Rows,
+    topo: Rows,
     walk: walk::History,
-}
-
-// An answer, or that the line is no case.
-fn told(alloc: Global, answer: Option<String>) -> Result<String, AllocError> {
-    match answer {
-        Some(text) => Ok(text),
-        None => format!(in alloc; "no case"),
-    }
 }
 
 impl Histories {
     fn new(alloc: Global) -> Histories {
         Histories {
-            commit: commit::History::new(alloc),
-            topo: topo::History::new(alloc),
+            commit: Rows::new(alloc),
+            topo: Rows::new(alloc),
             walk: walk::History::new(alloc),
         }
     }
@@ -40,12 +35,23 @@ impl Histories {
     fn answer(&mut self, alloc: Global, line: &str) -> Result<String, AllocError> {
         let (family, case) = line.split_once(' ').unwrap_or((line, ""));
         match family {
-            "commit" => told(alloc, self.commit.answer(alloc, case)),
-            "topo" => told(alloc, self.topo.answer(alloc, case)),
             "tree" => case_ids::answer::<Walks>(alloc, case),
-            "walk" => self.walk.answer(case),
-            _ => told(alloc, None),
+            _ => self.told(alloc, family, case),
         }
+    }
+
+    fn told(&mut self, alloc: Global, family: &str, case: &str) -> Result<String, AllocError> {
+        let mut page = Page::new(alloc);
+        let answered = match family {
+            "commit" => commit::put_answer(&mut self.commit, alloc, case, &mut page),
+            "topo" => topo::put_answer(&mut self.topo, alloc, case, &mut page),
+            "walk" => self.walk.put_answer(case, &mut page),
+            _ => None,
+        };
+        if answered.is_none() {
+            page.text("no case");
+        }
+        page.finish()
     }
 }
 

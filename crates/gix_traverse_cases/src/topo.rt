@@ -1,6 +1,6 @@
 //! Cases of `gix_traverse_topo` over rows.
 
-mod history;
+mod answers;
 mod walks;
 
-pub use history::History;
+pub use answers::put_answer;

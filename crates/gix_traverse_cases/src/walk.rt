@@ -8,3 +8,4 @@ mod topo_walk;
 mod words;
 
 pub use history::History;
+pub use words::put_ids;

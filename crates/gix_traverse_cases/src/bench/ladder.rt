@@ -1,6 +1,7 @@
 //! A history of two lines of commits that merge with one another at each rung.
 
 use crate::bench::store::{Store, Stored};
+use case_page::Page;
 use gix_hash::hasher::hasher;
 use gix_hash::{Kind, ObjectId};
 use gix_traverse::commit::{Graph, ParentIds, Row};
@@ -36,49 +37,78 @@ fn parents_of(number: u32) -> Option<(u32, u32)> {
 
 // The content of a commit's object.
 fn content(alloc: Global, id: &ObjectId, parents: &[ObjectId], time: u32) -> Option<Vec<u8>> {
-    let mut text = String::new(alloc);
-    text.push_str(format!(in alloc; "tree {id}\n").ok()?.as_str())
-        .ok()?;
+    let mut page = Page::new(alloc);
+    page.put_between("tree ", id, "\n");
     for parent in parents {
-        text.push_str(format!(in alloc; "parent {parent}\n").ok()?.as_str())
-            .ok()?;
+        page.put_between("parent ", parent, "\n");
     }
-    let actor = "A U Thor <author@example.com>";
-    let author = format!(in alloc; "author {actor} {time} +0000\n").ok()?;
-    let committer = format!(in alloc; "committer {actor} {time} +0000\n").ok()?;
-    text.push_str(author.as_str()).ok()?;
-    text.push_str(committer.as_str()).ok()?;
-    text.push_str("\nA message of one line.\n").ok()?;
+    put_actor("author", time, &mut page);
+    put_actor("committer", time, &mut page);
+    page.text("\nA message of one line.\n");
+    let text = page.finish().ok()?;
     Vec::from_slice(alloc, text.as_bytes()).ok()
 }
 
-/// A ladder of so many commits. `None` where no memory is left.
-pub fn build(alloc: Global, count: u32) -> Option<Ladder> {
-    let mut ids = Vec::new(alloc);
-    let mut objects = Store::new(alloc);
-    let mut rows = Vec::new(alloc);
-    for number in 0..count {
+fn put_actor(name: &str, time: u32, page: &mut Page) {
+    page.text(name);
+    page.put_between(" A U Thor <author@example.com> ", time, " +0000\n");
+}
+
+// The ids of a commit's parents.
+fn parent_ids(alloc: Global, number: u32) -> Option<ParentIds> {
+    let mut parents = ParentIds::new(alloc);
+    if let Some((first, second)) = parents_of(number) {
+        parents.push(id_of(first)).ok()?;
+        parents.push(id_of(second)).ok()?;
+    }
+    Some(parents)
+}
+
+// The commits so far: their ids, objects and rows.
+#[derive(Drop)]
+struct Made {
+    ids: Vec<ObjectId>,
+    objects: Store,
+    rows: Vec<Row>,
+}
+
+impl Made {
+    // A further commit.
+    fn add(&mut self, alloc: Global, number: u32) -> Option<()> {
         let id = id_of(number);
-        let mut parents = ParentIds::new(alloc);
-        if let Some((first, second)) = parents_of(number) {
-            parents.push(id_of(first)).ok()?;
-            parents.push(id_of(second)).ok()?;
-        }
-        let content = content(alloc, &id, parents.as_slice(), number)?;
-        objects.put(Stored { id, content }).ok()?;
-        rows.push(Row {
+        let parents = parent_ids(alloc, number)?;
+        self.add_object(id, content(alloc, &id, parents.as_slice(), number)?)?;
+        self.add_row(id, parents, number)?;
+        self.ids.push(id).ok()
+    }
+
+    fn add_object(&mut self, id: ObjectId, content: Vec<u8>) -> Option<()> {
+        self.objects.put(Stored { id, content }).ok()
+    }
+
+    fn add_row(&mut self, id: ObjectId, parents: ParentIds, number: u32) -> Option<()> {
+        let row = Row {
             id,
             tree: id,
             parents,
             time: i64::from(number),
-            generation: (number / 2).checked_add(1)?,
-        })
-        .ok()?;
-        ids.push(id).ok()?;
+            generation: (number / 2).saturating_add(1),
+        };
+        self.rows.push(row).ok()
     }
-    Some(Ladder {
-        ids,
-        objects,
-        rows: Graph::from_rows(rows).ok()?,
-    })
+}
+
+/// A ladder of so many commits. `None` where no memory is left.
+pub fn build(alloc: Global, count: u32) -> Option<Ladder> {
+    let mut made = Made {
+        ids: Vec::new(alloc),
+        objects: Store::new(alloc),
+        rows: Vec::new(alloc),
+    };
+    for number in 0..count {
+        made.add(alloc, number)?;
+    }
+    let Made { ids, objects, rows } = made;
+    let rows = Graph::from_rows(rows).ok()?;
+    Some(Ladder { ids, objects, rows })
 }

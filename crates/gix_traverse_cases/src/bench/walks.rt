@@ -39,7 +39,7 @@ fn by_time(order: CommitTimeOrder) -> Way {
 }
 
 /// How many commits a walk gave, and how many objects it asked for.
-#[derive(Clone, Copy, PartialEq, Eq)]
+#[derive(Clone, Copy)]
 pub struct Counts {
     /// The commits.
     pub commits: usize,
@@ -49,46 +49,61 @@ pub struct Counts {
 
 /// Walks the ladder from its last commit. `None` where it ends with an error or no memory is left.
 pub fn walk(alloc: Global, ladder: &Ladder, rows: Option<Graph>, way: Way) -> Option<Counts> {
-    let tip = *ladder.ids.last()?;
     match way {
-        Way::Simple(sorting, parents) => {
-            by_simple(
-                made(alloc, ladder, rows, tip)?
-                    .parents(parents)
-                    .sorting(sorting)
-                    .ok()?,
-            )
-        }
-        Way::Hiding => {
-            let middle = *ladder.ids.get(ladder.ids.len() / 2)?;
-            by_simple(
-                made(alloc, ladder, rows, tip)?
-                    .hide(one(alloc, middle)?)
-                    .ok()?,
-            )
-        }
-        Way::Topo(sorting) => {
-            let builder = Builder::from_iters(alloc, &ladder.objects, &[tip], None).ok()?;
-            let walk = builder.with_commit_graph(rows).sorting(sorting).build();
-            by_topo(walk.ok()?)
-        }
+        Way::Simple(sorting, parents) => simple(alloc, ladder, rows, sorting, parents),
+        Way::Hiding => hiding(alloc, ladder, rows),
+        Way::Topo(sorting) => topological(alloc, ladder, rows, sorting),
     }
+}
+
+fn simple(
+    alloc: Global,
+    ladder: &Ladder,
+    rows: Option<Graph>,
+    sorting: Sorting,
+    parents: Parents,
+) -> Option<Counts> {
+    let walk = made(alloc, ladder, rows)?;
+    by_simple(&mut walk.parents(parents).sorting(sorting).ok()?)
+}
+
+// The walk without what the commit hides that stands half way.
+fn hiding(alloc: Global, ladder: &Ladder, rows: Option<Graph>) -> Option<Counts> {
+    let hidden = one(alloc, *ladder.ids.get(ladder.ids.len() / 2)?)?;
+    let walk = made(alloc, ladder, rows)?;
+    by_simple(&mut walk.hide(hidden).ok()?)
+}
+
+fn topological(
+    alloc: Global,
+    ladder: &Ladder,
+    rows: Option<Graph>,
+    sorting: topo::Sorting,
+) -> Option<Counts> {
+    let builder = begun_topo(alloc, ladder)?;
+    let walk = builder.with_commit_graph(rows).sorting(sorting).build();
+    by_topo(&mut walk.ok()?)
+}
+
+fn made(alloc: Global, ladder: &Ladder, rows: Option<Graph>) -> Option<Simple<&Store, All>> {
+    let walk = begun(alloc, ladder)?;
+    Some(walk.commit_graph(rows))
+}
+
+// The walk as it is made, from the last commit.
+fn begun(alloc: Global, ladder: &Ladder) -> Option<Simple<&Store, All>> {
+    Simple::new(one(alloc, *ladder.ids.last()?)?, &ladder.objects).ok()
+}
+
+fn begun_topo(alloc: Global, ladder: &Ladder) -> Option<Builder<&Store, All>> {
+    let tip = *ladder.ids.last()?;
+    Builder::from_iters(alloc, &ladder.objects, &[tip], None).ok()
 }
 
 fn one(alloc: Global, id: ObjectId) -> Option<Vec<ObjectId>> {
     let mut ids = Vec::new(alloc);
     ids.push(id).ok()?;
     Some(ids)
-}
-
-fn made(
-    alloc: Global,
-    ladder: &Ladder,
-    rows: Option<Graph>,
-    tip: ObjectId,
-) -> Option<Simple<&Store, All>> {
-    let walk = Simple::new(one(alloc, tip)?, &ladder.objects).ok()?;
-    Some(walk.commit_graph(rows))
 }
 
 // Whether a commit came: `None` at the end.
@@ -107,9 +122,9 @@ fn step_topo(walk: &mut Topo<All>) -> Option<bool> {
     step(walk.next())
 }
 
-fn by_simple(mut walk: Simple<&Store, All>) -> Option<Counts> {
+fn by_simple(walk: &mut Simple<&Store, All>) -> Option<Counts> {
     for commits in 0..usize::MAX {
-        match step_simple(&mut walk) {
+        match step_simple(walk) {
             Some(true) => {}
             Some(false) => return None,
             None => {
@@ -121,9 +136,9 @@ fn by_simple(mut walk: Simple<&Store, All>) -> Option<Counts> {
     None
 }
 
-fn by_topo(mut walk: Topo<All>) -> Option<Counts> {
+fn by_topo(walk: &mut Topo<All>) -> Option<Counts> {
     for commits in 0..usize::MAX {
-        match step_topo(&mut walk) {
+        match step_topo(walk) {
             Some(true) => {}
             Some(false) => return None,
             None => {

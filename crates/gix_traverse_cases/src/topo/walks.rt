@@ -1,66 +1,53 @@
 //! Walks over the rows of a graph, and what they give.
 
-use gix_hash::ObjectId;
+use crate::rows::parents_of;
+use case_commits::{ids, number};
+use case_page::Page;
 use gix_object_find::find::Never;
-use gix_traverse_commit::{All, Graph, Info, Parents};
+use gix_traverse_commit::{All, Graph, Info};
 use gix_traverse_topo::{Builder, Error, Sorting, Topo};
 use std::alloc::Global;
 
-/// What a walk is asked for.
-#[derive(Drop)]
-pub struct Asked {
-    pub sorting: Sorting,
-    pub parents: Parents,
-    pub tips: Vec<ObjectId>,
-    pub ends: Vec<ObjectId>,
-}
+type Begun = Builder<Never, All>;
 
-/// What a walk gives, and how it ends.
-#[derive(Drop)]
-pub struct Walked {
-    pub ids: Vec<ObjectId>,
-    pub end: End,
-}
-
-/// How a walk ends.
-#[derive(Clone, Copy)]
-pub enum End {
-    /// All came, and so many objects were asked for.
-    All(usize),
-    /// A commit isn't found.
-    NotFound,
-}
-
-/// What the walk gives. `None` where there is another error than a commit that isn't found.
-pub fn given(alloc: Global, graph: &Graph, asked: Asked) -> Option<Walked> {
-    match built(alloc, graph, asked)? {
-        Ok(walk) => collect(alloc, walk),
-        Err(Error::Find(_)) => Some(Walked {
-            ids: Vec::new(alloc),
-            end: End::NotFound,
-        }),
-        Err(_) => None,
+fn sorting_of(word: &str) -> Sorting {
+    if word == "date" {
+        Sorting::DateOrder
+    } else {
+        Sorting::TopoOrder
     }
 }
 
-// The walk before its first commit.
-fn built(alloc: Global, graph: &Graph, asked: Asked) -> Option<Result<Topo<All>, Error>> {
+/// Adds what a walk gives, the numbers of its commits, and how it ended: its order, along which parents, the tips and the ends. `None`
+/// where there is another error than a commit that isn't found, or no memory is left.
+pub fn put_given(alloc: Global, graph: &Graph, word: &[&str], page: &mut Page) -> Option<()> {
+    let builder = built(alloc, graph, word)?;
+    match builder.build() {
+        Ok(mut walk) => put_commits(&mut walk, page),
+        Err(error) => put_end(error, page),
+    }
+}
+
+// The builder of a walk.
+fn built(alloc: Global, graph: &Graph, word: &[&str]) -> Option<Begun> {
+    let sorting = sorting_of(*word.first()?);
+    let parents = parents_of(*word.get(1)?);
+    let builder = over(graph, between(alloc, *word.get(2)?, *word.get(3)?)?)?;
+    Some(builder.sorting(sorting).parents(parents))
+}
+
+// The builder of a walk from these tips to these ends.
+fn between(alloc: Global, tips: &str, ends: &str) -> Option<Begun> {
+    let tips = ids(alloc, tips)?;
+    let ends = ids(alloc, ends)?;
+    let builder = Builder::from_iters(alloc, Never, tips.as_slice(), Some(ends.as_slice())).ok()?;
+    Some(builder.with_predicate(All))
+}
+
+// The builder of a walk over these rows.
+fn over(graph: &Graph, builder: Begun) -> Option<Begun> {
     let graph = graph.try_clone().ok()?;
-    let builder = Builder::from_iters(
-        alloc,
-        Never,
-        asked.tips.as_slice(),
-        Some(asked.ends.as_slice()),
-    )
-    .ok()?;
-    Some(
-        builder
-            .with_predicate(All)
-            .sorting(asked.sorting)
-            .parents(asked.parents)
-            .with_commit_graph(Some(graph))
-            .build(),
-    )
+    Some(builder.with_commit_graph(Some(graph)))
 }
 
 // The next commit.
@@ -68,24 +55,26 @@ fn step(walk: &mut Topo<All>) -> Option<Result<Info, Error>> {
     walk.next()
 }
 
-// The commits that come, up to the end or the first that isn't found.
-fn collect(alloc: Global, mut walk: Topo<All>) -> Option<Walked> {
-    let mut ids = Vec::new(alloc);
+// The end of a walk by this error, where a commit isn't found.
+fn put_end(error: Error, page: &mut Page) -> Option<()> {
+    match error {
+        Error::Find(_) => {
+            page.text("find");
+            Some(())
+        }
+        _ => None,
+    }
+}
+
+// The commits that come, up to the end or the first that isn't found, and how many objects were asked for.
+fn put_commits(walk: &mut Topo<All>, page: &mut Page) -> Option<()> {
     for _ in 0..100_000u32 {
-        match step(&mut walk) {
-            Some(Ok(info)) => ids.push(info.id).ok()?,
-            Some(Err(Error::Find(_))) => {
-                return Some(Walked {
-                    ids,
-                    end: End::NotFound,
-                });
-            }
-            Some(Err(_)) => return None,
+        match step(walk) {
+            Some(Ok(info)) => page.put_between("", number(&info.id), " "),
+            Some(Err(error)) => return put_end(error, page),
             None => {
-                return Some(Walked {
-                    ids,
-                    end: End::All(walk.lookups()),
-                });
+                page.put_between("after ", walk.lookups(), "");
+                return Some(());
             }
         }
     }

@@ -34,16 +34,22 @@ fn walk(
 ) -> Option<()> {
     match order {
         Order::Depth => {
-            let mut state = used_state(alloc, page)?.try_clone().ok()?;
+            let mut state = copied_state(alloc, page)?;
             depthfirst::depthfirst(*root, &mut state, store, recorder).ok()
         }
-        Order::Breadth => {
-            let mut content = Vec::new(alloc);
-            let entries = store.find_tree_iter(root.as_oid(), &mut content).ok()?;
-            let mut state = breadthfirst::State::new(alloc).try_clone().ok()?;
-            breadthfirst::breadthfirst(entries, &mut state, store, recorder).ok()
-        }
+        Order::Breadth => by_levels(alloc, root, store, recorder),
     }
+}
+
+fn copied_state(alloc: Global, page: &mut Page) -> Option<depthfirst::State> {
+    used_state(alloc, page)?.try_clone().ok()
+}
+
+fn by_levels(alloc: Global, root: &ObjectId, store: &Store, recorder: &mut Recorder) -> Option<()> {
+    let mut state = breadthfirst::State::new(alloc).try_clone().ok()?;
+    let mut content = Vec::new(alloc);
+    let entries = store.find_tree_iter(root.as_oid(), &mut content).ok()?;
+    breadthfirst::breadthfirst(entries, &mut state, store, recorder).ok()
 }
 
 // A recorder whose path is `a`, and that has `a/b` queued.
@@ -77,10 +83,20 @@ pub fn copy(
 ) -> Option<()> {
     let mut recorder = Recorder::new(alloc);
     walk(alloc, order, root, store, &mut recorder, page)?;
-    let mut copy = told(recorder)?.try_clone().ok()?;
-    page.between("", copy.path_clone().ok()?.as_bytes(), " ");
-    copy.pop_front_tracked_path_and_set_current().ok()?;
-    page.escaped(copy.path_clone().ok()?.as_bytes());
+    let mut copy = copied_recorder(recorder)?;
+    show_paths(&mut copy, page)?;
     records(page, copied(alloc, copy.records.as_slice())?.as_slice());
+    Some(())
+}
+
+fn copied_recorder(recorder: Recorder) -> Option<Recorder> {
+    told(recorder)?.try_clone().ok()
+}
+
+// The recorder's path, and the one that is queued.
+fn show_paths(recorder: &mut Recorder, page: &mut Page) -> Option<()> {
+    page.between("", recorder.path_clone().ok()?.as_bytes(), " ");
+    recorder.pop_front_tracked_path_and_set_current().ok()?;
+    page.escaped(recorder.path_clone().ok()?.as_bytes());
     Some(())
 }

@@ -41,31 +41,37 @@ fn walk<V: Visit>(
     delegate: &mut V,
     page: &mut Page,
 ) {
-    let mut content = Vec::new(alloc);
-    let ended = match order {
+    match order {
         Order::Depth => {
             let mut state = depthfirst::State::new(alloc);
-            depthfirst::depthfirst(*root, &mut state, store, delegate)
+            let ended = depthfirst::depthfirst(*root, &mut state, store, delegate);
+            match ended {
+                Ok(()) => page.text("whole"),
+                Err(error) => page.refused(error),
+            }
         }
-        Order::Breadth => match store.find_tree_iter(root.as_oid(), &mut content) {
-            Ok(entries) => from_entries(alloc, entries, store, delegate),
-            Err(error) => return page.refused(error),
-        },
-    };
-    match ended {
-        Ok(()) => page.text("whole"),
-        Err(error) => page.refused(error),
+        Order::Breadth => {
+            let mut content = Vec::new(alloc);
+            match store.find_tree_iter(root.as_oid(), &mut content) {
+                Ok(entries) => by_levels(alloc, entries, store, delegate, page),
+                Err(error) => page.refused(error),
+            }
+        }
     }
 }
 
-fn from_entries<V: Visit>(
+fn by_levels<V: Visit>(
     alloc: Global,
     entries: TreeRefIter<'_>,
     store: &Store,
     delegate: &mut V,
-) -> Result<(), breadthfirst::Error> {
+    page: &mut Page,
+) {
     let mut state = breadthfirst::State::new(alloc);
-    breadthfirst::breadthfirst(entries, &mut state, store, delegate)
+    match breadthfirst::breadthfirst(entries, &mut state, store, delegate) {
+        Ok(()) => page.text("whole"),
+        Err(error) => page.refused(error),
+    }
 }
 
 // What a recorder that tracks so much has after a walk.
@@ -112,6 +118,24 @@ fn entries(alloc: Global, root: &ObjectId, case: &Case, page: &mut Page) {
     }
 }
 
+// What an operation gives over a store: the order stands first in its name, and what is asked behind it.
+fn of_store(alloc: Global, operation: &str, root: &ObjectId, store: &Store, page: &mut Page) {
+    let (order, asked) = operation.split_once('-').unwrap_or((operation, ""));
+    let order = match order {
+        "breadth" => Order::Breadth,
+        "depth" => Order::Depth,
+        _ => return page.text("no operation"),
+    };
+    match asked {
+        "" => record(alloc, order, Some(Location::Path), root, store, page),
+        "names" => record(alloc, order, Some(Location::FileName), root, store, page),
+        "untracked" => record(alloc, order, None, root, store, page),
+        "stopped" => stop(alloc, order, root, store, page),
+        "copied" => copies(alloc, order, root, store, page),
+        _ => page.text("no operation"),
+    }
+}
+
 /// The operations of these cases.
 pub struct Walks;
 
@@ -123,24 +147,9 @@ impl Operations for Walks {
         if operation == "paths" {
             return entries(alloc, &root, case, page);
         }
-        let trees = case.behind(1);
-        let Some(store) = read(alloc, case.kind.len_in_bytes(), trees) else {
-            return page.text("no trees");
-        };
-        let whole = Some(Location::Path);
-        let name = Some(Location::FileName);
-        match operation {
-            "breadth" => record(alloc, Order::Breadth, whole, &root, &store, page),
-            "depth" => record(alloc, Order::Depth, whole, &root, &store, page),
-            "breadth-names" => record(alloc, Order::Breadth, name, &root, &store, page),
-            "depth-names" => record(alloc, Order::Depth, name, &root, &store, page),
-            "breadth-untracked" => record(alloc, Order::Breadth, None, &root, &store, page),
-            "depth-untracked" => record(alloc, Order::Depth, None, &root, &store, page),
-            "breadth-stopped" => stop(alloc, Order::Breadth, &root, &store, page),
-            "depth-stopped" => stop(alloc, Order::Depth, &root, &store, page),
-            "breadth-copied" => copies(alloc, Order::Breadth, &root, &store, page),
-            "depth-copied" => copies(alloc, Order::Depth, &root, &store, page),
-            _ => page.text("no operation"),
+        match read(alloc, case.kind.len_in_bytes(), case.behind(1)) {
+            Some(store) => of_store(alloc, operation, &root, &store, page),
+            None => page.text("no trees"),
         }
     }
 }

@@ -9,27 +9,25 @@ use std::alloc::Global;
 pub fn read(alloc: Global, width: usize, trees: &[Vec<u8>]) -> Option<Store> {
     let mut store = Store::new(alloc);
     for tree in trees {
-        let content = tree.get(width..)?;
-        let stored = Stored {
-            id: ObjectId::try_from(tree.get(..width)?).ok()?,
-            kind: Kind::Tree,
-            content: Vec::from_slice(alloc, content).ok()?,
-        };
-        store.put(stored).ok()?;
+        store.put(read_tree(alloc, width, tree)?).ok()?;
     }
     Some(store)
+}
+
+fn read_tree(alloc: Global, width: usize, tree: &[u8]) -> Option<Stored> {
+    Some(Stored {
+        id: ObjectId::try_from(tree.get(..width)?).ok()?,
+        kind: Kind::Tree,
+        content: Vec::from_slice(alloc, tree.get(width..)?).ok()?,
+    })
 }
 
 /// The same trees in a store that counts how often it is asked.
 pub fn read_counting(alloc: Global, width: usize, trees: &[Vec<u8>]) -> Option<Trees> {
     let mut store = Trees::new(alloc);
     for tree in trees {
-        let content = tree.get(width..)?;
-        let row = Row {
-            oid: ObjectId::try_from(tree.get(..width)?).ok()?,
-            content: Vec::from_slice(alloc, content).ok()?,
-        };
-        store.add(row).ok()?;
+        let Stored { id, content, .. } = read_tree(alloc, width, tree)?;
+        store.add(Row { oid: id, content }).ok()?;
     }
     Some(store)
 }

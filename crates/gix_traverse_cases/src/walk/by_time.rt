@@ -6,7 +6,7 @@ use case_commits::{ids, number};
 use case_page::Page;
 use case_store::Store;
 use gix_hash::ObjectId;
-use gix_traverse::commit::simple::{Error, HiddenGraphError};
+use gix_traverse::commit::simple::{Error, HiddenGraphError, Sorting};
 use gix_traverse::commit::{Accept, Graph, Info, Parents, Simple};
 use std::alloc::Global;
 
@@ -75,7 +75,7 @@ fn make_calls<'s, P: Accept + Drop>(
             continue;
         }
         page.text(*call);
-        match built(walk, simple, *call)? {
+        match built(simple, read_call(walk, *call)?)? {
             Called::Walk(next) => simple = next,
             Called::Refused(error) => {
                 page.text(" ");
@@ -87,25 +87,37 @@ fn make_calls<'s, P: Accept + Drop>(
     Some(())
 }
 
-// The walk after a builder call.
-fn built<'s, P: Accept + Drop>(
-    walk: &Walk<'s>,
-    simple: Simple<&'s Store, P>,
-    call: &str,
-) -> Option<Called<'s, P>> {
-    if let Some(hidden) = call.strip_prefix("hide=") {
-        return Some(Called::Walk(simple.hide(ids(walk.alloc, hidden)?).ok()?));
+// A builder's call, with what it is given.
+#[derive(Drop)]
+enum Call {
+    Hide(Vec<ObjectId>),
+    Along(Parents),
+    Rows(Option<Graph>),
+    Order(Sorting),
+}
+
+// The builder's call that a word says.
+fn read_call(walk: &Walk<'_>, word: &str) -> Option<Call> {
+    if let Some(hidden) = word.strip_prefix("hide=") {
+        return Some(Call::Hide(ids(walk.alloc, hidden)?));
     }
+    match word {
+        "all" => Some(Call::Along(Parents::All)),
+        "first" => Some(Call::Along(Parents::First)),
+        "usual-parents" => Some(Call::Along(Parents::default())),
+        "rows" => Some(Call::Rows(Some(walk.graph?.try_clone().ok()?))),
+        "no-rows" => Some(Call::Rows(None)),
+        _ => Some(Call::Order(sorting(word)?)),
+    }
+}
+
+// The walk after a builder's call. It is read before, so that no walk is held where a word says none.
+fn built<'s, P: Accept + Drop>(simple: Simple<&'s Store, P>, call: Call) -> Option<Called<'s, P>> {
     match call {
-        "all" => Some(Called::Walk(simple.parents(Parents::All))),
-        "first" => Some(Called::Walk(simple.parents(Parents::First))),
-        "usual-parents" => Some(Called::Walk(simple.parents(Parents::default()))),
-        "rows" => {
-            let graph = walk.graph?.try_clone().ok()?;
-            Some(Called::Walk(simple.commit_graph(Some(graph))))
-        }
-        "no-rows" => Some(Called::Walk(simple.commit_graph(None))),
-        _ => match simple.sorting(sorting(call)?) {
+        Call::Hide(hidden) => Some(Called::Walk(simple.hide(hidden).ok()?)),
+        Call::Along(parents) => Some(Called::Walk(simple.parents(parents))),
+        Call::Rows(graph) => Some(Called::Walk(simple.commit_graph(graph))),
+        Call::Order(sorting) => match simple.sorting(sorting) {
             Ok(walk) => Some(Called::Walk(walk)),
             Err(error) => Some(Called::Refused(error)),
         },

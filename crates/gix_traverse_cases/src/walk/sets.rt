@@ -35,10 +35,16 @@ fn by_simple(walk: &Walk<'_>, order: &str) -> Option<Vec<ObjectId>> {
     let made = Simple::new(tips, walk.store).ok()?.hide(hidden).ok()?;
     let mut simple = made.sorting(sorting(order)?).ok()?;
     let mut found = Vec::new(walk.alloc);
+    collect(&mut simple, &mut found)?;
+    sorted(found)
+}
+
+// Adds each commit that comes, up to the end. `None` at an error.
+fn collect(walk: &mut Simple<&Store, All>, found: &mut Vec<ObjectId>) -> Option<()> {
     for _ in 0..u32::MAX {
-        match step(&mut simple) {
+        match step(walk) {
             Some(id) => found.push(id?).ok()?,
-            None => return sorted(found),
+            None => return Some(()),
         }
     }
     None
@@ -65,10 +71,16 @@ fn by_topo(walk: &Walk<'_>, order: &str) -> Option<Vec<ObjectId>> {
     .ok()?;
     let mut topo = builder.sorting(topo_sorting(order)?).build().ok()?;
     let mut found = Vec::new(walk.alloc);
+    collect_topo(&mut topo, &mut found)?;
+    sorted(found)
+}
+
+// Adds each commit that comes, up to the end. `None` at an error.
+fn collect_topo(walk: &mut Topo<All>, found: &mut Vec<ObjectId>) -> Option<()> {
     for _ in 0..u32::MAX {
-        match topo_step(&mut topo) {
+        match topo_step(walk) {
             Some(id) => found.push(id?).ok()?,
-            None => return sorted(found),
+            None => return Some(()),
         }
     }
     None

@@ -14,14 +14,29 @@ use gix_traverse::commit::{Parents, Topo};
 pub fn topo_walked(walk: &Walk<'_>, page: &mut Page) -> Option<()> {
     let tips = ids(walk.alloc, *walk.words.first()?)?;
     let calls = walk.words.get(1..)?;
+    let refused = refused(walk, calls)?;
     let mut asked: Vec<ObjectId> = Vec::new(walk.alloc);
     let predicate = Refusing {
-        refused: refused(walk, calls)?,
+        refused,
         asked: &mut asked,
     };
+    put_walk(walk, tips.as_slice(), predicate, calls, page)?;
+    page.text(" asked ");
+    put_ids(page, asked.as_slice());
+    Some(())
+}
+
+// The same of a walk from these tips, with this predicate.
+fn put_walk(
+    walk: &Walk<'_>,
+    tips: &[ObjectId],
+    predicate: Refusing<'_>,
+    calls: &[&str],
+    page: &mut Page,
+) -> Option<()> {
     let mut builder = Builder::new(walk.alloc, walk.store)
         .with_predicate(predicate)
-        .with_tips(tips.as_slice())
+        .with_tips(tips)
         .ok()?;
     let mut read = 0usize;
     'calls: for call in calls {
@@ -37,8 +52,6 @@ pub fn topo_walked(walk: &Walk<'_>, page: &mut Page) -> Option<()> {
         Ok(mut topo) => put_calls(&mut topo, calls.get(read..)?, page),
         Err(error) => put_error(page, error),
     }
-    page.text(" asked ");
-    put_ids(page, asked.as_slice());
     Some(())
 }
 
