@@ -7,7 +7,7 @@ use Rattle.gix_hash_id.specs.Id.{Id, id_of}
 use Rattle.gix_hash_id.specs.declared.object_id.ObjectId.{ObjectId}
 use Rattle.gix_hash_id.specs.declared.kind.Kind.{Kind}
 use Rattle.gix_object_find.specs.Table.{Table}
-use Rattle.gix_ref_file.specs.Tree.{Tree, bytes_of}
+use Rattle.gix_ref_file.specs.Tree.{Tree, bytes_of, node_at}
 use Rattle.gix_ref_name.specs.Targets.{Points, ToObject, ToName, target_view}
 use Rattle.gix_ref_name.specs.declared.target.Target.{Target}
 use Rattle.gix_ref_edit.specs.declared.change.Change.{Change}
@@ -30,6 +30,7 @@ use Rattle.gix_ref_store.specs.declared.reference.Reference.{Reference}
 use Rattle.gix_ref_transaction.specs.RecordEdits.{line_in}
 use Rattle.gix_ref_transaction.specs.declared.packed.RecordEdit.{RecordEdit}
 use Rattle.gix_ref_transaction.specs.PackedEdits.{IsBegun, lock_path_of}
+use Rattle.gix_ref_transaction.specs.Locks.{lock_of}
 use Rattle.gix_ref_transaction.specs.Records.{records_in, IsTextOf, HoldsEdited}
 use Rattle.gix_ref_transaction.specs.declared.lock.Lock.{Lock}
 use Rattle.gix_ref_transaction.specs.declared.packed.Transaction.{Transaction}
@@ -96,6 +97,7 @@ pub holds_records : (kind : Kind) (place : Bytes) (old mid new : Tree) (lines : 
     → HoldsEdited begun.kind (records_in begun.buffer) lines (lock_path_of begun) new → HoldsRecords kind place old new lines t
 holds_records kind place old mid new lines begun t is lock buffer written held = record {
   here = ap (λ (l : Lock). l.place.items) lock ∙ is.here;
+  free = ap (λ (l : Lock). node_at old l.path.items) lock ∙ ap (node_at old) begun.lock.beside ∙ ap (λ (p : Bytes). node_at old (lock_of p)) is.here ∙ is.taken.free;
   written = written;
   keeps = subst (λ (b : Option Buffer). KeepsFile kind (file_at old place) (option_map kept b)) (sym buffer) is.records;
   text = held.text;

@@ -6,7 +6,7 @@ use Rattle.std.specs.Option.{option_to_list}
 use Rattle.gix_hash_id.specs.Id.{Id}
 use Rattle.gix_hash_id.specs.declared.kind.Kind.{Kind}
 use Rattle.gix_object_find.specs.Table.{Table}
-use Rattle.gix_ref_file.specs.Tree.{Tree}
+use Rattle.gix_ref_file.specs.Tree.{Tree, node_at}
 use Rattle.gix_ref_name.specs.Targets.{Points, ToObject, ToName, target_view}
 use Rattle.gix_ref_edit.specs.declared.change.Change.{Change}
 use Rattle.gix_ref_edit.specs.declared.change.Change.TheVariants.{Update, Delete}
@@ -79,10 +79,11 @@ SayOfRecords packs (edit ∷ edits) lines =
 abbrev pub changes_records : Bool → List Line → Bool
 changes_records stands lines = list_any (λ line. stands || is_some line.says) lines
 
--- The lock of the records at this place is held, and has the text of the old tree's records under these lines.
+-- The lock of the records at this place is held, where nothing stood before, and has the text of the old tree's records under these lines.
 pub record HoldsRecords (kind : Kind) (place : Bytes) (old new : Tree) (lines : List Line)
     (t : Transaction) : Type 0 where
   pub here : place_of t ≡ place
+  pub free : node_at old (lock_path_of t) ≡ None
   pub written : t.is_written ≡ true
   pub keeps : KeepsFile kind (file_at old place) (option_map kept t.buffer)
   pub text : Bytes

@@ -1,18 +1,20 @@
 //! The packed records of references that are removed, and of those that are packed.
 
-ghost use Rattle.std.specs.Prelude.{◌≡◌, ◌≢◌, ◌||◌, ◌++◌, [], is_some, map, option_map, IfOk, IfSome, OnOk, Some};
+ghost use Rattle.std.specs.Prelude.{◌≡◌, ◌≢◌, ◌||◌, ◌++◌, [], is_some, map, option_map, IfErr, IfOk, IfSome, None, OnOk, Some};
 ghost use Rattle.std.specs.List.{list_any};
 ghost use Rattle.std.specs.Option.{option_to_list};
 ghost use Rattle.gix_hash_id.specs.Id.{id_of};
 ghost use Rattle.gix_ref_file.specs.Calls.{Passes};
-ghost use Rattle.gix_ref_moves.specs.Moments.{SameButLocks};
+ghost use Rattle.gix_ref_store.specs.Places.{packed_place};
 ghost use Rattle.gix_ref_store.specs.RefStates.{packed_text_in};
 ghost use Rattle.gix_ref_store.specs.Stores.{base_of};
 ghost use Rattle.gix_ref_name.specs.Targets.{target_view};
+ghost use Rattle.gix_ref_transaction.specs.Locks.{lock_of, OthersStay};
 ghost use Rattle.gix_ref_transaction.specs.RecordEdits as record_edits;
 ghost use Rattle.gix_ref_repacking.specs.Modes.{objects_in};
 ghost use Rattle.gix_ref_repacking.specs.Repacking as spec;
 ghost use Rattle.gix_ref_repacking.specs.Repacking.{AddsSaid, AreRepacked, HoldsRecords, SaysOfRecord, SayOfRecords, TellsPeeled, UpdatesRecord, removal_line};
+ghost use Rattle.gix_ref_repacking.specs.Rollback.{IsEarly, IsRolledBack};
 
 use crate::error::RepackError;
 use crate::packed_refs::PackedRefs;
@@ -33,7 +35,8 @@ use std::alloc::Global;
 /// that are deleted go; where `packed_refs` packs updates, each update to an object gets one, with the id that tags lead to where it is
 /// another. Names of which each worktree has its own have none.
 ///
-/// At each moment each file but locks is as before. After an error the lock has gone, as far as that succeeds.
+/// A lock that stands already isn't touched: it is an error. At each moment each file and folder but the lock is as before. Where no
+/// record changes nothing is done, and after an error the lock has gone, as far as that succeeds.
 pub fn repack<F: Files, O: Find>(
     alloc: Global,
     store: &mut Store<F>,
@@ -44,7 +47,14 @@ pub fn repack<F: Files, O: Find>(
     ensures honest { F.is_honest store.old.files → F.is_honest store.new.files }
     ensures base { base_of store.new ≡ base_of store.old }
     ensures options { store.new.options ≡ store.old.options }
-    ensures moments { Passes F.is_honest F.history store.old.files store.new.files SameButLocks }
+    ensures moments { Passes F.is_honest F.history store.old.files store.new.files
+        (OthersStay (lock_of (packed_place (base_of store.old)))) }
+    ensures idle { IfOk result (λ held. held ≡ None → store.new ≡ store.old) }
+    ensures early { IfErr result (λ error. IsEarly error → store.new ≡ store.old) }
+    ensures rolled_back { F.is_honest store.old.files → IfErr result
+        (IsRolledBack (lock_of (packed_place (base_of store.old))) (F.failures store.old.files)
+        (F.failures store.new.files) (F.history store.old.files).tree
+        (F.history store.new.files).tree) }
     ensures repacked { F.is_honest store.old.files → IfSome (objects_in packed_refs.now) O.is_honest
         → let old = (F.history store.old.files).tree in let b = base_of store.old in
         is_some packed.entry ≡ is_some (packed_text_in b old)
@@ -70,7 +80,12 @@ fn written<F: Files>(
     lines: Vec<RecordEdit>,
 ) -> Result<Transaction, RepackError>
     ensures honest { F.is_honest files.old → F.is_honest files.new }
-    ensures moments { Passes F.is_honest F.history files.old files.new SameButLocks }
+    ensures moments { Passes F.is_honest F.history files.old files.new
+        (OthersStay (lock_of place.now)) }
+    ensures begun { IfErr result (λ error. ¬ IsEarly error) }
+    ensures rolled_back { F.is_honest files.old → IfErr result (IsRolledBack (lock_of place.now)
+        (F.failures files.old) (F.failures files.new) (F.history files.old).tree
+        (F.history files.new).tree) }
     ensures held { F.is_honest files.old → lines.items ≢ []
         → IfOk result (HoldsRecords kind place.now (F.history files.old).tree
         (F.history files.new).tree (map record_edits.line_in lines.items)) }

@@ -22,9 +22,13 @@ use Rattle.std.specs.Prelude.{IfOk}
 use Rattle.gix_ref_transaction.specs.declared.packed.Transaction.{Transaction as Packed}
 use Rattle.gix_ref_loose_transaction.specs.Plans.{AllPlanned, AllTested}
 use Rattle.gix_ref_loose_transaction.proofs.Faults.{by_edit, by_records}
-use Rattle.gix_ref_loose_transaction.proofs.Repacked.{repacked_on}
+use Rattle.gix_ref_loose_transaction.proofs.Repacked.{locks_alone, repacked_on}
 use Rattle.gix_ref_loose_transaction.proofs.Plannings.{among_alike, tested_alike, ok_three, ok_four, all_lined_alike, some_fault_alike}
 use Rattle.gix_ref_loose_transaction.proofs.transaction.locked.Goals as goal
+
+pub returns-in_err-records-clause-moments : goal.returns-in_err-records-clause-moments
+returns-in_err-records-clause-moments g c = λ honest.
+    locks_alone (base_of c.args.store.now) (g.F.Files.history c.args.store.now.files) (g.F.Files.history c.repack.new.store.files) (c.repack.ensures.moments honest)
 
 pub returns-in-Ok-clause-moments : goal.returns-in-Ok-clause-moments
 returns-in-Ok-clause-moments g c = λ honest.
@@ -33,7 +37,7 @@ returns-in-Ok-clause-moments g c = λ honest.
     let then = g.F.Files.history c.plan_all.new.store.files in
     let new = g.F.Files.history c.finish.new.store.files in
     let first = c.repack.ensures.honest honest in
-    locks_joined old then new (locks_joined old mid then (c.repack.ensures.moments honest) (c.plan_all.ensures.moments first)) (c.finish.ensures.moments (c.plan_all.ensures.honest first))
+    locks_joined old then new (locks_joined old mid then (locks_alone (base_of c.args.store.now) old mid (c.repack.ensures.moments honest)) (c.plan_all.ensures.moments first)) (c.finish.ensures.moments (c.plan_all.ensures.honest first))
 
 pub returns-in-Err-clause-moments : goal.returns-in-Err-clause-moments
 returns-in-Err-clause-moments g c = λ honest.
@@ -42,7 +46,7 @@ returns-in-Err-clause-moments g c = λ honest.
     let then = g.F.Files.history c.plan_all.new.store.files in
     let new = g.F.Files.history c.drop_all.new.files in
     let first = c.repack.ensures.honest honest in
-    locks_joined old then new (locks_joined old mid then (c.repack.ensures.moments honest) (c.plan_all.ensures.moments first)) (c.drop_all.ensures.moments (c.plan_all.ensures.honest first))
+    locks_joined old then new (locks_joined old mid then (locks_alone (base_of c.args.store.now) old mid (c.repack.ensures.moments honest)) (c.plan_all.ensures.moments first)) (c.drop_all.ensures.moments (c.plan_all.ensures.honest first))
 
 pub returns-in-Ok-clause-tested : goal.returns-in-Ok-clause-tested
 returns-in-Ok-clause-tested g c = λ honest.
@@ -50,7 +54,7 @@ returns-in-Ok-clause-tested g c = λ honest.
     let mid = g.F.Files.history c.repack.new.store.files in
     let b = base_of c.args.store.now in
     let records = records_in c.args.packed in
-    let same = now_of (SameButLocks old.tree) old mid (λ path none. refl) (c.repack.ensures.moments honest) in
+    let same = now_of (SameButLocks old.tree) old mid (λ path none. refl) (locks_alone (base_of c.args.store.now) old mid (c.repack.ensures.moments honest)) in
     let all = tested_alike (reads_with c.repack.new.store mid.tree c.args.packed) (reads_with c.args.store.now old.tree c.args.packed)
     (λ name. ap (λ (base : Base). state_among base mid.tree records name) c.repack.ensures.base ∙ among_alike b old.tree mid.tree records same name)
     c.deref-2.result.now (c.in-Ok.ensures.tested (c.repack.ensures.honest honest)) in
@@ -72,7 +76,7 @@ returns-in-Ok-clause-lines g c = λ honest.
     let b = base_of c.args.store.now in
     let options = c.args.store.now.options in
     let l = logging options (reads_with c.args.store.now old.tree c.args.packed) c.args.committer in
-    let same = now_of (SameButLocks old.tree) old mid (λ path none. refl) (c.repack.ensures.moments honest) in
+    let same = now_of (SameButLocks old.tree) old mid (λ path none. refl) (locks_alone (base_of c.args.store.now) old mid (c.repack.ensures.moments honest)) in
     let all = all_lined_alike options c.repack.new.store.options b (base_of c.repack.new.store) old.tree mid.tree (records_in c.args.packed) c.args.committer same c.repack.ensures.options c.repack.ensures.base
     (removes c.args.packed_refs.now) c.deref-2.result.now c.plan_all.new.moves.items (c.in-Ok.ensures.planned (search rules)) (c.in-Ok.ensures.lines (c.repack.ensures.honest honest) (search rules)) in
     let own = subst (λ (es : List RefEdit). AllLined l b old.tree es c.plan_all.new.moves.items) c.deref-2.ensures.value all in
@@ -108,7 +112,7 @@ returns-in-Err-clause-causes g c = λ honest.
     let options = c.args.store.now.options in
     let l = logging options (reads_with c.args.store.now old.tree c.args.packed) c.args.committer in
     let may = g.F.Files.reading_may_fail in
-    let same = now_of (SameButLocks old.tree) old mid (λ path none. refl) (c.repack.ensures.moments honest) in
+    let same = now_of (SameButLocks old.tree) old mid (λ path none. refl) (locks_alone (base_of c.args.store.now) old mid (c.repack.ensures.moments honest)) in
     let fault = some_fault_alike options c.repack.new.store.options b (base_of c.repack.new.store) old.tree mid.tree (records_in c.args.packed) c.args.committer same c.repack.ensures.options c.repack.ensures.base
     may c.deref-2.result.now c.in-Err.error (c.in-Err.ensures.failed (c.repack.ensures.honest honest)) in
     by_edit l b old.tree may c.args.edits.items c.in-Err.error (subst (λ (es : List RefEdit). SomeEditFault l b old.tree may es c.in-Err.error) c.deref-2.ensures.value fault)

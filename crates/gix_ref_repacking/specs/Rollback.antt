@@ -1,0 +1,28 @@
+-- What stands of the lock of packed records after an error.
+use Rattle.std.specs.Prelude.{ℕ, ◌≡◌, ◌⊎◌}
+use Rattle.gix_ref_file.specs.Tree.{Tree}
+use Rattle.gix_ref_file.specs.Changes.{is_file_at}
+use Rattle.gix_ref_file.specs.History.{HasRisen}
+use Rattle.gix_ref_way.specs.Ways.{Bytes}
+use Rattle.gix_ref_transaction.specs.PackedErrors.{IsShort, IsUnprepared}
+use Rattle.gix_ref_repacking.specs.declared.error.RepackError.{RepackError}
+use Rattle.gix_ref_repacking.specs.declared.error.RepackError.TheVariants.{PackedTransactionAcquire, PackedTransactionPrepare, Resolve, Memory}
+
+-- the error came before the lock was asked for
+abbrev pub IsEarly : RepackError → Type 0
+IsEarly (PackedTransactionAcquire error) = ⊥
+IsEarly (PackedTransactionPrepare error) = ⊥
+IsEarly (Resolve error) = Unit {0}
+IsEarly Memory = Unit {0}
+
+-- Its removal may have failed: a failure was counted, or memory was wanting. Of a lock that was held, whether one was counted at all.
+abbrev pub MayStay : ℕ → ℕ → RepackError → Type 0
+MayStay before now (PackedTransactionAcquire error) = HasRisen before now ⊎ IsShort error
+MayStay before now (PackedTransactionPrepare error) = HasRisen 0 now ⊎ IsUnprepared error
+MayStay before now (Resolve error) = ⊥
+MayStay before now Memory = ⊥
+
+-- a file stands at the lock's path just where one stood, if its removal didn't fail
+abbrev pub IsRolledBack : Bytes → ℕ → ℕ → Tree → Tree → RepackError → Type 0
+IsRolledBack lock before now old new error =
+    (is_file_at new lock ≡ is_file_at old lock) ⊎ MayStay before now error
