@@ -35,8 +35,8 @@ use Rattle.history_store.specs.Face.{ids_of_objects}
 use Rattle.history_store.specs.Packing.{KeepsRecords}
 use Rattle.history_store.specs.References.{HasHeadRoom, MayBeWritten, PutsBeside}
 use Rattle.history.specs.Acts.{Acts}
-use Rattle.gix_traverse_commit.specs.Told.{rows_of}
-use Rattle.gix_traverse_commit.specs.declared.rows.Row.{Row}
+use Rattle.gix_traverse_commit_known.specs.Told.{rows_of}
+use Rattle.gix_traverse_commit_graph.specs.declared.rows.Row.{Row}
 use Rattle.history_repository.specs.Face.{objects_part, names_part, rows_in}
 use Rattle.history_repository.specs.KeptRows.{AgreeRows}
 use Rattle.history_repository.specs.Faults.{file_fault}

@@ -25,8 +25,8 @@ use Rattle.history_steps.proofs.TreePuts.{halves_stand}
 use Rattle.history_model.proofs.WholeSteps.{steps_keep_sound}
 use Rattle.history_store.specs.Face.{ids_of_objects}
 use Rattle.history_store.specs.Packing.{KeepsRecords}
-use Rattle.gix_traverse_commit.specs.Told.{rows_of}
-use Rattle.gix_traverse_commit.specs.declared.rows.Row.{Row}
+use Rattle.gix_traverse_commit_known.specs.Told.{rows_of}
+use Rattle.gix_traverse_commit_graph.specs.declared.rows.Row.{Row}
 use Rattle.history_repository.specs.Face.{objects_part, names_part, rows_in, KeepsAllButObjects, KeepsAllButNames}
 use Rattle.history_repository.specs.KeptRows.{AgreeRows}
 use Rattle.history_model.proofs.WholeStores.{all_keep}

@@ -9,12 +9,12 @@ use Rattle.gix_hash_id.specs.Order.{id_eq}
 use Rattle.gix_hash_id.specs.Packed.{object_id_of, object_id_of-id_of}
 use Rattle.gix_hash_id.specs.declared.object_id.ObjectId.{ObjectId}
 use Rattle.gix_object_lines.specs.declared.kind.Kind.{Kind as ObjectKind}
-use Rattle.gix_traverse_commit.specs.Commits.{Commits, Listed, Reached, WalkRequest, tip, parent}
-use Rattle.gix_traverse_commit.specs.Order.{At}
-use Rattle.gix_traverse_commit.specs.Walks.{topological}
-use Rattle.gix_traverse_commit.specs.declared.parents.Parents.TheVariants.{All}
-use Rattle.gix_traverse_commit.proofs.Listing.{has_listed}
-use Rattle.gix_traverse_commit.proofs.Lists.{at_append, at_from_contains, at_from_take, contains_from_at}
+use Rattle.gix_traverse_commit_graph.specs.Commits.{Commits, Listed, Reached, WalkRequest, tip, parent}
+use Rattle.gix_traverse_commit_graph.specs.Order.{At}
+use Rattle.gix_traverse_commit_graph.specs.Walks.{topological}
+use Rattle.gix_traverse_commit_graph.specs.declared.parents.Parents.TheVariants.{All}
+use Rattle.gix_traverse_commit_graph.proofs.Listing.{has_listed}
+use Rattle.gix_traverse_commit_graph.proofs.Lists.{at_append, at_from_contains, at_from_take, contains_from_at}
 use Rattle.history_model.specs.Answers.{commits_of, parents_at}
 use Rattle.history_model.specs.Forms.{IsWritten}
 use Rattle.history_model.specs.Objects.{Actor, CommitValue, Value, StoredCommit, StoredTag, StoredBytes, StoredFolder, object_kind}

@@ -3,7 +3,7 @@
 ghost use Rattle.std.specs.Prelude.{◌≡◌, IfOk, Some, is_some};
 ghost use Rattle.std.specs.FinMap.{get};
 ghost use Rattle.gix_hash_id.specs.Id.{id_of};
-ghost use Rattle.gix_traverse_commit.specs.Rows.{AreRows};
+ghost use Rattle.gix_traverse_commit_graph.specs.Rows.{AreRows};
 ghost use Rattle.history_model.specs.Objects.{Value};
 ghost use Rattle.history_rows.specs.Rows.{AreTheRows};
 ghost use Rattle.history_repository.specs.Reads.{GivesMeant};
@@ -17,7 +17,7 @@ use crate::reading::{commits, read_commit};
 use gix_hash::ObjectId;
 use gix_object::{Commit, FindHeader, Kind as ObjectKind};
 use gix_ref_file::Files;
-use gix_traverse_commit::Row;
+use gix_traverse_commit_graph::Row;
 use history_model::Fault;
 use history_repository::{Repository, Stopped};
 use history_rows::{Told, rows_of};
