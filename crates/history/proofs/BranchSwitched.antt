@@ -30,10 +30,11 @@ use Rattle.history_steps.specs.TreeHalves.{HoldsNames, HoldsValues}
 use Rattle.history_steps.proofs.HeadSwitched.{switches_pass, switches_stand}
 use Rattle.history_steps.proofs.PassedNames.{moving_stops, nothing_stops, values_recover}
 use Rattle.history_steps.proofs.TreePuts.{halves_stand}
-use Rattle.history_store.specs.Creation.{SameFolders, head_lock}
-use Rattle.history_store.specs.Face.{ids_of_objects}
-use Rattle.history_store.specs.Packing.{KeepsRecords}
-use Rattle.history_store.specs.References.{HasHeadRoom, MayBeWritten, PutsBeside}
+use Rattle.history_folders.specs.Folders.{SameFolders}
+use Rattle.history_names.specs.References.{head_lock}
+use Rattle.history_objects.specs.Face.{ids_of_objects}
+use Rattle.history_names.specs.Packing.{KeepsRecords}
+use Rattle.history_names.specs.References.{HasHeadRoom, MayBeWritten, PutsBeside}
 use Rattle.history.specs.Acts.{Acts}
 use Rattle.gix_traverse_commit_known.specs.Told.{rows_of}
 use Rattle.gix_traverse_commit_graph.specs.declared.rows.Row.{Row}

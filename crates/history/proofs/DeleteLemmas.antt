@@ -27,8 +27,8 @@ use Rattle.history_steps.specs.TreeHalves.{HoldsNames}
 use Rattle.history_steps.proofs.Takings.{takings_pass, takings_stand}
 use Rattle.history_steps.proofs.PassedStates.{names_pass}
 use Rattle.history_steps.proofs.TreePuts.{halves_stand}
-use Rattle.history_store.specs.Packing.{HasPackedRoom, IsPackedForm, IsTaken, MayTake}
-use Rattle.history_store.specs.References.{SameFolders, lock_place}
+use Rattle.history_names.specs.Packing.{HasPackedRoom, IsPackedForm, IsTaken, MayTake}
+use Rattle.history_names.specs.References.{SameFolders, lock_place}
 use Rattle.history.specs.Acts.{Acts}
 use Rattle.history_plans.specs.CommitCauses.{first_among, held_causes, word_causes}
 use Rattle.history_repository.specs.NameForms.{form_cause}

@@ -19,8 +19,8 @@ use Rattle.history_steps.specs.Passing.{HoldsBetween, MovesOnTheWay}
 use Rattle.history_steps.specs.TreeSteps.{MovesName}
 use Rattle.history_steps.proofs.MoveLines.{next_lines_fit, next_lines_move, next_lines_pass}
 use Rattle.history_steps.proofs.TreePuts.{halves_stand}
-use Rattle.history_store.specs.Formats.{entry_of}
-use Rattle.history_store.specs.Packing.{KeepsRecords}
+use Rattle.history_texts.specs.Formats.{entry_of}
+use Rattle.history_names.specs.Packing.{KeepsRecords}
 use Rattle.history.specs.Acts.{CountsRise, KeepsCounts}
 use Rattle.history_repository.specs.Face.{names_part, KeepsAllButNames}
 use Rattle.history_plans.specs.Halves.{FitsAmong, MovesNames, NamesStand, names_tree}

@@ -18,7 +18,7 @@ use Rattle.history_steps.specs.Passing.{HoldsBetween}
 use Rattle.history_steps.specs.TreeHalves.{HoldsNames}
 use Rattle.history_steps.proofs.Packs.{packs_pass, packs_stand}
 use Rattle.history_steps.proofs.TreePuts.{halves_stand}
-use Rattle.history_store.specs.declared.packs.PackedName.{PackedName}
+use Rattle.history_names.specs.declared.packs.PackedName.{PackedName}
 use Rattle.history.specs.Acts.{Acts}
 use Rattle.history_repository.specs.Reads.{GivesMeant}
 use Rattle.history_repository.specs.Face.{KeepsAllButNames, names_part}

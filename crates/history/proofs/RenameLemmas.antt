@@ -28,8 +28,8 @@ use Rattle.history_steps.specs.TreeSteps.{MovesName}
 use Rattle.history_steps.proofs.Renames.{bringing_passes, renames_bring, renames_end, renames_fit, taking_passes}
 use Rattle.history_steps.proofs.TreeMoves.{stands_moved}
 use Rattle.history_steps.proofs.TreePuts.{halves_stand}
-use Rattle.history_store.specs.Formats.{entry_of}
-use Rattle.history_store.specs.Packing.{KeepsRecords}
+use Rattle.history_texts.specs.Formats.{entry_of}
+use Rattle.history_names.specs.Packing.{KeepsRecords}
 use Rattle.history.specs.Acts.{Acts}
 use Rattle.history.specs.Deleting.{DeletesFiles}
 use Rattle.history_repository.specs.Face.{names_part}

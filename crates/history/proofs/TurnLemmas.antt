@@ -30,7 +30,7 @@ use Rattle.history.specs.Replies.{text_of}
 use Rattle.history.specs.Runs.{EndsRun, EndsHere, GoesOn, Turns}
 use Rattle.history.proofs.ActLemmas.{told_text}
 use Rattle.history.proofs.RunLemmas.{ends_then, ran_none, ran_one, ran_then}
-use Rattle.history_store.proofs.Beside.{from_and_2}
+use Rattle.history_names.proofs.Beside.{from_and_2}
 use Rattle.std.proofs.lemmas.Bool.{not-false}
 use Rattle.history.specs.declared.reply.Reply as own
 

@@ -6,7 +6,7 @@ ghost use Rattle.history_model.specs.Meaning.{after};
 ghost use Rattle.history_model.specs.Moments.{LeavesStopped};
 ghost use Rattle.history_model.specs.Places.{Pair};
 ghost use Rattle.history_steps.specs.Passing.{HoldsBetween};
-ghost use Rattle.history_store.specs.Face.{kind_of_names};
+ghost use Rattle.history_names.specs.Face.{kind_of_names};
 ghost use Rattle.history_word.specs.Commands.{IsMove};
 ghost use Rattle.history.specs.Acts.{Acts, CountsFailure, CountsRise, KeepsCounts};
 ghost use Rattle.history_repository.specs.Face.{KeepsAllButNames, has_failed, names_part, rows_in};

@@ -6,9 +6,9 @@ use Rattle.history_model.specs.Bytes.{Bytes, is_decimal, is_empty, digits_value}
 use Rattle.history_model.specs.Causes.{is_bad_actor}
 use Rattle.history_model.specs.Commands.{ActorLine}
 use Rattle.history_model.specs.Meaning.{read_actor}
-use Rattle.history_store.specs.Actors.{plain_actor, IsFormed, IsNoTime, IsTimeOf}
-use Rattle.history_store.specs.Formats.{actor_of}
-use Rattle.history_store.specs.declared.actor.Actor.{Actor}
+use Rattle.history_texts.specs.Actors.{plain_actor, IsFormed, IsNoTime, IsTimeOf}
+use Rattle.history_texts.specs.Formats.{actor_of}
+use Rattle.history_texts.specs.declared.actor.Actor.{Actor}
 use Rattle.history_plans.specs.CommitCauses.{IsTime, ReadsTime}
 use Rattle.history_model.specs.Forms.{is_seconds, is_offset, is_actor, is_actor_part, max_seconds}
 use Rattle.std.proofs.lemmas.Bool.{and_parts}

@@ -13,8 +13,8 @@ use Rattle.history_model.specs.Causes.{is_bad_path}
 use Rattle.gix_hash_id.specs.declared.kind.Kind.{Kind}
 use Rattle.history_files.specs.Editing.{HavePaths, Names, NameEdits}
 use Rattle.history_files.specs.declared.edits.Change.{Change}
-use Rattle.history_store.specs.Stores.{AreObjectsOf}
-use Rattle.history_store.specs.declared.object.NewObject.{NewObject}
+use Rattle.history_objects.specs.Stores.{AreObjectsOf}
+use Rattle.history_texts.specs.declared.object.NewObject.{NewObject}
 use Rattle.history_word.specs.Commands.{AreEdits, IsEdit}
 use Rattle.history_model.specs.Forms.{max_content}
 use Rattle.history_word.specs.declared.command.Edit.{Edit}

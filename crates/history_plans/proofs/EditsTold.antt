@@ -10,7 +10,7 @@ use Rattle.history_model.specs.Meaning.{files_at, first_files}
 use Rattle.history_files.specs.Editing.{AreEdited, EditsFault, HavePaths, IsBase, NameEdits, OfEdits}
 use Rattle.history_files.specs.declared.trees.EditedFiles.{EditedFiles}
 use Rattle.history_files.specs.declared.edits.EditError.{EditError}
-use Rattle.history_store.specs.KnownObjects.{table_of, HoldsKnown}
+use Rattle.history_objects.specs.KnownObjects.{table_of, HoldsKnown}
 use Rattle.history_plans.specs.Files.{TellsEdited, unmade}
 use Rattle.history_repository.specs.TreesBefore.{IsTreeBefore}
 use Rattle.history_repository.specs.Stands.{Stands}

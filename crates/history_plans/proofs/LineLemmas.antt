@@ -23,8 +23,8 @@ use Rattle.history_model.specs.declared.Cause.{Cause}
 use Rattle.history_model.specs.declared.Cause.TheVariants.{BadActor, BadMessage, BadName, BadTime, NoSuchName, Taken, NotExpected, NothingMoves}
 use Rattle.history_model.specs.declared.Fault.TheVariants.{Memory, File, IdTaken}
 use Rattle.history_steps.specs.MoveSteps.{line_entry}
-use Rattle.history_store.specs.Formats.{actor_of, entry_of}
-use Rattle.history_store.specs.declared.log_entry.LogEntry.{LogEntry}
+use Rattle.history_texts.specs.Formats.{actor_of, entry_of}
+use Rattle.history_texts.specs.declared.log_entry.LogEntry.{LogEntry}
 use Rattle.history_word.specs.Commands.{AreTos, IsTo}
 use Rattle.history_repository.specs.Reads.{IsReadingFault}
 use Rattle.history_plans.specs.Bases.{IsExpected, expected_meanings}

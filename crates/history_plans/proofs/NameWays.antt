@@ -5,14 +5,15 @@ use Rattle.gix_ref_file.specs.Tree.{Tree}
 use Rattle.history_model.specs.Bytes.{Bytes, begins}
 use Rattle.history_model.specs.FileMap.{is_below}
 use Rattle.history_model.proofs.NameLemmas.{name-lock, log-lock}
-use Rattle.history_store.specs.Stores.{IsAbove}
+use Rattle.history_folders.specs.Folders.{IsAbove}
 use Rattle.history_model.specs.Forms.{is_name}
 use Rattle.history_model.specs.Places.{file_at, head_place, packed_place, log_place, log_name, is_lock_file, is_log_place}
 use Rattle.history_steps.specs.TreeHalves.{HoldsNames}
-use Rattle.history_store.specs.References.{HasLockRoom, HasWay, lock_place}
-use Rattle.history_store.proofs.NameFolders.{refs_of}
+use Rattle.history_names.specs.References.{HasLockRoom, lock_place}
+use Rattle.history_folders.specs.Ways.{HasWay}
+use Rattle.history_names.proofs.NameFolders.{refs_of}
 use Rattle.std.proofs.lemmas.Slice.Eq.{bytes_eq-Decides}
-use Rattle.history_store.proofs.Locks.{lock_is_lock}
+use Rattle.history_names.proofs.Locks.{lock_is_lock}
 use Rattle.history_plans.specs.Halves.{FitsAmong}
 use Rattle.std.proofs.lemmas.Bool.{or_cases, or_parts, and_parts}
 use Rattle.history_model.proofs.WholePaths.{begins_front, begins_parts}

@@ -24,8 +24,8 @@ use Rattle.history_model.proofs.WholeTexts.{text_same}
 use Rattle.history_files.specs.Entries.{own_folders}
 use Rattle.history_files.specs.Editing.{AreGiven, AreTreesOf, HasTreeOf, HaveNull, values_of}
 use Rattle.history_files.specs.declared.trees.EditedTree.{EditedTree}
-use Rattle.history_store.specs.Stores.{AreObjectsOf}
-use Rattle.history_store.specs.declared.object.NewObject.{NewObject}
+use Rattle.history_objects.specs.Stores.{AreObjectsOf}
+use Rattle.history_texts.specs.declared.object.NewObject.{NewObject}
 use Rattle.history_plans.specs.CommitCauses.{is_long}
 use Rattle.history_plans.specs.Plans.{is_long_tree, object_parts, tree_parts}
 use Rattle.history_repository.proofs.Befores.{entries-empty, held_commit, held_files}

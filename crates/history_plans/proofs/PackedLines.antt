@@ -22,9 +22,9 @@ use Rattle.history_model.proofs.WholeLists.{In, same_text}
 use Rattle.history_model.proofs.WholeStores.{in_get}
 use Rattle.history_steps.specs.PackSteps.{record_for}
 use Rattle.history_steps.proofs.OfferedReads.{tags_stand_for_others}
-use Rattle.history_store.specs.Packed.{record_of_name, records_of}
-use Rattle.history_store.specs.declared.packs.PackedName.{PackedName}
-use Rattle.history_store.proofs.NameRead.{full_of}
+use Rattle.history_names.specs.Packed.{record_of_name, records_of}
+use Rattle.history_names.specs.declared.packs.PackedName.{PackedName}
+use Rattle.history_names.proofs.NameRead.{full_of}
 use Rattle.history_repository.specs.Reads.{GivesMeant}
 use Rattle.history_repository.specs.NamesShown.{shown_name}
 use Rattle.history_plans.specs.Packing.{AreAllNames, AreFull, line_record}

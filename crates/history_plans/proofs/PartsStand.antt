@@ -8,7 +8,7 @@ use Rattle.history_model.specs.Objects.{StoredCommit, StoredTag, id_of as value_
 use Rattle.history_model.specs.Forms.{IsWritten, is_name, is_private, is_reference}
 use Rattle.history_model.specs.Repository.{Reference, stands, HaveOwnIds}
 use Rattle.history_steps.specs.TreeSteps.{MovesName}
-use Rattle.history_store.specs.Formats.{entry_of}
+use Rattle.history_texts.specs.Formats.{entry_of}
 use Rattle.gix_ref_file.specs.Tree.{Tree}
 use Rattle.history_model.specs.Commands.{Command, Commit, CommitCommand, Tag, TagCommand}
 use Rattle.history_model.specs.Replies.{Committed, Tagged}
@@ -23,8 +23,8 @@ use Rattle.history_steps.proofs.OneNameStands.{one_name_moves}
 use Rattle.history_model.proofs.WholeReads.{no_cause}
 use Rattle.history_steps.proofs.TreePuts.{halves_stand}
 use Rattle.history_model.proofs.WholeSteps.{steps_keep_sound}
-use Rattle.history_store.specs.Face.{ids_of_objects}
-use Rattle.history_store.specs.Packing.{KeepsRecords}
+use Rattle.history_objects.specs.Face.{ids_of_objects}
+use Rattle.history_names.specs.Packing.{KeepsRecords}
 use Rattle.gix_traverse_commit_known.specs.Told.{rows_of}
 use Rattle.gix_traverse_commit_graph.specs.declared.rows.Row.{Row}
 use Rattle.history_repository.specs.Face.{objects_part, names_part, rows_in, KeepsAllButObjects, KeepsAllButNames}

@@ -13,12 +13,12 @@ use Rattle.history_model.specs.Causes.{do_collide}
 use Rattle.history_model.specs.NameStates.{name_state}
 use Rattle.history_model.specs.Places.{file_at}
 use Rattle.history_steps.proofs.OfferedFiles.{all_keys}
-use Rattle.history_store.specs.Stores.{IsAbove}
-use Rattle.history_store.specs.AllNames.{TellsMeeting}
-use Rattle.history_store.specs.References.{HasWay}
+use Rattle.history_folders.specs.Folders.{IsAbove}
+use Rattle.history_names.specs.AllNames.{TellsMeeting}
+use Rattle.history_folders.specs.Ways.{HasWay}
 use Rattle.history_repository.specs.Face.{names_part}
 use Rattle.history_repository.specs.Stands.{Stands, pair_of}
-use Rattle.history_store.specs.Packing.{told_id}
+use Rattle.history_names.specs.Packing.{told_id}
 use Rattle.history_plans.specs.Halves.{FitsAmong, NamesStand}
 use Rattle.history_repository.specs.declared.repository.Repository.{Repository}
 use Rattle.std.specs.List.{list_any}

@@ -33,13 +33,13 @@ use Rattle.history_model.proofs.WholeSteps.{contains_in, in_contains}
 use Rattle.history_files.specs.Editing.{AreEdited, AreTreesOf, HaveNull}
 use Rattle.history_files.specs.declared.trees.EditedTree.{EditedTree}
 use Rattle.history_files.specs.declared.trees.EditedFiles.{EditedFiles}
-use Rattle.history_store.specs.Formats.{actor_of, entry_of, own_actor}
-use Rattle.history_store.specs.Commits.{SaysCommit, IsPlainCommit, has_ids_of}
-use Rattle.history_store.specs.Stores.{AreObjectsOf}
-use Rattle.history_store.specs.declared.object.NewObject.{NewObject}
+use Rattle.history_texts.specs.Formats.{actor_of, entry_of, own_actor}
+use Rattle.history_texts.specs.Commits.{SaysCommit, IsPlainCommit, has_ids_of}
+use Rattle.history_objects.specs.Stores.{AreObjectsOf}
+use Rattle.history_texts.specs.declared.object.NewObject.{NewObject}
 use Rattle.gix_object_commit.specs.declared.commit.owned.Commit.{Commit as OwnCommit}
 use Rattle.gix_hash_id.specs.declared.object_id.ObjectId.{ObjectId}
-use Rattle.history_store.specs.declared.log_entry.LogEntry.{LogEntry}
+use Rattle.history_texts.specs.declared.log_entry.LogEntry.{LogEntry}
 use Rattle.history_word.specs.Commands.{AreEdits}
 use Rattle.history_word.specs.declared.command.Edit.{Edit}
 use Rattle.history_repository.specs.Reads.{IsReadingFault}
@@ -60,7 +60,7 @@ use Rattle.history_plans.proofs.FirstCauses.{passed, here, refused_by_form, refu
 use Rattle.history_plans.proofs.NewFolders.{contents, new_folders, none_long, null_taken, some_long, trees_put}
 use Rattle.history_plans.proofs.Shapes.{refused_alike}
 use Rattle.history_plans.proofs.BytesPut.{bytes_put}
-use Rattle.history_store.proofs.Spelled.{and_from}
+use Rattle.history_texts.proofs.Spelled.{and_from}
 use Rattle.history_model.specs.Repository as plain
 use Rattle.history_repository.specs.declared.stopped.Stopped.TheVariants as why
 

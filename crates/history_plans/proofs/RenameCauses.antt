@@ -17,9 +17,9 @@ use Rattle.history_model.specs.declared.Cause.TheVariants.{BadName, PrivateName,
 use Rattle.history_model.proofs.WholeLists.{none_passes}
 use Rattle.history_model.proofs.WholeReads.{no_cause}
 use Rattle.history_steps.specs.RenameSteps.{rename_entry}
-use Rattle.history_store.specs.Formats.{actor_of, entry_of}
-use Rattle.history_store.specs.Packing.{NameReads}
-use Rattle.history_store.specs.declared.log_entry.LogEntry.{LogEntry}
+use Rattle.history_texts.specs.Formats.{actor_of, entry_of}
+use Rattle.history_names.specs.Packing.{NameReads}
+use Rattle.history_texts.specs.declared.log_entry.LogEntry.{LogEntry}
 use Rattle.history_repository.specs.Face.{names_part}
 use Rattle.history_plans.specs.Moving.{names_cause}
 use Rattle.history_plans.specs.Renaming.{PlansRename, TestsRename}

@@ -22,12 +22,12 @@ use Rattle.history_model.specs.CommandParts.{at_word}
 use Rattle.history_steps.specs.OneNameSteps.{entry_of_move, tag_move}
 use Rattle.history_model.proofs.WholePaths.{begins_parts}
 use Rattle.history_model.proofs.WholeReads.{read_holds}
-use Rattle.history_store.specs.Formats.{actor_of, entry_of}
-use Rattle.history_store.specs.Tags.{SaysTag}
-use Rattle.history_store.specs.declared.actor.Actor.{Actor}
-use Rattle.history_store.specs.declared.log_entry.LogEntry.{LogEntry}
-use Rattle.history_store.specs.declared.object.NewObject.{NewObject}
-use Rattle.history_store.proofs.Spelled.{and_from, not_from}
+use Rattle.history_texts.specs.Formats.{actor_of, entry_of}
+use Rattle.history_texts.specs.Tags.{SaysTag}
+use Rattle.history_texts.specs.declared.actor.Actor.{Actor}
+use Rattle.history_texts.specs.declared.log_entry.LogEntry.{LogEntry}
+use Rattle.history_texts.specs.declared.object.NewObject.{NewObject}
+use Rattle.history_texts.proofs.Spelled.{and_from, not_from}
 use Rattle.history_repository.specs.Reads.{IsReadingFault}
 use Rattle.history_plans.specs.Bases.{IsExpected, expected_meanings, held_cause}
 use Rattle.history_repository.specs.Meanings.{words_cause, commit_or_cause, is_ambiguous_word, is_not_a_commit, is_unborn_head, is_unknown_word, meaning_of}

@@ -10,7 +10,7 @@ use Rattle.history_files.specs.Editing.{AreEdited, HaveNull, Names}
 use Rattle.history_files.specs.declared.edits.Change.{Change}
 use Rattle.history_files.specs.declared.edits.EditError.{EditError}
 use Rattle.history_files.specs.declared.trees.EditedFiles.{EditedFiles}
-use Rattle.history_store.specs.Stores.{AreObjectsOf}
+use Rattle.history_objects.specs.Stores.{AreObjectsOf}
 use Rattle.history_word.specs.declared.command.Edit.{Edit}
 use Rattle.history_word.specs.declared.command.Edit.TheVariants.{Put, Remove, RemoveFile}
 use Rattle.history_repository.specs.Reads.{IsReadingFault}

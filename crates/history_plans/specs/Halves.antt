@@ -18,9 +18,10 @@ use Rattle.history_repository.specs.Face.{objects_part, names_part, known_ids}
 use Rattle.history_repository.specs.declared.repository.Repository.{Repository}
 use Rattle.history_repository.specs.declared.stopped.Stopped.{Stopped}
 use Rattle.history_repository.specs.declared.stopped.Stopped.TheVariants.{Refused, Fault}
-use Rattle.history_store.specs.Face.{kind_of_names, kind_of_objects}
-use Rattle.history_store.specs.Formats.{entry_of}
-use Rattle.history_store.specs.Packing.{KeepsRecords}
+use Rattle.history_names.specs.Face.{kind_of_names}
+use Rattle.history_objects.specs.Face.{kind_of_objects}
+use Rattle.history_texts.specs.Formats.{entry_of}
+use Rattle.history_names.specs.Packing.{KeepsRecords}
 use Rattle.history_plans.specs.declared.planning.Moves.{Moves}
 use Rattle.history_model.specs.Repository as plain
 

@@ -15,8 +15,8 @@ use Rattle.history_model.specs.declared.Cause.{Cause}
 use Rattle.history_model.specs.declared.Cause.TheVariants.{BadName, PrivateName, NameTwice, NoSuchName, Taken, NotExpected, BadActor, BadTime, BadMessage, NothingMoves}
 use Rattle.history_model.specs.declared.Fault.TheVariants.{Memory, File, IdTaken}
 use Rattle.history_steps.specs.MoveSteps.{line_entry}
-use Rattle.history_store.specs.Formats.{actor_of, entry_of}
-use Rattle.history_store.specs.declared.actor.Actor.{Actor}
+use Rattle.history_texts.specs.Formats.{actor_of, entry_of}
+use Rattle.history_texts.specs.declared.actor.Actor.{Actor}
 use Rattle.history_word.specs.declared.command.Field.{Field}
 use Rattle.history_repository.specs.Reads.{IsReadingFault}
 use Rattle.history_plans.specs.Bases.{IsExpected, expected_meanings}

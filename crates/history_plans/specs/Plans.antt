@@ -4,8 +4,8 @@ use Rattle.std.specs.List.{list_all, list_any, flat_map}
 use Rattle.gix_hash_id.specs.declared.kind.Kind.{Kind}
 use Rattle.gix_hash_id.specs.declared.object_id.ObjectId.{ObjectId}
 use Rattle.history_model.specs.Bytes.{Bytes}
-use Rattle.history_store.specs.Stores.{AreObjectsOf}
-use Rattle.history_store.specs.declared.object.NewObject.{NewObject}
+use Rattle.history_objects.specs.Stores.{AreObjectsOf}
+use Rattle.history_texts.specs.declared.object.NewObject.{NewObject}
 use Rattle.history_model.specs.CommandParts.{contents_in}
 use Rattle.history_model.specs.Objects.{CommitValue, Value, commit_content, digest, folder_id, object_text}
 use Rattle.history_model.specs.Forms.{is_id, max_content}
@@ -22,7 +22,7 @@ use Rattle.history_model.specs.declared.Fault.TheVariants.{Memory, File, IdTaken
 use Rattle.history_files.specs.Editing.{AreEdited, HaveNull}
 use Rattle.history_files.specs.declared.trees.EditedFiles.{EditedFiles}
 use Rattle.history_files.specs.declared.trees.EditedTree.{EditedTree}
-use Rattle.history_store.specs.Formats.{actor_of, entry_of}
+use Rattle.history_texts.specs.Formats.{actor_of, entry_of}
 use Rattle.history_plans.specs.CommitCauses.{first_among, form_causes, is_long, path_causes}
 use Rattle.history_plans.specs.declared.planning.Actors.{Actors}
 use Rattle.history_plans.specs.declared.planning.Below.{Below}

@@ -12,9 +12,9 @@ use Rattle.history_model.specs.Words.{commit_of}
 use Rattle.history_model.specs.declared.Cause.{Cause}
 use Rattle.history_model.specs.declared.Cause.TheVariants.{BadActor, BadTime, BadMessage, TooLarge, NothingMoves}
 use Rattle.history_steps.specs.OneNameSteps.{tag_move}
-use Rattle.history_store.specs.Formats.{actor_of}
-use Rattle.history_store.specs.declared.actor.Actor.{Actor}
-use Rattle.history_store.specs.declared.object.NewObject.{NewObject}
+use Rattle.history_texts.specs.Formats.{actor_of}
+use Rattle.history_texts.specs.declared.actor.Actor.{Actor}
+use Rattle.history_texts.specs.declared.object.NewObject.{NewObject}
 use Rattle.history_word.specs.declared.command.Field.{Field}
 use Rattle.history_repository.specs.Reads.{IsReadingFault}
 use Rattle.history_plans.specs.CommitCauses.{first_among, held_causes, name_form_causes, place_causes, word_causes}

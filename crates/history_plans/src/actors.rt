@@ -7,7 +7,7 @@ ghost use Rattle.history_model.specs.Causes.{is_bad_actor};
 ghost use Rattle.history_model.specs.Meaning.{read_actor};
 ghost use Rattle.history_word.specs.Commands.{IsActor};
 ghost use Rattle.history_word.specs.Fields.{Keeps};
-ghost use Rattle.history_store.specs.Formats.{actor_of};
+ghost use Rattle.history_texts.specs.Formats.{actor_of};
 ghost use Rattle.history_plans.specs.CommitCauses.{IsTime, ReadsTime};
 ghost use Rattle.history_model.specs.Commands as model;
 

@@ -6,7 +6,7 @@ ghost use Rattle.gix_hash_id.specs.Id.{id_of};
 ghost use Rattle.history_model.specs.Meaning.{put_bytes};
 ghost use Rattle.history_model.specs.Repository.{HoldsCommit};
 ghost use Rattle.history_files.specs.Editing.{HavePaths};
-ghost use Rattle.history_store.specs.Stores.{AreObjectsOf};
+ghost use Rattle.history_objects.specs.Stores.{AreObjectsOf};
 ghost use Rattle.history_plans.specs.Files.{AreChangesOf, AreReadAs, TellsEdited, IsChangeOf, change_parts, edit_parts, kept_edit, unmade};
 ghost use Rattle.history_repository.specs.Stands.{Stands};
 ghost use Rattle.history_model.specs.FileMap as model;

@@ -10,7 +10,7 @@ ghost use Rattle.history_model.specs.Meaning.{new_commit};
 ghost use Rattle.history_model.specs.Objects.{CommitValue, folder_id};
 ghost use Rattle.history_model.specs.declared.Cause.TheVariants.{TooLarge};
 ghost use Rattle.history_model.specs.declared.Fault.TheVariants.{IdTaken};
-ghost use Rattle.history_store.specs.Face.{kind_of_objects};
+ghost use Rattle.history_objects.specs.Face.{kind_of_objects};
 ghost use Rattle.history_word.specs.Commands.{IsActor};
 ghost use Rattle.history_word.specs.Fields.{Keeps};
 ghost use Rattle.history_plans.specs.Asked.{AskedCommit, AskedFiles};

@@ -5,7 +5,7 @@ ghost use Rattle.gix_hash_id.specs.Id.{id_of};
 ghost use Rattle.history_model.specs.Bytes.{Bytes};
 ghost use Rattle.history_model.specs.Meaning.{history_actor};
 ghost use Rattle.history_model.specs.Repository.{id_at};
-ghost use Rattle.history_store.specs.Formats.{actor_of};
+ghost use Rattle.history_texts.specs.Formats.{actor_of};
 ghost use Rattle.history_word.specs.Commands.{IsRename};
 ghost use Rattle.history_plans.specs.Moving.{names_cause};
 ghost use Rattle.history_plans.specs.Renaming.{MakesName, PlansRename, TestsRename};

@@ -25,8 +25,8 @@ use Rattle.history_model.proofs.WholeLists.{clash}
 use Rattle.history_rows.specs.Telling.{AreAllTold, AreInOrder, IsTold, TellsStored}
 use Rattle.history_rows.specs.declared.told.Told.{Told}
 use Rattle.history_rows.proofs.Counted.{same_object}
-use Rattle.history_store.specs.Commits.{SaysCommit}
-use Rattle.history_store.specs.Ids.{is_one_of}
+use Rattle.history_texts.specs.Commits.{SaysCommit}
+use Rattle.history_texts.specs.IdLists.{is_one_of}
 use Rattle.gix_object_commit.specs.declared.commit.owned.Commit.{Commit}
 use Rattle.history_walks.specs.Asking.{IsInOrder, walk_from}
 use Rattle.history_walks.specs.declared.listing.Order.TheVariants.{Topological}

@@ -25,7 +25,7 @@ use Rattle.history_model.specs.declared.Cause.TheVariants.{BadPath, IsFolder, No
 use Rattle.history_model.proofs.WholeReads.{read_holds}
 use Rattle.history_steps.proofs.OfferedFiles.{files_are_stored}
 use Rattle.history_model.proofs.WholeLists.{texts_differ}
-use Rattle.history_store.specs.Commits.{SaysCommit}
+use Rattle.history_texts.specs.Commits.{SaysCommit}
 use Rattle.gix_hash_id.specs.declared.object_id.ObjectId.{ObjectId}
 use Rattle.history_repository.specs.Reads.{OnlyAnswers, GivesMeant, ReadsWord, IsReadingFault}
 use Rattle.history_repository.specs.Meanings.{commit_or_cause}

@@ -39,10 +39,10 @@ use Rattle.history_model.specs.Forms.{IsWritten, is_commit_form, is_id}
 use Rattle.history_model.specs.Objects.{CommitValue, Value, StoredCommit, StoredTag, StoredBytes, StoredFolder, object_kind, content_of, commit_content, folder_id, hex, value_text}
 use Rattle.history_model.specs.Repository.{Repository, HoldsCommit, IsWholeStore, Reaches, as_commit, named, by_way_of, named_ids}
 use Rattle.history_model.proofs.IdLemmas.{digest_is_id, digits_of-raw_bytes, has_kind, id_itself, length-hex}
-use Rattle.history_store.proofs.ActorTexts.{actor_parts, time_spelled}
-use Rattle.history_store.proofs.CommitTexts.{value_forms, value_parts, value_spelled}
-use Rattle.history_store.proofs.Offsets.{OffsetTold, offset_told}
-use Rattle.history_store.specs.Formats.{person_of}
+use Rattle.history_texts.proofs.ActorTexts.{actor_parts, time_spelled}
+use Rattle.history_texts.proofs.CommitTexts.{value_forms, value_parts, value_spelled}
+use Rattle.history_texts.proofs.Offsets.{OffsetTold, offset_told}
+use Rattle.history_texts.specs.Formats.{person_of}
 use Rattle.history_walks.specs.Asking.{IsInOrder, parents_in, walk_from}
 use Rattle.history_walks.specs.declared.listing.Request.{Request}
 use Rattle.history_walks.specs.Faults.{IsMet, IsUnread, WalkFault, absent, lines, time}

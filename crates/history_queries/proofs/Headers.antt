@@ -8,7 +8,7 @@ use Rattle.gix_object_find.specs.Table.{Object, Table, header_at}
 use Rattle.gix_object_lines.specs.declared.header.Header.{Header}
 use Rattle.gix_ref_file.specs.History.{History}
 use Rattle.history_model.specs.Objects.{Value, content_of, object_kind}
-use Rattle.history_store.specs.KnownObjects.{table_of}
+use Rattle.history_objects.specs.KnownObjects.{table_of}
 use Rattle.history_repository.specs.Stands.{Stands}
 use Rattle.history_repository.specs.declared.repository.Repository.{Repository}
 use Rattle.history_repository.proofs.Tables.{tables_same}

@@ -6,7 +6,7 @@ use Rattle.gix_object_lines.specs.declared.lines.time.Time.{Time}
 use Rattle.history_model.specs.Bytes.{digits_value}
 use Rattle.history_model.specs.Forms.{is_seconds}
 use Rattle.history_model.specs.declared.Cause.TheVariants.{BadTime}
-use Rattle.history_store.specs.Actors.{IsNoTime, IsTimeOf}
+use Rattle.history_texts.specs.Actors.{IsNoTime, IsTimeOf}
 use Rattle.history_word.specs.Commands.{IsOrder}
 use Rattle.history_word.specs.declared.command.Order.{Order}
 use Rattle.history_word.specs.declared.command.Order.TheVariants.{NewestSince, OldestSince}

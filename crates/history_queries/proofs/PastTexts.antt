@@ -17,7 +17,7 @@ use Rattle.history_model.specs.Spelling.{part_text, parts_text}
 use Rattle.history_model.specs.Replies.{ok, reply_text, PastIs}
 use Rattle.history_model.proofs.OnePairLines.{entry_parts}
 use Rattle.history_model.proofs.OnePairTexts.{actor_one_line, hex_high, none_in}
-use Rattle.history_store.proofs.LogLines.{map-reverse}
+use Rattle.history_texts.proofs.LogLines.{map-reverse}
 
 -- a move's line without its line feed
 body_of : LogEntry → Bytes

@@ -3,7 +3,7 @@ use Rattle.std.specs.Prelude.{map}
 use Rattle.history_model.specs.Bytes.{Bytes}
 use Rattle.history_model.specs.Replies.{CommitShown, ContentShown}
 use Rattle.history_model.specs.declared.FileKind.{FileKind}
-use Rattle.history_store.specs.Formats.{own_actor}
+use Rattle.history_texts.specs.Formats.{own_actor}
 use Rattle.gix_object_commit.specs.declared.commit.owned.Commit.{Commit}
 use Rattle.gix_hash_id.specs.declared.object_id.ObjectId.{ObjectId}
 use Rattle.gix_hash_id.specs.Id.{id_of}

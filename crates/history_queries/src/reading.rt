@@ -6,7 +6,7 @@ ghost use Rattle.history_model.specs.Answers.{file_line};
 ghost use Rattle.history_files.specs.Reading.{entry_of, line_of};
 ghost use Rattle.history_model.specs.FileMap.{FileMap};
 ghost use Rattle.history_model.specs.Objects.{CommitValue, StoredCommit, StoredFolder};
-ghost use Rattle.history_store.specs.Commits.{SaysCommit};
+ghost use Rattle.history_texts.specs.Commits.{SaysCommit};
 ghost use Rattle.gix_hash_id.specs.Id.{id_of};
 ghost use Rattle.gix_traverse_commit_graph.specs.Rows.{AllHeld};
 ghost use Rattle.gix_traverse_commit_known.specs.Told.{rows_of};

@@ -33,10 +33,10 @@ use Rattle.history_model.specs.declared.Cause.TheVariants.{BadName, PrivateName}
 use Rattle.history_model.proofs.WholeLists.{In}
 use Rattle.history_model.proofs.WholeStores.{in_get}
 use Rattle.history_files.proofs.Lines.{map_twice}
-use Rattle.history_store.specs.AllNames.{ListsAll, id_read}
-use Rattle.history_store.specs.NameLists.{NameIds, name_entry}
-use Rattle.history_store.specs.Packing.{told_id}
-use Rattle.history_store.specs.declared.listed.NamedId.{NamedId}
+use Rattle.history_names.specs.AllNames.{ListsAll, id_read}
+use Rattle.history_names.specs.NameLists.{NameIds, name_entry}
+use Rattle.history_names.specs.Packing.{told_id}
+use Rattle.history_names.specs.declared.listed.NamedId.{NamedId}
 use Rattle.history_repository.specs.Reads.{OnlyAnswers, IsReadingFault}
 use Rattle.history_repository.specs.NameForms.{form_cause}
 use Rattle.history_repository.specs.Face.{names_part}

@@ -13,7 +13,7 @@ use Rattle.history_model.specs.Places.{Pair, file_at, packed_place, head_place, 
 use Rattle.history_model.specs.NameStates.{NameState, Holds, Symbolic, Absent, Faulty, name_state}
 use Rattle.history_model.specs.StandsFor.{StandsFor}
 use Rattle.history_model.proofs.PlaceLemmas.{texts_apart}
-use Rattle.history_store.specs.Packing.{NameReads, told_id}
+use Rattle.history_names.specs.Packing.{NameReads, told_id}
 use Rattle.gix_hash_id.specs.declared.object_id.ObjectId.{ObjectId}
 use Rattle.history_repository.specs.Stands.{Stands, pair_of}
 use Rattle.history_repository.specs.Face.{names_part}

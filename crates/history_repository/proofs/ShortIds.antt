@@ -38,10 +38,10 @@ use Rattle.history_model.specs.Repository.{Repository}
 use Rattle.history_model.specs.Words.{id_meaning, is_short_id, matches, only_one}
 use Rattle.history_model.proofs.IdLemmas.{HasKind, digest_is_id, has_kind, same_id_tie}
 use Rattle.history_model.proofs.WholeLists.{In, all_pass, one_passes, pass_all, passes_one}
-use Rattle.history_store.specs.Face.{kind_of_objects}
-use Rattle.history_store.specs.Ids.{AreOfKind}
-use Rattle.history_store.specs.Prefixes.{CanName, IsHit, IsMatch}
-use Rattle.history_store.specs.declared.prefixes.Hit.TheVariants.{Absent, One, Several}
+use Rattle.history_objects.specs.Face.{kind_of_objects}
+use Rattle.history_objects.specs.Ids.{AreOfKind}
+use Rattle.history_objects.specs.Prefixes.{CanName, IsHit, IsMatch}
+use Rattle.history_objects.specs.declared.prefixes.Hit.TheVariants.{Absent, One, Several}
 use Rattle.history_repository.specs.Reads.{GivesMeant}
 use Rattle.history_repository.specs.Face.{known_ids}
 use Rattle.history_repository.specs.Meanings.{meaning_of, SpellsPrefix}

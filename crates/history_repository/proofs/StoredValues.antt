@@ -17,9 +17,9 @@ use Rattle.gix_hash_id.specs.declared.kind.Kind.{Kind}
 use Rattle.history_model.proofs.PlaceLemmas.{values_have_ids}
 use Rattle.history_steps.proofs.TreePuts.{halves_stand, places_tell_values}
 use Rattle.history_model.proofs.WholeTexts.{object_same}
-use Rattle.history_store.specs.ObjectTexts.{IsNoObject}
+use Rattle.history_texts.specs.ObjectTexts.{IsNoObject}
 use Rattle.gix_object_lines.specs.declared.kind.Kind.{Kind as ObjectKind}
-use Rattle.history_store.specs.declared.objects.Object.{Object}
+use Rattle.history_objects.specs.declared.objects.Object.{Object}
 use Rattle.history_repository.specs.Reads.{GivesMeant, IsReadingFault}
 use Rattle.history_repository.specs.Face.{objects_part}
 use Rattle.history_repository.specs.Faults.{file_fault}

@@ -11,9 +11,9 @@ use Rattle.history_model.specs.Forms.{max_content}
 use Rattle.history_files.specs.Reading.{IsRootOf}
 use Rattle.history_files.specs.Unfolding.{HasTrees}
 use Rattle.history_files.proofs.Stores.{has_trees}
-use Rattle.history_store.specs.KnownObjects.{object_at, table_of, HoldsKnown}
-use Rattle.history_store.specs.ObjectTexts.{object_in}
-use Rattle.history_store.proofs.TextObjects.{object_in-text}
+use Rattle.history_objects.specs.KnownObjects.{object_at, table_of, HoldsKnown}
+use Rattle.history_texts.specs.ObjectTexts.{object_in}
+use Rattle.history_texts.proofs.TextObjects.{object_in-text}
 use Rattle.history_repository.specs.Face.{objects_part, known_ids}
 use Rattle.history_repository.specs.Stands.{Stands}
 use Rattle.history_repository.specs.declared.repository.Repository.{Repository}

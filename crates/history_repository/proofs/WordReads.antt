@@ -8,7 +8,7 @@ use Rattle.history_model.specs.Repository.{Repository, Reference, id_at, stands}
 use Rattle.history_model.specs.Words.{ReadsAs, word_meaning, name_meaning, id_meaning, candidates, head_word}
 use Rattle.history_model.specs.declared.Cause.TheVariants.{UnbornHead}
 use Rattle.gix_ref_file.specs.History.{History}
-use Rattle.history_store.specs.Packing.{NameReads}
+use Rattle.history_names.specs.Packing.{NameReads}
 use Rattle.gix_hash_id.specs.declared.object_id.ObjectId.{ObjectId}
 use Rattle.history_repository.specs.Meanings.{commit_or_cause, stands_for}
 use Rattle.history_repository.specs.Stands.{Stands}

@@ -6,7 +6,7 @@ use Rattle.history_model.specs.Bytes.{Bytes}
 use Rattle.history_model.specs.Replies.{NameLine}
 use Rattle.history_model.specs.Repository.{peeled}
 use Rattle.history_model.specs.declared.Cause.{Cause}
-use Rattle.history_store.specs.declared.listed.NamedId.{NamedId}
+use Rattle.history_names.specs.declared.listed.NamedId.{NamedId}
 use Rattle.history_repository.specs.NameForms.{form_cause}
 use Rattle.history_repository.specs.Held.{held_commit, held_id}
 use Rattle.history_repository.specs.declared.shown.Shown.{Shown}

@@ -1,6 +1,6 @@
 use Rattle.std.proofs.Common.{◌⊎◌, inl, inr, ◌∙◌, refl, ap, Err, arith}
 use Rattle.std.proofs.lemmas.Result.{err_from_is_err_and}
-use Rattle.history_store.proofs.NameFolders.{folders_now}
+use Rattle.history_names.proofs.NameFolders.{folders_now}
 use Rattle.history.proofs.MovedNames.{fits_here, moved, move_stopped, names_pass}
 use Rattle.history_plans.proofs.NameWays.{way, log_way, lock_room}
 use Rattle.history.proofs.commit.move_names.Goals as goal

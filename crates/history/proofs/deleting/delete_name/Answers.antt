@@ -1,8 +1,8 @@
 use Rattle.std.proofs.Common.{◌⊎◌, inl, inr, ◌∙◌, refl, sym, ap, subst, Err, arith}
 use Rattle.std.proofs.lemmas.Result.{err_from_is_err_and}
-use Rattle.history_store.proofs.Removals.{same_folders_now}
+use Rattle.history_names.proofs.Removals.{same_folders_now}
 use Rattle.gix_ref_file.specs.History.{Adds}
-use Rattle.history_store.specs.Packing.{IsPackedForm, IsTaken, MayTake}
+use Rattle.history_names.specs.Packing.{IsPackedForm, IsTaken, MayTake}
 use Rattle.history.proofs.DeleteLemmas.{delete_stopped, files_gone, goes_on_the_way, packed_formed, packed_room}
 use Rattle.history.proofs.deleting.delete_name.Goals as goal
 

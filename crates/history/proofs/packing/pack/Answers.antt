@@ -3,7 +3,7 @@ use Rattle.std.proofs.lemmas.Result.{err_from_is_err_and}
 use Rattle.history_model.specs.Commands.{Pack}
 use Rattle.history_model.specs.Meaning.{after}
 use Rattle.history_model.specs.Replies.{Packed}
-use Rattle.history_store.specs.Packed.{records_of}
+use Rattle.history_names.specs.Packed.{records_of}
 use Rattle.history.specs.Acts.{CountsFailure}
 use Rattle.history_plans.specs.Halves.{names_tree}
 use Rattle.history_plans.specs.Packing.{AreAllNames}

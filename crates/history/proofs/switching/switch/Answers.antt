@@ -7,7 +7,7 @@ use Rattle.history_model.specs.Meaning.{after}
 use Rattle.history_model.specs.Places.{head_place}
 use Rattle.history_model.specs.Replies.{Switched}
 use Rattle.history_model.specs.StandsFor.{head_text}
-use Rattle.history_store.specs.References.{MayBeWritten, PutsBeside}
+use Rattle.history_names.specs.References.{MayBeWritten, PutsBeside}
 use Rattle.history.specs.Acts.{CountsFailure}
 use Rattle.history_repository.specs.Stands.{Stands}
 use Rattle.history.proofs.Acted.{idle_later, idle_stops}

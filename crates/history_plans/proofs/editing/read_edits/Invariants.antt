@@ -1,7 +1,7 @@
 use Rattle.std.proofs.Common.{map}
 use Rattle.std.specs.List.{flat_map}
 use Rattle.history_model.specs.Meaning.{put_bytes}
-use Rattle.history_store.specs.Stores.{AreObjectsOf}
+use Rattle.history_objects.specs.Stores.{AreObjectsOf}
 use Rattle.history_plans.specs.Files.{AreChangesOf, kept_edit}
 use Rattle.history_plans.proofs.editing.read_edits.Given as goal
 

@@ -4,7 +4,7 @@ use Rattle.gix_object_lines.specs.declared.kind.Kind.TheVariants as kinds
 use Rattle.history_model.specs.Bytes.{Bytes}
 use Rattle.history_model.specs.Forms.{max_content}
 use Rattle.history_model.specs.declared.Fault.TheVariants.{File}
-use Rattle.history_store.proofs.CommitWrites.{value_written}
+use Rattle.history_texts.proofs.CommitWrites.{value_written}
 use Rattle.history_plans.specs.Plans.{IsMade, MakesCommit}
 use Rattle.history_repository.specs.declared.stopped.Stopped.TheVariants.{Refused}
 use Rattle.history_plans.proofs.Planned.{commit_is}

@@ -5,7 +5,7 @@ use Rattle.std.proofs.lemmas.Result.{err_from_is_err_and}
 use Rattle.gix_hash_id.specs.Id.{null_id, id_of}
 use Rattle.history_model.specs.Forms.{title}
 use Rattle.history_model.specs.Meaning.{new_commit}
-use Rattle.history_store.specs.Formats.{actor_of}
+use Rattle.history_texts.specs.Formats.{actor_of}
 use Rattle.history_plans.specs.Plans.{GivesCommitted}
 use Rattle.history_plans.proofs.Planned.{before_is, commit_said, commit_told, entry_is, not_made}
 use Rattle.history_plans.proofs.planning.make_commit.Goals as goal

@@ -12,7 +12,7 @@ use Rattle.history_model.specs.Meaning.{put_bytes}
 use Rattle.history_model.specs.Repository as plain
 use Rattle.history_model.specs.Repository.{HoldsCommit}
 use Rattle.history_steps.proofs.OfferedReads.{parents_are_commits}
-use Rattle.history_store.specs.Stores.{AreObjectsOf}
+use Rattle.history_objects.specs.Stores.{AreObjectsOf}
 use Rattle.history_word.specs.Commands.{AreEdits}
 use Rattle.history_word.specs.declared.command.Edit.{Edit}
 use Rattle.history_plans.specs.Files.{AreChangesOf, AreReadAs, TellsEdited, kept_edit}

@@ -6,7 +6,7 @@ use Rattle.gix_hash_id.specs.Id.{id_of, null_id}
 use Rattle.history_model.specs.Forms.{max_content, title}
 use Rattle.history_model.specs.Meaning.{tag_rest}
 use Rattle.history_model.specs.declared.Cause.TheVariants.{BadName}
-use Rattle.history_store.specs.Formats.{actor_of}
+use Rattle.history_texts.specs.Formats.{actor_of}
 use Rattle.history_repository.specs.Held.{held_id}
 use Rattle.history_plans.specs.Tagging.{PlansTag, is_tag_place}
 use Rattle.history_repository.specs.declared.stopped.Stopped.TheVariants.{Refused}

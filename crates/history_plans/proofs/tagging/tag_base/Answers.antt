@@ -5,7 +5,7 @@ use Rattle.history_model.specs.Commands.{Tag}
 use Rattle.gix_hash_id.specs.Id.{id_of}
 use Rattle.history_model.specs.Forms.{is_name}
 use Rattle.history_model.specs.declared.Cause.TheVariants.{Collides}
-use Rattle.history_store.specs.AllNames.{TellsMeeting}
+use Rattle.history_names.specs.AllNames.{TellsMeeting}
 use Rattle.history_plans.specs.Bases.{IsExpected, expected_meanings}
 use Rattle.history_plans.specs.CommitCauses.{held_causes, place_causes, word_causes}
 use Rattle.history_repository.specs.Face.{names_part}

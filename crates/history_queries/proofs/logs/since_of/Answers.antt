@@ -5,7 +5,7 @@ use Rattle.std.proofs.lemmas.Int.{to_z-of_z}
 use Rattle.std.proofs.lemmas.Result.{err_from_is_err_and}
 use Rattle.std.specs.Option.{ok_or}
 use Rattle.history_model.specs.declared.Cause.TheVariants.{BadTime}
-use Rattle.history_store.specs.Actors.{IsNoTime, IsTimeOf}
+use Rattle.history_texts.specs.Actors.{IsNoTime, IsTimeOf}
 use Rattle.history_queries.specs.Logs.{IsSince}
 use Rattle.history_queries.proofs.OrderLemmas.{bad_cutoff, good_cutoff}
 use Rattle.history_queries.proofs.logs.since_of.Goals as goal

@@ -5,7 +5,7 @@ use Rattle.gix_object_find.specs.Table.{Table}
 use Rattle.gix_traverse_commit_known.specs.Told.{AreTold, rows_of}
 use Rattle.gix_traverse_commit_graph.specs.declared.rows.Row.{Row}
 use Rattle.history_model.specs.Answers.{commits_of}
-use Rattle.history_store.specs.KnownObjects.{table_of}
+use Rattle.history_objects.specs.KnownObjects.{table_of}
 use Rattle.history_walks.specs.Asking.{request_of}
 use Rattle.history_walks.specs.Faults.{WalkFault}
 use Rattle.history_walks.proofs.Named.{named_in_order}

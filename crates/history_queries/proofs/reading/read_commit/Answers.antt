@@ -3,7 +3,7 @@ use Rattle.std.specs.declared.alloc.Global.{Global}
 use Rattle.std.proofs.lemmas.Result.{err_from_is_err_and}
 use Rattle.history_model.specs.Forms.{is_commit_form}
 use Rattle.history_model.specs.Objects.{StoredCommit, commit_content}
-use Rattle.history_store.specs.Commits.{SaysCommit}
+use Rattle.history_texts.specs.Commits.{SaysCommit}
 use Rattle.history_repository.proofs.Befores.{gives_stopped}
 use Rattle.history_repository.proofs.StoredValues.{commit_formed}
 use Rattle.history_queries.proofs.reading.read_commit.Goals as goal

@@ -4,7 +4,7 @@ use Rattle.std.proofs.lemmas.Result.{err_from_is_err_and}
 use Rattle.gix_hash_id.specs.Id.{id_of}
 use Rattle.gix_hash_id.specs.declared.object_id.ObjectId.{ObjectId}
 use Rattle.history_model.specs.Repository.{as_commit}
-use Rattle.history_store.specs.KeptIds.{left}
+use Rattle.history_objects.specs.KeptIds.{left}
 use Rattle.history_queries.specs.Indexing.{AreTheCommits}
 use Rattle.history_queries.proofs.AllTold.{AreSoFar, all_so_far, commit_holds, next_stands, none_held, none_so_far, one_kept, one_passed}
 use Rattle.history_repository.proofs.Befores.{gives_stopped}

@@ -4,7 +4,7 @@ use Rattle.std.proofs.lemmas.List.{length-map}
 use Rattle.history_model.specs.Objects.{hex}
 use Rattle.history_model.specs.Replies.{ok, spelled_actor}
 use Rattle.history_model.specs.Spelling.{Line, Field, parent_part, actor_parts, part_text, parts_text}
-use Rattle.history_store.specs.Formats.{own_actor}
+use Rattle.history_texts.specs.Formats.{own_actor}
 use Rattle.history_queries.proofs.ReplyTexts.{pieces, same_line}
 use Rattle.history_queries.proofs.showing.commit_text.Goals as goal
 use Rattle.gix_hash_id.specs.Id.{id_of}

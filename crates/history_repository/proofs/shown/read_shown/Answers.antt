@@ -5,7 +5,7 @@ use Rattle.std.proofs.lemmas.Iterator.Consumers.{YieldsList-end, YieldsList-turn
 use Rattle.std.proofs.lemmas.Result.{err_from_is_err_and}
 use Rattle.gix_hash_id.specs.Id.{id_of}
 use Rattle.history_model.specs.Repository.{peeled}
-use Rattle.history_store.specs.declared.listed.NamedId.{NamedId}
+use Rattle.history_names.specs.declared.listed.NamedId.{NamedId}
 use Rattle.history_repository.specs.NamesShown.{ArePeeled, shown_name, told_name}
 use Rattle.history_repository.proofs.HeldLemmas.{peeled_stored}
 use Rattle.history_repository.proofs.ReadingFaults.{gave_fault, gives_fault}

@@ -2,7 +2,7 @@ use Rattle.std.proofs.Common.{◌∙◌, ap, option_map, unwrap_or}
 use Rattle.std.specs.Prelude.{Vec, ℕ}
 use Rattle.std.specs.declared.alloc.Global.{Global}
 use Rattle.gix_hash_id.specs.Id.{id_of, null_id}
-use Rattle.history_store.specs.Formats.{actor_of}
+use Rattle.history_texts.specs.Formats.{actor_of}
 use Rattle.history_repository.specs.Held.{held_id}
 use Rattle.history_plans.proofs.LineLemmas.{entry_told}
 use Rattle.history_plans.proofs.moving.Line.into_moves.Goals as goal
