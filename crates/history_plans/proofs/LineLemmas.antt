@@ -198,7 +198,7 @@ module _ (r : plain.Repository) where
   elsewhere_told (order ∷ orders) [] are = absurd are
   elsewhere_told (order ∷ orders) (line ∷ lines) are = λ i. one order.expect line.expected (are.0).expected i || elsewhere_told orders lines are.1 i
     where
-      one : (expect : Expect) (what : Expected) → IsExpected r expect what → model.is_elsewhere r (order.name, expect) ≡ Rattle.history.specs.Moving.is_apart line what
+      one : (expect : Expect) (what : Expected) → IsExpected r expect what → model.is_elsewhere r (order.name, expect) ≡ Rattle.history_plans.specs.Moving.is_apart line what
       one Any expected.Any is = refl
       one New expected.New is = refl
       one (At word) (expected.At meaning) is = λ i. not (same_id (sym ((are.0).held).commit i) (commit_told r word meaning is i))
