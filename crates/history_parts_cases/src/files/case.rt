@@ -1,0 +1,63 @@
+//! The parts of words.
+
+use case_ids::read_id;
+use case_page::read_digits;
+use history_files::{Change, Edit};
+use history_model::FileKind;
+use std::alloc::Global;
+
+/// An edit with a path of its own.
+#[derive(Drop)]
+pub struct PathEdit {
+    path: Vec<u8>,
+    change: Change,
+}
+
+fn read_file_kind(word: &str) -> Option<FileKind> {
+    match word {
+        "file" => Some(FileKind::File),
+        "exec" => Some(FileKind::Exec),
+        "link" => Some(FileKind::Link),
+        _ => None,
+    }
+}
+
+/// The word of a file's kind.
+pub fn kind_word(kind: FileKind) -> &'static str {
+    match kind {
+        FileKind::File => "file",
+        FileKind::Exec => "exec",
+        FileKind::Link => "link",
+    }
+}
+
+/// The edit that a word spells.
+pub fn read_edit(alloc: Global, word: &str) -> Option<PathEdit> {
+    let mut parts = word.split(':');
+    let (path, change) = match parts.next()? {
+        "put" => {
+            let kind = read_file_kind(parts.next()?)?;
+            let path = parts.next()?;
+            let id = read_id(parts.next()?)?;
+            (path, Change::Put { kind, id })
+        }
+        "remove" => (parts.next()?, Change::Remove),
+        "remove-file" => (parts.next()?, Change::RemoveFile),
+        _ => return None,
+    };
+    let path = read_digits(alloc, path)?;
+    Some(PathEdit { path, change })
+}
+
+/// The edits, with their paths lent.
+pub fn lent(alloc: Global, edits: &[PathEdit]) -> Option<Vec<Edit<'_>>> {
+    let mut all = Vec::new(alloc);
+    for edit in edits {
+        all.push(Edit {
+            path: &edit.path,
+            change: edit.change,
+        })
+        .ok()?;
+    }
+    Some(all)
+}

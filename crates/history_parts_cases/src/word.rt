@@ -1,0 +1,6 @@
+//! Cases of `history_word`.
+
+mod case;
+mod shown;
+
+pub use case::answer;
