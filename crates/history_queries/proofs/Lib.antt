@@ -4,7 +4,7 @@ pub mod CommitsWalked
 pub mod DifferingLemmas
 pub mod FoundLemmas
 pub mod Headers
-pub mod Lines
+pub mod LineTexts
 pub mod LogItems
 pub mod LogLemmas
 pub mod OrderLemmas

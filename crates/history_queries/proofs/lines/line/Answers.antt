@@ -1,5 +1,5 @@
 use Rattle.std.proofs.Common.{◌++◌, ◌∷◌, [], ap, ◌∙◌}
-use Rattle.history_queries.proofs.Lines.{line_appended, line_empty}
+use Rattle.history_queries.proofs.LineTexts.{line_appended, line_empty}
 use Rattle.history_queries.proofs.lines.line.Goals as goal
 use Rattle.history_queries.proofs.lines.line.Goals.{in-Some+in_ok-extend_from_slice+in_ok-more_words, in_default}
 
