@@ -18,7 +18,8 @@ ghost use Rattle.history_objects.specs.declared.put.PutError.TheVariants.{File, 
 
 use crate::objects::{Objects, PutMadeError};
 use gix_hash::ObjectId;
-use gix_object::{FindHeader, Kind as ObjectKind, find};
+use gix_object_find::{FindHeader, find};
+use gix_object_lines::Kind as ObjectKind;
 use gix_ref_file::Files;
 use history_model::limits::MAX_CONTENT;
 use history_texts::{Named, NewObject, named_by};

@@ -5,7 +5,7 @@ mod creation;
 mod opening;
 
 pub use creation::{CreateError, create};
-pub use gix_object::Kind as ObjectKind;
+pub use gix_object_lines::Kind as ObjectKind;
 pub use history_folders::{OpenError, Part, Stray, survey};
 pub use history_names::{NamedId, Names, PACKED, PackedName};
 pub use history_objects::{

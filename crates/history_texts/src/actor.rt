@@ -5,10 +5,10 @@ ghost use Rattle.history_model.specs.Bytes.{has_byte};
 ghost use Rattle.history_model.specs.Forms.{is_actor_part, is_offset, max_seconds};
 ghost use Rattle.history_texts.specs.Actors.{IsFormed, IsNoTime, IsOffsetOf, IsPlainTime, IsSecondsOf, IsTimeOf};
 
-use gix_object::ByteString;
-use gix_object::lines::{self, ActorRef, Time, read_actor, read_time, write_actor_parts};
+use gix_object_lines::ByteString;
 use gix_object_lines::cut::split_once;
 use gix_object_lines::decimal::read_unsigned;
+use gix_object_lines::lines::{self, ActorRef, Time, read_actor, read_time, write_actor_parts};
 use history_model::limits::{MAX_ACTOR_PART, MAX_SECONDS};
 use std::alloc::{AllocError, Global};
 

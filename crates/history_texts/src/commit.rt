@@ -18,8 +18,11 @@ use crate::actor::Actor;
 use crate::id_text::parse_lower_hex;
 use bstr::BStr;
 use gix_hash::{Kind, ObjectId};
-use gix_object::decode::Error;
-use gix_object::{ByteString, Commit, CommitRef, CommitRefIter, WriteTo, WriteToError};
+use gix_object_commit::{Commit, CommitRef};
+use gix_object_commit_tokens::CommitRefIter;
+use gix_object_lines::decode::Error;
+use gix_object_lines::write::Error as WriteToError;
+use gix_object_lines::{ByteString, WriteTo};
 use smallvec::SmallVec;
 use std::alloc::{AllocError, Global};
 

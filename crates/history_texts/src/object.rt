@@ -6,7 +6,7 @@ ghost use Rattle.gix_hash_id.specs.Id.{id_of};
 
 use gix_hash::hasher::hasher;
 use gix_hash::{Kind, ObjectId};
-use gix_object::{Kind as ObjectKind, decode, encode};
+use gix_object_lines::{Kind as ObjectKind, decode, encode};
 
 /// An object with its id, which is its text's: it is hashed where it is made, and nowhere else.
 #[derive(Drop, Debug)]

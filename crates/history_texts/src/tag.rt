@@ -14,7 +14,9 @@ ghost use Rattle.history_texts.specs.Tags.{SaysTag};
 
 use crate::actor::Actor;
 use gix_hash::{Kind, ObjectId};
-use gix_object::{ByteString, Kind as ObjectKind, Tag, TagRefIter, WriteTo, WriteToError};
+use gix_object_lines::write::Error as WriteToError;
+use gix_object_lines::{ByteString, Kind as ObjectKind, WriteTo};
+use gix_object_tag::{Tag, TagRefIter};
 use std::alloc::{AllocError, Global};
 
 /// The id of the object that a tag's content names on its first line, in digits of either letter case; `None` where no such line

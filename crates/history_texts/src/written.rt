@@ -10,7 +10,7 @@ mod trees;
 pub use commits::has_twice;
 use commits::named_by_commit;
 use gix_hash::{Kind, ObjectId};
-use gix_object::Kind as ObjectKind;
+use gix_object_lines::Kind as ObjectKind;
 use gix_object_lines::cut::split_once;
 use std::alloc::{AllocError, Global};
 pub use tags::is_name;

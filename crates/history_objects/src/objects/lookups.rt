@@ -9,7 +9,8 @@ ghost use Rattle.history_texts.specs.ObjectTexts.{object_in};
 
 use crate::objects::{Objects, cut_front, object_place};
 use gix_hash::{ObjectId, oid};
-use gix_object::{Exists, Find, FindHeader, Header, Kind as ObjectKind, Lookup, find};
+use gix_object_find::{Exists, Find, FindHeader, Lookup, find};
+use gix_object_lines::{Header, Kind as ObjectKind};
 use gix_ref_file::{FileError, Files};
 use history_texts::parse_header;
 

@@ -12,8 +12,9 @@ ghost use Rattle.history_texts.specs.Written.{NamesByCommit, NamesByParts, Namin
 use crate::commit::commit_of;
 use crate::written::{Named, title};
 use gix_hash::{Kind, ObjectId};
-use gix_object::decode::Error;
-use gix_object::{Commit, CommitRef, Kind as ObjectKind};
+use gix_object_commit::{Commit, CommitRef};
+use gix_object_lines::Kind as ObjectKind;
+use gix_object_lines::decode::Error;
 use history_model::limits::{MAX_PARENTS, MAX_TITLE};
 use std::alloc::{AllocError, Global};
 

@@ -7,9 +7,10 @@ ghost use Rattle.history_texts.specs.Written.{AreWritten, IsWrittenEntry, IsWrit
 
 use crate::written::Named;
 use gix_hash::{Kind, ObjectId};
-use gix_object::decode::Error;
-use gix_object::tree::{EntryMode, EntryRef};
-use gix_object::{Kind as ObjectKind, TreeRef, WriteTo};
+use gix_object_entries::TreeRef;
+use gix_object_entries::tree::{EntryMode, EntryRef};
+use gix_object_lines::decode::Error;
+use gix_object_lines::{Kind as ObjectKind, WriteTo};
 use std::alloc::{AllocError, Global};
 
 /// The objects that a tree's content names; `None` where it isn't in written form.
