@@ -10,21 +10,18 @@ mod session;
 
 use crate::session::Folder;
 use case_words::answer;
-use std::io::{self, BufRead, BufReader, BufWriter, Write};
+use std::io;
 
 fn main(rt: HostRuntime) -> io::Result<()> {
-    let reader = BufReader::new(rt.alloc(), rt.reader())?;
-    let mut writer = BufWriter::new(rt.alloc(), io::writer(&rt))?;
     let mut number = 0u64;
-    for line in reader.lines(rt.alloc()) {
+    for line in rt.lines(rt.alloc()) {
         let line = line?;
         number = number.saturating_add(1);
         let text = match line.as_str().split_once(' ') {
             Some(("real", words)) => real::answer(&rt, number, words)?,
             _ => answer::<Folder>(rt.alloc(), line.as_str())?,
         };
-        writer.write_all(text.as_bytes())?;
-        writer.write_all(b"\n")?;
+        println!(rt; "{text}")?;
     }
-    writer.flush()
+    Ok(())
 }

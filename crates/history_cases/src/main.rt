@@ -10,15 +10,12 @@ mod session;
 
 use crate::session::Store;
 use case_words::answer;
-use std::io::{self, BufRead, BufReader, BufWriter, Write};
+use std::io;
 
 fn main(rt: HostRuntime) -> io::Result<()> {
-    let reader = BufReader::new(rt.alloc(), rt.reader())?;
-    let mut writer = BufWriter::new(rt.alloc(), io::writer(&rt))?;
-    for line in reader.lines(rt.alloc()) {
+    for line in rt.lines(rt.alloc()) {
         let text = answer::<Store>(rt.alloc(), line?.as_str())?;
-        writer.write_all(text.as_bytes())?;
-        writer.write_all(b"\n")?;
+        println!(rt; "{text}")?;
     }
-    writer.flush()
+    Ok(())
 }
