@@ -12,10 +12,11 @@ use Rattle.gix_object_entries.specs.Mode.{is_tree_value}
 use Rattle.gix_object_find.specs.Table.{Table}
 use Rattle.gix_object_editor.specs.declared.tree.editor.error.Error.{Error}
 use Rattle.gix_object_editor.specs.declared.tree.editor.error.Error.TheVariants.{EmptyPathComponent, FindExistingObject, CannotRemoveNonLeaf, MalformedTree, EmptyTree, Memory}
-use Rattle.gix_object_editor.specs.declared.tree.editor.node.NodeId.{NodeId}
-use Rattle.gix_object_editor.specs.declared.tree.editor.node.Slot.{Slot}
-use Rattle.gix_object_editor.specs.Files.{Bytes, Path, Leaf, Trees, HasStored, is_null, leads_on, leaf_of, named, through}
-use Rattle.gix_object_editor.specs.Nodes.{Slots, leaf_in, child_or, child_of, StandsFor, Way, onto, LeadsTo}
+use Rattle.gix_object_nodes.specs.declared.node.NodeId.{NodeId}
+use Rattle.gix_object_nodes.specs.declared.node.Slot.{Slot}
+use Rattle.gix_object_nodes.specs.Files.{Bytes, Path, Leaf, Trees, is_null, leads_on, leaf_of, named, through}
+use Rattle.gix_object_editor.specs.Stored.{HasStored}
+use Rattle.gix_object_nodes.specs.Nodes.{Slots, leaf_in, child_or, child_of, StandsFor, Way, onto, LeadsTo}
 use Rattle.gix_object_editor.specs.Refusals.{OpeningFault, FolderFault}
 use Rattle.gix_object_editor.specs.Asked.{front_of, ids_from, trees_into, slot_into, unopened_into, found_into, IsStoredTree, CountsUp, AsksUpTo, AsksAll, AsksFor, AsksSome, StopsAt}
 use Rattle.gix_object_editor.proofs.Walked.{names, names_length, last_name}

@@ -3,15 +3,16 @@ use Rattle.std.proofs.Common.{ℕ, ◌≡◌, ◌≢◌, ◌<◌, ◌⊎◌, Boo
 use Rattle.std.specs.Borrow.{Bor}
 use Rattle.std.proofs.lemmas.Bool.{cases_lt, cases_eq}
 use Rattle.gix_object_editor.proofs.Walked.{names}
-use Rattle.gix_object_editor.specs.declared.tree.editor.node.Slot.{Slot}
-use Rattle.gix_object_editor.specs.Files.{Bytes, Path, Trees}
-use Rattle.gix_object_editor.specs.Nodes.{Slots, child_of, IsForest, Way, onto, LeadsTo}
-use Rattle.gix_object_editor.specs.Marks.{Mark, Marks, AreMarked, AreMarksKept, AreMarkedUp, IsMarkedFor, IsIdle, IsOnWay, AreOnPath, AreAsRead}
+use Rattle.gix_object_nodes.specs.declared.node.Slot.{Slot}
+use Rattle.gix_object_nodes.specs.Files.{Bytes, Path, Trees}
+use Rattle.gix_object_nodes.specs.Nodes.{Slots, child_of, IsForest, Way, onto, LeadsTo}
+use Rattle.gix_object_nodes.specs.Marks.{Mark, Marks, AreMarked, AreMarksKept, AreMarkedUp, IsMarkedFor, IsIdle, IsOnWay, AreOnPath, AreAsRead}
 use Rattle.gix_object_editor.proofs.Marked.{not_yet, way_before, on_way_above, marks_none, edited_as_read}
 use Rattle.gix_object_editor.proofs.Edits.{less_forest}
 use Rattle.gix_object_editor.proofs.Opening.{at_or_off}
 use Rattle.gix_object_editor.proofs.Folders.{taken_marks, taken_link}
-use Rattle.gix_object_editor.proofs.Ways.{unique, way_above, way_kept}
+use Rattle.gix_object_nodes.proofs.Ways.{unique}
+use Rattle.gix_object_editor.proofs.SlotChange.{way_above, way_kept}
 
 way_within : (slots : Slots) (bound : ℕ) → IsForest slots bound → (way : Path) (j : ℕ) → Way slots way j → j < bound
 way_within slots bound ok [] j w = subst (λ k. k < bound) w ok.rooted

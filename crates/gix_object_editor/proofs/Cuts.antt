@@ -8,15 +8,17 @@ use Rattle.gix_hash_id.specs.declared.kind.Kind.{Kind}
 use Rattle.std.specs.Prelude.{is_some}
 use Rattle.std.specs.Borrow.{Bor}
 use Rattle.gix_object_find.specs.Table.{Table}
-use Rattle.gix_object_editor.specs.declared.tree.editor.node.Slot.{Slot}
-use Rattle.gix_object_editor.specs.Files.{Bytes, Path, Leaf, Trees, HasStored, is_null, through, behind, put, put_at, cleared}
-use Rattle.gix_object_editor.specs.Nodes.{Slots, child_of, leaf_in, files_of_slot, files_of_node, Way, onto, LeadsTo, AreNull, IsForest, IsFolderAt, IsOpened}
-use Rattle.gix_object_editor.specs.Marks.{Mark, Marks, AreAsRead}
+use Rattle.gix_object_nodes.specs.declared.node.Slot.{Slot}
+use Rattle.gix_object_nodes.specs.Files.{Bytes, Path, Leaf, Trees, is_null, through, behind, put, put_at, cleared}
+use Rattle.gix_object_editor.specs.Stored.{HasStored, IsOpened}
+use Rattle.gix_object_nodes.specs.Nodes.{Slots, child_of, leaf_in, files_of_slot, files_of_node, Way, onto, LeadsTo, AreNull, IsForest, IsFolderAt}
+use Rattle.gix_object_nodes.specs.Marks.{Mark, Marks, AreAsRead}
 use Rattle.gix_object_editor.specs.Entries.{made_leaf}
 use Rattle.gix_object_editor.proofs.Filled.{null_none}
 use Rattle.gix_object_editor.proofs.Opening.{at_or_off, same_through}
 use Rattle.gix_object_editor.proofs.Walked.{names}
-use Rattle.gix_object_editor.proofs.Ways.{elsewhere_put, below_put, here, child_files, child_no_file, down}
+use Rattle.gix_object_editor.proofs.SlotChange.{elsewhere_put, below_put, here}
+use Rattle.gix_object_nodes.proofs.Ways.{child_files, child_no_file, down}
 
 -- ---- the files
 

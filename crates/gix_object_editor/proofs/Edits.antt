@@ -5,19 +5,21 @@ use Rattle.std.specs.Borrow.{Bor}
 use Rattle.std.proofs.lemmas.List.{get_or-map, length-drop, take_all}
 use Rattle.std.proofs.lemmas.List.Elements.{All-map}
 use Rattle.gix_object_entries.specs.Entry.{Item}
-use Rattle.gix_object_editor.specs.declared.tree.editor.node.NodeId.{NodeId}
+use Rattle.gix_object_nodes.specs.declared.node.NodeId.{NodeId}
 use Rattle.gix_hash_id.specs.Id.{Id, id_of}
-use Rattle.gix_object_editor.specs.declared.tree.editor.node.Slot.{Slot}
+use Rattle.gix_object_nodes.specs.declared.node.Slot.{Slot}
 use Rattle.gix_object_find.specs.Table.{Table}
 use Rattle.gix_object_editor.specs.declared.tree.editor.error.Error.{Error}
 use Rattle.gix_object_editor.specs.declared.tree.editor.error.Error.TheVariants.{EmptyPathComponent, FindExistingObject, CannotRemoveNonLeaf, MalformedTree, EmptyTree, Memory}
 use Rattle.gix_object_editor.specs.Editor.{EditFault, LeafFault, IsFolder, IsTreeNamed, LeadsThrough, LeadsInto}
 use Rattle.gix_object_editor.specs.Refusals.{OpeningFault, FolderFault}
-use Rattle.gix_object_editor.specs.Files.{Bytes, Path, Leaf, FileMap, Trees, HasStored, HasNoneBelow, NamesAreFull, is_null, through, tree_under, unless_tree, files_of_entry, behind, removed, put, put_at}
-use Rattle.gix_object_editor.specs.Nodes.{Slots, child_or, child_of, leaf_in, files_of_slot, files_of_node, onto, Way, LeadsTo, IsFolderAt, IsStoppedAt, IsUnopened, AreFilled, IsForest, IsOpened}
-use Rattle.gix_object_editor.proofs.Ways.{down, removes, removes_nothing}
-use Rattle.gix_object_editor.proofs.Opening.{fewer, at_or_off}
-use Rattle.gix_object_editor.proofs.Paths.{onto-append}
+use Rattle.gix_object_nodes.specs.Files.{Bytes, Path, Leaf, FileMap, Trees, HasNoneBelow, NamesAreFull, is_null, through, tree_under, unless_tree, files_of_entry, behind, removed, put, put_at}
+use Rattle.gix_object_editor.specs.Stored.{HasStored, IsOpened}
+use Rattle.gix_object_nodes.specs.Nodes.{Slots, child_or, child_of, leaf_in, files_of_slot, files_of_node, onto, Way, LeadsTo, IsFolderAt, IsStoppedAt, IsUnopened, AreFilled, IsForest}
+use Rattle.gix_object_nodes.proofs.Ways.{down, fewer}
+use Rattle.gix_object_editor.proofs.SlotChange.{removes, removes_nothing}
+use Rattle.gix_object_editor.proofs.Opening.{at_or_off}
+use Rattle.gix_object_nodes.proofs.Paths.{onto-append}
 use Rattle.gix_object_editor.proofs.Walked.{names, names_length}
 
 -- ---- names

@@ -4,18 +4,20 @@ use Rattle.std.specs.Prelude.{bytes_eq, is_some}
 use Rattle.gix_hash_id.specs.declared.kind.Kind.{Kind}
 use Rattle.gix_object_entries.specs.Entry.{Item}
 use Rattle.gix_object_find.specs.Table.{Table}
-use Rattle.gix_object_editor.specs.declared.tree.editor.node.Slot.{Slot}
-use Rattle.gix_object_editor.specs.Files.{Bytes, Path, Leaf, Trees, HasStored, behind, removed, through, named, leaf_of, entry_into, entry_of_tree}
-use Rattle.gix_object_editor.specs.Nodes.{Slots, child_or, child_of, leaf_in, slot_entry, entry_from, slot_over, StandsFor, IsForest, IsOpened, IsNoFolder, Way, onto, LeadsTo}
+use Rattle.gix_object_nodes.specs.declared.node.Slot.{Slot}
+use Rattle.gix_object_nodes.specs.Files.{Bytes, Path, Leaf, Trees, behind, removed, through, named, leaf_of, entry_into, entry_of_tree}
+use Rattle.gix_object_editor.specs.Stored.{HasStored, IsOpened}
+use Rattle.gix_object_nodes.specs.Nodes.{Slots, child_or, child_of, leaf_in, slot_entry, entry_from, slot_over, StandsFor, IsForest, IsNoFolder, Way, onto, LeadsTo}
 use Rattle.gix_object_editor.specs.Laid.{laid, laid_at, made_at}
 use Rattle.gix_object_editor.specs.Entries.{made_leaf}
 use Rattle.gix_object_editor.specs.Editor.{IsTreeEntry}
 use Rattle.gix_object_editor.proofs.Opening.{same_entries}
-use Rattle.gix_object_editor.proofs.Paths.{same_name, name_itself, by_test, onto-onto, behind_is, behind_append, behind_both, behind-longer, onto-append, behind-onto}
+use Rattle.gix_object_nodes.proofs.Paths.{same_name, name_itself, by_test, onto-onto, behind_is, behind_append, behind_both, behind-longer, onto-append, behind-onto}
 use Rattle.std.specs.Borrow.{Bor}
 use Rattle.gix_object_editor.proofs.Walked.{names}
 use Rattle.gix_object_editor.proofs.Standing.{entry_below, blocked_entry, slot_below}
-use Rattle.gix_object_editor.proofs.Ways.{unique, way_above, way_kept}
+use Rattle.gix_object_nodes.proofs.Ways.{unique}
+use Rattle.gix_object_editor.proofs.SlotChange.{way_above, way_kept}
 
 abbrev pub none_met : Leaf → Option Leaf
 none_met l = None

@@ -1,18 +1,17 @@
 -- Files below the slots of an opened tree.
-use Rattle.std.proofs.Common.{ℕ, ◌≡◌, Bool, not, true, false, cond, List, [], ◌∷◌, Option, Some, None, refl, sym, ap, subst, ◌∙◌, inl, inr, if◌then◌else◌}
+use Rattle.std.proofs.Common.{ℕ, ◌≡◌, true, cond, List, [], ◌∷◌, Option, Some, None, refl, sym, ap, subst, ◌∙◌, inl, inr, if◌then◌else◌}
 use Rattle.std.specs.List.{AllByRecursion, IsDistinct}
 use Rattle.std.specs.Map.{lookup, keys_of, values_of}
 use Rattle.std.specs.Ordering.{eq_by_cmp}
 use Rattle.std.proofs.lemmas.Map.Keys.{IsDistinct-tail}
 use Rattle.gix_hash_id.specs.Id.{id_of}
-use Rattle.gix_object_editor.specs.declared.tree.editor.node.Slot.{Slot}
-use Rattle.gix_object_editor.specs.Files.{Bytes, Path, Leaf, Trees, is_null, through, tree_under, unless_tree, named, leaf_of, files_of_entry, HasFile}
-use Rattle.gix_object_editor.specs.Nodes.{Key, Slots, child_or, child_of, leaf_in, files_of_slot, files_of_node, HasFileBelow}
-use Rattle.gix_object_editor.proofs.Paths.{by_test}
-use Rattle.gix_object_editor.proofs.Slots.{key_cmp, is_named}
-use Rattle.gix_object_editor.proofs.Ways.{child_files, child_no_file}
-use Rattle.gix_object_editor.proofs.ReachedTrees.{found_first, found_later}
-use Rattle.std.proofs.lemmas.Bool.{not-true, not-false}
+use Rattle.gix_object_nodes.specs.declared.node.Slot.{Slot}
+use Rattle.gix_object_nodes.specs.Files.{Bytes, Path, Leaf, Trees, is_null, through, tree_under, unless_tree, named, leaf_of, files_of_entry, HasFile}
+use Rattle.gix_object_nodes.specs.Nodes.{Key, Slots, child_or, child_of, leaf_in, files_of_slot, files_of_node, HasFileBelow}
+use Rattle.gix_object_nodes.proofs.Paths.{by_test}
+use Rattle.gix_object_nodes.proofs.Slots.{key_cmp, is_named}
+use Rattle.gix_object_nodes.proofs.Ways.{child_files, child_no_file}
+use Rattle.gix_object_nodes.proofs.ReachedTrees.{found_first, found_later}
 
 -- the slot has no file, over each table of trees
 abbrev pub NoFile : Slots → Slot → Type 0

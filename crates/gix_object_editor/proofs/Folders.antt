@@ -2,12 +2,13 @@
 use Rattle.std.proofs.Common.{ℕ, ◌≡◌, ◌≢◌, ◌<◌, ◌≤◌, Bool, true, false, List, [], ◌∷◌, ◌++◌, Option, Some, None, refl, sym, ap, subst, ◌∙◌, inl, inr, arith, length, get_or, if◌then◌else◌}
 use Rattle.std.specs.Prelude.{bytes_eq, is_some}
 use Rattle.std.specs.Borrow.{Bor}
-use Rattle.gix_object_editor.specs.Files.{Bytes, Path, Leaf, FileMap, Trees, HasNoneBelow, behind, removed, put, put_at, cleared, through}
-use Rattle.gix_object_editor.specs.Nodes.{Slots, child_of, files_of_node, entry_at, entry_from, Way, onto, IsForest, IsFolderAt, LeadsTo, IsPutIn}
-use Rattle.gix_object_editor.specs.Marks.{Mark, Marks, AreMarksKept, AreOnPath}
+use Rattle.gix_object_nodes.specs.Files.{Bytes, Path, Leaf, FileMap, Trees, HasNoneBelow, behind, removed, put, put_at, cleared, through}
+use Rattle.gix_object_nodes.specs.Nodes.{Slots, child_of, files_of_node, entry_at, entry_from, Way, onto, IsForest, IsFolderAt, LeadsTo, IsPutIn}
+use Rattle.gix_object_nodes.specs.Marks.{Mark, Marks, AreMarksKept, AreOnPath}
 use Rattle.gix_object_editor.proofs.Opening.{at_or_off}
-use Rattle.gix_object_editor.proofs.Paths.{same_name, name_itself, by_test, behind_is, onto-append}
-use Rattle.gix_object_editor.proofs.Ways.{down, child_no_file, removes, way_above, way_kept}
+use Rattle.gix_object_nodes.proofs.Paths.{same_name, name_itself, by_test, behind_is, onto-append}
+use Rattle.gix_object_nodes.proofs.Ways.{down, child_no_file}
+use Rattle.gix_object_editor.proofs.SlotChange.{removes, way_above, way_kept}
 use Rattle.gix_object_editor.proofs.Walked.{names}
 use Rattle.gix_object_editor.proofs.Entered.{none_met, cut_entries, not_flipped}
 use Rattle.gix_object_editor.proofs.Edits.{below_end, none_left}

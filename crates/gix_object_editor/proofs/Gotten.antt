@@ -2,15 +2,15 @@
 use Rattle.std.proofs.Common.{ℕ, ◌≡◌, ◌⊎◌, Bool, true, false, [], ◌∷◌, Option, Some, None, refl, sym, ap, subst, ◌++◌, ◌∙◌, inl, inr, if◌then◌else◌}
 use Rattle.gix_object_entries.specs.Entry.{Item}
 use Rattle.gix_object_entries.specs.Mode.{is_tree_value}
-use Rattle.gix_object_editor.specs.declared.tree.editor.node.NodeId.{NodeId}
-use Rattle.gix_object_editor.specs.declared.tree.editor.node.Slot.{Slot}
-use Rattle.gix_object_editor.specs.Files.{Bytes, Path, Leaf, Trees, is_null, through, leaf_of, tree_under, unless_tree, files_of_entry}
-use Rattle.gix_object_editor.specs.Nodes.{Slots, child_or, child_of, leaf_in, entry_in, entry_at, slot_entry, entry_from, files_of_slot, files_of_node, Way, onto, LeadsTo}
+use Rattle.gix_object_nodes.specs.declared.node.NodeId.{NodeId}
+use Rattle.gix_object_nodes.specs.declared.node.Slot.{Slot}
+use Rattle.gix_object_nodes.specs.Files.{Bytes, Path, Leaf, Trees, is_null, through, leaf_of, tree_under, unless_tree, files_of_entry}
+use Rattle.gix_object_nodes.specs.Nodes.{Slots, child_or, child_of, leaf_in, entry_in, entry_at, slot_entry, entry_from, files_of_slot, files_of_node, Way, onto, LeadsTo}
 use Rattle.gix_object_editor.proofs.Entered.{none_met}
 use Rattle.gix_object_editor.proofs.Standing.{child_entry, entry_below as entry_down}
 use Rattle.gix_object_editor.proofs.Edits.{entry_of}
 use Rattle.gix_object_editor.proofs.Folders.{below_base}
-use Rattle.gix_object_editor.proofs.Ways.{down}
+use Rattle.gix_object_nodes.proofs.Ways.{down}
 
 -- the leaf of an entry that a slot is
 item_leaf : (name : Bytes) (s : Slot) (item : Item) → entry_in name (Some s) ≡ Some item → leaf_of item ≡ leaf_in s

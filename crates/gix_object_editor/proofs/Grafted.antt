@@ -1,11 +1,12 @@
 -- What stands where a stored entry was put.
-use Rattle.std.proofs.Common.{◌≡◌, ◌⊎◌, inr, true, false, List, [], ◌∷◌, ◌++◌, Option, Some, None, is_some, refl, sym, ap, subst, ◌∙◌, if◌then◌else◌}
+use Rattle.std.proofs.Common.{◌≡◌, ◌⊎◌, inr, true, false, List, [], ◌∷◌, ◌++◌, Some, None, is_some, sym, ap, subst, ◌∙◌, if◌then◌else◌}
 use Rattle.std.specs.Prelude.{Result, Ok, Err, OnOk, IfErr}
 use Rattle.std.proofs.lemmas.List.{append-nil}
 use Rattle.gix_object_entries.specs.Entry.{Item}
 use Rattle.gix_object_entries.specs.Mode.{is_tree_value}
 use Rattle.gix_object_find.specs.Table.{Table}
-use Rattle.gix_object_editor.specs.Files.{Bytes, Path, Leaf, FileMap, Trees, HasStored, SameFiles, is_null, through, leaf_of, tree_under, unless_tree, named, files_of_entry, files_of_tree, behind, put, put_at}
+use Rattle.gix_object_nodes.specs.Files.{Path, Leaf, FileMap, Trees, SameFiles, is_null, through, leaf_of, tree_under, unless_tree, named, files_of_entry, files_of_tree, behind, put, put_at}
+use Rattle.gix_object_editor.specs.Stored.{HasStored}
 use Rattle.gix_object_editor.proofs.Raised.{begins_behind}
 
 put_below : (trees : Trees) (p rest : Path) (leaf : Leaf) (files : FileMap) → put trees p leaf files (p ++ rest) ≡ files_of_entry trees rest leaf

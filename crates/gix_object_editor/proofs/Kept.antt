@@ -11,16 +11,16 @@ use Rattle.gix_hash_id.specs.declared.kind.Kind.{Kind}
 use Rattle.gix_object_entries.specs.Entry.{Item}
 use Rattle.gix_object_entries.specs.Mode.{is_tree_value}
 use Rattle.gix_object_find.specs.Table.{Table}
-use Rattle.gix_object_editor.specs.declared.tree.editor.node.Slot.{Slot}
-use Rattle.gix_object_editor.specs.Files.{Bytes, Path, Leaf, is_null, leaf_of, named, NamesAreFull}
-use Rattle.gix_object_editor.specs.declared.tree.editor.node.Node.{Node}
-use Rattle.gix_object_editor.specs.Nodes.{Slots, slot_in, slots_of, leaf_in, StandsFor}
+use Rattle.gix_object_nodes.specs.declared.node.Slot.{Slot}
+use Rattle.gix_object_nodes.specs.Files.{Bytes, Path, Leaf, is_null, leaf_of, named, NamesAreFull}
+use Rattle.gix_object_nodes.specs.declared.node.Node.{Node}
+use Rattle.gix_object_nodes.specs.Nodes.{Slots, slot_in, slots_of, leaf_in, StandsFor}
 use Rattle.gix_object_editor.specs.Laid.{IsRung}
 use Rattle.gix_object_editor.proofs.Loaded.{entries_stand}
 use Rattle.gix_object_editor.specs.Entries.{Property, EachHas, PassesDown, HoldsTree, MayStand, MayStandMade, ItemsHave, made_leaf}
-use Rattle.gix_object_editor.proofs.Paths.{same_name, name_itself, by_test}
+use Rattle.gix_object_nodes.proofs.Paths.{same_name, name_itself, by_test}
 use Rattle.gix_object_editor.proofs.Opening.{at_or_off}
-use Rattle.gix_object_editor.proofs.WrittenEntries.{named_found}
+use Rattle.gix_object_nodes.proofs.WrittenEntries.{named_found}
 use Rattle.gix_object_editor.proofs.Cuts.{one_slot}
 
 -- the property is that of the slot's leaf

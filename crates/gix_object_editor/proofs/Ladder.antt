@@ -4,18 +4,19 @@ use Rattle.std.specs.Prelude.{bytes_eq, is_some}
 use Rattle.std.specs.Borrow.{Bor}
 use Rattle.std.proofs.lemmas.List.{length-drop}
 use Rattle.std.proofs.lemmas.Bool.{cases_lt}
-use Rattle.gix_object_editor.specs.declared.tree.editor.node.Node.{Node}
-use Rattle.gix_object_editor.specs.declared.tree.editor.node.Slot.{Slot}
-use Rattle.gix_object_editor.specs.Files.{Bytes, Path, Trees, behind, through, files_of_entry, put, put_at}
-use Rattle.gix_object_editor.specs.Nodes.{Slots, slots_of, child_or, child_of, leaf_in, files_of_slot, files_of_node, slot_entry, entry_from, IsForest, IsFolderAt, Way, onto, LeadsTo, IsPutIn}
+use Rattle.gix_object_nodes.specs.declared.node.Node.{Node}
+use Rattle.gix_object_nodes.specs.declared.node.Slot.{Slot}
+use Rattle.gix_object_nodes.specs.Files.{Bytes, Path, Trees, behind, through, files_of_entry, put, put_at}
+use Rattle.gix_object_nodes.specs.Nodes.{Slots, slots_of, child_or, child_of, leaf_in, files_of_slot, files_of_node, slot_entry, entry_from, IsForest, IsFolderAt, Way, onto, LeadsTo, IsPutIn}
 use Rattle.gix_object_editor.specs.Laid.{IsOnly, IsRung, laid, laid_at}
 use Rattle.gix_object_editor.specs.Entries.{made_leaf}
-use Rattle.gix_object_editor.specs.Marks.{Mark, Marks, mark_below, rung_parent, AreMarksKept, AreOnPath}
+use Rattle.gix_object_nodes.specs.Marks.{Mark, Marks, mark_below, rung_parent, AreMarksKept, AreOnPath}
 use Rattle.gix_object_editor.proofs.Opening.{same_through, linked_more, at_or_off}
-use Rattle.gix_object_editor.proofs.Paths.{same_name, name_itself, by_test, onto-append}
-use Rattle.gix_object_editor.proofs.Slots.{none_past}
+use Rattle.gix_object_nodes.proofs.Paths.{same_name, name_itself, by_test, onto-append}
+use Rattle.gix_object_nodes.proofs.Slots.{none_past}
 use Rattle.gix_object_editor.proofs.Walked.{names, names_length}
-use Rattle.gix_object_editor.proofs.Ways.{child_files, child_no_file, lays, way_kept, way_above}
+use Rattle.gix_object_nodes.proofs.Ways.{child_files, child_no_file}
+use Rattle.gix_object_editor.proofs.SlotChange.{lays, way_kept, way_above}
 use Rattle.gix_object_editor.proofs.Standing.{child_entry}
 use Rattle.gix_object_editor.proofs.Entered.{none_met, closed_entry, laid_entries}
 use Rattle.gix_hash_id.specs.Id.{id_of}

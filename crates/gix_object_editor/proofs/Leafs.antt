@@ -8,8 +8,8 @@ use Rattle.gix_object_editor.specs.declared.tree.editor.error.Error.{Error}
 use Rattle.gix_object_editor.specs.declared.tree.editor.error.Error.TheVariants.{EmptyPathComponent, FindExistingObject, CannotRemoveNonLeaf, MalformedTree, EmptyTree, Memory}
 use Rattle.gix_object_editor.specs.declared.tree.editor.state.Editor.{Editor}
 use Rattle.gix_object_editor.specs.Editor.{files_of, LeafFault, IsFilled, IsFolder, IsNonLeaf}
-use Rattle.gix_object_editor.specs.Nodes.{leaf_in}
-use Rattle.gix_object_editor.specs.Files.{Path, Leaf, HasSomeBelow, no_trees, is_null, unless_tree, tree_under, files_of_entry}
+use Rattle.gix_object_nodes.specs.Nodes.{leaf_in}
+use Rattle.gix_object_nodes.specs.Files.{Path, Leaf, HasSomeBelow, no_trees, is_null, unless_tree, tree_under, files_of_entry}
 
 -- over the table without trees an entry that isn't null is a file
 pub entry_is_file : (leaf : Leaf) → is_null leaf.id ≡ false → files_of_entry no_trees [] leaf ≡ Some leaf

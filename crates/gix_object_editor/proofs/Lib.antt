@@ -5,17 +5,9 @@ pub mod LoneName
 pub mod Loaded
 pub mod Marked
 pub mod Kept
-pub mod Due
 pub mod Opening
-pub mod Paths
-pub mod Slots
 pub mod Walked
-pub mod Ways
-pub mod WrittenEntries
-pub mod ReachedTrees
-pub mod HandedOrder
-pub mod WrittenFiles
-pub mod HandedSteps
+pub mod SlotChange
 pub mod Folders
 pub mod Changes
 pub mod Asking
@@ -26,3 +18,4 @@ pub mod Standing
 pub mod Entered
 pub mod Raised
 pub mod Grafted
+pub mod WrittenEditor

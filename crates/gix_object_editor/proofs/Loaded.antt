@@ -1,18 +1,15 @@
 -- A node of entries in order, and trees that are no such.
-use Rattle.std.proofs.Common.{ℕ, zero, suc, ◌≡◌, ◌≢◌, ◌<◌, ◌+◌, Bool, true, false, List, [], ◌∷◌, ◌++◌, Option, Some, None, refl, sym, ap, subst, ◌∙◌, inl, inr, arith, length, get_or, map, take, add-one, if◌then◌else◌}
-use Rattle.std.specs.Prelude.{bytes_eq, is_some, IsTrue, ◌↔◌}
+use Rattle.std.proofs.Common.{ℕ, zero, suc, ◌≡◌, ◌≢◌, ◌<◌, ◌+◌, true, false, List, [], ◌∷◌, ◌++◌, Option, Some, None, refl, sym, ap, subst, ◌∙◌, inl, inr, arith, length, get_or, map, take, add-one, if◌then◌else◌}
+use Rattle.std.specs.Prelude.{bytes_eq, is_some}
 use Rattle.std.proofs.lemmas.List.{get_or-map, get_or_default, get_or-take, take-map, map-append, length-take}
 use Rattle.std.proofs.Math.Seq.{take-suc}
 use Rattle.gix_object_entries.specs.Entry.{Item}
-use Rattle.gix_hash_id.specs.Id.{Id, null_id}
-use Rattle.gix_hash_id.specs.Order.{id_eq}
-use Rattle.gix_hash_id.specs.OrderLaws.{id_eq-same, id_eq-itself}
-use Rattle.gix_object_editor.specs.declared.tree.editor.node.NodeId.{NodeId}
-use Rattle.gix_object_editor.specs.declared.tree.editor.node.Slot.{Slot}
-use Rattle.gix_object_editor.specs.Files.{Bytes, Path, Trees, leaf_of, named, is_null, through, files_of_entry, files_of_tree}
-use Rattle.gix_object_editor.specs.Nodes.{Slots, StandsFor, leaf_in, child_of, child_or, files_of_slot, files_of_node, IsForest}
+use Rattle.gix_object_nodes.specs.declared.node.NodeId.{NodeId}
+use Rattle.gix_object_nodes.specs.declared.node.Slot.{Slot}
+use Rattle.gix_object_nodes.specs.Files.{Bytes, Path, Trees, leaf_of, named, through, files_of_entry, files_of_tree}
+use Rattle.gix_object_nodes.specs.Nodes.{Slots, StandsFor, leaf_in, child_of, child_or, files_of_slot, files_of_node, IsForest}
 use Rattle.gix_object_entries.specs.WellFormed.{IsWellFormed, HasNamesOnce}
-use Rattle.gix_object_editor.proofs.Paths.{same_name, name_itself, by_test, not_both}
+use Rattle.gix_object_nodes.proofs.Paths.{same_name, name_itself, by_test}
 
 named-more : (xs : List Item) (x : Item) (m : Bytes) → named m xs ≡ None → bytes_eq m x.name ≡ true → named m (xs ++ x ∷ []) ≡ Some x
 named-more [] x m none is = ap (λ b. if b then Some x else None) is
@@ -110,15 +107,6 @@ entries_stand slots items stands m s is = by_item (named m items) refl (subst (�
     by_item : (p : Option Item) → named m items ≡ p → StandsFor (Some s) p → (item : Item) × (named m items ≡ Some item) × (leaf_in s ≡ leaf_of item)
     by_item None e h = absurd h
     by_item (Some item) e h = (item, e, h.0)
-
-pub not_null : (id : Id) (b : Bool) → (IsTrue b ↔ (id ≡ null_id id.kind)) → b ≡ false → is_null id ≡ false
-not_null id b says isnt = elim (by_test (is_null id)) [
-  | inl t ↦ absurd (not_both b (says.1 (id_eq-same id (null_id id.kind) t)) isnt)
-  | inr f ↦ f
-]
-
-pub null_by_test : (id : Id) (b : Bool) → (IsTrue b ↔ (id ≡ null_id id.kind)) → b ≡ true → is_null id ≡ true
-null_by_test id b says is = ap (id_eq id) (sym (says.0 is)) ∙ id_eq-itself id
 
 pub no_child : (o : Option NodeId) → is_some o ≡ false → o ≡ None
 no_child None e = refl

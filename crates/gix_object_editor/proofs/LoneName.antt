@@ -1,16 +1,16 @@
 -- A slot put under one name, without a ladder.
-use Rattle.std.proofs.Common.{ℕ, ◌≡◌, ◌<◌, ◌-◌, Bool, List, [], ◌∷◌, Some, None, refl, sym, ap, subst, ◌∙◌, inl, inr, arith, length, get_or, drop}
+use Rattle.std.proofs.Common.{ℕ, ◌≡◌, ◌<◌, Bool, List, [], ◌∷◌, Some, None, refl, sym, ap, subst, ◌∙◌, inl, inr, arith, length, get_or, drop}
 use Rattle.std.specs.Borrow.{Bor}
-use Rattle.gix_object_editor.specs.declared.tree.editor.node.Node.{Node}
-use Rattle.gix_object_editor.specs.declared.tree.editor.node.Slot.{Slot}
-use Rattle.gix_object_editor.specs.Files.{Bytes, Path, Trees, behind, through, put}
-use Rattle.gix_object_editor.specs.Nodes.{slots_of, child_or, child_of, leaf_in, files_of_node, slot_entry, entry_from, IsForest, Way, onto, IsPutIn}
+use Rattle.gix_object_nodes.specs.declared.node.Node.{Node}
+use Rattle.gix_object_nodes.specs.declared.node.Slot.{Slot}
+use Rattle.gix_object_nodes.specs.Files.{Bytes, Path, Trees, behind, through, put}
+use Rattle.gix_object_nodes.specs.Nodes.{slots_of, child_or, child_of, leaf_in, files_of_node, slot_entry, entry_from, IsForest, Way, onto, IsPutIn}
 use Rattle.gix_object_editor.specs.Laid.{laid_at}
-use Rattle.gix_object_editor.specs.Marks.{Marks, AreMarksKept}
+use Rattle.gix_object_nodes.specs.Marks.{Marks, AreMarksKept}
 use Rattle.gix_object_editor.proofs.Opening.{at_or_off}
-use Rattle.gix_object_editor.proofs.Paths.{onto-append}
+use Rattle.gix_object_nodes.proofs.Paths.{onto-append}
 use Rattle.gix_object_editor.proofs.Walked.{names}
-use Rattle.gix_object_editor.proofs.Ways.{puts, way_above}
+use Rattle.gix_object_editor.proofs.SlotChange.{puts, way_above}
 use Rattle.gix_object_editor.proofs.Edits.{less_forest}
 use Rattle.gix_object_editor.proofs.Entered.{none_met, closed_entry, laid_entries}
 

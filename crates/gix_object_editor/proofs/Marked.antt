@@ -1,63 +1,15 @@
 -- Marks of opened trees, and what an edit leaves of those that it doesn't change.
-use Rattle.std.proofs.Common.{ℕ, zero, suc, ◌≡◌, ◌≢◌, ◌<◌, ◌≤◌, ◌⊎◌, Bool, true, false, List, [], ◌∷◌, ◌++◌, Option, Some, None, refl, sym, ap, subst, ◌∙◌, inl, inr, arith, length, get_or, slice_set, take}
+use Rattle.std.proofs.Common.{ℕ, zero, suc, ◌≡◌, ◌≢◌, ◌<◌, ◌≤◌, ◌⊎◌, Bool, true, false, [], ◌∷◌, ◌++◌, Option, Some, None, refl, sym, ap, subst, ◌∙◌, inl, inr, arith, length}
 use Rattle.std.proofs.lemmas.Bool.{cases_eq, cases_lt}
-use Rattle.gix_object_editor.specs.declared.tree.editor.node.Node.{Node}
-use Rattle.gix_object_editor.specs.declared.tree.editor.node.Slot.{Slot}
-use Rattle.gix_object_editor.specs.Files.{Bytes, Path, Trees, through, files_of_entry}
-use Rattle.gix_object_editor.specs.Nodes.{Slots, slot_in, slots_of, child_or, child_of, leaf_in, files_of_slot, files_of_node, IsForest, Way, onto, LeadsTo}
-use Rattle.gix_object_editor.specs.Marks.{Mark, Marks, mark_below, mark_of, marks_of, AreMarkedBut, AreMarked, AreMarksKept, AreMarkedUp, IsMarkedFor, IsIdle, IsOnWay, AreAsRead}
-use Rattle.gix_object_editor.proofs.Paths.{by_test, onto-append}
-use Rattle.gix_object_editor.proofs.Slots.{set_here, set_other, node_at}
+use Rattle.gix_object_nodes.specs.declared.node.Node.{Node}
+use Rattle.gix_object_nodes.specs.declared.node.Slot.{Slot}
+use Rattle.gix_object_nodes.specs.Files.{Bytes, Path, Trees, through, files_of_entry}
+use Rattle.gix_object_nodes.specs.Nodes.{Slots, slot_in, slots_of, child_of, leaf_in, files_of_slot, files_of_node, IsForest, Way, onto, LeadsTo}
+use Rattle.gix_object_nodes.specs.Marks.{Mark, Marks, mark_below, mark_of, marks_of, AreMarkedBut, AreMarked, AreMarksKept, AreMarkedUp, IsMarkedFor, IsIdle, IsOnWay, AreAsRead}
+use Rattle.gix_object_nodes.proofs.Paths.{by_test, onto-append}
 use Rattle.gix_object_editor.proofs.Opening.{at_or_off, same_through}
 use Rattle.gix_object_editor.proofs.Filled.{null_none}
-use Rattle.gix_object_editor.proofs.Ways.{unique}
-
--- ---- marks of nodes after a change
-
-pub mark_here : (nodes : List Node) (i : ℕ) (d : Node) → i < length nodes → marks_of nodes i ≡ mark_of (get_or nodes i d)
-mark_here [] i d lt = absurd (omega arith)
-mark_here (k ∷ nodes) zero d lt = refl
-mark_here (k ∷ nodes) (suc i) d lt = let less : i < length nodes = omega arith in mark_here nodes i d less
-
-pub mark_set_here : (nodes : List Node) (i : ℕ) (n : Node) → i < length nodes → marks_of (slice_set nodes i n) i ≡ mark_of n
-mark_set_here [] i n lt = absurd (omega arith)
-mark_set_here (k ∷ nodes) zero n lt = refl
-mark_set_here (k ∷ nodes) (suc i) n lt = let less : i < length nodes = omega arith in mark_set_here nodes i n less
-
-pub mark_set_other : (nodes : List Node) (i j : ℕ) (n : Node) → j ≢ i → marks_of (slice_set nodes i n) j ≡ marks_of nodes j
-mark_set_other [] i j n ne = refl
-mark_set_other (k ∷ nodes) zero zero n ne = absurd (ne refl)
-mark_set_other (k ∷ nodes) zero (suc j) n ne = refl
-mark_set_other (k ∷ nodes) (suc i) zero n ne = refl
-mark_set_other (k ∷ nodes) (suc i) (suc j) n ne = mark_set_other nodes i j n (λ e. ne (ap suc e))
-
-pub marks_set : (nodes : List Node) (j : ℕ) (d new : Node) → j < length nodes → mark_of new ≡ mark_of (get_or nodes j d) → (i : ℕ) → marks_of (slice_set nodes j new) i ≡ marks_of nodes i
-marks_set nodes j d new lt same i = elim (cases_eq i j) [
-  | inl e ↦ ap (marks_of (slice_set nodes j new)) e ∙ mark_set_here nodes j new lt ∙ same ∙ sym (mark_here nodes j d lt) ∙ ap (marks_of nodes) (sym e)
-  | inr ne ↦ mark_set_other nodes j i new ne
-]
-
-pub slots_set : (nodes : List Node) (j : ℕ) (d new : Node) → j < length nodes → ((m : Bytes) → slot_in new m ≡ slot_in (get_or nodes j d) m) → (i : ℕ) (m : Bytes) → slots_of (slice_set nodes j new) i m ≡ slots_of nodes i m
-slots_set nodes j d new lt same i m = elim (cases_eq i j) [
-  | inl e ↦ ap (λ k. slots_of (slice_set nodes j new) k m) e ∙ set_here nodes j new m lt ∙ same m ∙ sym (node_at nodes j d m lt) ∙ ap (λ k. slots_of nodes k m) (sym e)
-  | inr ne ↦ set_other nodes j i new m ne
-]
-
-pub marks_front : (nodes more : List Node) (i : ℕ) → i < length nodes → marks_of (nodes ++ more) i ≡ marks_of nodes i
-marks_front [] more i lt = absurd (omega arith)
-marks_front (k ∷ nodes) more zero lt = refl
-marks_front (k ∷ nodes) more (suc i) lt = let less : i < length nodes = omega arith in marks_front nodes more i less
-
-pub mark_end : (nodes : List Node) (n : Node) → marks_of (nodes ++ n ∷ []) (length nodes) ≡ mark_of n
-mark_end [] n = refl
-mark_end (k ∷ nodes) n = mark_end nodes n
-
-pub marks_taken : (ns : List Node) (k i : ℕ) → i < k → marks_of (take k ns) i ≡ marks_of ns i
-marks_taken [] zero i lt = refl
-marks_taken [] (suc k) i lt = refl
-marks_taken (x ∷ ns) zero i lt = absurd (omega arith)
-marks_taken (x ∷ ns) (suc k) zero lt = refl
-marks_taken (x ∷ ns) (suc k) (suc i) lt = let less : i < k = omega arith in marks_taken ns k i less
+use Rattle.gix_object_nodes.proofs.Ways.{unique, closed_files}
 
 -- ---- nodes that are put behind the others
 
@@ -357,11 +309,6 @@ module _ (trees : Trees) (mid new : Slots) (was fin : Marks) (bound more : ℕ) 
     where
       one : (c d : ℕ) → Some c ≡ Some d → c ≡ d
       one c d e = cc
-
--- an entry's slot without an opened tree has the entry's files
-pub closed_files : (trees : Trees) (slots : Slots) (s : Slot) → s.child ≡ None → (rest : Path) → files_of_slot trees slots rest s ≡ files_of_entry trees rest (leaf_in s)
-closed_files trees slots s closed [] = ap (λ o. child_or o (λ c. None) (files_of_entry trees [] (leaf_in s))) closed
-closed_files trees slots s closed (m ∷ rest) = ap (λ o. child_or o (λ c. files_of_node trees slots c (m ∷ rest)) (files_of_entry trees (m ∷ rest) (leaf_in s))) closed
 
 -- ---- one tree that is opened
 

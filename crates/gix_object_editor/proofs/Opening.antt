@@ -5,11 +5,13 @@ use Rattle.std.proofs.lemmas.Bool.{cases_eq, cases_lt, cases_order}
 use Rattle.gix_object_find.specs.Table.{Table}
 use Rattle.gix_object_entries.specs.Entry.{Item}
 use Rattle.gix_object_entries.specs.Mode.{is_tree_value}
-use Rattle.gix_object_editor.specs.declared.tree.editor.node.NodeId.{NodeId}
-use Rattle.gix_object_editor.specs.declared.tree.editor.node.Slot.{Slot}
-use Rattle.gix_object_editor.specs.Files.{Bytes, Path, Leaf, Trees, through, named, leaf_of, is_null, leads_on, tree_under, unless_tree, files_of_entry, entry_into, HasStored}
-use Rattle.gix_object_editor.specs.Nodes.{Slots, child_or, child_of, leaf_in, files_of_slot, files_of_node, slot_entry, entry_from, IsForest, StandsFor, IsOpened, IsUnopened}
-use Rattle.gix_object_editor.proofs.Paths.{same_name, name_itself, by_test}
+use Rattle.gix_object_nodes.specs.declared.node.NodeId.{NodeId}
+use Rattle.gix_object_nodes.specs.declared.node.Slot.{Slot}
+use Rattle.gix_object_nodes.specs.Files.{Bytes, Path, Leaf, Trees, through, named, leaf_of, is_null, leads_on, tree_under, unless_tree, files_of_entry, entry_into}
+use Rattle.gix_object_editor.specs.Stored.{HasStored, IsOpened}
+use Rattle.gix_object_nodes.specs.Nodes.{Slots, child_or, child_of, leaf_in, files_of_slot, files_of_node, slot_entry, entry_from, IsForest, StandsFor, IsUnopened}
+use Rattle.gix_object_nodes.proofs.Paths.{same_name, name_itself, by_test}
+use Rattle.gix_object_nodes.proofs.Ways.{fewer}
 
 -- both the number and the name, or not
 pub at_or_off : (i j : ℕ) (n m : Bytes) → ((i ≡ j) × (n ≡ m)) ⊎ ((i ≡ j) → (n ≡ m) → ⊥)
@@ -155,15 +157,6 @@ module _ (blocked : Leaf → Option Leaf) (trees : Trees) (slots new : Slots) (b
   ]
 
 -- ---- forests
-
--- each link of the second is one of the first
-pub fewer : (slots new : Slots) (bound more : ℕ) → IsForest slots bound → bound ≤ more → ((i : ℕ) (n : Bytes) (c : ℕ) → child_of (new i n) ≡ Some c → child_of (slots i n) ≡ Some c) → IsForest new more
-fewer slots new bound more ok le h = record {
-  rooted = let r = ok.rooted in omega arith;
-  forward = λ i n c e. ok.forward i n c (h i n c e);
-  within = λ i n c e. let w = ok.within i n c (h i n c e) in omega arith;
-  one = λ i j c n m e f. ok.one i j c n m (h i n c e) (h j m c f);
-}
 
 -- one link more, to a tree that none led to
 pub linked_more : (slots new : Slots) (bound : ℕ) → IsForest slots bound → (j : ℕ) (name : Bytes) (c : ℕ) → j < c → c < bound

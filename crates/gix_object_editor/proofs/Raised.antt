@@ -4,10 +4,11 @@ use Rattle.std.specs.Prelude.{bytes_eq, is_some}
 use Rattle.std.specs.Borrow.{Bor}
 use Rattle.gix_hash_id.specs.declared.kind.Kind.{Kind}
 use Rattle.gix_object_find.specs.Table.{Table}
-use Rattle.gix_object_editor.specs.declared.tree.editor.node.Slot.{Slot}
-use Rattle.gix_object_editor.specs.Files.{Bytes, Path, Leaf, Trees, HasStored, behind, removed, through, entry_into}
-use Rattle.gix_object_editor.specs.Nodes.{Slots, child_of, leaf_in, slot_entry, entry_from, IsForest, IsOpened, IsEntry, Way, onto, LeadsTo}
-use Rattle.gix_object_editor.specs.Marks.{Marks, AreMarksKept}
+use Rattle.gix_object_nodes.specs.declared.node.Slot.{Slot}
+use Rattle.gix_object_nodes.specs.Files.{Bytes, Path, Leaf, Trees, behind, removed, through, entry_into}
+use Rattle.gix_object_editor.specs.Stored.{HasStored, IsOpened}
+use Rattle.gix_object_nodes.specs.Nodes.{Slots, child_of, leaf_in, slot_entry, entry_from, IsForest, IsEntry, Way, onto, LeadsTo}
+use Rattle.gix_object_nodes.specs.Marks.{Marks, AreMarksKept}
 use Rattle.gix_object_editor.specs.Laid.{laid, laid_at, made_at}
 use Rattle.gix_object_editor.specs.Entries.{made_leaf}
 use Rattle.gix_object_editor.specs.Editor.{IsTreeEntry}
@@ -15,9 +16,9 @@ use Rattle.gix_object_editor.proofs.Entered.{none_met, closed_entry, flipped, no
 use Rattle.gix_object_editor.proofs.Cuts.{more_names}
 use Rattle.gix_object_editor.proofs.Walked.{names}
 use Rattle.gix_object_editor.proofs.Marked.{way_before}
-use Rattle.gix_object_editor.proofs.Paths.{name_itself, by_test, onto-append, behind-onto, behind_one}
+use Rattle.gix_object_nodes.proofs.Paths.{name_itself, by_test, onto-append, behind-onto, behind_one}
 use Rattle.gix_object_editor.proofs.Standing.{entry_below}
-use Rattle.gix_object_editor.proofs.Ways.{same_first, after_first}
+use Rattle.gix_object_editor.proofs.SlotChange.{same_first, after_first}
 
 -- ---- paths
 

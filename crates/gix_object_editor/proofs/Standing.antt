@@ -4,11 +4,12 @@ use Rattle.std.specs.Borrow.{Bor}
 use Rattle.std.proofs.lemmas.List.{get_or-map}
 use Rattle.std.proofs.lemmas.Bool.{cases_eq, cases_lt}
 use Rattle.gix_object_find.specs.Table.{Table}
-use Rattle.gix_object_editor.specs.declared.tree.editor.node.NodeId.{NodeId}
-use Rattle.gix_object_editor.specs.declared.tree.editor.node.Slot.{Slot}
-use Rattle.gix_object_editor.specs.Files.{Bytes, Path, Leaf, Trees, HasStored, through, named, leaf_of, leads_on, entry_into}
-use Rattle.gix_object_editor.specs.Nodes.{Slots, child_or, child_of, leaf_in, slot_entry, entry_from, slot_over, Way, onto, LeadsTo, IsForest, IsOpened, IsNoFolder, IsEntry}
-use Rattle.gix_object_editor.specs.Marks.{Mark, Marks, IsMade, IsIdle, AreMarksKept}
+use Rattle.gix_object_nodes.specs.declared.node.NodeId.{NodeId}
+use Rattle.gix_object_nodes.specs.declared.node.Slot.{Slot}
+use Rattle.gix_object_nodes.specs.Files.{Bytes, Path, Leaf, Trees, through, named, leaf_of, leads_on, entry_into}
+use Rattle.gix_object_editor.specs.Stored.{HasStored, IsOpened}
+use Rattle.gix_object_nodes.specs.Nodes.{Slots, child_or, child_of, leaf_in, slot_entry, entry_from, slot_over, Way, onto, LeadsTo, IsForest, IsNoFolder, IsEntry}
+use Rattle.gix_object_nodes.specs.Marks.{Mark, Marks, IsMade, IsIdle, AreMarksKept}
 use Rattle.gix_object_editor.proofs.Marked.{way_before}
 use Rattle.gix_object_editor.proofs.Opening.{at_or_off}
 use Rattle.gix_object_editor.proofs.Walked.{names, names_step}

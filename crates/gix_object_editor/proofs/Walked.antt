@@ -1,12 +1,12 @@
 -- One step further down.
 use Rattle.std.proofs.Common.{ℕ, zero, suc, arith, ◌≡◌, ◌<◌, ◌+◌, List, [], ◌∷◌, refl, Option, Some, sym, ap, subst, ◌∙◌, length, get_or, map, drop, add-one, drop-cons}
 use Rattle.std.specs.Borrow.{Bor}
-use Rattle.gix_object_editor.specs.declared.tree.editor.node.Node.{Node}
-use Rattle.gix_object_editor.specs.declared.tree.editor.node.NodeId.{NodeId}
-use Rattle.gix_object_editor.specs.Files.{Bytes, Path, through}
-use Rattle.gix_object_editor.specs.Nodes.{Slots, slots_of, slot_in, entry_in, child_of, onto, LeadsTo, IsFolderAt, entry_at}
-use Rattle.gix_object_editor.proofs.Slots.{node_at}
-use Rattle.gix_object_editor.proofs.Ways.{way_kept}
+use Rattle.gix_object_nodes.specs.declared.node.Node.{Node}
+use Rattle.gix_object_nodes.specs.declared.node.NodeId.{NodeId}
+use Rattle.gix_object_nodes.specs.Files.{Bytes, Path, through}
+use Rattle.gix_object_nodes.specs.Nodes.{Slots, slots_of, slot_in, entry_in, child_of, onto, LeadsTo, IsFolderAt, entry_at}
+use Rattle.gix_object_nodes.proofs.Slots.{node_at}
+use Rattle.gix_object_editor.proofs.SlotChange.{way_kept}
 
 abbrev pub names : List (Bor (List ℕ)) → Path
 names path = map (λ n. n.now) path

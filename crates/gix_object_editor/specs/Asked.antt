@@ -9,10 +9,11 @@ use Rattle.gix_object_find.specs.Table.{Table}
 use Rattle.gix_object_find.specs.Existing.{Stands}
 use Rattle.gix_object_editor.specs.declared.tree.editor.error.Error.{Error}
 use Rattle.gix_object_editor.specs.declared.tree.editor.error.Error.TheVariants.{EmptyPathComponent, FindExistingObject, CannotRemoveNonLeaf, MalformedTree, EmptyTree, Memory}
-use Rattle.gix_object_editor.specs.declared.tree.editor.node.NodeId.{NodeId}
-use Rattle.gix_object_editor.specs.declared.tree.editor.node.Slot.{Slot}
-use Rattle.gix_object_editor.specs.Files.{Path, Leaf, Trees, HasStored, leads_on, leaf_of, named, through}
-use Rattle.gix_object_editor.specs.Nodes.{Slots, leaf_in, child_or}
+use Rattle.gix_object_nodes.specs.declared.node.NodeId.{NodeId}
+use Rattle.gix_object_nodes.specs.declared.node.Slot.{Slot}
+use Rattle.gix_object_nodes.specs.Files.{Path, Leaf, Trees, leads_on, leaf_of, named, through}
+use Rattle.gix_object_editor.specs.Stored.{HasStored}
+use Rattle.gix_object_nodes.specs.Nodes.{Slots, leaf_in, child_or}
 use Rattle.gix_object_editor.specs.Refusals.{OpeningFault}
 
 -- the names of a path but the last: those that lead to the tree of its last name

@@ -8,8 +8,9 @@ use Rattle.gix_object_find.specs.Table.{Table}
 use Rattle.gix_object_editor.specs.declared.tree.editor.error.Error.{Error}
 use Rattle.gix_object_editor.specs.declared.tree.editor.error.Error.TheVariants.{EmptyPathComponent}
 use Rattle.gix_object_editor.specs.Asked.{StopsAt}
-use Rattle.gix_object_editor.specs.Files.{Path, Trees, HasStored, SameFiles, NamesAreFull}
-use Rattle.gix_object_editor.specs.Nodes.{slots_of, LeadsTo}
+use Rattle.gix_object_nodes.specs.Files.{Path, Trees, SameFiles, NamesAreFull}
+use Rattle.gix_object_editor.specs.Stored.{HasStored}
+use Rattle.gix_object_nodes.specs.Nodes.{slots_of, LeadsTo}
 use Rattle.gix_object_editor.specs.Editor.{files_of, LeadsInto, EditFault, IsChanged, IsAsRead, entry_over, asked_by}
 
 -- the cursor stands at the opened tree at this path's end

@@ -7,13 +7,14 @@ use Rattle.gix_hash_id.specs.declared.object_id.ObjectId.{ObjectId}
 use Rattle.gix_object_entries.specs.Mode.{kind_value, is_tree_value}
 use Rattle.gix_object_entries.specs.declared.tree.mode.EntryKind.{EntryKind}
 use Rattle.gix_object_find.specs.Table.{Table}
-use Rattle.gix_object_editor.specs.declared.tree.editor.node.Slot.{Slot}
+use Rattle.gix_object_nodes.specs.declared.node.Slot.{Slot}
 use Rattle.gix_object_editor.specs.declared.tree.editor.state.Editor.{Editor}
 use Rattle.gix_object_editor.specs.declared.tree.editor.error.Error.{Error}
 use Rattle.gix_object_editor.specs.declared.tree.editor.error.Error.TheVariants.{EmptyPathComponent, FindExistingObject, CannotRemoveNonLeaf, MalformedTree, EmptyTree, Memory}
-use Rattle.gix_object_editor.specs.Files.{Bytes, Path, Leaf, FileMap, Trees, HasStored, NamesAreFull, IsEmptyTree, behind, leads_on, entry_into}
-use Rattle.gix_object_editor.specs.Nodes.{slots_of, slot_over, entry_from, files_of_node, LeadsTo, AreFilled}
-use Rattle.gix_object_editor.specs.Marks.{marks_of, IsMade, IsChangedIn, AreAsRead}
+use Rattle.gix_object_nodes.specs.Files.{Bytes, Path, Leaf, FileMap, Trees, NamesAreFull, IsEmptyTree, behind, leads_on, entry_into}
+use Rattle.gix_object_editor.specs.Stored.{HasStored}
+use Rattle.gix_object_nodes.specs.Nodes.{slots_of, slot_over, entry_from, files_of_node, LeadsTo, AreFilled}
+use Rattle.gix_object_nodes.specs.Marks.{marks_of, IsMade, IsChangedIn, AreAsRead}
 use Rattle.gix_object_editor.specs.Entries.{Property, EachHas, made_leaf}
 use Rattle.gix_object_editor.specs.Refusals.{OpeningFault}
 use Rattle.gix_object_editor.specs.Asked.{unopened_into}

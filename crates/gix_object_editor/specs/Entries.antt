@@ -9,10 +9,10 @@ use Rattle.gix_object_entries.specs.Mode.{is_tree_value}
 use Rattle.gix_object_entries.specs.WellFormed.{IsWellFormed}
 use Rattle.gix_object_find.specs.Table.{Table}
 use Rattle.gix_object_find.specs.Existing.{Stands}
-use Rattle.gix_object_editor.specs.declared.tree.editor.node.Slot.{Slot}
-use Rattle.gix_object_editor.specs.Files.{Bytes, Path, Leaf, is_null, leaf_of, named}
-use Rattle.gix_object_editor.specs.Nodes.{Slots, leaf_in}
-use Rattle.gix_object_editor.specs.Writing.{folder_mode}
+use Rattle.gix_object_nodes.specs.declared.node.Slot.{Slot}
+use Rattle.gix_object_nodes.specs.Files.{Bytes, Path, Leaf, is_null, leaf_of, named}
+use Rattle.gix_object_nodes.specs.Nodes.{Slots, leaf_in}
+use Rattle.gix_object_nodes.specs.Writing.{folder_mode}
 
 abbrev pub Property : Type 0
 Property = Bytes → Leaf → Bool

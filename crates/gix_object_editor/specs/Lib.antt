@@ -1,13 +1,9 @@
-pub mod Files
-pub mod Nodes
-pub mod Marks
+pub mod Stored
 pub mod Refusals
 pub mod Asked
 pub mod Editor
-pub mod Writing
 pub mod Written
 pub mod Entries
 pub mod Laid
-pub mod Below
 pub mod Lending
 pub mod Cursor

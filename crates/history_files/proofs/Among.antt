@@ -3,7 +3,7 @@ use Rattle.std.proofs.Common.{◌≡◌, ◌∙◌, ap, sym, ℕ, suc, ◌+◌, 
 use Rattle.std.proofs.Math.Seq.{drop-cons}
 use Rattle.gix_object_entries.specs.Entry.{item_of}
 use Rattle.gix_object_entries.specs.declared.tree.entry.EntryRef.{EntryRef}
-use Rattle.gix_object_editor.specs.Files.{named}
+use Rattle.gix_object_nodes.specs.Files.{named}
 use Rattle.history_model.specs.Bytes.{Bytes}
 
 module _ (xs : List EntryRef) (i : ℕ) (e : EntryRef) (name : Bytes) (within : i < length xs) (is : e ≡ get_or xs i e) where

@@ -11,7 +11,7 @@ use Rattle.gix_object_entries.specs.Mode.{kind_value, kind_of}
 use Rattle.gix_object_tree.specs.Object.{Tree}
 use Rattle.gix_object_find.specs.Table.{Table}
 use Rattle.gix_object_find.specs.Existing.{StandsAs}
-use Rattle.gix_object_editor.specs.Files.{named}
+use Rattle.gix_object_nodes.specs.Files.{named}
 use Rattle.history_model.specs.Bytes.{Bytes, has_byte}
 use Rattle.history_model.specs.FileMap.{FileMap, Content, IsFileMap, components, is_below, has_below, inside}
 use Rattle.history_model.specs.Objects.{digest, TreeEntry, FileEntry, FolderEntry, tree_entries, mode_of, root_within, longest, folder_id, blob_id, entry_at}

@@ -14,7 +14,7 @@ use Rattle.gix_object_find.specs.declared.find.Error.TheVariants as looked_up
 use Rattle.gix_object_find.specs.declared.find.existing_object.Error as existing
 use Rattle.gix_object_find.specs.declared.find.existing_object.Error.TheVariants as not_given
 use Rattle.gix_object_editor.specs.Editor.{EditFault, LeafFault}
-use Rattle.gix_object_editor.specs.Files.{Path}
+use Rattle.gix_object_nodes.specs.Files.{Path}
 use Rattle.gix_object_editor.specs.Refusals.{OpeningFault, TreeIsMalformed, TreeIsUnread}
 use Rattle.gix_object_editor.specs.declared.tree.editor.error.Error as editor
 use Rattle.gix_object_editor.specs.declared.tree.editor.error.Error.TheVariants as refused

@@ -1,12 +1,12 @@
 -- Paths by their components: which begin which.
 use Rattle.std.proofs.Common.{◌≡◌, ℕ, Bool, true, false, cond, ◌&&◌, ◌||◌, List, [], ◌∷◌, ◌++◌, refl, sym, ◌∙◌, ap, arith, tests, inl, inr, Option, Some, None, is_some, option_map, bytes_eq, ◌==◌, nat_eq}
 use Rattle.std.specs.List.{onto_first}
-use Rattle.gix_object_editor.specs.Files.{Path, behind}
+use Rattle.gix_object_nodes.specs.Files.{Path, behind}
 use Rattle.history_model.specs.Bytes.{Bytes, has_byte}
 use Rattle.history_model.specs.FileMap.{components, is_below, is_within}
 use Rattle.history_model.proofs.WholeLists.{clash, either, same_text, text_itself}
 use Rattle.history_model.proofs.WholePaths.{below_parts, below_front, eq_same}
-use Rattle.gix_object_editor.proofs.Paths.{behind_is}
+use Rattle.gix_object_nodes.proofs.Paths.{behind_is}
 use Rattle.gix_object_editor.proofs.Raised.{begins_behind}
 use Rattle.std.proofs.lemmas.Bool.{or_parts}
 

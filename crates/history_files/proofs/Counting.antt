@@ -4,10 +4,10 @@ use Rattle.std.proofs.Math.Seq.{take-suc}
 use Rattle.gix_hash_id.specs.Id.{Id}
 use Rattle.gix_object_entries.specs.Entry.{Item}
 use Rattle.gix_object_editor.specs.Asked.{CountsUp, front_of, ids_from, slot_into, trees_into, unopened_into}
-use Rattle.gix_object_editor.specs.Files.{Path, Leaf, Trees, leads_on, leaf_of, named, through}
-use Rattle.gix_object_editor.specs.Nodes.{Slots, child_or, leaf_in}
-use Rattle.gix_object_editor.specs.declared.tree.editor.node.NodeId.{NodeId}
-use Rattle.gix_object_editor.specs.declared.tree.editor.node.Slot.{Slot}
+use Rattle.gix_object_nodes.specs.Files.{Path, Leaf, Trees, leads_on, leaf_of, named, through}
+use Rattle.gix_object_nodes.specs.Nodes.{Slots, child_or, leaf_in}
+use Rattle.gix_object_nodes.specs.declared.node.NodeId.{NodeId}
+use Rattle.gix_object_nodes.specs.declared.node.Slot.{Slot}
 use Rattle.history_model.specs.Bytes.{Bytes}
 use Rattle.history_model.specs.FileMap.{components}
 use Rattle.history_files.specs.Edits.{name_count}

@@ -2,8 +2,8 @@
 use Rattle.std.proofs.Common.{◌≡◌, Bool, true, false, cond, not, ◌||◌, [], ◌∷◌, ◌++◌, refl, sym, ◌∙◌, ap, Option, Some, None, is_some, option_map, bytes_eq}
 use Rattle.std.specs.FinMap.{entries, keys, get, retain_keys}
 use Rattle.gix_hash_id.specs.declared.kind.Kind.{Kind}
-use Rattle.gix_object_editor.specs.Files as unfolded
-use Rattle.gix_object_editor.specs.Files.{Path, Leaf, Trees, behind, files_of_entry, is_null, HasNoneBelow, SameFiles}
+use Rattle.gix_object_nodes.specs.Files as unfolded
+use Rattle.gix_object_nodes.specs.Files.{Path, Leaf, Trees, behind, files_of_entry, is_null, HasNoneBelow, SameFiles}
 use Rattle.history_model.specs.Bytes.{Bytes}
 use Rattle.history_model.specs.FileMap.{FileMap, Content, components, is_below, is_within, has_below, removed, put_at}
 use Rattle.history_model.specs.Objects.{blob_id}
@@ -13,7 +13,7 @@ use Rattle.history_model.proofs.WholeItems.{Entry}
 use Rattle.history_files.specs.Unfolding.{file_leaf, IsUnfolded}
 use Rattle.history_files.proofs.Components.{some_parts, below_rest, rest_parts, below_by, behind_parts, is_behind, parts_below}
 use Rattle.history_files.proofs.Unfolded.{leaf_itself, leaf_below}
-use Rattle.gix_object_editor.proofs.Paths.{behind_is}
+use Rattle.gix_object_nodes.proofs.Paths.{behind_is}
 use Rattle.gix_object_editor.proofs.Raised.{begins_behind}
 use Rattle.history_model.proofs.AfterFirstLemmas.{get-with}
 

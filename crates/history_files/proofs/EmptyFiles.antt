@@ -4,15 +4,15 @@ use Rattle.std.specs.List.{AllByRecursion, flat_map}
 use Rattle.std.specs.FinMap.{empty, get, get-empty, keys, contains_key}
 use Rattle.gix_hash_id.specs.declared.kind.Kind.{Kind}
 use Rattle.gix_object_find.specs.Table.{Table}
-use Rattle.gix_object_editor.specs.Files as unfolded
-use Rattle.gix_object_editor.specs.Files.{Path, Trees, files_of_tree}
+use Rattle.gix_object_nodes.specs.Files as unfolded
+use Rattle.gix_object_nodes.specs.Files.{Path, Trees, files_of_tree}
 use Rattle.history_model.specs.Bytes.{Bytes, by_bytes}
 use Rattle.history_model.specs.FileMap.{FileMap, Content, IsFileMap, beginnings, components, inside}
 use Rattle.history_model.proofs.WholeLists.{in_all, none_is_some, of_map}
 use Rattle.history_files.specs.Entries.{own_folders}
 use Rattle.history_files.specs.Unfolding.{HasTrees, IsUnfolded, file_leaf}
 use Rattle.history_files.proofs.Inside.{file_inside, file_of_beginning}
-use Rattle.gix_object_editor.proofs.WrittenFiles.{no_files as no_entries}
+use Rattle.gix_object_nodes.proofs.WrittenFiles.{no_files as no_entries}
 
 no_files : FileMap
 no_files = empty

@@ -19,13 +19,13 @@ use Rattle.gix_object_find.specs.declared.find.existing_object.Error.TheVariants
 use Rattle.gix_object_editor.specs.Refusals.{TreeIsMalformed, TreeIsUnread}
 use Rattle.gix_object_editor.specs.declared.tree.editor.error.Error as editor
 use Rattle.gix_object_editor.specs.declared.tree.editor.error.Error.TheVariants as refused
-use Rattle.gix_object_editor.specs.declared.tree.editor.node.NodeId.{NodeId}
-use Rattle.gix_object_editor.specs.declared.tree.editor.node.Slot.{Slot}
+use Rattle.gix_object_nodes.specs.declared.node.NodeId.{NodeId}
+use Rattle.gix_object_nodes.specs.declared.node.Slot.{Slot}
 use Rattle.gix_object_editor.specs.Entries.{EachHas}
 use Rattle.gix_object_editor.specs.declared.tree.editor.state.Editor.{Editor}
 use Rattle.gix_object_editor.specs.Editor.{EachEntryHas, EditFault, IsFilled, IsFolder, IsTreeNamed, LeadsInto, LeadsThrough, LeafFault, files_of}
-use Rattle.gix_object_editor.specs.Files.{Path, Leaf, Trees, HasFile as HasEntryFile, named, through, tree_under, unless_tree, files_of_entry, files_of_tree, leaf_of, is_null, NamesAreFull, SameFiles}
-use Rattle.gix_object_editor.specs.Nodes.{AreFilled, Slots, child_or, files_of_node, files_of_slot, leaf_in, slots_of}
+use Rattle.gix_object_nodes.specs.Files.{Path, Leaf, Trees, HasFile as HasEntryFile, named, through, tree_under, unless_tree, files_of_entry, files_of_tree, leaf_of, is_null, NamesAreFull, SameFiles}
+use Rattle.gix_object_nodes.specs.Nodes.{AreFilled, Slots, child_or, files_of_node, files_of_slot, leaf_in, slots_of}
 use Rattle.history_model.specs.Bytes.{Bytes}
 use Rattle.history_model.specs.FileMap as model
 use Rattle.history_model.specs.FileMap.{FileMap, components, has_below, inside, is_path, some_refused}

@@ -7,14 +7,15 @@ use Rattle.gix_hash_id.specs.declared.kind.Kind.{Kind}
 use Rattle.gix_object_entries.specs.Writing as writing
 use Rattle.gix_object_find.specs.Table.{Table}
 use Rattle.gix_object_editor.specs.declared.tree.editor.state.Editor.{Editor}
-use Rattle.gix_object_editor.specs.declared.tree.editor.node.Slot.{Slot}
+use Rattle.gix_object_nodes.specs.declared.node.Slot.{Slot}
 use Rattle.gix_object_editor.specs.Editor.{EachEntryHas, IsAsRead, IsChanged, files_of}
 use Rattle.gix_object_editor.specs.Entries.{EachHas}
-use Rattle.gix_object_editor.specs.Files.{HasStored, Trees, is_null, through}
-use Rattle.gix_object_editor.specs.Marks.{Marks, due, is_due, marks_of, slot_if}
-use Rattle.gix_object_editor.specs.Nodes.{Slots, files_of_node, leaf_in, slots_of}
-use Rattle.gix_object_editor.specs.Written.{EachBehind, HandedOut, IsHandedOut}
-use Rattle.gix_object_editor.proofs.Due.{due_files}
+use Rattle.gix_object_editor.specs.Stored.{HasStored}
+use Rattle.gix_object_nodes.specs.Files.{Trees, is_null, through}
+use Rattle.gix_object_nodes.specs.Marks.{Marks, due, is_due, marks_of, slot_if}
+use Rattle.gix_object_nodes.specs.Nodes.{Slots, files_of_node, leaf_in, slots_of}
+use Rattle.gix_object_nodes.specs.Written.{EachBehind, HandedOut, IsHandedOut}
+use Rattle.gix_object_nodes.proofs.Due.{due_files}
 use Rattle.history_model.specs.FileMap.{FileMap, IsFileMap, folders_of}
 use Rattle.history_model.specs.Objects.{digest, folder_id, tree_text}
 use Rattle.history_model.proofs.WholeLists.{In, either, in_all, in_either, in_left, none_is_some, of_map}

@@ -11,14 +11,15 @@ use Rattle.gix_object_entries.specs.ModeText.{Mode}
 use Rattle.gix_object_entries.specs.WellFormed.{IsFilename, IsWellFormed}
 use Rattle.gix_object_entries.specs.Writing as writing
 use Rattle.gix_object_find.specs.Table.{Table}
-use Rattle.gix_object_editor.specs.declared.tree.editor.node.Slot.{Slot}
+use Rattle.gix_object_nodes.specs.declared.node.Slot.{Slot}
 use Rattle.gix_object_editor.specs.Entries.{EachHas}
-use Rattle.gix_object_editor.specs.Files.{Path, Leaf, Trees, HasStored, SameFiles, named, through, tree_under, unless_tree, files_of_entry, files_of_tree, leaf_of, is_null}
-use Rattle.gix_object_editor.specs.Nodes.{Slots, Way, LeadsTo, onto, child_of, leaf_in, files_of_node, files_of_slot}
-use Rattle.gix_object_editor.specs.Writing.{folder_item, folder_mode}
-use Rattle.gix_object_editor.specs.Written.{HandedOut, IsHandedOut, IsKnown, StandsUnopened, NamesFolder}
-use Rattle.gix_object_editor.proofs.Marked.{closed_files}
-use Rattle.gix_object_editor.proofs.WrittenFiles.{files_below}
+use Rattle.gix_object_nodes.specs.Files.{Path, Leaf, Trees, SameFiles, named, through, tree_under, unless_tree, files_of_entry, files_of_tree, leaf_of, is_null}
+use Rattle.gix_object_editor.specs.Stored.{HasStored}
+use Rattle.gix_object_nodes.specs.Nodes.{Slots, Way, LeadsTo, onto, child_of, leaf_in, files_of_node, files_of_slot}
+use Rattle.gix_object_nodes.specs.Writing.{folder_item, folder_mode}
+use Rattle.gix_object_nodes.specs.Written.{HandedOut, IsHandedOut, IsKnown, StandsUnopened, NamesFolder}
+use Rattle.gix_object_nodes.proofs.Ways.{closed_files}
+use Rattle.gix_object_nodes.proofs.WrittenFiles.{files_below}
 use Rattle.history_model.specs.Bytes.{Bytes, has_byte, is_empty}
 use Rattle.history_model.specs.FileMap.{FileMap, Content, IsFileMap, components, folders_of, inside}
 use Rattle.history_model.specs.Objects.{FileEntry, FolderEntry, TreeEntry, tree_entries, digest, folder_id, root, tree_text}

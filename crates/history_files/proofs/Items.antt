@@ -13,8 +13,8 @@ use Rattle.gix_object_entries.specs.ModeText.{mode_text, SpellsMode}
 use Rattle.gix_object_entries.specs.Writing.{entry_text as item_text, tree_text as items_text, has_zero, tree_refusal, HasIds, IsToldAgain}
 use Rattle.gix_object_entries.proofs.TreeLaws.{tree_back, mode_back}
 use Rattle.gix_object_entries.proofs.Written.{no_refusal}
-use Rattle.gix_object_editor.specs.Files.{named}
-use Rattle.gix_object_editor.specs.Writing.{folder_mode, folder_item}
+use Rattle.gix_object_nodes.specs.Files.{named}
+use Rattle.gix_object_nodes.specs.Writing.{folder_mode, folder_item}
 use Rattle.history_model.specs.Bytes.{Bytes, has_byte, is_empty}
 use Rattle.history_model.specs.FileMap.{FileMap, Content, inside}
 use Rattle.history_model.specs.Objects.{digest, TreeEntry, FileEntry, FolderEntry, into_folder, tree_entries, mode_of, tree_entry_text, root_within, longest, root, folder_id, blob_id, tree_text}

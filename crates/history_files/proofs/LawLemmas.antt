@@ -1,6 +1,6 @@
 -- The laws.
 use Rattle.std.proofs.Common.{◌≡◌, sym, ◌∙◌, refl, Bool, true, false}
-use Rattle.gix_object_editor.specs.Files.{HasNoneBelow}
+use Rattle.gix_object_nodes.specs.Files.{HasNoneBelow}
 use Rattle.history_model.specs.FileMap.{components, has_below}
 use Rattle.history_model.proofs.WholeLists.{none_is_some}
 use Rattle.history_files.specs.Laws.{TreesUnfold, WholeStoresHaveTrees, PutsAgree, RemovalsAgree, FoldersAgree, UnfoldingsTellRoots}

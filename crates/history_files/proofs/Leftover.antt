@@ -3,7 +3,8 @@ use Rattle.std.proofs.Common.{◌≡◌, ◌∙◌, ap, sym, refl, true, false, 
 use Rattle.std.specs.List.{list_all}
 use Rattle.gix_hash_id.specs.declared.kind.Kind.{Kind}
 use Rattle.gix_object_editor.specs.Editor.{EachEntryHas, files_of}
-use Rattle.gix_object_editor.specs.Files.{HasStored, Trees}
+use Rattle.gix_object_editor.specs.Stored.{HasStored}
+use Rattle.gix_object_nodes.specs.Files.{Trees}
 use Rattle.gix_object_editor.specs.declared.tree.editor.state.Editor.{Editor}
 use Rattle.gix_object_find.specs.Table.{Table}
 use Rattle.history_model.specs.Bytes.{Bytes}

@@ -12,7 +12,7 @@ use Rattle.gix_object_entries.proofs.TreeLaws.{one_tree}
 use Rattle.gix_object_find.specs.Table.{Table, Object}
 use Rattle.gix_object_editor.specs.Editor.{leaf_of_kind}
 use Rattle.gix_object_editor.specs.Entries.{ItemsHave, PassesDown, made_leaf}
-use Rattle.gix_object_editor.specs.Files.{Leaf, is_null, leaf_of}
+use Rattle.gix_object_nodes.specs.Files.{Leaf, is_null, leaf_of}
 use Rattle.history_model.specs.Bytes.{Bytes, has_byte, is_empty}
 use Rattle.history_model.specs.FileMap as model
 use Rattle.history_model.specs.FileMap.{FileMap, Content, IsFileMap, beginnings, components, edit_path, folders_of, inside, is_path}

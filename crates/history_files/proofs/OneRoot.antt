@@ -7,8 +7,8 @@ use Rattle.std.specs.FinMap.Entries.{find, below_all}
 use Rattle.std.proofs.lemmas.Cmp.{nat_list_cmp_total}
 use Rattle.gix_hash_id.specs.declared.kind.Kind.{Kind}
 use Rattle.gix_object_entries.specs.Mode.{kind_value}
-use Rattle.gix_object_editor.specs.Files as unfolded
-use Rattle.gix_object_editor.specs.Files.{Leaf, SameFiles}
+use Rattle.gix_object_nodes.specs.Files as unfolded
+use Rattle.gix_object_nodes.specs.Files.{Leaf, SameFiles}
 use Rattle.history_model.specs.Bytes.{Bytes, by_bytes, has_byte}
 use Rattle.history_model.specs.FileMap.{FileMap, Content, components}
 use Rattle.history_model.specs.Objects.{digest, TreeEntry, FileEntry, FolderEntry, into_folder, with_file, tree_entries, mode_of, entry_text, tree_entry_text, root_within, longest, root, tree_text}

@@ -8,7 +8,8 @@ use Rattle.gix_hash_id.specs.declared.object_id.ObjectId.{ObjectId}
 use Rattle.gix_object_find.specs.Table.{Table}
 use Rattle.gix_object_editor.specs.Editor.{EachEntryHas, IsAsRead, files_of}
 use Rattle.gix_object_editor.specs.Entries.{PassesDown, Property}
-use Rattle.gix_object_editor.specs.Files.{HasStored, Trees, is_null}
+use Rattle.gix_object_editor.specs.Stored.{HasStored}
+use Rattle.gix_object_nodes.specs.Files.{Trees, is_null}
 use Rattle.gix_object_editor.specs.declared.tree.editor.state.Editor.{Editor}
 use Rattle.history_model.specs.FileMap as model
 use Rattle.history_model.specs.FileMap.{FileMap, IsFileMap, edited_by, folders_of, is_path, some_refused}

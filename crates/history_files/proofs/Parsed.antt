@@ -11,7 +11,8 @@ use Rattle.gix_object_entries.specs.ModeText.{Mode, text_before}
 use Rattle.gix_object_entries.proofs.Octals.{before_cut}
 use Rattle.gix_object_entries.proofs.Spelled.{lacks_space}
 use Rattle.gix_object_find.specs.Table.{Object, Table}
-use Rattle.gix_object_editor.specs.Files.{HasStored, Trees}
+use Rattle.gix_object_editor.specs.Stored.{HasStored}
+use Rattle.gix_object_nodes.specs.Files.{Trees}
 use Rattle.history_model.specs.Bytes.{is_empty}
 use Rattle.gix_hash_id.proofs.KindLemmas.{byte_len-injective}
 

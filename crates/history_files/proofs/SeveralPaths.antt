@@ -24,7 +24,7 @@ use Rattle.gix_object_find.specs.Table.{Table, Object}
 use Rattle.gix_object_find.specs.declared.find.Error.TheVariants as looked_up
 use Rattle.gix_object_find.specs.declared.find.existing_iter.Error.TheVariants as not_given
 use Rattle.gix_object_tree.specs.Object.{Tree}
-use Rattle.gix_object_editor.specs.Files.{named}
+use Rattle.gix_object_nodes.specs.Files.{named}
 use Rattle.gix_traverse_tree.specs.AtPaths.{Answer, root_item, told_of, TellsAt, BeginsOne, IsTreeAbove, IsUnread, EntriesFault}
 use Rattle.gix_traverse_tree.specs.declared.error.Error as walking
 use Rattle.gix_traverse_tree.specs.declared.error.Error.TheVariants as walked

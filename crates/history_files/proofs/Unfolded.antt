@@ -6,8 +6,9 @@ use Rattle.gix_hash_id.specs.declared.kind.Kind.{Kind}
 use Rattle.gix_object_entries.specs.Entry.{Item}
 use Rattle.gix_object_entries.specs.Mode.{kind_value, is_tree_value}
 use Rattle.gix_object_find.specs.Table.{Table}
-use Rattle.gix_object_editor.specs.Files.{Path, Leaf, Trees, HasStored, named, through, tree_under, unless_tree, files_of_entry, files_of_tree, is_null, leaf_of}
-use Rattle.gix_object_editor.specs.Written.{files_under}
+use Rattle.gix_object_nodes.specs.Files.{Path, Leaf, Trees, named, through, tree_under, unless_tree, files_of_entry, files_of_tree, is_null, leaf_of}
+use Rattle.gix_object_editor.specs.Stored.{HasStored}
+use Rattle.gix_object_nodes.specs.Written.{files_under}
 use Rattle.history_model.specs.Bytes.{Bytes, has_byte, is_empty}
 use Rattle.history_model.specs.FileMap.{FileMap, Content, IsFileMap, components, is_path, inside}
 use Rattle.history_model.specs.Objects.{FileEntry, FolderEntry, TreeEntry, tree_entries, Value, StoredFolder, folder_id, blob_id, root_within, longest, digest, tree_text}

@@ -5,10 +5,10 @@ use Rattle.gix_hash_id.specs.Id.{Id}
 use Rattle.gix_object_entries.specs.Entry.{Item}
 use Rattle.gix_object_entries.specs.Mode.{is_tree_value}
 use Rattle.gix_object_editor.specs.Asked.{ids_from, slot_into, trees_into, unopened_into}
-use Rattle.gix_object_editor.specs.Files.{Path, Leaf, Trees, files_of_entry, files_of_tree, is_null, leads_on, leaf_of, named, no_trees, through, tree_under, unless_tree}
-use Rattle.gix_object_editor.specs.Nodes.{Slots, child_or, files_of_node, files_of_slot, leaf_in}
-use Rattle.gix_object_editor.specs.declared.tree.editor.node.NodeId.{NodeId}
-use Rattle.gix_object_editor.specs.declared.tree.editor.node.Slot.{Slot}
+use Rattle.gix_object_nodes.specs.Files.{Path, Leaf, Trees, files_of_entry, files_of_tree, is_null, leads_on, leaf_of, named, no_trees, through, tree_under, unless_tree}
+use Rattle.gix_object_nodes.specs.Nodes.{Slots, child_or, files_of_node, files_of_slot, leaf_in}
+use Rattle.gix_object_nodes.specs.declared.node.NodeId.{NodeId}
+use Rattle.gix_object_nodes.specs.declared.node.Slot.{Slot}
 use Rattle.history_model.proofs.WholeLists.{clash, none_is_some}
 use Rattle.history_files.specs.Lookups.{items_into}
 use Rattle.gix_object_editor.proofs.Asking.{closed_slot}

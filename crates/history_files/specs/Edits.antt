@@ -8,8 +8,9 @@ use Rattle.gix_object_find.specs.declared.find.Error.TheVariants as looked_up
 use Rattle.gix_object_find.specs.declared.find.existing_object.Error as existing
 use Rattle.gix_object_find.specs.declared.find.existing_object.Error.TheVariants as not_given
 use Rattle.gix_object_find.specs.Table.{Table}
-use Rattle.gix_object_editor.specs.Files as unfolded
-use Rattle.gix_object_editor.specs.Files.{Trees, HasStored, is_null}
+use Rattle.gix_object_nodes.specs.Files as unfolded
+use Rattle.gix_object_nodes.specs.Files.{Trees, is_null}
+use Rattle.gix_object_editor.specs.Stored.{HasStored}
 use Rattle.gix_object_editor.specs.declared.tree.editor.error.Error as editor
 use Rattle.gix_object_editor.specs.declared.tree.editor.error.Error.TheVariants as refused
 use Rattle.history_model.specs.Bytes.{Bytes}

@@ -9,7 +9,7 @@ use Rattle.gix_object_entries.specs.ModeText.{Mode}
 use Rattle.gix_object_entries.specs.declared.tree.mode.EntryKind.TheVariants as entries
 use Rattle.gix_object_editor.specs.Editor.{leaf_of_kind}
 use Rattle.gix_object_editor.specs.Entries.{Property, MayStand}
-use Rattle.gix_object_editor.specs.Files.{is_null}
+use Rattle.gix_object_nodes.specs.Files.{is_null}
 use Rattle.history_model.specs.Bytes.{Bytes, has_byte, is_empty}
 use Rattle.history_model.specs.FileMap.{FileMap, beginnings, components, inside}
 use Rattle.history_model.specs.Objects.{folder_id}

@@ -6,7 +6,8 @@ use Rattle.gix_hash_id.specs.declared.object_id.ObjectId.{ObjectId}
 use Rattle.gix_object_entries.specs.Entry.{Item, own_item}
 use Rattle.gix_object_entries.specs.Writing as writing
 use Rattle.gix_object_entries.specs.declared.tree.owned.Tree.{Tree}
-use Rattle.gix_object_editor.specs.Written.{HandedOut, IsWritten}
+use Rattle.gix_object_nodes.specs.Written.{HandedOut}
+use Rattle.gix_object_editor.specs.Written.{IsWritten}
 use Rattle.gix_object_editor.specs.declared.tree.editor.state.Editor.{Editor}
 use Rattle.history_model.specs.Objects.{digest, tree_text}
 use Rattle.history_files.specs.declared.trees.EditedFiles.{EditedFiles}

@@ -6,9 +6,10 @@ use Rattle.gix_hash_id.specs.declared.kind.Kind.{Kind}
 use Rattle.gix_object_entries.specs.Entry.{Item, SpellsTree}
 use Rattle.gix_object_entries.specs.WellFormed.{IsWellFormed}
 use Rattle.gix_object_find.specs.Table.{Table}
-use Rattle.gix_object_editor.specs.Files as unfolded
-use Rattle.gix_object_editor.specs.Files.{Trees, HasStored, SameFiles, HasNoneBelow, is_null}
-use Rattle.gix_object_editor.specs.Written.{files_under}
+use Rattle.gix_object_nodes.specs.Files as unfolded
+use Rattle.gix_object_nodes.specs.Files.{Trees, SameFiles, HasNoneBelow, is_null}
+use Rattle.gix_object_editor.specs.Stored.{HasStored}
+use Rattle.gix_object_nodes.specs.Written.{files_under}
 use Rattle.history_model.specs.Bytes.{Bytes}
 use Rattle.history_model.specs.FileMap.{FileMap, Content, IsFileMap, components, has_below, removed, put_at}
 use Rattle.history_model.specs.Objects.{StoredFolder, object_kind, content_of, root, folder_id, blob_id}

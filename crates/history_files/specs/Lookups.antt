@@ -3,7 +3,7 @@ use Rattle.std.specs.Prelude.{ℕ, ◌≡◌, ◌≤◌, ◌<◌, ◌+◌, ◌^�
 use Rattle.gix_hash_id.specs.Id.{Id}
 use Rattle.gix_object_entries.specs.Entry.{Item}
 use Rattle.gix_object_editor.specs.Asked.{front_of, ids_from, trees_into}
-use Rattle.gix_object_editor.specs.Files.{Path, Trees, leaf_of, named}
+use Rattle.gix_object_nodes.specs.Files.{Path, Trees, leaf_of, named}
 use Rattle.history_model.specs.Bytes.{Bytes}
 use Rattle.history_model.specs.FileMap.{components}
 use Rattle.history_files.specs.Edits.{name_count}

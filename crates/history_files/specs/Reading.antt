@@ -18,7 +18,7 @@ use Rattle.gix_object_find.specs.declared.find.Error as looking_up
 use Rattle.gix_object_find.specs.declared.find.Error.TheVariants as looked_up
 use Rattle.gix_object_find.specs.declared.find.existing_iter.Error as existing
 use Rattle.gix_object_find.specs.declared.find.existing_iter.Error.TheVariants as not_given
-use Rattle.gix_object_editor.specs.Files.{named}
+use Rattle.gix_object_nodes.specs.Files.{named}
 use Rattle.history_model.specs.Bytes.{Bytes}
 use Rattle.history_model.specs.FileMap.{FileMap, Content, IsFileMap}
 use Rattle.history_model.specs.Objects.{mode_of, folder_id, blob_id}

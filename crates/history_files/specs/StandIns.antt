@@ -2,7 +2,7 @@
 use Rattle.std.specs.Prelude.{Bool, false}
 use Rattle.gix_hash_id.specs.Id.{id_of}
 use Rattle.gix_hash_id.specs.declared.object_id.ObjectId.{ObjectId}
-use Rattle.gix_object_editor.specs.Files.{is_null}
+use Rattle.gix_object_nodes.specs.Files.{is_null}
 use Rattle.history_files.specs.declared.edits.Change.{Change}
 use Rattle.history_files.specs.declared.edits.Change.TheVariants.{Put, Remove, RemoveFile}
 use Rattle.history_files.specs.declared.edits.Edit.{Edit}

@@ -2,7 +2,8 @@
 
 ghost use Rattle.std.specs.Prelude.{◌≡◌, ◌≤◌, ◌+◌, List, [], ◌∷◌, length, OnOk, IfErr, IsErrOf, IsFalse, IsTrue};
 ghost use Rattle.gix_hash_id.specs.declared.kind.Kind.{Kind};
-ghost use Rattle.gix_object_editor.specs.Files.{Trees, HasStored};
+ghost use Rattle.gix_object_nodes.specs.Files.{Trees};
+ghost use Rattle.gix_object_editor.specs.Stored.{HasStored};
 ghost use Rattle.gix_object_editor.specs.Asked.{CountsUp};
 ghost use Rattle.gix_object_editor.specs.Editor.{asked_by, files_of, EachEntryHas, IsAsRead};
 ghost use Rattle.gix_object_editor.specs.Entries.{Property, PassesDown};

@@ -7,7 +7,7 @@ ghost use Rattle.gix_object_entries.specs.Entry.{Item, item_of};
 ghost use Rattle.gix_object_entries.specs.Mode.{kind_of};
 ghost use Rattle.gix_object_tree.specs.Object.{Tree};
 ghost use Rattle.gix_object_find.specs.Existing.{StandsAs};
-ghost use Rattle.gix_object_editor.specs.Files.{named};
+ghost use Rattle.gix_object_nodes.specs.Files.{named};
 ghost use Rattle.history_model.specs.Objects as model;
 ghost use Rattle.history_files.specs.Reading.{entry_of, named_as, named_by, TreeFault, OfFiles, OwnFault, StepsBelow, TellsUnread, unless_memory};
 ghost use Rattle.history_files.specs.declared.error.ReadError.TheVariants.{Failed, Broken};

@@ -2,7 +2,8 @@
 
 ghost use Rattle.std.specs.Prelude.{◌≡◌, IfOk, IfErr, Some};
 ghost use Rattle.gix_hash_id.specs.Id.{id_of};
-ghost use Rattle.gix_object_editor.specs.Files.{Path, Trees, HasStored};
+ghost use Rattle.gix_object_nodes.specs.Files.{Path, Trees};
+ghost use Rattle.gix_object_editor.specs.Stored.{HasStored};
 ghost use Rattle.gix_object_editor.specs.Editor.{asked_by, files_of, EachEntryHas, IsAsRead};
 ghost use Rattle.history_files.specs.Unfolding.{IsUnfolded};
 ghost use Rattle.history_files.specs.Entries.{names_only, own_folders};

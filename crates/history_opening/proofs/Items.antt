@@ -9,7 +9,7 @@ use Rattle.gix_object_entries.specs.Mode.{kind_of, kind_value, kind_word}
 use Rattle.gix_object_entries.specs.ModeText.{mode_text}
 use Rattle.gix_object_entries.specs.Order.{is_tree}
 use Rattle.gix_object_entries.specs.declared.tree.mode.EntryKind.TheVariants as modes
-use Rattle.gix_object_editor.specs.Writing.{folder_mode}
+use Rattle.gix_object_nodes.specs.Writing.{folder_mode}
 use Rattle.gix_object_lines.specs.declared.kind.Kind.TheVariants as kinds
 use Rattle.history_files.specs.Unfolding.{entry_kind as mode_kind}
 use Rattle.history_files.proofs.InOrder.{root_well_formed}

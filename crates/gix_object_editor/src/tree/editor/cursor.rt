@@ -5,8 +5,9 @@ ghost use Rattle.std.specs.Borrow.{sem};
 ghost use Rattle.gix_hash_id.specs.Id.{id_of};
 ghost use Rattle.gix_object_entries.specs.Entry.{Item, item_of};
 ghost use Rattle.gix_object_entries.specs.Mode.{is_tree_value, kind_value};
-ghost use Rattle.gix_object_editor.specs.Files.{Path, Leaf, Trees, IsEmptyTree, is_null, leaf_of, HasStored, SameFiles, Begins, NamesAreFull, HasNoneBelow, HasSomeBelow, no_trees, removed, put, cleared, files_of_tree};
-ghost use Rattle.gix_object_editor.specs.Nodes.{slots_of, entry_at};
+ghost use Rattle.gix_object_nodes.specs.Files.{Path, Leaf, Trees, IsEmptyTree, is_null, leaf_of, SameFiles, Begins, NamesAreFull, HasNoneBelow, HasSomeBelow, no_trees, removed, put, cleared, files_of_tree};
+ghost use Rattle.gix_object_editor.specs.Stored.{HasStored};
+ghost use Rattle.gix_object_nodes.specs.Nodes.{slots_of, entry_at};
 ghost use Rattle.gix_object_editor.specs.Editor.{files_of, names_of, leaf_of_kind, LeadsThrough, LeadsInto, EditFault, GraftFault, LeafFault, IsFilled, IsFolder, IsChanged, ChangesNone, entry_over, entry_met, IsMadeAt, KeepsEntries, KeepsFolders, PutsEntry, MakesFolders, MakesFoldersAbove, ClearsEntries, HasFolderAt, IsAsRead, IsAbove, IsOpenedAt, EachEntryHas, IsNonLeaf, asked_by, ErrOverStored, OkOverStored, OverStored};
 ghost use Rattle.gix_object_editor.specs.Asked.{front_of, Asks, AsksAll};
 ghost use Rattle.gix_object_editor.specs.declared.tree.editor.error.Error.TheVariants.{EmptyPathComponent, EmptyTree};
@@ -16,12 +17,12 @@ ghost use Rattle.gix_object_editor.specs.Cursor.{StandsAt, IsLeft, LendsOrLeaves
 
 use crate::tree::editor::edits::check_graft;
 use crate::tree::editor::entry::entry_from;
-use crate::tree::editor::node::NodeId;
 use crate::tree::editor::{Cursor, Editor, Error, write};
 use gix_hash::{Kind, ObjectId};
 use gix_object_entries::Tree;
 use gix_object_entries::tree::{EntryKind, EntryRef};
 use gix_object_find::Find;
+use gix_object_nodes::node::NodeId;
 use std::alloc::Global;
 
 impl<S: Find> Editor<S> {

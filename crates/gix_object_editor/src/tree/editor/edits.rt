@@ -2,8 +2,9 @@
 
 ghost use Rattle.std.specs.Prelude.{◌≡◌, ◌<◌, ◌≤◌, ◌+◌, ◌⊎◌, length, IfErr, OnOk, OnErr, IfOk, Some, None, true, false, []};
 ghost use Rattle.gix_hash_id.specs.Id.{id_of};
-ghost use Rattle.gix_object_editor.specs.Files.{Path, Trees, IsEmptyTree, is_null, HasStored, SameFiles, Begins, NamesAreFull, HasNoneBelow, removed, put, cleared};
-ghost use Rattle.gix_object_editor.specs.Nodes.{slots_of, Way, onto, LeadsTo};
+ghost use Rattle.gix_object_nodes.specs.Files.{Path, Trees, IsEmptyTree, is_null, SameFiles, Begins, NamesAreFull, HasNoneBelow, removed, put, cleared};
+ghost use Rattle.gix_object_editor.specs.Stored.{HasStored};
+ghost use Rattle.gix_object_nodes.specs.Nodes.{slots_of, Way, onto, LeadsTo};
 ghost use Rattle.gix_object_editor.specs.Editor.{files_of, names_of, leaf_of_kind, LeadsThrough, LeadsInto, EditFault, LeafFault, IsFilled, IsFolder, IsChanged, ChangesNone, entry_over, entry_met, IsMadeAt, KeepsEntries, KeepsFolders, PutsEntry, MakesFolders, MakesFoldersAbove, ClearsEntries, HasFolderAt, IsOpenedAt, IsAsRead, IsAbove, EachEntryHas, ErrOverStored, OkOverStored, OverStored};
 ghost use Rattle.gix_object_editor.specs.Asked.{front_of, unopened_into, Asks};
 ghost use Rattle.gix_object_editor.specs.Entries.{Property, PassesDown, MayStand, MayStandMade};
@@ -14,11 +15,11 @@ use crate::tree::editor::filled::refuse_folder;
 use crate::tree::editor::forest::{folder_below, walk};
 use crate::tree::editor::lay::{lay_entry, make_folders};
 use crate::tree::editor::marks::{cut, mark_changed, mark_where};
-use crate::tree::editor::node::{NodeId, Slot, slot_at};
 use crate::tree::editor::{Editor, Error};
 use gix_hash::{Kind, ObjectId};
 use gix_object_entries::tree::{EntryKind, EntryMode};
 use gix_object_find::Find;
+use gix_object_nodes::node::{NodeId, Slot, slot_at};
 use std::alloc::Global;
 
 impl<S: Find> Editor<S> {

@@ -2,11 +2,11 @@
 
 ghost use Rattle.std.specs.Prelude.{◌≡◌, ◌<◌, length, map, option_map, slice_index_or, IsTrue, IsFalse, None, []};
 ghost use Rattle.gix_object_entries.specs.Entry.{item_of};
-ghost use Rattle.gix_object_editor.specs.Nodes.{slot_in, slots_of, child_of, leaf_in, entry_at, entry_in, IsForest, IsEntry};
+ghost use Rattle.gix_object_nodes.specs.Nodes.{slot_in, slots_of, child_of, leaf_in, entry_at, entry_in, IsForest, IsEntry};
 
-use crate::tree::editor::node::{Node, NodeId, Slot, slot_at};
 use bstr::BStr;
 use gix_object_entries::tree::EntryRef;
+use gix_object_nodes::node::{Node, NodeId, Slot, slot_at};
 
 /// The entry at the end of a path that begins at an opened tree. `None` where none stands there, or where a tree above it isn't
 /// opened.

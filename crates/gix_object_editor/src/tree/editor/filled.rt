@@ -1,18 +1,19 @@
 //! Folders with files.
 
 ghost use Rattle.std.specs.Prelude.{◌≡◌, ◌<◌, ◌≤◌, ◌+◌, ◌∷◌, [], length, IsTrue, IsFalse, IfErr, OnOk, None, false};
-ghost use Rattle.gix_object_editor.specs.Files.{Bytes, Path, Trees, HasStored};
+ghost use Rattle.gix_object_nodes.specs.Files.{Bytes, Path, Trees};
+ghost use Rattle.gix_object_editor.specs.Stored.{HasStored, IsOpened};
 ghost use Rattle.gix_object_editor.specs.Entries.{Property, EachHas, PassesDown};
-ghost use Rattle.gix_object_editor.specs.Marks.{marks_of, AreMarksKept, AreAsRead};
-ghost use Rattle.gix_object_editor.specs.Nodes.{slots_of, files_of_node, IsForest, AreFilled, HasFileBelow, IsOpened, IsFolderAt};
+ghost use Rattle.gix_object_nodes.specs.Marks.{marks_of, AreMarksKept, AreAsRead};
+ghost use Rattle.gix_object_nodes.specs.Nodes.{slots_of, files_of_node, IsForest, AreFilled, HasFileBelow, IsFolderAt};
 ghost use Rattle.gix_object_editor.specs.Refusals.{FolderFault};
 ghost use Rattle.gix_object_editor.specs.Asked.{unopened_into, Asks};
 
 use crate::tree::editor::Error;
 use crate::tree::editor::forest::open;
-use crate::tree::editor::node::{Node, NodeId};
 use gix_object_find::Find;
 use gix_object_lines::ByteString;
+use gix_object_nodes::node::{Node, NodeId};
 use std::alloc::Global;
 
 /// Refuses a name's folder, where a file stands below it. Its tree is opened.

@@ -2,19 +2,20 @@
 
 ghost use Rattle.std.specs.Prelude.{◌≡◌, ◌<◌, ◌≤◌, ◌+◌, ◌∷◌, ◌++◌, ◌⊎◌, ℕ, length, map, drop, slice_index_or, if◌then◌else◌, is_ok, IfOk, IfErr, OnOk, OnErr, IsSome, Some, None, [], false};
 ghost use Rattle.gix_hash_id.specs.Id.{Id, id_of};
-ghost use Rattle.gix_object_editor.specs.Files.{Bytes, Path, Trees, HasStored};
-ghost use Rattle.gix_object_editor.specs.Nodes.{slot_in, slots_of, child_of, IsForest, IsOpened, IsFolderAt, IsNoFolder, IsUnopened, IsStoppedAt, Way, onto, LeadsTo};
+ghost use Rattle.gix_object_nodes.specs.Files.{Bytes, Path, Trees};
+ghost use Rattle.gix_object_editor.specs.Stored.{HasStored, IsOpened};
+ghost use Rattle.gix_object_nodes.specs.Nodes.{slot_in, slots_of, child_of, IsForest, IsFolderAt, IsNoFolder, IsUnopened, IsStoppedAt, Way, onto, LeadsTo};
 ghost use Rattle.gix_object_editor.specs.Entries.{Property, EachHas, PassesDown};
-ghost use Rattle.gix_object_editor.specs.Marks.{marks_of, mark_below, AreMarksKept, AreAsRead};
+ghost use Rattle.gix_object_nodes.specs.Marks.{marks_of, mark_below, AreMarksKept, AreAsRead};
 ghost use Rattle.gix_object_editor.specs.Refusals.{OpeningFault};
 ghost use Rattle.gix_object_editor.specs.Asked.{front_of, found_into, unopened_into, AsksUpTo, AsksAll, StopsAt};
-ghost use Rattle.gix_object_editor.specs.declared.tree.editor.node.NodeId.{NodeId};
-ghost use Rattle.gix_object_editor.specs.declared.tree.editor.node.Slot.{Slot};
+ghost use Rattle.gix_object_nodes.specs.declared.node.NodeId.{NodeId};
+ghost use Rattle.gix_object_nodes.specs.declared.node.Slot.{Slot};
 
 use crate::tree::editor::Error;
 use crate::tree::editor::load::load;
-use crate::tree::editor::node::{Node, NodeId, Slot, put_at, slot_at};
 use gix_object_find::Find;
+use gix_object_nodes::node::{Node, NodeId, Slot, put_at, slot_at};
 use std::alloc::{AllocError, Global};
 
 /// Puts a tree behind the others, and its number into the slot of a name.

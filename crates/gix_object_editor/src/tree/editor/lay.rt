@@ -3,17 +3,17 @@
 ghost use Rattle.std.specs.Prelude.{◌≡◌, ◌≢◌, ◌<◌, ◌≤◌, ◌+◌, ◌++◌, ◌∷◌, ◌⊎◌, ℕ, length, map, drop, slice_index_or, IfOk, OnOk, OnErr, Some, None, [], true};
 ghost use Rattle.std.specs.List.{All, Contains};
 ghost use Rattle.gix_hash_id.specs.Id.{id_of};
-ghost use Rattle.gix_object_editor.specs.declared.tree.editor.node.Slot.{Slot};
-ghost use Rattle.gix_object_editor.specs.Files.{Bytes, Path, Trees, SameFiles, is_null, put, cleared, behind};
+ghost use Rattle.gix_object_nodes.specs.declared.node.Slot.{Slot};
+ghost use Rattle.gix_object_nodes.specs.Files.{Bytes, Path, Trees, SameFiles, is_null, put, cleared, behind};
 ghost use Rattle.gix_object_editor.specs.Asked.{front_of};
 ghost use Rattle.gix_object_editor.specs.Entries.{Property, EachHas, MayStand, MayStandMade, made_leaf};
-ghost use Rattle.gix_object_editor.specs.Marks.{mark_of, marks_of, mark_below, rung_parent, AreMarksKept, AreOnPath};
-ghost use Rattle.gix_object_editor.specs.Nodes.{slot_in, slots_of, child_of, leaf_in, files_of_node, Way, onto, AreNull, IsForest, IsFolderAt, IsPutIn, LeadsTo, entry_from};
+ghost use Rattle.gix_object_nodes.specs.Marks.{mark_of, marks_of, mark_below, rung_parent, AreMarksKept, AreOnPath};
+ghost use Rattle.gix_object_nodes.specs.Nodes.{slot_in, slots_of, child_of, leaf_in, files_of_node, Way, onto, AreNull, IsForest, IsFolderAt, IsPutIn, LeadsTo, entry_from};
 ghost use Rattle.gix_object_editor.specs.Laid.{IsRung, laid_at, made_at};
 
-use crate::tree::editor::node::{Node, NodeId, Slot, put_at, take_at};
 use gix_hash::{Kind, ObjectId};
 use gix_object_entries::tree::{EntryKind, EntryMode};
+use gix_object_nodes::node::{Node, NodeId, Slot, put_at, take_at};
 use std::alloc::{AllocError, Global};
 
 /// Puts an entry at the end of the names below an opened tree, in folders that are made for it, and answers the tree in which it

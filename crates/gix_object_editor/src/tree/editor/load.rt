@@ -6,18 +6,19 @@ ghost use Rattle.gix_object_lines.specs.declared.kind.Kind.TheVariants as kinds;
 ghost use Rattle.gix_object_entries.specs.Entry.{item_of};
 ghost use Rattle.gix_object_entries.specs.WellFormed.{IsWellFormed};
 ghost use Rattle.gix_object_find.specs.Existing.{Stands};
-ghost use Rattle.gix_object_editor.specs.Files.{Bytes, Trees, HasStored, named};
-ghost use Rattle.gix_object_editor.specs.Nodes.{slot_in, StandsFor, OpensTree, IsReadTree, child_of};
+ghost use Rattle.gix_object_nodes.specs.Files.{Bytes, Trees, named};
+ghost use Rattle.gix_object_editor.specs.Stored.{HasStored, OpensTree, IsReadTree};
+ghost use Rattle.gix_object_nodes.specs.Nodes.{slot_in, StandsFor, child_of};
 ghost use Rattle.gix_object_editor.specs.Entries.{HoldsTree};
 ghost use Rattle.gix_object_editor.specs.Refusals.{TreeIsUnread, OpeningFault};
 
 use crate::tree::editor::Error;
-use crate::tree::editor::node::{Node, Slot};
 use gix_hash::ObjectId;
 use gix_object_entries::tree::{EntryRef, TreeRef};
 use gix_object_find::Find;
 use gix_object_find::find::existing_object;
 use gix_object_lines::Kind;
+use gix_object_nodes::node::{Node, Slot};
 use std::alloc::{AllocError, Global};
 
 /// The stored tree of this id, opened.

@@ -1,11 +1,12 @@
 //! Which opened trees edits changed.
 
 ghost use Rattle.std.specs.Prelude.{◌≡◌, ◌≢◌, ◌<◌, ℕ, length, true, false, Some, None, IsTrue, IsFalse};
-ghost use Rattle.gix_object_editor.specs.Files.{Bytes};
-ghost use Rattle.gix_object_editor.specs.Nodes.{slots_of, child_of, IsForest};
-ghost use Rattle.gix_object_editor.specs.Marks.{marks_of, mark_below, AreMarked, AreMarkedBut, AreMarkedUp, IsMarkedFor, IsIdle, child_if, changed_in};
+ghost use Rattle.gix_object_nodes.specs.Files.{Bytes};
+ghost use Rattle.gix_object_nodes.specs.Nodes.{slots_of, child_of, IsForest};
+ghost use Rattle.gix_object_nodes.specs.Marks.{marks_of, mark_below, AreMarked, AreMarkedBut, AreMarkedUp, IsMarkedFor, IsIdle};
 
-use crate::tree::editor::node::{Node, NodeId, Slot, slot_at, take_at};
+use gix_object_nodes::changed::is_changed;
+use gix_object_nodes::node::{Node, NodeId, Slot, slot_at, take_at};
 
 /// Takes the entry of a name out of an opened tree, which is marked as changed, if more than a made folder stands there.
 pub(crate) fn cut(nodes: &mut [Node], at: NodeId, name: &[u8])
@@ -91,27 +92,4 @@ fn parent_at(nodes: &[Node], at: NodeId) -> NodeId
     ensures { result.0 ≡ (marks_of nodes.now at.0).parent }
 {
     nodes[at.0].parent
-}
-
-/// The opened tree of a slot, where an edit changed it.
-pub(crate) fn changed_child(nodes: &[Node], slot: &Slot) -> Option<NodeId>
-    requires { (c : ℕ) → child_of (Some slot.now) ≡ Some c → c < length nodes.now }
-    ensures { result ≡ child_if (changed_in nodes.now) slot.now.child }
-{
-    let Some(child) = slot.child else {
-        return None;
-    };
-    if is_changed(nodes, child) {
-        Some(child)
-    } else {
-        None
-    }
-}
-
-// Whether an edit changed an opened tree.
-fn is_changed(nodes: &[Node], at: NodeId) -> bool
-    requires { at.0 < length nodes.now }
-    ensures { result ≡ changed_in nodes.now at.0 }
-{
-    nodes[at.0].changed
 }

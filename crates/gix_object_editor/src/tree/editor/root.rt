@@ -2,14 +2,14 @@
 
 ghost use Rattle.std.specs.Prelude.{◌≡◌, ℕ, [], length, map, IfOk, None, false};
 ghost use Rattle.gix_object_entries.specs.Entry.{own_item};
-ghost use Rattle.gix_object_editor.specs.Files.{Bytes, Path, Trees, named, files_of_tree, entry_of_tree};
-ghost use Rattle.gix_object_editor.specs.Nodes.{slot_in, slots_of, child_of, files_of_node, entry_from, StandsFor, IsForest};
+ghost use Rattle.gix_object_nodes.specs.Files.{Bytes, Path, Trees, named, files_of_tree, entry_of_tree};
+ghost use Rattle.gix_object_nodes.specs.Nodes.{slot_in, slots_of, child_of, files_of_node, entry_from, StandsFor, IsForest};
 ghost use Rattle.gix_object_editor.specs.Entries.{Property, EachHas, ItemsHave};
-ghost use Rattle.gix_object_editor.specs.Marks.{marks_of, AreMarked};
+ghost use Rattle.gix_object_nodes.specs.Marks.{marks_of, AreMarked};
 ghost use Rattle.gix_object_entries.specs.WellFormed.{IsWellFormed};
 
-use crate::tree::editor::node::{Node, NodeId, Slot};
 use gix_object_entries::Tree;
+use gix_object_nodes::node::{Node, NodeId, Slot};
 use std::alloc::{AllocError, Global};
 
 /// The nodes below a root: the root alone, opened.

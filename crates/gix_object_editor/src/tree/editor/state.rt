@@ -1,10 +1,10 @@
 //! What an editor and its cursor keep: their definitions stand apart from what the contracts say of them.
 
 ghost use Rattle.std.specs.Prelude.{◌<◌, length};
-ghost use Rattle.gix_object_editor.specs.Nodes.{slots_of, IsForest};
-ghost use Rattle.gix_object_editor.specs.Marks.{marks_of, AreMarked};
+ghost use Rattle.gix_object_nodes.specs.Nodes.{slots_of, IsForest};
+ghost use Rattle.gix_object_nodes.specs.Marks.{marks_of, AreMarked};
 
-use crate::tree::editor::node::{Node, NodeId};
+use gix_object_nodes::node::{Node, NodeId};
 
 /// A tree that is edited, and the trees below it, which are opened as the edits lead into them.
 #[derive(Debug, Drop)]

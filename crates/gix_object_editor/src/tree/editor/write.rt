@@ -2,22 +2,16 @@
 
 ghost use Rattle.std.specs.Prelude.{◌<◌, [], length, IfOk, IfErr};
 ghost use Rattle.gix_hash_id.specs.Id.{id_of};
-ghost use Rattle.gix_object_editor.specs.Files.{Path};
-ghost use Rattle.gix_object_editor.specs.Nodes.{slots_of, Way, onto};
+ghost use Rattle.gix_object_nodes.specs.Files.{Path};
+ghost use Rattle.gix_object_nodes.specs.Nodes.{slots_of, Way, onto};
 ghost use Rattle.gix_object_editor.specs.Written.{WriteFault, Writes};
 
-mod below;
-mod entries;
-mod error;
-mod reached;
-
 use crate::tree::editor::Editor;
-use crate::tree::editor::node::NodeId;
-use crate::tree::editor::write::below::write_below;
-use crate::tree::editor::write::entries::tree_of;
-pub use crate::tree::editor::write::error::Error;
 use gix_hash::ObjectId;
 use gix_object_entries::Tree;
+use gix_object_nodes::node::NodeId;
+pub use gix_object_nodes::write::Error;
+use gix_object_nodes::write::{tree_of, write_below};
 use std::alloc::Global;
 
 impl<S> Editor<S> {

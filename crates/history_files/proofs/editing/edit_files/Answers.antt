@@ -5,7 +5,8 @@ use Rattle.gix_hash_id.specs.Id.{id_of}
 use Rattle.gix_object_editor.specs.Asked.{CountsUp}
 use Rattle.gix_object_editor.specs.Editor.{asked_by, files_of}
 use Rattle.gix_object_editor.specs.Entries.{PassesDown}
-use Rattle.gix_object_editor.specs.Files.{HasStored, is_null}
+use Rattle.gix_object_editor.specs.Stored.{HasStored}
+use Rattle.gix_object_nodes.specs.Files.{is_null}
 use Rattle.history_files.specs.Edits.{AreEdits, EditsMake, EditsPass}
 use Rattle.history_files.specs.Editing.{root_id}
 use Rattle.history_files.specs.Lookups.{root_count, root_into}

@@ -4,8 +4,8 @@ use Rattle.std.proofs.lemmas.Result.{err_from_is_err_and}
 use Rattle.gix_hash_id.specs.Id.{id_of}
 use Rattle.gix_object_entries.specs.Entry.{own_item}
 use Rattle.gix_object_editor.specs.Entries.{ItemsHave}
-use Rattle.gix_object_editor.specs.Files.{files_of_tree, no_trees}
-use Rattle.gix_object_editor.specs.Nodes.{slots_of}
+use Rattle.gix_object_nodes.specs.Files.{files_of_tree, no_trees}
+use Rattle.gix_object_nodes.specs.Nodes.{slots_of}
 use Rattle.history_files.specs.Lookups.{root_into}
 use Rattle.history_files.proofs.Unopened.{none_into, same_into}
 use Rattle.history_files.specs.Editing.{IsBase, root_id}
@@ -15,7 +15,7 @@ use Rattle.history_files.proofs.EmptyFiles.{empty_map, empty_trees, empty_unfold
 use Rattle.history_files.proofs.Named.{own_trees}
 use Rattle.history_files.proofs.Breaks.{root_broken}
 use Rattle.history_files.proofs.editing.editor_of.Goals as goal
-use Rattle.gix_object_editor.proofs.WrittenFiles.{no_files}
+use Rattle.gix_object_nodes.proofs.WrittenFiles.{no_files}
 
 pub returns-in_ok-open_editor-in-Some-clause-base : goal.returns-in_ok-open_editor-in-Some-clause-base
 returns-in_ok-open_editor-in-Some-clause-base g c = λ honest kind files base.

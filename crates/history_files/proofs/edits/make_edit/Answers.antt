@@ -1,6 +1,6 @@
 use Rattle.std.proofs.Common.{◌∙◌, ap, subst, sym, false, ◌||◌, [], ◌∷◌, length}
-use Rattle.gix_object_editor.specs.Files as unfolded
-use Rattle.gix_object_editor.specs.Files.{Path, SameFiles, HasNoneBelow}
+use Rattle.gix_object_nodes.specs.Files as unfolded
+use Rattle.gix_object_nodes.specs.Files.{Path, SameFiles, HasNoneBelow}
 use Rattle.gix_object_editor.specs.Asked.{CountsUp, front_of}
 use Rattle.gix_object_editor.specs.Editor.{IsFilled, IsFolder, LeadsInto, LeadsThrough, asked_by, files_of, names_of, leaf_of_kind}
 use Rattle.gix_object_editor.specs.Entries.{MayStand}

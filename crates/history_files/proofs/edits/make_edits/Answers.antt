@@ -1,7 +1,8 @@
 use Rattle.std.proofs.Common.{◌≡◌, ◌≤◌, ◌∙◌, ◌+◌, ap, sym, subst, refl, drop, take, get_or, length, arith, Bor, List, ℕ, [], ◌∷◌}
-use Rattle.gix_object_editor.specs.Files.{HasStored, Path}
+use Rattle.gix_object_editor.specs.Stored.{HasStored}
+use Rattle.gix_object_nodes.specs.Files.{Path}
 use Rattle.gix_object_editor.specs.Editor.{asked_by, files_of}
-use Rattle.gix_object_editor.specs.Nodes.{slots_of}
+use Rattle.gix_object_nodes.specs.Nodes.{slots_of}
 use Rattle.gix_object_editor.specs.Entries.{PassesDown}
 use Rattle.std.proofs.lemmas.Result.{err_from_is_err_and}
 use Rattle.history_files.specs.Entries.{MayBeMade, names_only, own_folders}

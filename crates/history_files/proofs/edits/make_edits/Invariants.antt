@@ -1,6 +1,7 @@
 use Rattle.std.proofs.Common.{◌≡◌, ◌≤◌, ◌<◌, ◌+◌, ◌^◌, List, [], drop, take}
 use Rattle.gix_hash_id.specs.declared.kind.Kind.{Kind}
-use Rattle.gix_object_editor.specs.Files.{Trees, HasStored}
+use Rattle.gix_object_nodes.specs.Files.{Trees}
+use Rattle.gix_object_editor.specs.Stored.{HasStored}
 use Rattle.gix_object_editor.specs.Editor.{EachEntryHas, IsAsRead, asked_by, files_of}
 use Rattle.gix_object_editor.specs.Entries.{PassesDown, Property}
 use Rattle.history_files.specs.Editing.{HavePaths}

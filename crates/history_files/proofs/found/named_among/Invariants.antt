@@ -1,6 +1,6 @@
 use Rattle.std.proofs.Common.{◌≡◌, map, drop}
 use Rattle.gix_object_entries.specs.Entry.{item_of}
-use Rattle.gix_object_editor.specs.Files.{named}
+use Rattle.gix_object_nodes.specs.Files.{named}
 use Rattle.history_files.proofs.found.named_among.Given as goal
 
 abbrev pub invariant-loop-entry : goal.invariant-loop-entry

@@ -4,8 +4,8 @@ use Rattle.gix_hash_id.specs.Id.{id_of}
 use Rattle.gix_object_entries.specs.Entry.{item_of, own_item}
 use Rattle.gix_object_entries.specs.WellFormed.{IsWellFormed}
 use Rattle.gix_object_editor.specs.Asked.{ids_from}
-use Rattle.gix_object_editor.specs.Files.{files_of_tree, no_trees}
-use Rattle.gix_object_editor.specs.Nodes.{slots_of}
+use Rattle.gix_object_nodes.specs.Files.{files_of_tree, no_trees}
+use Rattle.gix_object_nodes.specs.Nodes.{slots_of}
 use Rattle.history_files.specs.Lookups.{items_into}
 use Rattle.history_files.proofs.Unopened.{same_into}
 use Rattle.gix_object_editor.specs.Editor.{files_of}

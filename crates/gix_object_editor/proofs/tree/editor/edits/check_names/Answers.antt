@@ -1,6 +1,6 @@
 use Rattle.std.proofs.Common.{◌≢◌, ◌∙◌, ◌<◌, sym, refl, arith, length, eq-eqb}
 use Rattle.gix_object_editor.proofs.Edits.{empty_name, empty_of, full_names}
-use Rattle.gix_object_editor.proofs.Paths.{not_both}
+use Rattle.gix_object_nodes.proofs.Paths.{not_both}
 use Rattle.gix_object_editor.proofs.tree.editor.edits.check_names.Goals as goal
 
 pub returns-then-is_empty-2-clause-refused : goal.returns-then-is_empty-2-clause-refused

@@ -1,5 +1,5 @@
 use Rattle.std.proofs.Common.{◌≡◌, ◌<◌, ◌-◌, length, map, drop}
-use Rattle.gix_object_editor.specs.Nodes.{slots_of, entry_at}
+use Rattle.gix_object_nodes.specs.Nodes.{slots_of, entry_at}
 use Rattle.gix_object_editor.proofs.tree.editor.entry.entry_from.Given as goal
 
 -- the names so far lead down, and the rest to the entry

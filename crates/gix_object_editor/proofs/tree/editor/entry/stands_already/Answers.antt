@@ -1,7 +1,7 @@
 use Rattle.std.proofs.Common.{ℕ, List, [], ◌≡◌, ◌∙◌, ap, sym, arith, length}
 use Rattle.std.specs.Borrow.{Bor}
 use Rattle.std.proofs.lemmas.List.{get_or-map}
-use Rattle.gix_object_editor.specs.Nodes.{slots_of}
+use Rattle.gix_object_nodes.specs.Nodes.{slots_of}
 use Rattle.gix_object_editor.proofs.tree.editor.entry.stands_already.Goals as goal
 
 pub returns-in-Some-clause-so : goal.returns-in-Some-clause-so

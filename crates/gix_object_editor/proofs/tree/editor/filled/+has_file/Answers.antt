@@ -4,11 +4,11 @@ use Rattle.std.specs.Map.{lookup, keys_of, values_of}
 use Rattle.std.specs.Ordering.{eq_by_cmp}
 use Rattle.std.proofs.lemmas.Map.Keys.{IsDistinct-from_sorted}
 use Rattle.gix_hash_id.specs.Id.{id_of}
-use Rattle.gix_object_editor.specs.declared.tree.editor.node.Slot.{Slot}
-use Rattle.gix_object_editor.specs.Files.{Bytes}
-use Rattle.gix_object_editor.specs.Nodes.{slots_of, slot_in, child_of, child_or}
-use Rattle.gix_object_editor.proofs.Slots.{key_cmp, is_named, node_at}
-use Rattle.gix_object_editor.proofs.Loaded.{not_null, null_by_test}
+use Rattle.gix_object_nodes.specs.declared.node.Slot.{Slot}
+use Rattle.gix_object_nodes.specs.Files.{Bytes}
+use Rattle.gix_object_nodes.specs.Nodes.{slots_of, slot_in, child_of, child_or}
+use Rattle.gix_object_nodes.proofs.Slots.{key_cmp, is_named, node_at}
+use Rattle.gix_object_nodes.proofs.WrittenEntries.{not_null, null_by_test}
 use Rattle.gix_object_editor.proofs.Filled.{AreOf, NoFile, NoFiles, all_of, none_below, no_file_null, no_file_child, found_entry, found_child}
 use Rattle.gix_object_editor.proofs.tree.editor.filled.+has_file.Goals.{in-Some-child, in-None-child}
 use Rattle.gix_object_editor.proofs.tree.editor.filled.+has_file.Goals as goal

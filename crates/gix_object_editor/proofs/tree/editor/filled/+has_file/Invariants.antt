@@ -1,6 +1,6 @@
 use Rattle.std.proofs.Common.{◌≡◌, ◌∷◌, ◌-◌, None, length}
-use Rattle.gix_object_editor.specs.Files.{Bytes, Path, Trees}
-use Rattle.gix_object_editor.specs.Nodes.{slots_of, files_of_node}
+use Rattle.gix_object_nodes.specs.Files.{Bytes, Path, Trees}
+use Rattle.gix_object_nodes.specs.Nodes.{slots_of, files_of_node}
 use Rattle.gix_object_editor.proofs.Filled.{AreOf, NoFiles}
 use Rattle.gix_object_editor.proofs.tree.editor.filled.+has_file.Given as goal
 

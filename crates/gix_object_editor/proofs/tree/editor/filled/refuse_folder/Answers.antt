@@ -1,6 +1,6 @@
 use Rattle.std.proofs.Common.{[]}
 use Rattle.std.proofs.lemmas.Result.{err_from_is_err_and}
-use Rattle.gix_object_editor.specs.Nodes.{slots_of}
+use Rattle.gix_object_nodes.specs.Nodes.{slots_of}
 use Rattle.gix_object_editor.proofs.Edits.{opened_fault}
 use Rattle.gix_object_editor.proofs.Asking.{asked_whole, some_all}
 use Rattle.gix_object_editor.proofs.tree.editor.filled.refuse_folder.Goals as goal

@@ -1,10 +1,10 @@
 use Rattle.std.proofs.Common.{◌<◌, ◌≡◌, ◌∙◌, ◌++◌, ◌∷◌, [], ap, arith, true, length, suc, rules, if◌then◌else◌, ℕ, ◌-◌, take}
 use Rattle.std.specs.Prelude.{is_ok}
-use Rattle.gix_object_editor.specs.Files.{Bytes}
-use Rattle.gix_object_editor.specs.Nodes.{slots_of}
-use Rattle.gix_object_editor.proofs.Slots.{back, at_end, front_kept, without_last, all_slots, length_push}
-use Rattle.gix_object_editor.specs.Marks.{marks_of}
-use Rattle.gix_object_editor.proofs.Marked.{marks_front, mark_end, marks_taken}
+use Rattle.gix_object_nodes.specs.Files.{Bytes}
+use Rattle.gix_object_nodes.specs.Nodes.{slots_of}
+use Rattle.gix_object_nodes.proofs.Slots.{back, at_end, front_kept, without_last, all_slots, length_push}
+use Rattle.gix_object_nodes.specs.Marks.{marks_of}
+use Rattle.gix_object_nodes.proofs.NodeMarks.{marks_front, mark_end, marks_taken}
 use Rattle.gix_object_editor.proofs.tree.editor.forest.attach.Goals as goal
 
 pub returns-in-Ok-clause-others : goal.returns-in-Ok-clause-others

@@ -2,8 +2,8 @@ use Rattle.std.proofs.Common.{ℕ, length, List, ◌≡◌, Some, None, [], sym,
 use Rattle.std.specs.Borrow.{Bor}
 use Rattle.std.proofs.lemmas.List.{get_or-map}
 use Rattle.gix_hash_id.specs.Id.{id_of}
-use Rattle.gix_object_editor.specs.declared.tree.editor.node.Slot.{Slot}
-use Rattle.gix_object_editor.specs.Nodes.{slots_of, IsUnopened, IsNoFolder}
+use Rattle.gix_object_nodes.specs.declared.node.Slot.{Slot}
+use Rattle.gix_object_nodes.specs.Nodes.{slots_of, IsUnopened, IsNoFolder}
 use Rattle.gix_object_editor.specs.Refusals.{OpeningFault}
 use Rattle.gix_object_editor.proofs.Opening.{opened_none}
 use Rattle.gix_object_editor.proofs.Asking.{below_asked, below_stops}

@@ -3,15 +3,16 @@ use Rattle.std.specs.Prelude.{is_ok}
 use Rattle.std.proofs.lemmas.Result.{err_from_is_err_and}
 use Rattle.gix_hash_id.specs.Id.{id_of}
 use Rattle.gix_object_entries.specs.Mode.{is_tree_value}
-use Rattle.gix_object_editor.specs.declared.tree.editor.node.Slot.{Slot}
-use Rattle.gix_object_editor.specs.Files.{Bytes, leads_on, named}
-use Rattle.gix_object_editor.specs.Nodes.{slots_of, slot_in, leaf_in, child_of, StandsFor, IsUnopened}
-use Rattle.gix_object_editor.proofs.Loaded.{not_null, null_by_test, no_child}
+use Rattle.gix_object_nodes.specs.declared.node.Slot.{Slot}
+use Rattle.gix_object_nodes.specs.Files.{Bytes, leads_on, named}
+use Rattle.gix_object_nodes.specs.Nodes.{slots_of, slot_in, leaf_in, child_of, StandsFor, IsUnopened}
+use Rattle.gix_object_nodes.proofs.WrittenEntries.{not_null, null_by_test}
+use Rattle.gix_object_editor.proofs.Loaded.{no_child}
 use Rattle.gix_object_editor.proofs.Opening.{opened_one, opened_same, opened_none, as_function}
-use Rattle.gix_object_editor.specs.Marks.{marks_of}
+use Rattle.gix_object_nodes.specs.Marks.{marks_of}
 use Rattle.gix_object_editor.proofs.Kept.{opened_each}
 use Rattle.gix_object_editor.proofs.Marked.{marks_one, read_one, read_same}
-use Rattle.gix_object_editor.proofs.Slots.{none_past}
+use Rattle.gix_object_nodes.proofs.Slots.{none_past}
 use Rattle.gix_object_editor.specs.Asked.{unopened_into}
 use Rattle.gix_object_editor.proofs.Asking.{is_tree, isnt_tree, plain_split, folder_split, loaded_split, stops_opening, asks_one, asks_same}
 use Rattle.gix_object_editor.proofs.tree.editor.forest.open.Goals.{then-not-is_tree-via-then-not-is_tree, then-not-is_tree-via-else-not-is_tree+then-is_null}

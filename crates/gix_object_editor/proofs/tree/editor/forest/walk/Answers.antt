@@ -3,9 +3,9 @@ use Rattle.std.specs.Borrow.{Bor}
 use Rattle.std.proofs.lemmas.List.{get_or-map}
 use Rattle.std.proofs.lemmas.Result.{err_from_is_err_and}
 use Rattle.gix_hash_id.specs.Id.{id_of}
-use Rattle.gix_object_editor.specs.Nodes.{slots_of, IsNoFolder, onto, LeadsTo}
-use Rattle.gix_object_editor.specs.Marks.{marks_of}
-use Rattle.gix_object_editor.specs.Files.{Path}
+use Rattle.gix_object_nodes.specs.Nodes.{slots_of, IsNoFolder, onto, LeadsTo}
+use Rattle.gix_object_nodes.specs.Marks.{marks_of}
+use Rattle.gix_object_nodes.specs.Files.{Path}
 use Rattle.gix_object_editor.specs.Asked.{front_of, unopened_into, AsksUpTo}
 use Rattle.gix_object_editor.proofs.Asking.{front_ends, asks_none, walk_step, walk_ends, walk_stops}
 use Rattle.gix_object_editor.proofs.Opening.{opened_none, opened_then}

@@ -1,9 +1,10 @@
 use Rattle.std.proofs.Common.{length, ◌-◌, ◌<◌, ◌≤◌, ◌+◌, ◌++◌, ◌⊎◌, ◌≡◌, map, drop, false}
-use Rattle.gix_object_editor.specs.Files.{Path, Trees, HasStored}
+use Rattle.gix_object_nodes.specs.Files.{Path, Trees}
+use Rattle.gix_object_editor.specs.Stored.{HasStored, IsOpened}
 use Rattle.gix_object_editor.specs.Asked.{front_of, unopened_into, AsksUpTo}
 use Rattle.gix_object_editor.specs.Entries.{Property, EachHas, PassesDown}
-use Rattle.gix_object_editor.specs.Marks.{marks_of, AreMarksKept, AreAsRead}
-use Rattle.gix_object_editor.specs.Nodes.{slots_of, IsOpened, Way, onto, LeadsTo}
+use Rattle.gix_object_nodes.specs.Marks.{marks_of, AreMarksKept, AreAsRead}
+use Rattle.gix_object_nodes.specs.Nodes.{slots_of, Way, onto, LeadsTo}
 use Rattle.gix_object_editor.proofs.tree.editor.forest.walk.Given as goal
 
 -- the names so far lead down, through trees that were opened

@@ -2,14 +2,14 @@ use Rattle.std.proofs.Common.{â„•, inl, inr, get_or, List, Some, None, rules, â—
 use Rattle.std.specs.Borrow.{Bor}
 use Rattle.std.proofs.lemmas.Result.{err_from_is_err_and}
 use Rattle.std.proofs.lemmas.List.{get_or-map, length-drop, take_all}
-use Rattle.gix_object_editor.specs.declared.tree.editor.node.Node.{Node}
-use Rattle.gix_object_editor.specs.Nodes.{slots_of, leaf_in, files_of_node, child_or, onto, entry_from, AreNull, IsForest, IsPutIn}
-use Rattle.gix_object_editor.specs.Files.{behind}
+use Rattle.gix_object_nodes.specs.declared.node.Node.{Node}
+use Rattle.gix_object_nodes.specs.Nodes.{slots_of, leaf_in, files_of_node, child_or, onto, entry_from, AreNull, IsForest, IsPutIn}
+use Rattle.gix_object_nodes.specs.Files.{behind}
 use Rattle.gix_object_editor.specs.Laid.{laid_at}
 use Rattle.gix_object_editor.proofs.Entered.{none_met}
-use Rattle.gix_object_editor.proofs.Slots.{back, all_slots, none_past}
+use Rattle.gix_object_nodes.proofs.Slots.{back, all_slots, none_past}
 use Rattle.gix_object_editor.proofs.Ladder.{hung_forest, hung_files, hung_entries, hung_end, hung_marks, hung_ways}
-use Rattle.gix_object_editor.specs.Marks.{marks_of, AreMarksKept, AreOnPath}
+use Rattle.gix_object_nodes.specs.Marks.{marks_of, AreMarksKept, AreOnPath}
 use Rattle.std.specs.List.{Contains}
 use Rattle.gix_object_editor.specs.Entries.{EachHas}
 use Rattle.gix_object_editor.proofs.Walked.{names_length}

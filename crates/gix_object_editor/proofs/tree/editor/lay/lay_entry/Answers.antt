@@ -2,20 +2,21 @@ use Rattle.std.proofs.Common.{Some, None, ℕ, List, ◌≡◌, ◌∙◌, ◌<�
 use Rattle.std.specs.Borrow.{Bor}
 use Rattle.std.proofs.lemmas.Result.{err_from_is_err_and}
 use Rattle.std.proofs.lemmas.List.{get_or-map, length-take}
-use Rattle.gix_object_editor.specs.declared.tree.editor.node.Node.{Node}
-use Rattle.gix_object_editor.specs.Files.{Bytes, behind}
-use Rattle.gix_object_editor.specs.Nodes.{slots_of, leaf_in, files_of_node, child_of, onto, entry_from, IsForest, IsPutIn}
+use Rattle.gix_object_nodes.specs.declared.node.Node.{Node}
+use Rattle.gix_object_nodes.specs.Files.{Bytes, behind}
+use Rattle.gix_object_nodes.specs.Nodes.{slots_of, leaf_in, files_of_node, child_of, onto, entry_from, IsForest, IsPutIn}
 use Rattle.gix_object_editor.specs.Laid.{laid_at}
 use Rattle.gix_object_editor.proofs.Entered.{none_met}
-use Rattle.gix_object_editor.proofs.Slots.{back, all_slots, cut_back, none_past}
-use Rattle.gix_object_editor.proofs.Opening.{fewer}
+use Rattle.gix_object_nodes.proofs.Slots.{back, all_slots, cut_back, none_past}
+use Rattle.gix_object_nodes.proofs.Ways.{fewer}
 use Rattle.gix_object_editor.proofs.LoneName.{put_forest, put_files, put_end, put_marks, put_entries, none_behind}
-use Rattle.gix_object_editor.specs.Marks.{marks_of, AreMarksKept, AreOnPath}
+use Rattle.gix_object_nodes.specs.Marks.{marks_of, AreMarksKept, AreOnPath}
 use Rattle.gix_object_editor.proofs.Changes.{none_on_path}
 use Rattle.gix_object_editor.specs.Entries.{EachHas}
 use Rattle.gix_object_editor.proofs.Walked.{names_length}
 use Rattle.gix_object_editor.proofs.Kept.{first_fits, put_each}
-use Rattle.gix_object_editor.proofs.Marked.{marks_same, marks_taken}
+use Rattle.gix_object_editor.proofs.Marked.{marks_same}
+use Rattle.gix_object_nodes.proofs.NodeMarks.{marks_taken}
 use Rattle.gix_object_editor.proofs.tree.editor.lay.lay_entry.Goals as goal
 
 pub returns-in_err-put_at-clause-forest : goal.returns-in_err-put_at-clause-forest

@@ -1,6 +1,6 @@
 use Rattle.std.proofs.Common.{ℕ, inl, inr, List, ◌≡◌, ◌∙◌, ◌<◌, ◌++◌, ◌∷◌, [], ap, sym, subst, arith, rules, length, true, get_or, drop}
 use Rattle.std.specs.Prelude.{is_ok}
-use Rattle.gix_object_editor.specs.declared.tree.editor.node.Node.{Node}
+use Rattle.gix_object_nodes.specs.declared.node.Node.{Node}
 use Rattle.gix_hash_id.specs.Id.{id_of}
 use Rattle.gix_object_entries.specs.ModeText.{mode_of}
 use Rattle.std.specs.List.{Contains}
@@ -8,18 +8,17 @@ use Rattle.gix_object_editor.specs.Asked.{front_of}
 use Rattle.gix_object_editor.specs.Entries.{EachHas, MayStand, made_leaf}
 use Rattle.gix_object_editor.proofs.Asking.{front_pushed}
 use Rattle.gix_object_editor.proofs.Kept.{unless_empty, may_stand_more, each_more_has, made_each}
-use Rattle.gix_object_editor.specs.Files.{Bytes, Path, Leaf, is_null, put}
-use Rattle.gix_object_editor.specs.Nodes.{slots_of, files_of_node, entry_from, child_of, onto, AreNull, IsForest, LeadsTo, IsPutIn}
+use Rattle.gix_object_nodes.specs.Files.{Bytes, Path, Leaf, is_null, put, behind}
+use Rattle.gix_object_nodes.specs.Nodes.{slots_of, files_of_node, entry_from, child_of, onto, AreNull, IsForest, LeadsTo, IsPutIn}
 use Rattle.gix_object_editor.specs.Laid.{laid_at, made_at}
-use Rattle.gix_object_editor.specs.Files.{behind}
 use Rattle.gix_object_editor.proofs.Entered.{none_met, made_then, names_drop}
-use Rattle.gix_object_editor.proofs.Paths.{onto-append}
+use Rattle.gix_object_nodes.proofs.Paths.{onto-append}
 use Rattle.gix_object_editor.proofs.Cuts.{null_itself}
-use Rattle.gix_object_editor.proofs.Slots.{back}
+use Rattle.gix_object_nodes.proofs.Slots.{back}
 use Rattle.gix_object_editor.proofs.Edits.{less_forest}
 use Rattle.gix_object_editor.proofs.Walked.{names, names_length}
 use Rattle.gix_object_editor.proofs.Folders.{names_pushed, none_below, made_leads, made_files, taken_entries, taken_link, taken_marks, taken_ways, two_long, same_first_name}
-use Rattle.gix_object_editor.specs.Marks.{marks_of, AreMarksKept, AreOnPath}
+use Rattle.gix_object_nodes.specs.Marks.{marks_of, AreMarksKept, AreOnPath}
 use Rattle.gix_object_editor.proofs.tree.editor.lay.make_folders.Goals as goal
 
 pub returns-clause-forest : goal.returns-clause-forest

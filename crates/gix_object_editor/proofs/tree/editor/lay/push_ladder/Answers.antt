@@ -2,17 +2,17 @@ use Rattle.std.proofs.Common.{false, refl, get_or, ◌≤◌, add-one, inl, inr,
 use Rattle.std.specs.Prelude.{is_ok}
 use Rattle.std.specs.Borrow.{Bor}
 use Rattle.std.proofs.lemmas.List.{get_or-map}
-use Rattle.gix_object_editor.specs.declared.tree.editor.node.Node.{Node}
-use Rattle.gix_object_editor.specs.declared.tree.editor.node.Slot.{Slot}
-use Rattle.gix_object_editor.specs.Files.{Bytes}
-use Rattle.gix_object_editor.specs.Nodes.{slots_of, slot_in, child_of, child_or, leaf_in}
+use Rattle.gix_object_nodes.specs.declared.node.Node.{Node}
+use Rattle.gix_object_nodes.specs.declared.node.Slot.{Slot}
+use Rattle.gix_object_nodes.specs.Files.{Bytes}
+use Rattle.gix_object_nodes.specs.Nodes.{slots_of, slot_in, child_of, child_or, leaf_in}
 use Rattle.gix_hash_id.specs.Id.{id_of}
 use Rattle.gix_object_editor.specs.Entries.{made_leaf}
 use Rattle.gix_object_editor.proofs.Kept.{only_there, ap_leaf}
 use Rattle.std.proofs.lemmas.Bool.{cases_lt, cases_order}
-use Rattle.gix_object_editor.specs.Marks.{marks_of, mark_below, rung_parent}
-use Rattle.gix_object_editor.proofs.Marked.{marks_front, mark_end}
-use Rattle.gix_object_editor.proofs.Slots.{at_end, front_kept, length_push, none_past}
+use Rattle.gix_object_nodes.specs.Marks.{marks_of, mark_below, rung_parent}
+use Rattle.gix_object_nodes.proofs.NodeMarks.{marks_front, mark_end}
+use Rattle.gix_object_nodes.proofs.Slots.{at_end, front_kept, length_push, none_past}
 use Rattle.gix_object_editor.proofs.Walked.{names, names_length}
 use Rattle.gix_object_editor.proofs.Ladder.{one_rung_more}
 use Rattle.gix_object_editor.proofs.tree.editor.lay.push_ladder.Goals.{then-i-names, else-i-names}

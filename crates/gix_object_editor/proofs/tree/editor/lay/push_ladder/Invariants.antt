@@ -1,12 +1,12 @@
 use Rattle.std.proofs.Common.{Some, ◌≤◌, ◌⊎◌, ℕ, ◌≡◌, ◌<◌, ◌+◌, length, map}
-use Rattle.gix_object_editor.specs.Files.{Bytes}
-use Rattle.gix_object_editor.specs.Nodes.{slots_of, leaf_in}
+use Rattle.gix_object_nodes.specs.Files.{Bytes}
+use Rattle.gix_object_nodes.specs.Nodes.{slots_of, leaf_in}
 use Rattle.gix_object_editor.specs.Laid.{IsRung}
 use Rattle.std.specs.List.{Contains}
 use Rattle.gix_hash_id.specs.Id.{id_of}
-use Rattle.gix_object_editor.specs.declared.tree.editor.node.Slot.{Slot}
+use Rattle.gix_object_nodes.specs.declared.node.Slot.{Slot}
 use Rattle.gix_object_editor.specs.Entries.{made_leaf}
-use Rattle.gix_object_editor.specs.Marks.{marks_of, mark_below, rung_parent}
+use Rattle.gix_object_nodes.specs.Marks.{marks_of, mark_below, rung_parent}
 use Rattle.gix_object_editor.proofs.tree.editor.lay.push_ladder.Given as goal
 
 -- the names so far have a node each

@@ -2,9 +2,9 @@ use Rattle.std.proofs.Common.{◌≡◌, ◌∙◌, ◌<◌, ap, sym, refl, arit
 use Rattle.gix_object_entries.specs.Entry.{item_of}
 use Rattle.gix_object_entries.specs.ModeText.{mode_of}
 use Rattle.gix_hash_id.specs.Id.{Id}
-use Rattle.gix_object_editor.specs.declared.tree.editor.node.Slot.{Slot}
-use Rattle.gix_object_editor.specs.Files.{Leaf, leaf_of}
-use Rattle.gix_object_editor.specs.Nodes.{slot_in, leaf_in}
+use Rattle.gix_object_nodes.specs.declared.node.Slot.{Slot}
+use Rattle.gix_object_nodes.specs.Files.{Leaf, leaf_of}
+use Rattle.gix_object_nodes.specs.Nodes.{slot_in, leaf_in}
 use Rattle.gix_object_editor.proofs.Loaded.{absent_before, stands_more}
 use Rattle.gix_object_editor.proofs.tree.editor.load.node_of.Goals as goal
 

@@ -1,10 +1,10 @@
 use Rattle.std.proofs.Common.{◌≡◌, ◌∙◌, inl, inr, ap, sym, subst, length}
-use Rattle.gix_object_editor.specs.Nodes.{slots_of, child_of}
-use Rattle.gix_object_editor.specs.Marks.{marks_of, IsIdle, AreMarkedBut}
+use Rattle.gix_object_nodes.specs.Nodes.{slots_of, child_of}
+use Rattle.gix_object_nodes.specs.Marks.{marks_of, IsIdle, AreMarkedBut}
 use Rattle.gix_object_editor.proofs.Opening.{as_function}
 use Rattle.gix_object_editor.proofs.Edits.{less_forest}
 use Rattle.gix_object_editor.proofs.Marked.{fewer_marked, marked_for, idle_marked}
-use Rattle.gix_object_editor.proofs.Paths.{by_test}
+use Rattle.gix_object_nodes.proofs.Paths.{by_test}
 use Rattle.gix_object_editor.proofs.Folders.{taken_link}
 use Rattle.gix_object_editor.proofs.tree.editor.marks.cut.Goals as goal
 

@@ -1,5 +1,5 @@
 use Rattle.std.proofs.Common.{◌∙◌, ap, Some, None}
-use Rattle.gix_object_editor.specs.Nodes.{child_or, child_of}
+use Rattle.gix_object_nodes.specs.Nodes.{child_or, child_of}
 use Rattle.gix_object_editor.proofs.tree.editor.marks.is_more.Goals as goal
 
 pub is_changed-requires : goal.is_changed-requires

@@ -1,6 +1,6 @@
 use Rattle.std.proofs.Common.{◌∙◌, ap, sym, true}
-use Rattle.gix_object_editor.specs.Marks.{Mark, mark_below}
-use Rattle.gix_object_editor.proofs.Marked.{slots_set, mark_here, mark_set_here, mark_set_other}
+use Rattle.gix_object_nodes.specs.Marks.{Mark, mark_below}
+use Rattle.gix_object_nodes.proofs.NodeMarks.{slots_set, mark_here, mark_set_here, mark_set_other}
 use Rattle.gix_object_editor.proofs.tree.editor.marks.mark_at.Goals as goal
 
 pub returns-clause-slots : goal.returns-clause-slots

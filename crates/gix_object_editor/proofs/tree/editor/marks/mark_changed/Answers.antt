@@ -1,6 +1,6 @@
 use Rattle.std.proofs.Common.{◌≡◌, ◌∙◌, ◌<◌, refl, ap, sym, subst, arith, length}
-use Rattle.gix_object_editor.specs.Nodes.{slots_of}
-use Rattle.gix_object_editor.specs.Marks.{marks_of}
+use Rattle.gix_object_nodes.specs.Nodes.{slots_of}
+use Rattle.gix_object_nodes.specs.Marks.{marks_of}
 use Rattle.gix_object_editor.proofs.Marked.{IsClimbing, climb_first, climb_more, climb_end}
 use Rattle.gix_object_editor.proofs.tree.editor.marks.mark_changed.Goals as goal
 

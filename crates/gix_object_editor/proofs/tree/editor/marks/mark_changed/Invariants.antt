@@ -1,7 +1,7 @@
 use Rattle.std.proofs.Common.{ℕ, ◌≡◌, ◌<◌, length}
-use Rattle.gix_object_editor.specs.Files.{Bytes}
-use Rattle.gix_object_editor.specs.Nodes.{slots_of}
-use Rattle.gix_object_editor.specs.Marks.{marks_of}
+use Rattle.gix_object_nodes.specs.Files.{Bytes}
+use Rattle.gix_object_nodes.specs.Nodes.{slots_of}
+use Rattle.gix_object_nodes.specs.Marks.{marks_of}
 use Rattle.gix_object_editor.proofs.Marked.{IsClimbing}
 use Rattle.gix_object_editor.proofs.tree.editor.marks.mark_changed.Given as goal
 

@@ -1,6 +1,6 @@
 use Rattle.std.proofs.Common.{ap, sym}
-use Rattle.gix_object_editor.specs.Marks.{Mark}
-use Rattle.gix_object_editor.proofs.Marked.{mark_here}
+use Rattle.gix_object_nodes.specs.Marks.{Mark}
+use Rattle.gix_object_nodes.proofs.NodeMarks.{mark_here}
 use Rattle.gix_object_editor.proofs.tree.editor.marks.parent_at.Goals as goal
 
 pub returns : goal.returns

@@ -1,7 +1,7 @@
 use Rattle.std.proofs.Common.{map, take}
 use Rattle.gix_object_entries.specs.Entry.{own_item}
-use Rattle.gix_object_editor.specs.Files.{Bytes, named}
-use Rattle.gix_object_editor.specs.Nodes.{slot_in, StandsFor}
+use Rattle.gix_object_nodes.specs.Files.{Bytes, named}
+use Rattle.gix_object_nodes.specs.Nodes.{slot_in, StandsFor}
 use Rattle.gix_object_editor.proofs.tree.editor.root.node_of.Given as goal
 
 -- the entries so far stand in the node

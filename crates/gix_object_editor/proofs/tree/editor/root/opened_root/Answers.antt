@@ -1,16 +1,16 @@
 use Rattle.std.proofs.Common.{◌≡◌, ◌∙◌, ◌≤◌, ◌++◌, ◌∷◌, [], ap, sym, subst, arith, length, rules, true, List, if◌then◌else◌, map}
 use Rattle.std.specs.Prelude.{is_ok}
 use Rattle.gix_object_entries.specs.Entry.{own_item}
-use Rattle.gix_object_editor.specs.declared.tree.editor.node.Node.{Node}
-use Rattle.gix_object_editor.specs.Files.{named}
-use Rattle.gix_object_editor.specs.Nodes.{slots_of, slot_in, child_of, files_of_node, entry_from, StandsFor, IsForest}
+use Rattle.gix_object_nodes.specs.declared.node.Node.{Node}
+use Rattle.gix_object_nodes.specs.Files.{named}
+use Rattle.gix_object_nodes.specs.Nodes.{slots_of, slot_in, child_of, files_of_node, entry_from, StandsFor, IsForest}
 use Rattle.gix_object_editor.proofs.Entered.{none_met, tree_entries}
-use Rattle.gix_object_editor.specs.Marks.{Mark, marks_of, AreMarked}
+use Rattle.gix_object_nodes.specs.Marks.{Mark, marks_of, AreMarked}
 use Rattle.gix_object_editor.specs.Entries.{EachHas}
 use Rattle.gix_object_editor.proofs.Kept.{one_each}
 use Rattle.gix_object_editor.proofs.Marked.{one_closed, one_unchanged, one_marked}
 use Rattle.gix_object_editor.proofs.Loaded.{fresh_of, one_tree, tree_files}
-use Rattle.gix_object_editor.proofs.Slots.{none_past}
+use Rattle.gix_object_nodes.proofs.Slots.{none_past}
 use Rattle.gix_object_editor.proofs.tree.editor.root.opened_root.Goals as goal
 
 pub returns-clause-forest : goal.returns-clause-forest

@@ -1,6 +1,6 @@
 use Rattle.std.proofs.Common.{◌∙◌, ap, sym}
 use Rattle.gix_object_editor.specs.Editor.{names_of}
-use Rattle.gix_object_editor.specs.Nodes.{slots_of, entry_at}
+use Rattle.gix_object_nodes.specs.Nodes.{slots_of, entry_at}
 use Rattle.gix_object_editor.proofs.Walked.{names}
 use Rattle.gix_object_editor.proofs.Gotten.{got_below, got_file_below, got_entry_below}
 use Rattle.gix_object_editor.proofs.Folders.{entry_below}

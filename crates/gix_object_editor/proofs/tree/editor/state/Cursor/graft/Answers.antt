@@ -2,7 +2,7 @@ use Rattle.std.proofs.Common.{◌≡◌, ◌++◌}
 use Rattle.gix_hash_id.specs.Id.{id_of}
 use Rattle.gix_object_editor.specs.declared.tree.editor.error.Error.{Error}
 use Rattle.gix_object_editor.specs.declared.tree.editor.error.Error.TheVariants.{EmptyTree}
-use Rattle.gix_object_editor.specs.Files.{IsEmptyTree, NamesAreFull}
+use Rattle.gix_object_nodes.specs.Files.{IsEmptyTree, NamesAreFull}
 use Rattle.gix_object_editor.specs.Editor.{files_of, names_of, leaf_of_kind, LeadsThrough, EditFault}
 use Rattle.gix_object_editor.proofs.Grafted.{folder_put, file_put, or_other, not_so}
 use Rattle.gix_object_editor.proofs.tree.editor.state.Cursor.graft.Goals as goal

@@ -1,9 +1,10 @@
 use Rattle.std.proofs.Common.{List, inl, inr, ap, sym, ◌∙◌, subst, OnOk, IfErr}
 use Rattle.gix_object_editor.specs.Editor.{files_of, entry_over, IsMadeAt, names_of, LeadsThrough, EditFault}
-use Rattle.gix_object_editor.specs.Files.{Trees, HasStored, SameFiles, removed}
+use Rattle.gix_object_nodes.specs.Files.{Trees, SameFiles, removed}
+use Rattle.gix_object_editor.specs.Stored.{HasStored}
 use Rattle.gix_object_editor.proofs.Folders.{below_base}
 use Rattle.gix_hash_id.specs.Id.{Id}
-use Rattle.gix_object_editor.specs.Nodes.{slots_of}
+use Rattle.gix_object_nodes.specs.Nodes.{slots_of}
 use Rattle.gix_object_editor.specs.Asked.{front_of, Asks}
 use Rattle.gix_object_editor.proofs.Asking.{asked_below}
 use Rattle.gix_object_editor.proofs.tree.editor.state.Cursor.remove.Goals as goal

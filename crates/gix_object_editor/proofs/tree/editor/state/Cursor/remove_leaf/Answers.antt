@@ -1,10 +1,11 @@
 use Rattle.std.proofs.Common.{List, inl, inr, ap, sym, ◌++◌, ◌∙◌, subst, OnOk, IfErr}
 use Rattle.gix_object_editor.specs.Editor.{files_of, entry_over, IsMadeAt, names_of, LeadsInto, LeafFault, IsFilled, IsFolder}
-use Rattle.gix_object_editor.specs.Files.{Trees, HasStored, SameFiles, HasNoneBelow, removed}
+use Rattle.gix_object_nodes.specs.Files.{Trees, SameFiles, HasNoneBelow, removed}
+use Rattle.gix_object_editor.specs.Stored.{HasStored}
 use Rattle.gix_object_editor.proofs.Folders.{below_base}
 use Rattle.gix_object_editor.proofs.Leafs.{leaf_fault_folder}
 use Rattle.gix_hash_id.specs.Id.{Id}
-use Rattle.gix_object_editor.specs.Nodes.{slots_of}
+use Rattle.gix_object_nodes.specs.Nodes.{slots_of}
 use Rattle.gix_object_editor.specs.Asked.{Asks}
 use Rattle.gix_object_editor.proofs.Asking.{asked_below}
 use Rattle.gix_object_editor.proofs.tree.editor.state.Cursor.remove_leaf.Goals as goal

@@ -1,9 +1,10 @@
 use Rattle.std.proofs.Common.{List, inl, inr, true, false, ◌≡◌, ap, sym, ◌∙◌, subst, OnOk, IfErr}
 use Rattle.gix_object_editor.specs.Editor.{files_of, entry_over, entry_met, IsMadeAt, KeepsEntries, PutsEntry, MakesFoldersAbove, ClearsEntries, IsOpenedAt, names_of, leaf_of_kind, LeadsThrough, EditFault}
-use Rattle.gix_object_editor.specs.Files.{Trees, HasStored, SameFiles, put, is_null}
+use Rattle.gix_object_nodes.specs.Files.{Trees, SameFiles, put, is_null}
+use Rattle.gix_object_editor.specs.Stored.{HasStored}
 use Rattle.gix_object_editor.proofs.Folders.{below_base}
 use Rattle.gix_hash_id.specs.Id.{Id, id_of}
-use Rattle.gix_object_editor.specs.Nodes.{slots_of}
+use Rattle.gix_object_nodes.specs.Nodes.{slots_of}
 use Rattle.gix_object_editor.specs.Asked.{front_of, Asks}
 use Rattle.gix_object_editor.proofs.Asking.{asked_below}
 use Rattle.gix_object_editor.proofs.tree.editor.state.Cursor.upsert.Goals as goal

@@ -5,18 +5,18 @@ use Rattle.std.proofs.lemmas.List.{length-drop, get_or-map}
 use Rattle.std.proofs.lemmas.Bool.{cases_eq}
 use Rattle.gix_hash_id.specs.Id.{id_of}
 use Rattle.gix_object_editor.specs.Editor.{names_of, LeadsInto, IsChanged}
-use Rattle.gix_object_editor.specs.Files.{Begins, behind, cleared}
-use Rattle.gix_object_editor.specs.Nodes.{slots_of, child_of, files_of_node, entry_from, onto, LeadsTo, IsFolderAt, IsNoFolder, IsForest, Way}
-use Rattle.gix_object_editor.specs.declared.tree.editor.node.Node.{Node}
-use Rattle.gix_object_editor.specs.Marks.{Mark, marks_of, AreMarked, AreMarkedBut, AreMarkedUp, AreMarksKept, AreAsRead, AreOnPath, IsChangedIn}
-use Rattle.gix_object_editor.proofs.Slots.{back, none_past}
-use Rattle.gix_object_editor.proofs.Paths.{onto-append, by_test}
+use Rattle.gix_object_nodes.specs.Files.{Begins, behind, cleared}
+use Rattle.gix_object_nodes.specs.Nodes.{slots_of, child_of, files_of_node, entry_from, onto, LeadsTo, IsFolderAt, IsNoFolder, IsForest, Way}
+use Rattle.gix_object_nodes.specs.declared.node.Node.{Node}
+use Rattle.gix_object_nodes.specs.Marks.{Mark, marks_of, AreMarked, AreMarkedBut, AreMarkedUp, AreMarksKept, AreAsRead, AreOnPath, IsChangedIn}
+use Rattle.gix_object_nodes.proofs.Slots.{back, none_past}
+use Rattle.gix_object_nodes.proofs.Paths.{onto-append, by_test}
 use Rattle.gix_object_editor.proofs.Cuts.{made_as_read, made_hollow, same_marks, both_longer, none_of, more_names}
 use Rattle.gix_object_editor.proofs.Standing.{laid_links, nothing_there, name_left}
 use Rattle.gix_object_editor.proofs.Entered.{none_met, made_keeps, no_folder_at_end, rest_dropped}
 use Rattle.gix_object_editor.proofs.Raised.{made_folders, stood_folders}
 use Rattle.gix_object_editor.specs.Laid.{made_at}
-use Rattle.gix_object_editor.proofs.Ways.{way_above}
+use Rattle.gix_object_editor.proofs.SlotChange.{way_above}
 use Rattle.gix_object_editor.proofs.Marked.{opened_marked, laid_marked, read_same, marks_then}
 use Rattle.gix_object_editor.proofs.Changes.{opened_changed, failed_changed, laid_as_read, laid_changed, opened_same_changed, SameChanged, one_more_left, begins}
 use Rattle.gix_object_editor.proofs.Opening.{opened_then, as_function}

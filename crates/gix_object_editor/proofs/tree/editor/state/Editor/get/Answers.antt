@@ -1,6 +1,6 @@
 use Rattle.std.proofs.Common.{[], refl, sym, ap, ◌∙◌}
 use Rattle.gix_object_editor.specs.Editor.{names_of}
-use Rattle.gix_object_editor.specs.Nodes.{slots_of, entry_at}
+use Rattle.gix_object_nodes.specs.Nodes.{slots_of, entry_at}
 use Rattle.gix_object_editor.proofs.Gotten.{got_file, got_there, got_entry}
 use Rattle.gix_object_editor.proofs.tree.editor.state.Editor.get.Goals as goal
 

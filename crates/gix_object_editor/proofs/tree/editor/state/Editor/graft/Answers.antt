@@ -1,4 +1,3 @@
-use Rattle.std.proofs.Common.{◌≡◌}
 use Rattle.gix_object_editor.specs.Editor.{files_of, names_of, leaf_of_kind}
 use Rattle.gix_object_editor.proofs.Grafted.{folder_put, file_put}
 use Rattle.gix_object_editor.proofs.tree.editor.state.Editor.graft.Goals as goal

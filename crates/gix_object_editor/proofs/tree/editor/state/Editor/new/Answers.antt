@@ -1,5 +1,5 @@
-use Rattle.gix_object_editor.specs.Nodes.{slots_of}
-use Rattle.gix_object_editor.specs.Marks.{marks_of}
+use Rattle.gix_object_nodes.specs.Nodes.{slots_of}
+use Rattle.gix_object_nodes.specs.Marks.{marks_of}
 use Rattle.gix_object_editor.proofs.Marked.{read_none, not_yet}
 use Rattle.gix_object_editor.proofs.tree.editor.state.Editor.new.Goals as goal
 

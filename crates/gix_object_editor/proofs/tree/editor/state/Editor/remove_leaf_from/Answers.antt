@@ -2,22 +2,21 @@ use Rattle.std.proofs.Common.{refl, None, ◌⊎◌, inl, true, false, ℕ, List
 use Rattle.std.specs.Borrow.{Bor}
 use Rattle.std.proofs.lemmas.Result.{err_from_is_err_and}
 use Rattle.gix_object_editor.specs.declared.tree.editor.state.Editor.{Editor}
-use Rattle.gix_object_editor.specs.Editor.{files_of, entry_over, names_of, LeadsInto, IsFolder}
-use Rattle.gix_object_editor.specs.Nodes.{slots_of, entry_from, files_of_node, child_of, onto, Way, LeadsTo, AreFilled, IsForest}
-use Rattle.gix_object_editor.specs.Editor.{IsChanged, IsAsRead, IsAbove, EachEntryHas}
-use Rattle.gix_object_editor.specs.Files.{Bytes}
-use Rattle.gix_object_editor.specs.Marks.{marks_of, AreMarked, AreAsRead, IsMarkedFor, IsIdle, IsChangedIn}
+use Rattle.gix_object_editor.specs.Editor.{files_of, entry_over, names_of, LeadsInto, IsFolder, IsChanged, IsAsRead, IsAbove, EachEntryHas}
+use Rattle.gix_object_nodes.specs.Nodes.{slots_of, entry_from, files_of_node, child_of, onto, Way, LeadsTo, AreFilled, IsForest}
+use Rattle.gix_object_nodes.specs.Files.{Bytes}
+use Rattle.gix_object_nodes.specs.Marks.{marks_of, AreMarked, AreAsRead, IsMarkedFor, IsIdle, IsChangedIn}
 use Rattle.gix_object_editor.proofs.Marked.{opened_marked, marks_then}
 use Rattle.gix_object_editor.proofs.Changes.{opened_changed, cut_as_read, cut_changed, cut_unmarked, opened_same_changed}
 use Rattle.gix_object_editor.proofs.Standing.{nothing_idle, made_there}
 use Rattle.gix_object_editor.proofs.Entered.{none_met, cut_entries, removes_entries, removes_no_entries}
 use Rattle.gix_object_editor.specs.Entries.{EachHas}
 use Rattle.gix_object_editor.proofs.Kept.{cut_each}
-use Rattle.gix_object_editor.proofs.Slots.{back}
+use Rattle.gix_object_nodes.proofs.Slots.{back}
 use Rattle.gix_object_editor.proofs.Opening.{opened_then}
 use Rattle.gix_object_editor.proofs.Edits.{two_names, removes_at, removes_none, none_below_path, less_forest, stopped_tree, leads_into, leaf_fault, folder_fault, last_split}
 use Rattle.gix_object_editor.proofs.Walked.{names, last_name, leads_kept}
-use Rattle.gix_object_editor.proofs.Ways.{way_kept}
+use Rattle.gix_object_editor.proofs.SlotChange.{way_kept}
 use Rattle.gix_object_editor.proofs.Folders.{still_way}
 use Rattle.gix_object_editor.specs.Asked.{unopened_into, AsksAll}
 use Rattle.gix_object_editor.proofs.Asking.{into_asked, into_stops, walk_into_stops, some_names, late_folder, front_whole}

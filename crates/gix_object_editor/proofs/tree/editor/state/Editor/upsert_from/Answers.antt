@@ -3,14 +3,14 @@ use Rattle.std.proofs.lemmas.List.{length-drop, get_or-map}
 use Rattle.gix_hash_id.specs.Id.{id_of}
 use Rattle.gix_object_entries.specs.Mode.{kind_value}
 use Rattle.gix_object_entries.specs.ModeText.{mode_of}
-use Rattle.gix_object_editor.specs.declared.tree.editor.node.Node.{Node}
-use Rattle.gix_object_editor.specs.Editor.{IsChanged, IsAbove}
-use Rattle.gix_object_editor.specs.Marks.{marks_of, AreMarked, AreMarkedBut, AreMarkedUp, AreAsRead, AreOnPath, IsMarkedFor, IsIdle, IsChangedIn}
+use Rattle.gix_object_nodes.specs.declared.node.Node.{Node}
+use Rattle.gix_object_editor.specs.Editor.{IsChanged, IsAbove, names_of, leaf_of_kind, LeadsThrough}
+use Rattle.gix_object_nodes.specs.Marks.{marks_of, AreMarked, AreMarkedBut, AreMarkedUp, AreAsRead, AreOnPath, IsMarkedFor, IsIdle, IsChangedIn}
 use Rattle.gix_object_editor.proofs.Opening.{as_function}
 use Rattle.std.specs.Borrow.{Bor}
 use Rattle.gix_object_editor.specs.Entries.{EachHas, MayStand}
 use Rattle.gix_object_editor.proofs.Kept.{may_drop, cut_each}
-use Rattle.gix_object_editor.proofs.Slots.{back}
+use Rattle.gix_object_nodes.proofs.Slots.{back}
 use Rattle.gix_object_editor.proofs.Marked.{opened_marked, laid_marked, read_same}
 use Rattle.gix_object_editor.proofs.Changes.{opened_changed, failed_changed, laid_as_read, laid_changed, some_left, cut_as_read, cut_changed_on, cut_unmarked, opened_same_changed}
 use Rattle.gix_object_editor.proofs.Standing.{nothing_idle, made_there, already_there, name_left, last_left}
@@ -18,16 +18,15 @@ use Rattle.gix_object_editor.proofs.Entered.{none_met, cut_entries, cut_keeps, l
 use Rattle.gix_object_editor.proofs.Raised.{laid_stands, already_stands, cut_gone, cut_way, laid_folders, none_above, none_after}
 use Rattle.gix_object_editor.specs.Laid.{laid_at}
 use Rattle.gix_object_editor.proofs.Cuts.{nulls_at, more_names}
-use Rattle.gix_object_editor.proofs.WrittenEntries.{null_test}
-use Rattle.gix_object_editor.specs.Files.{Bytes, Path, Leaf, put, is_null, behind, removed, entry_into}
+use Rattle.gix_object_nodes.proofs.WrittenEntries.{null_test}
+use Rattle.gix_object_nodes.specs.Files.{Bytes, Path, Leaf, put, is_null, behind, removed, entry_into}
 use Rattle.std.proofs.lemmas.Result.{err_from_is_err_and}
-use Rattle.gix_object_editor.specs.Editor.{names_of, leaf_of_kind, LeadsThrough}
-use Rattle.gix_object_editor.specs.Nodes.{slots_of, files_of_node, entry_from, child_of, onto, LeadsTo, IsFolderAt, IsForest, IsNoFolder, IsEntry, Way}
+use Rattle.gix_object_nodes.specs.Nodes.{slots_of, files_of_node, entry_from, child_of, onto, LeadsTo, IsFolderAt, IsForest, IsNoFolder, IsEntry, Way}
 use Rattle.gix_object_editor.proofs.Edits.{rest_is, first_left, upserts_at, stopped_tree, edit_fault, less_forest}
 use Rattle.gix_object_editor.proofs.LoneName.{put_files}
 use Rattle.gix_object_editor.proofs.Asking.{through_asked, through_stops, some_all}
 use Rattle.gix_object_editor.proofs.Walked.{names, names_step}
-use Rattle.gix_object_editor.proofs.Ways.{way_kept, way_above}
+use Rattle.gix_object_editor.proofs.SlotChange.{way_kept, way_above}
 use Rattle.gix_object_editor.proofs.Folders.{still_way}
 use Rattle.gix_object_editor.proofs.tree.editor.state.Editor.upsert_from.Goals as goal
 

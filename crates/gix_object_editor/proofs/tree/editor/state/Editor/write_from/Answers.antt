@@ -5,15 +5,16 @@ use Rattle.std.proofs.lemmas.List.{append-nil}
 use Rattle.gix_hash_id.specs.Id.{id_of}
 use Rattle.gix_hash_id.specs.declared.object_id.ObjectId.{ObjectId}
 use Rattle.gix_object_entries.specs.Entry.{own_item}
-use Rattle.gix_object_editor.specs.Nodes.{slots_of, slot_in, child_of, IsForest, Way, onto}
-use Rattle.gix_object_editor.specs.Writing.{ids_of, IsTreeOf}
-use Rattle.gix_object_editor.specs.Written.{HandedOut, HandsOut, StopsWriting}
-use Rattle.gix_object_editor.specs.Below.{IsHandedOutFrom}
-use Rattle.gix_object_editor.specs.Files.{Bytes}
-use Rattle.gix_object_editor.specs.Marks.{marks_of, changed_in, slots_if, due_in}
-use Rattle.gix_object_editor.proofs.Due.{due_forest, due_way}
-use Rattle.gix_object_editor.proofs.Slots.{node_at}
-use Rattle.gix_object_editor.proofs.HandedSteps.{tree_at, due_all, last_next, written}
+use Rattle.gix_object_nodes.specs.Nodes.{slots_of, slot_in, child_of, IsForest, Way, onto}
+use Rattle.gix_object_nodes.specs.Writing.{ids_of, IsTreeOf}
+use Rattle.gix_object_nodes.specs.Written.{HandedOut, HandsOut, StopsWriting}
+use Rattle.gix_object_nodes.specs.Below.{IsHandedOutFrom}
+use Rattle.gix_object_nodes.specs.Files.{Bytes}
+use Rattle.gix_object_nodes.specs.Marks.{marks_of, changed_in, slots_if, due_in}
+use Rattle.gix_object_nodes.proofs.Due.{due_forest, due_way}
+use Rattle.gix_object_nodes.proofs.Slots.{node_at}
+use Rattle.gix_object_nodes.proofs.HandedSteps.{tree_at, due_all, last_next}
+use Rattle.gix_object_editor.proofs.WrittenEditor.{written}
 use Rattle.gix_object_editor.proofs.tree.editor.state.Editor.write_from.Goals as goal
 
 pub tree_of-requires : goal.tree_of-requires

@@ -1,7 +1,0 @@
-use Rattle.std.proofs.Common.{ap, sym}
-use Rattle.gix_object_editor.specs.Marks.{Mark}
-use Rattle.gix_object_editor.proofs.Marked.{mark_here}
-use Rattle.gix_object_editor.proofs.tree.editor.marks.is_changed.Goals as goal
-
-pub returns : goal.returns
-returns c = ap (λ (x : Mark). x.changed) (sym (mark_here c.args.nodes.now c.args.at.0 c.index-nodes-at.result c.requires))

@@ -1,0 +1,10 @@
+pub mod Paths
+pub mod Slots
+pub mod Ways
+pub mod NodeMarks
+pub mod WrittenEntries
+pub mod ReachedTrees
+pub mod Due
+pub mod HandedOrder
+pub mod WrittenFiles
+pub mod HandedSteps

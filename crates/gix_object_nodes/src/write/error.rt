@@ -1,0 +1,23 @@
+//! Why the trees of an editor aren't written.
+
+ghost use Rattle.std.specs.Prelude.{◌≡◌};
+ghost use Rattle.gix_object_nodes.specs.declared.write.error.Error.TheVariants.{Memory};
+
+use std::alloc::AllocError;
+
+/// Why the trees of an editor aren't written.
+#[derive(Debug, Drop)]
+pub enum Error<E> {
+    /// The error that was answered for a tree that was handed out.
+    Out(E),
+    /// No memory is left.
+    Memory,
+}
+
+impl<E> From<AllocError> for Error<E> {
+    ghost from_gives = { λ _ given. given ≡ Memory };
+
+    fn from(_: AllocError) -> Error<E> {
+        Error::Memory
+    }
+}
