@@ -26,7 +26,7 @@ use Rattle.gix_traverse_commit_known.proofs.Ending.{times_one}
 use Rattle.gix_traverse_commit_graph.proofs.Lists.{at_from_contains, at_push, none_at_nil}
 use Rattle.gix_traverse_commit_known.proofs.Pending.{from_map, in_head, in_tail, nothing_in}
 use Rattle.gix_traverse_commit_known.proofs.Timely.{in_nil}
-use Rattle.gix_traverse_commit_known.proofs.Waiting.{never_less, older_from_less, same_pending, still_waits}
+use Rattle.gix_traverse_commit_known.proofs.WaitingLemmas.{never_less, older_from_less, same_pending, still_waits}
 use Rattle.gix_traverse_commit_known.proofs.Simply.{in_push}
 
 -- each id that had a node has it still

@@ -4,7 +4,7 @@ pub mod Keeping
 pub mod Painting
 pub mod NodeLemmas
 pub mod Pending
-pub mod Waiting
+pub mod WaitingLemmas
 pub mod Ending
 pub mod Simply
 pub mod Timely

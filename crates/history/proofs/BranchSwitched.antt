@@ -1,18 +1,15 @@
--- HEAD names another branch: why not, what stands meanwhile, and what is left.
-use Rattle.std.proofs.Common.{◌≡◌, ◌⊎◌, inl, inr, ℕ, Bool, true, false, cond, not, ◌&&◌, ◌||◌, List, [], ◌∷◌, ◌++◌, refl, sym, ◌∙◌, ap, subst, Option, None, Some, bytes_eq, codes}
-use Rattle.std.specs.Prelude.{Result, Ok, Err, Vec}
+-- HEAD on its way to another branch, and what it leaves.
+use Rattle.std.proofs.Common.{◌≡◌, ◌⊎◌, inl, inr, ℕ, true, List, [], ◌∷◌, ◌++◌, refl, sym, ◌∙◌, ap, subst, Option, None, Some, bytes_eq, codes}
+use Rattle.std.specs.Prelude.{Result, Err, Vec}
 use Rattle.std.specs.declared.alloc.Global.{Global}
 use Rattle.std.specs.FinMap.{contains_key, get}
 use Rattle.std.proofs.lemmas.List.{append-nil}
 use Rattle.gix_ref_file.specs.Tree.{Tree, Node, file, folder, is_folder}
 use Rattle.gix_ref_file.specs.History.{History, Adds}
 use Rattle.gix_ref_file.specs.declared.files.FileError.{FileError}
-use Rattle.gix_ref_file.specs.declared.files.FileError.TheVariants as files
 use Rattle.gix_ref_file.proofs.Histories.{adds_both, adds_weaker}
 use Rattle.gix_ref_file.proofs.Rooted.{adds_now}
-use Rattle.history_model.specs.Bytes.{Bytes, begins}
-use Rattle.history_model.specs.Forms.{heads_front, is_branch, is_name, is_private}
-use Rattle.history_model.specs.Repository as plain
+use Rattle.history_model.specs.Bytes.{Bytes}
 use Rattle.history_model.specs.Commands.{Switch}
 use Rattle.history_model.specs.Meaning.{after}
 use Rattle.history_model.specs.Causes.{first_cause}
@@ -25,9 +22,6 @@ use Rattle.history_model.specs.Recovery.{recovered_objects}
 use Rattle.history_model.specs.StandsFor.{head_text}
 use Rattle.history_model.specs.Wholeness.{IsSound}
 use Rattle.history_model.specs.declared.Cause.{Cause}
-use Rattle.history_model.specs.declared.Cause.TheVariants.{BadName, PrivateName, NothingMoves}
-use Rattle.history_model.specs.declared.Fault.TheVariants.{Memory, File, IdTaken}
-use Rattle.history_model.proofs.WholePaths.{begins_parts}
 use Rattle.history_model.proofs.WholeSteps.{steps_keep_sound}
 use Rattle.history_model.proofs.WholeLists.{either, same_text}
 use Rattle.history_steps.specs.Passing.{HoldsBetween}
@@ -36,58 +30,28 @@ use Rattle.history_steps.specs.TreeHalves.{HoldsNames, HoldsValues}
 use Rattle.history_steps.proofs.HeadSwitched.{switches_pass, switches_stand}
 use Rattle.history_steps.proofs.PassedNames.{moving_stops, nothing_stops, values_recover}
 use Rattle.history_steps.proofs.TreePuts.{halves_stand}
-use Rattle.history_store.specs.Creation.{SameFolders, head_lock}
-use Rattle.history_store.specs.Face.{ids_of_objects}
-use Rattle.history_store.specs.Packing.{KeepsRecords}
-use Rattle.history_store.specs.References.{HasHeadRoom, MayBeWritten, PutsBeside}
+use Rattle.history_folders.specs.Folders.{SameFolders}
+use Rattle.history_names.specs.References.{head_lock}
+use Rattle.history_objects.specs.Face.{ids_of_objects}
+use Rattle.history_names.specs.Packing.{KeepsRecords}
+use Rattle.history_names.specs.References.{HasHeadRoom, MayBeWritten, PutsBeside}
 use Rattle.history.specs.Acts.{Acts}
 use Rattle.gix_traverse_commit_known.specs.Told.{rows_of}
 use Rattle.gix_traverse_commit_graph.specs.declared.rows.Row.{Row}
-use Rattle.history.specs.Face.{objects_part, names_part, rows_in}
-use Rattle.history.specs.Indexed.{AgreeRows}
-use Rattle.history.specs.Faults.{file_fault}
-use Rattle.history.specs.Halves.{names_tree, objects_tree}
+use Rattle.history_repository.specs.Face.{objects_part, names_part, rows_in}
+use Rattle.history_repository.specs.KeptRows.{AgreeRows}
+use Rattle.history_repository.specs.Faults.{file_fault}
+use Rattle.history_plans.specs.Halves.{names_tree, objects_tree}
 use Rattle.history.specs.Moments.{GoesLater, StoodOnTheWay}
-use Rattle.history.specs.Stands.{Stands, pair_of}
-use Rattle.history.specs.declared.repository.Repository.{Repository}
-use Rattle.history.specs.declared.stopped.Stopped.{Stopped}
-use Rattle.history.specs.declared.stopped.Stopped.TheVariants.{Refused, Fault}
-use Rattle.history.proofs.Commits.{name_formed}
-use Rattle.history.proofs.MovedNames.{no_lock_stands}
+use Rattle.history_repository.specs.Stands.{Stands, pair_of}
+use Rattle.history_repository.specs.declared.repository.Repository.{Repository}
+use Rattle.history_repository.specs.declared.stopped.Stopped.{Stopped}
+use Rattle.history_repository.specs.declared.stopped.Stopped.TheVariants.{Refused, Fault}
+use Rattle.history_plans.proofs.PartsStand.{name_formed}
+use Rattle.history_plans.proofs.NameWays.{no_lock_stands}
 use Rattle.history.proofs.Stood.{adds_later, adds_same, stands_now, stood_between_then, stood_then}
-
--- ---- causes
-
-abbrev by_tests : Bool → Bool → Bool → Option Cause
-by_tests bad private same = cond bad (Some BadName) (cond private (Some PrivateName) (cond same (Some NothingMoves) None))
-
-module _ (r : plain.Repository) (name : Bytes) where
-  causes : first_cause r (Switch name) ≡ by_tests ((not (is_name name) || false) || not (begins heads_front name)) (is_private name || false) (bytes_eq name r.branch)
-  causes = refl
-
-  pub name_refused : is_branch name ≡ false → first_cause r (Switch name) ≡ Some BadName
-  name_refused none = causes ∙ told (is_name name) (begins heads_front name) (is_private name || false) (bytes_eq name r.branch) none
-    where
-      told : (x y private same : Bool) → (x && y) ≡ false → by_tests ((not x || false) || not y) private same ≡ Some BadName
-      told true true private same e = cc
-      told true false private same e = refl
-      told false y private same e = refl
-
-  -- none below refs/heads/ is private
-  left_cause : is_branch name ≡ true → first_cause r (Switch name) ≡ cond (bytes_eq name r.branch) (Some NothingMoves) None
-  left_cause is = causes ∙ told (is_name name) (begins heads_front name) refl is
-    where
-      told : (x y : Bool) → begins heads_front name ≡ y → (x && y) ≡ true
-          → by_tests ((not x || false) || not y) (is_private name || false) (bytes_eq name r.branch) ≡ cond (bytes_eq name r.branch) (Some NothingMoves) None
-      told true true front e = ap (λ p. cond (p || false) (Some PrivateName) (cond (bytes_eq name r.branch) (Some NothingMoves) None)) (ap is_private (begins_parts heads_front name front))
-      told true false front e = cc
-      told false y front e = cc
-
-  pub same_refused : is_branch name ≡ true → bytes_eq name r.branch ≡ true → first_cause r (Switch name) ≡ Some NothingMoves
-  same_refused is same = left_cause is ∙ ap (λ b. cond b (Some NothingMoves) None) same
-
-  pub none_refused : is_branch name ≡ true → bytes_eq name r.branch ≡ false → first_cause r (Switch name) ≡ None
-  none_refused is other = left_cause is ∙ ap (λ b. cond b (Some NothingMoves) None) other
+use Rattle.gix_ref_file.specs.declared.files.FileError.TheVariants as files
+use Rattle.history_model.specs.Repository as plain
 
 -- ---- an accepted switch
 

@@ -3,8 +3,8 @@ use Rattle.std.proofs.Common.{◌≡◌, ◌∙◌, inl, inr, ℕ, ◌≤◌, re
 use Rattle.std.specs.Prelude.{OnOk}
 use Rattle.gix_ref_file.specs.History.{HasRisen}
 use Rattle.history.specs.Acts.{CountsFailure, CountsRise, KeepsCounts}
-use Rattle.history.specs.Face.{objects_part, names_part}
-use Rattle.history.specs.declared.repository.Repository.{Repository}
+use Rattle.history_repository.specs.Face.{objects_part, names_part}
+use Rattle.history_repository.specs.declared.repository.Repository.{Repository}
 
 pub risen_later : (a b c : ℕ) → HasRisen a b → b ≤ c → HasRisen a c
 risen_later a b c h k = omega arith

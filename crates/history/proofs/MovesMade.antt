@@ -1,11 +1,9 @@
--- The names of a move's lines move, one after another.
-use Rattle.std.proofs.Common.{◌≡◌, ℕ, zero, suc, ◌+◌, ◌<◌, ◌≤◌, List, [], ◌∷◌, ◌++◌, length, take, get_or, refl, sym, ◌∙◌, ap, subst, arith, None}
+-- The names of a `move`, one after another.
+use Rattle.std.proofs.Common.{◌≡◌, ℕ, suc, ◌+◌, ◌<◌, ◌≤◌, List, [], ◌∷◌, ◌++◌, length, take, get_or, refl, sym, ◌∙◌, subst, arith, None}
 use Rattle.std.specs.Prelude.{Result, Err}
-use Rattle.std.specs.List.{AllZip}
 use Rattle.std.proofs.lemmas.List.{take_all}
 use Rattle.gix_ref_file.specs.History.{History, Adds}
 use Rattle.gix_ref_file.proofs.Histories.{adds_joined, adds_nothing, adds_weaker}
-use Rattle.history_model.specs.Repository as plain
 use Rattle.history_model.specs.Repository.{stands}
 use Rattle.history_model.specs.Commands.{Move, MoveCommand, To}
 use Rattle.history_model.specs.Meaning.{after}
@@ -21,39 +19,24 @@ use Rattle.history_steps.specs.Passing.{HoldsBetween, MovesOnTheWay}
 use Rattle.history_steps.specs.TreeSteps.{MovesName}
 use Rattle.history_steps.proofs.MoveLines.{next_lines_fit, next_lines_move, next_lines_pass}
 use Rattle.history_steps.proofs.TreePuts.{halves_stand}
-use Rattle.history_store.specs.Formats.{entry_of}
-use Rattle.history_store.specs.Packing.{KeepsRecords}
+use Rattle.history_texts.specs.Formats.{entry_of}
+use Rattle.history_names.specs.Packing.{KeepsRecords}
 use Rattle.history.specs.Acts.{CountsRise, KeepsCounts}
-use Rattle.history.specs.Face.{names_part, KeepsAllButNames}
-use Rattle.history.specs.Halves.{FitsAmong, MovesNames, NamesStand, names_tree}
+use Rattle.history_repository.specs.Face.{names_part, KeepsAllButNames}
+use Rattle.history_plans.specs.Halves.{FitsAmong, MovesNames, NamesStand, names_tree}
 use Rattle.history.specs.Moments.{NamesPass}
-use Rattle.history.specs.Moving.{AskedMoves, IsLineMove, LeavesMoved}
-use Rattle.history.specs.Stands.{pair_of}
-use Rattle.history.specs.declared.planning.Moves.{Moves}
-use Rattle.history.specs.declared.repository.Repository.{Repository}
-use Rattle.history.specs.declared.stopped.Stopped.{Stopped}
-use Rattle.history.specs.declared.stopped.Stopped.TheVariants.{Refused, Fault}
-use Rattle.history.proofs.Commits.{name_formed}
+use Rattle.history.specs.Moving.{AskedMoves, LeavesMoved}
+use Rattle.history_plans.specs.Moving.{IsLineMove}
+use Rattle.history_repository.specs.Stands.{pair_of}
+use Rattle.history_plans.specs.declared.planning.Moves.{Moves}
+use Rattle.history_repository.specs.declared.repository.Repository.{Repository}
+use Rattle.history_repository.specs.declared.stopped.Stopped.{Stopped}
+use Rattle.history_repository.specs.declared.stopped.Stopped.TheVariants.{Refused, Fault}
+use Rattle.history_plans.proofs.PartsStand.{name_formed}
 use Rattle.history.proofs.Counts.{counts_joined, counts_same, stay_joined, stay_same}
 use Rattle.history.proofs.NamesAlone.{ChangesNames}
-
--- ---- lists side by side
-
-pub next_of : {A B : Type 0} (R : A → B → Type 0) (xs : List A) (ys : List B) → AllZip R xs ys → (i : ℕ) (y : B) → i < length ys → y ≡ get_or ys i y
-    → (x : A) × R x y × (rest : List A) × (xs ≡ take i xs ++ x ∷ rest) × ((n : ℕ) → n ≡ suc i → take n xs ≡ take i xs ++ x ∷ [])
-next_of R [] [] all i y less at = absurd (omega arith)
-next_of R [] (z ∷ ys) all i y less at = absurd all
-next_of R (x ∷ xs) [] all i y less at = absurd all
-next_of R (x ∷ xs) (z ∷ ys) all zero y less at = (x, subst (R x) (sym at) all.0, xs, refl, λ n e. ap (λ m. take m (x ∷ xs)) e)
-next_of R (x ∷ xs) (z ∷ ys) all (suc i) y less at =
-    let n = next_of R xs ys all.1 i y (omega (arith, less)) at in
-    (n.0, n.1, n.2, ap (λ t. x ∷ t) n.3, λ m e. ap (λ k. take k (x ∷ xs)) e ∙ ap (λ t. x ∷ t) (n.4 (suc i) refl))
-
-pub long_zip : {A B : Type 0} (R : A → B → Type 0) (xs : List A) (ys : List B) → AllZip R xs ys → length xs ≡ length ys
-long_zip R [] [] all = refl
-long_zip R [] (y ∷ ys) all = absurd all
-long_zip R (x ∷ xs) [] all = absurd all
-long_zip R (x ∷ xs) (y ∷ ys) all = ap suc (long_zip R xs ys all.1)
+use Rattle.history_plans.proofs.SideBySide.{next_of, long_zip}
+use Rattle.history_model.specs.Repository as plain
 
 -- a move changes names alone
 pub names_only : (r : plain.Repository) (order : MoveCommand) → first_cause r (Move order) ≡ None → ChangesNames r (Move order) Moved

@@ -1,12 +1,11 @@
 -- Commands that change names alone: what their files pass through, and what they leave.
-use Rattle.std.proofs.Common.{◌≡◌, ◌⊎◌, inl, inr, ℕ, true, false, List, [], ◌∷◌, ◌++◌, refl, sym, ◌∙◌, ap, subst, Option, None, codes}
+use Rattle.std.proofs.Common.{◌≡◌, ◌⊎◌, inl, inr, ℕ, true, false, List, [], ◌∷◌, ◌++◌, refl, sym, ◌∙◌, ap, subst, Option, codes}
 use Rattle.std.specs.Prelude.{Result, Err, Vec}
 use Rattle.std.specs.declared.alloc.Global.{Global}
 use Rattle.std.specs.FinMap.{contains_key}
 use Rattle.std.proofs.lemmas.List.{append-nil}
 use Rattle.gix_ref_file.specs.History.{History, Adds}
 use Rattle.history_model.specs.Bytes.{Bytes}
-use Rattle.history_model.specs.Repository as plain
 use Rattle.history_model.specs.Commands.{Command}
 use Rattle.history_model.specs.Meaning.{after, takes_id}
 use Rattle.history_model.specs.Replies.{Reply}
@@ -25,21 +24,22 @@ use Rattle.history_steps.specs.Passing.{HoldsBetween}
 use Rattle.history_steps.specs.TreeHalves.{HoldsValues}
 use Rattle.history_steps.proofs.PassedNames.{moving_stops, nothing_stops, values_recover}
 use Rattle.history_steps.proofs.TreePuts.{halves_stand}
-use Rattle.history_store.specs.Face.{ids_of_objects}
-use Rattle.history_store.specs.Packing.{KeepsRecords}
+use Rattle.history_objects.specs.Face.{ids_of_objects}
+use Rattle.history_names.specs.Packing.{KeepsRecords}
 use Rattle.gix_traverse_commit_known.specs.Told.{rows_of}
 use Rattle.gix_traverse_commit_graph.specs.declared.rows.Row.{Row}
 use Rattle.history.specs.Acts.{Acts}
-use Rattle.history.specs.Face.{objects_part, names_part, rows_in, KeepsAllButNames}
-use Rattle.history.specs.Indexed.{AgreeRows}
-use Rattle.history.specs.Halves.{NamesStand, names_tree, objects_tree}
+use Rattle.history_repository.specs.Face.{objects_part, names_part, rows_in, KeepsAllButNames}
+use Rattle.history_repository.specs.KeptRows.{AgreeRows}
+use Rattle.history_plans.specs.Halves.{NamesStand, names_tree, objects_tree}
 use Rattle.history.specs.Moments.{GoesLater, StoodOnTheWay}
 use Rattle.history.specs.Moving.{LeavesMoved}
-use Rattle.history.specs.Stands.{Stands, pair_of}
-use Rattle.history.specs.declared.repository.Repository.{Repository}
-use Rattle.history.specs.declared.stopped.Stopped.{Stopped}
-use Rattle.history.specs.declared.stopped.Stopped.TheVariants.{Refused, Fault}
+use Rattle.history_repository.specs.Stands.{Stands, pair_of}
+use Rattle.history_repository.specs.declared.repository.Repository.{Repository}
+use Rattle.history_repository.specs.declared.stopped.Stopped.{Stopped}
+use Rattle.history_repository.specs.declared.stopped.Stopped.TheVariants.{Refused, Fault}
 use Rattle.history.proofs.Stood.{adds_later, adds_same, stands_now, stood_between_then, stood_then}
+use Rattle.history_model.specs.Repository as plain
 
 -- The command stores nothing, and leaves HEAD's branch: it is accepted with this reply.
 pub record ChangesNames (r : plain.Repository) (order : Command) (reply : Reply) : Type 0 where

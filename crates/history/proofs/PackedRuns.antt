@@ -10,11 +10,11 @@ use Rattle.history_model.specs.Repository.{Repository}
 use Rattle.history_model.specs.Steps.{Step, goes_on, next, some_failed}
 use Rattle.history_model.specs.Stops.{is_changing}
 use Rattle.history_model.specs.declared.Cause.{Cause}
-use Rattle.history_model.specs.declared.Fault as faults
 use Rattle.history_steps.specs.Passing.{GoesOnFrom}
 use Rattle.history.specs.Packing.{LeavesPacked, AllPackAsSaid, PacksAsSaid}
-use Rattle.history.specs.declared.stopped.Stopped.{Stopped}
+use Rattle.history_repository.specs.declared.stopped.Stopped.{Stopped}
 use Rattle.history.proofs.RowsKept.{goes_unchanged, no_failure}
+use Rattle.history_model.specs.declared.Fault as faults
 
 -- ---- one command
 

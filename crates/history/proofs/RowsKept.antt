@@ -1,63 +1,42 @@
--- The rows that a repository keeps: they go on agreeing with what is stored, and follow from its replies.
-use Rattle.std.proofs.Common.{◌≡◌, ◌∙◌, ap, refl, sym, subst, arith, ℕ, Bool, true, false, not, ◌&&◌, ◌||◌, List, [], ◌∷◌, ◌++◌, length, map, pos, Option, Some, None, option_and_then, option_map, unwrap_or, Result, Ok, Err, Vec, IsTrue}
+-- The rows that a repository keeps follow from its replies.
+use Rattle.std.proofs.Common.{◌≡◌, ◌∙◌, ap, refl, sym, subst, arith, ℕ, Bool, true, false, not, ◌&&◌, ◌||◌, List, [], ◌∷◌, ◌++◌, length, pos, Option, Some, None, option_and_then, option_map, unwrap_or, Result, Ok, Err, Vec}
 use Rattle.std.specs.Prelude.{Contains, IsErrAnd, MatchBool, OnErr, OnOk}
 use Rattle.std.specs.FinMap.{empty, get, keys}
 use Rattle.std.specs.declared.alloc.Global.{Global}
 use Rattle.std.proofs.lemmas.List.{length-map}
-use Rattle.gix_hash_id.specs.Id.{Id, id_of}
-use Rattle.gix_hash_id.specs.declared.kind.Kind.{Kind}
 use Rattle.gix_traverse_commit_graph.specs.Rows.{AreRows, IsRowsFault}
 use Rattle.gix_traverse_commit_graph.specs.declared.rows.Row.{Row}
 use Rattle.gix_traverse_commit_graph.specs.declared.rows.RowsError.{RowsError}
-use Rattle.gix_traverse_commit_graph.specs.declared.rows.RowsError.TheVariants as rows_errors
-use Rattle.gix_traverse_commit_graph.proofs.Lists.{none_at_nil}
-use Rattle.history_model.specs.Answers as model
 use Rattle.history_model.specs.Answers.{Answers, counted, is_counted, row_of, rows_of}
 use Rattle.history_model.specs.Commands.{Command, Commit, Tag, Move, Rename, Delete, Switch, Pack, Index, Names, Files, Past, Log, Show}
-use Rattle.history_model.specs.Objects.{CommitValue, StoredCommit, Value, folder_id}
+use Rattle.history_model.specs.Objects.{CommitValue, folder_id}
 use Rattle.history_model.specs.Replies.{Reply, Indexed, RefusedFor, Faulted, reply_text}
-use Rattle.history_model.specs.Repository.{Repository, Values, as_commit, commit_at}
+use Rattle.history_model.specs.Repository.{Repository, as_commit, commit_at}
 use Rattle.gix_ref_file.specs.History.{History}
 use Rattle.history_model.specs.Meaning.{after}
 use Rattle.history_model.specs.Moments.{ActsOn, Moment}
 use Rattle.history_model.specs.Steps.{Step, Steps, goes_on, rows_after, some_failed}
 use Rattle.history_model.specs.Stops.{is_changing}
 use Rattle.history_model.specs.declared.Cause.{Cause}
-use Rattle.history_model.specs.declared.Fault as faults
-use Rattle.history_model.specs.declared.Fault.TheVariants as model_faults
 use Rattle.history_model.proofs.WholeGrowth.{holds_value}
-use Rattle.history_model.proofs.WholeLists.{In, of_map}
+use Rattle.history_model.proofs.WholeLists.{of_map}
 use Rattle.history_rows.specs.Rows.{AreTheRows, SaysRow}
 use Rattle.history_rows.proofs.Counted.{counted_holds}
 use Rattle.history_rows.proofs.Members.{in_from_contains, of_filter}
-use Rattle.history.specs.Acts.{GivesMeant, IsReadingFault, OnlyAnswers}
-use Rattle.history.specs.Faults.{rows_fault}
-use Rattle.history.specs.Indexed.{AgreeRows, FollowsRows, KeepsRows, LeavesRows, TellsRow}
-use Rattle.history.specs.Face.{rows_in}
-use Rattle.history.specs.declared.repository.Repository as own
-use Rattle.history.specs.Stands.{Stands}
-use Rattle.history.specs.declared.stopped.Stopped.{Stopped}
-use Rattle.history.specs.declared.stopped.Stopped.TheVariants.{Refused, Fault}
-use Rattle.history.proofs.Answered.{handed_on, reading_fault}
-
--- ---- rows that agree
-
-pub none_agree : (kind : Kind) (values : Values) → AgreeRows kind values []
-none_agree kind values = record {
-  told = λ row c. absurd (omega (arith, c.1));
-  graph = record {
-    once = λ j k r s a b same. absurd (none_at_nil j r a);
-    parents = λ row c. absurd (omega (arith, c.1));
-    generations = λ row c. absurd (omega (arith, c.1));
-  };
-}
-
--- they agree where more is stored
-pub agree_grown : (kind : Kind) (old new : Values) (rows : List Row) → ((id : Id) (value : Value) → get old id ≡ Some value → get new id ≡ Some value) → AgreeRows kind old rows → AgreeRows kind new rows
-agree_grown kind old new rows keeps agree = record {
-  told = λ row c. let is = agree.told row c in record { commit = is.commit; stored = keeps (id_of row.id) (StoredCommit is.commit) is.stored; tree = is.tree; parents = is.parents; time = is.time };
-  graph = agree.graph;
-}
+use Rattle.history_repository.specs.Reads.{GivesMeant, IsReadingFault, OnlyAnswers}
+use Rattle.history_repository.specs.Faults.{rows_fault}
+use Rattle.history_repository.specs.KeptRows.{AgreeRows, TellsRow}
+use Rattle.history.specs.Indexed.{FollowsRows, KeepsRows, LeavesRows}
+use Rattle.history_repository.specs.Face.{rows_in}
+use Rattle.history_repository.specs.Stands.{Stands}
+use Rattle.history_repository.specs.declared.stopped.Stopped.{Stopped}
+use Rattle.history_repository.specs.declared.stopped.Stopped.TheVariants.{Fault}
+use Rattle.history_queries.proofs.Answered.{handed_on, reading_fault}
+use Rattle.gix_traverse_commit_graph.specs.declared.rows.RowsError.TheVariants as rows_errors
+use Rattle.history_model.specs.Answers as model
+use Rattle.history_model.specs.declared.Fault as faults
+use Rattle.history_model.specs.declared.Fault.TheVariants as model_faults
+use Rattle.history_repository.specs.declared.repository.Repository as own
 
 -- the repository's own rows agree with it
 pub rows_agree : (r : Repository) (rows : List Row) → AreTheRows (rows_of r) rows → AreRows rows → AgreeRows r.kind r.objects rows

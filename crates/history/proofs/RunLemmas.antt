@@ -20,7 +20,7 @@ use Rattle.history_word.specs.Buffer.{unread}
 use Rattle.history_word.specs.Taking.{Came}
 use Rattle.history.specs.declared.running.RunError.{RunError}
 use Rattle.history.specs.declared.running.RunError.TheVariants.{Read, Write}
-use Rattle.history.specs.declared.repository.Repository.{Repository as Store}
+use Rattle.history_repository.specs.declared.repository.Repository.{Repository as Store}
 use Rattle.history.specs.Acts.{CountsRise, CountsFailure}
 use Rattle.history.specs.Runs.{EndsRun}
 use Rattle.std.proofs.lemmas.Bool.{or_parts, not-false}

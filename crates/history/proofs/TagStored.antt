@@ -6,7 +6,6 @@ use Rattle.gix_ref_file.specs.History.{History, Adds}
 use Rattle.gix_ref_file.specs.Tree.{Tree}
 use Rattle.gix_ref_file.proofs.Histories.{adds_weaker}
 use Rattle.history_model.specs.Objects.{Value, StoredTag}
-use Rattle.history_model.specs.Repository as plain
 use Rattle.history_model.specs.Repository.{Values}
 use Rattle.history_model.specs.Commands.{Tag, TagCommand}
 use Rattle.history_model.specs.Meaning.{new_tag, store_all, store_one, stored_by}
@@ -14,18 +13,19 @@ use Rattle.history_model.specs.Wholeness.{IsSound}
 use Rattle.history_model.specs.declared.Fault.TheVariants.{Memory, File, IdTaken}
 use Rattle.history_steps.specs.Passing.{HoldsFirst}
 use Rattle.history_steps.proofs.PassedStops.{first_are_some, tags_store_whole}
-use Rattle.history_store.specs.Stores.{IsObjectOf}
+use Rattle.history_objects.specs.Stores.{IsObjectOf}
 use Rattle.history.specs.Acts.{Acts}
-use Rattle.history.specs.Face.{objects_part}
-use Rattle.history.specs.Halves.{KnowsIds, ObjectsStand, StoresValues}
+use Rattle.history_repository.specs.Face.{objects_part}
+use Rattle.history_plans.specs.Halves.{KnowsIds, ObjectsStand, StoresValues}
 use Rattle.history.specs.Moments.{ObjectsPass}
-use Rattle.history.specs.Stands.{Stands}
-use Rattle.history.specs.Tagging.{IsTagged, PlansTag}
-use Rattle.history.specs.declared.repository.Repository.{Repository}
-use Rattle.history.specs.declared.stopped.Stopped.{Stopped}
-use Rattle.history.specs.declared.stopped.Stopped.TheVariants.{Refused, Fault}
-use Rattle.history.specs.declared.tagging.Tagged.{Tagged}
-use Rattle.history.proofs.Commits.{objects_stand}
+use Rattle.history_repository.specs.Stands.{Stands}
+use Rattle.history_plans.specs.Tagging.{IsTagged, PlansTag}
+use Rattle.history_repository.specs.declared.repository.Repository.{Repository}
+use Rattle.history_repository.specs.declared.stopped.Stopped.{Stopped}
+use Rattle.history_repository.specs.declared.stopped.Stopped.TheVariants.{Refused, Fault}
+use Rattle.history_plans.specs.declared.tagging.Tagged.{Tagged}
+use Rattle.history_plans.proofs.PartsStand.{objects_stand}
+use Rattle.history_model.specs.Repository as plain
 
 -- where nothing is planned, the command stops so
 pub plan_acts : (MayFail CallFailed : Type 0) (StandsNow : plain.Repository → Type 0) → (MayFail → CallFailed) → (r : plain.Repository) (order : TagCommand) (result : Result Tagged Stopped) (ends : Result (Vec ℕ Global) Stopped) (stopped : Stopped)

@@ -20,7 +20,6 @@ use Rattle.history_model.specs.declared.End.TheVariants.{Input, Refused as ByRef
 use Rattle.history_word.specs.Progress.{IsCauseOf}
 use Rattle.history.specs.declared.running.RunError.{RunError}
 use Rattle.history.specs.declared.running.RunError.TheVariants.{Read, Write}
-use Rattle.history.specs.declared.reply.Reply as own
 use Rattle.gix_ref_file.specs.History.{History, HasRisen}
 use Rattle.history_model.specs.Moments.{Moment, Traces, HasFailedCall as Failed}
 use Rattle.gix_traverse_commit_graph.specs.declared.rows.Row.{Row}
@@ -31,8 +30,9 @@ use Rattle.history.specs.Replies.{text_of}
 use Rattle.history.specs.Runs.{EndsRun, EndsHere, GoesOn, Turns}
 use Rattle.history.proofs.ActLemmas.{told_text}
 use Rattle.history.proofs.RunLemmas.{ends_then, ran_none, ran_one, ran_then}
-use Rattle.history_store.proofs.Beside.{from_and_2}
+use Rattle.history_names.proofs.Beside.{from_and_2}
 use Rattle.std.proofs.lemmas.Bool.{not-false}
+use Rattle.history.specs.declared.reply.Reply as own
 
 -- ---- one turn
 

@@ -1,19 +1,13 @@
 -- What the clauses on one command take for granted.
-use Rattle.std.specs.Prelude.{◌≡◌, List, None, map, IsTrue}
-use Rattle.gix_hash_id.specs.Id.{id_of}
-use Rattle.gix_hash_id.specs.declared.object_id.ObjectId.{ObjectId}
+use Rattle.std.specs.Prelude.{IsTrue}
 use Rattle.gix_ref_file.specs.History.{History}
+use Rattle.history_model.specs.Stage.{is_spoken}
+use Rattle.history_word.specs.Commands.{IsReceived}
+use Rattle.history_word.specs.declared.reader.Received.{Received}
+use Rattle.history_repository.specs.Stands.{Stands}
+use Rattle.history_repository.specs.declared.repository.Repository.{Repository}
 use Rattle.history_model.specs.Commands as orders
 use Rattle.history_model.specs.Repository as plain
-use Rattle.history_model.specs.Meaning.{parents_of}
-use Rattle.history_model.specs.Stage.{is_spoken}
-use Rattle.history_word.specs.Commands.{AreEdits, IsCommit, IsReceived}
-use Rattle.history_word.specs.declared.command.CommitCommand.{CommitCommand}
-use Rattle.history_word.specs.declared.command.Edit.{Edit}
-use Rattle.history_word.specs.declared.reader.Received.{Received}
-use Rattle.history.specs.CommitCauses.{first_among, name_causes}
-use Rattle.history.specs.Stands.{Stands}
-use Rattle.history.specs.declared.repository.Repository.{Repository}
 
 -- A repository is asked for what was read: this command, which is offered.
 pub record Asked {F : Type 0} (IsHonest : F → Type 0) (history : F → History)
@@ -22,19 +16,3 @@ pub record Asked {F : Type 0} (IsHonest : F → Type 0) (history : F → History
   pub serves : Stands IsHonest history repository r
   pub reads : IsReceived received order
   pub offered : IsTrue (is_spoken order)
-
--- A repository is asked for this commit.
-pub record AskedCommit {F : Type 0} (IsHonest : F → Type 0) (history : F → History)
-    (repository : Repository F) (command : CommitCommand)
-    (r : plain.Repository) (order : orders.CommitCommand) : Type 0 where
-  pub serves : Stands IsHonest history repository r
-  pub reads : IsCommit command order
-
--- A repository is asked for the files of a commit with these edits on these parents, where none of the causes of its name holds.
-pub record AskedFiles {F : Type 0} (IsHonest : F → Type 0) (history : F → History)
-    (repository : Repository F) (parents : List ObjectId) (edits : List Edit)
-    (r : plain.Repository) (order : orders.CommitCommand) : Type 0 where
-  pub serves : Stands IsHonest history repository r
-  pub unrefused : first_among name_causes r (orders.Commit order) ≡ None
-  pub parents_are : map id_of parents ≡ parents_of r order
-  pub edits_are : AreEdits edits order.edits

@@ -1,37 +1,12 @@
--- What a `delete` asks of its name, and what it does to the name's files and its record.
-use Rattle.std.specs.Prelude.{◌≡◌, ⊤, List, ◌++◌, Option, Some, None, Result, Ok, Err}
-use Rattle.gix_hash_id.specs.Id.{Id}
+-- What a `delete` does to a name's files and its record.
+use Rattle.std.specs.Prelude.{⊤, Result, Ok, Err}
 use Rattle.gix_hash_id.specs.declared.kind.Kind.{Kind}
 use Rattle.gix_ref_file.specs.Tree.{Tree}
 use Rattle.history_model.specs.Bytes.{Bytes}
-use Rattle.history_model.specs.Causes.{first_cause}
-use Rattle.history_model.specs.Commands.{Command}
-use Rattle.history_model.specs.Repository as plain
-use Rattle.history_model.specs.declared.Cause.{Cause}
-use Rattle.history_model.specs.declared.Cause.TheVariants.{NoSuchName}
 use Rattle.history_model.specs.declared.Fault.TheVariants.{Memory, File, IdTaken}
 use Rattle.history_steps.specs.TakeSteps.{TakesName}
-use Rattle.history.specs.Acts.{IsReadingFault}
-use Rattle.history.specs.Bases.{held_cause}
-use Rattle.history.specs.CommitCauses.{held_causes, name_form_causes, word_causes}
-use Rattle.history.specs.declared.base.Expected.{Expected}
-use Rattle.history.specs.declared.stopped.Stopped.{Stopped}
-use Rattle.history.specs.declared.stopped.Stopped.TheVariants.{Refused, Fault}
-
--- the causes that a `delete` may be refused for
-abbrev pub delete_causes : List Cause
-delete_causes = name_form_causes ++ (word_causes ++ held_causes)
-
--- why a name that holds this, or doesn't stand, can't go
-abbrev pub gone_cause : Expected → Option Id → Option Cause
-gone_cause expected None = Some NoSuchName
-gone_cause expected (Some id) = held_cause expected (Some id)
-
--- No cause holds; or the first that does is told, or a fault was met.
-abbrev pub TestsAll : Type 0 → plain.Repository → Command → Result (Unit {0}) Stopped → Type 0
-TestsAll MayFail r command (Ok done) = first_cause r command ≡ None
-TestsAll MayFail r command (Err (Refused cause)) = first_cause r command ≡ Some cause
-TestsAll MayFail r command (Err (Fault fault)) = IsReadingFault MayFail (Fault fault)
+use Rattle.history_repository.specs.declared.stopped.Stopped.{Stopped}
+use Rattle.history_repository.specs.declared.stopped.Stopped.TheVariants.{Refused, Fault}
 
 -- The name's files and its record are gone, or a fault was met.
 abbrev pub DeletesFiles : Type 0 → Kind → Tree → Tree → Bytes → Result (Unit {0}) Stopped → Type 0

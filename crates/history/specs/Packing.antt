@@ -1,40 +1,17 @@
--- What a `pack` is to write, and what it does to the files of names.
-use Rattle.std.specs.Prelude.{◌≡◌, ⊤, ℕ, List, ◌∷◌, None, Some, Result, Ok, Err, Vec, IsTrue, OnOk, if◌then◌else◌, map}
-use Rattle.std.specs.List.{AllByRecursion}
+-- What a `pack` does to the files of names.
+use Rattle.std.specs.Prelude.{⊤, ℕ, List, ◌∷◌, Result, Ok, Err, Vec, OnOk}
 use Rattle.std.specs.declared.alloc.Global.{Global}
-use Rattle.gix_hash_id.specs.Order.{id_eq}
-use Rattle.gix_object_lines.specs.NameTest.{is_full_name}
 use Rattle.gix_ref_file.specs.History.{History}
 use Rattle.gix_ref_file.specs.Tree.{Tree}
-use Rattle.gix_ref_format.specs.Packed.{Record}
-use Rattle.history_model.specs.Answers.{names_shown}
 use Rattle.history_model.specs.Commands.{Command, Pack}
 use Rattle.history_model.specs.Moments.{Moment, StoodAt}
-use Rattle.history_model.specs.Replies.{NameLine, Packed, Reply}
-use Rattle.history_model.specs.Repository as plain
+use Rattle.history_model.specs.Replies.{Packed, Reply}
 use Rattle.history_model.specs.Steps.{next}
 use Rattle.history_model.specs.declared.Fault.TheVariants.{Memory, File, IdTaken}
 use Rattle.history_steps.specs.PackSteps.{PacksNames}
-use Rattle.history_store.specs.Packed.{records_of}
-use Rattle.history_store.specs.declared.packs.PackedName.{PackedName}
-use Rattle.history.specs.declared.listed.Shown.{Shown}
-use Rattle.history.specs.declared.stopped.Stopped.{Stopped}
-use Rattle.history.specs.declared.stopped.Stopped.TheVariants.{Refused, Fault}
-
--- the record of a name that is shown so: its id, and, where that isn't the commit that it stands for, this too
-abbrev pub line_record : NameLine → Record
-line_record line = record {
-  name = line.name;
-  target = line.id;
-  peeled = if id_eq line.id line.commit then None else Some line.commit;
-}
-
--- The records are those of all names that stand, as `names` shows them.
-abbrev pub AreAllNames : plain.Repository → List PackedName → Type 0
-AreAllNames r names = records_of names ≡ map line_record (names_shown r None)
-
-abbrev pub AreFull : List Shown → Type 0
-AreFull shown = AllByRecursion (λ (one : Shown). IsTrue (is_full_name one.name.items)) shown
+use Rattle.history_repository.specs.declared.stopped.Stopped.{Stopped}
+use Rattle.history_repository.specs.declared.stopped.Stopped.TheVariants.{Refused, Fault}
+use Rattle.history_model.specs.Repository as plain
 
 -- All names are packed, or a fault was met.
 abbrev pub PacksFiles : Type 0 → plain.Repository → Tree → Tree → Result (Unit {0}) Stopped → Type 0

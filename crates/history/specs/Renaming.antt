@@ -1,41 +1,14 @@
--- What a `rename` asks of its two names, and how the new one is made.
-use Rattle.std.specs.Prelude.{◌≡◌, None, Some, Result, Ok, Err}
-use Rattle.gix_hash_id.specs.Id.{id_of}
-use Rattle.gix_hash_id.specs.declared.object_id.ObjectId.{ObjectId}
+-- What is asked of the files of a `rename`.
+use Rattle.std.specs.Prelude.{◌≡◌, None}
 use Rattle.gix_ref_file.specs.History.{History}
 use Rattle.history_model.specs.Bytes.{Bytes}
 use Rattle.history_model.specs.Causes.{first_cause}
 use Rattle.history_model.specs.Commands.{Rename}
+use Rattle.history_repository.specs.Stands.{Stands}
+use Rattle.history_plans.specs.declared.planning.Moves.{Moves}
+use Rattle.history_repository.specs.declared.repository.Repository.{Repository}
+use Rattle.history_plans.specs.Renaming.{MakesName}
 use Rattle.history_model.specs.Repository as plain
-use Rattle.history_model.specs.Repository.{id_at}
-use Rattle.history_steps.specs.RenameSteps.{rename_entry}
-use Rattle.history_store.specs.Formats.{entry_of}
-use Rattle.history.specs.Acts.{IsReadingFault}
-use Rattle.history.specs.Stands.{Stands}
-use Rattle.history.specs.declared.planning.Moves.{Moves}
-use Rattle.history.specs.declared.repository.Repository.{Repository}
-use Rattle.history.specs.declared.stopped.Stopped.{Stopped}
-use Rattle.history.specs.declared.stopped.Stopped.TheVariants.{Refused, Fault}
-
--- No cause holds, and the old name holds this id; or the first cause that holds is told, or a fault was met.
-abbrev pub TestsRename : Type 0 → plain.Repository → Bytes → Bytes → Result ObjectId Stopped
-    → Type 0
-TestsRename MayFail r from to (Ok id) =
-    (first_cause r (Rename from to) ≡ None) × (id_at r from ≡ Some (id_of id))
-TestsRename MayFail r from to (Err (Refused cause)) = first_cause r (Rename from to) ≡ Some cause
-TestsRename MayFail r from to (Err (Fault fault)) = IsReadingFault MayFail (Fault fault)
-
--- the new name is made at what the old one holds, of which its log tells
-pub record MakesName (r : plain.Repository) (from to : Bytes) (moves : Moves) : Type 0 where
-  pub name : moves.name.items ≡ to
-  pub entry : entry_of moves.entry ≡ rename_entry r from to
-
--- The new name is to be made so where no cause holds; else the first is told, or a fault was met.
-abbrev pub PlansRename : Type 0 → plain.Repository → Bytes → Bytes → Result Moves Stopped → Type 0
-PlansRename MayFail r from to (Ok moves) =
-    (first_cause r (Rename from to) ≡ None) × MakesName r from to moves
-PlansRename MayFail r from to (Err (Refused cause)) = first_cause r (Rename from to) ≡ Some cause
-PlansRename MayFail r from to (Err (Fault fault)) = IsReadingFault MayFail (Fault fault)
 
 -- A repository's name is to be renamed so: no cause holds of the command.
 pub record AskedRename {F : Type 0} (IsHonest : F → Type 0) (history : F → History)

@@ -1,10 +1,10 @@
 -- What replies say.
 use Rattle.std.specs.Prelude.{◌≡◌, Bool, true, false, IsTrue}
 use Rattle.history_model.specs.Bytes.{Bytes}
-use Rattle.history_model.specs.Replies as replies
 use Rattle.history_model.specs.Replies.{reply_text, RefusedFor, Faulted}
 use Rattle.history.specs.declared.reply.Reply.{Reply}
 use Rattle.history.specs.declared.reply.Reply.TheVariants.{Text, Refused, Fault}
+use Rattle.history_model.specs.Replies as replies
 
 -- the bytes that a reply is written as
 abbrev pub text_of : Reply → Bytes

@@ -1,7 +1,6 @@
 -- How turns and runs end.
 use Rattle.std.specs.Prelude.{◌≡◌, ◌≤◌, ◌+◌, ◌-◌, ◌^◌, ℕ, min, length, Bool, true, false, List, [], Option, Some, None, Result, Ok, Err}
 use Rattle.history_model.specs.Bytes.{Bytes}
-use Rattle.history_model.specs.Repository as plain
 use Rattle.history_model.specs.Commands.{Command}
 use Rattle.history_model.specs.Replies.{Reply}
 use Rattle.history_model.specs.Runs.{Ran, Runs, EndsReading, EndsWriting}
@@ -11,12 +10,13 @@ use Rattle.std.specs.Io.KnownBytes.{Consumes}
 use Rattle.history_word.specs.Buffer.{readings_made}
 use Rattle.history_word.specs.Taking.{Gave}
 use Rattle.history_word.specs.declared.buffer.Buffer.{Buffer}
-use Rattle.history_word.specs.declared.command.Command as read_commands
-use Rattle.history_word.specs.declared.command.Command.TheVariants as command
 use Rattle.history_word.specs.declared.reader.Received.{Received}
-use Rattle.history_word.specs.declared.reader.Received.TheVariants as received
 use Rattle.history.specs.declared.running.RunError.{RunError}
 use Rattle.history.specs.declared.running.RunError.TheVariants.{Read, Write}
+use Rattle.history_model.specs.Repository as plain
+use Rattle.history_word.specs.declared.command.Command as read_commands
+use Rattle.history_word.specs.declared.command.Command.TheVariants as command
+use Rattle.history_word.specs.declared.reader.Received.TheVariants as received
 
 abbrev pub is_fault_end : End → Bool
 is_fault_end Fault = true

@@ -5,36 +5,16 @@
 #![tactic(auto)]
 
 mod act;
-mod actors;
-mod apart;
-mod base;
-mod causes;
 mod commit;
 mod deleting;
-mod differing;
-mod editing;
-mod fields;
-mod held;
 mod indexing;
-mod listed;
-mod listing;
-mod log;
 mod moving;
-mod naming;
-mod open;
 mod packing;
-mod past;
-mod planning;
 mod renaming;
 mod reply;
-mod repository;
 mod running;
-mod showing;
-mod stopped;
-mod stored;
 mod switching;
 mod tagging;
-mod words;
 
 /// How a store of objects answers: what stands under an id.
 pub mod lookups {
@@ -46,8 +26,8 @@ pub use gix_traverse_commit_graph::{Graph, Row};
 pub use history_model::{Cause, End, Fault};
 pub use history_opening::{NamedBy, OpenError, OpenRefusal};
 pub use history_recovery::{RecoverError, recover};
+pub use history_repository::Repository;
 pub use history_store::{CreateError, Hit, IdIter, Lookup, Object, Objects, PutError, create};
 pub use history_survey::{ObjectsFlaw, Unopened, open_objects};
 pub use history_word::{Broken, Bytes, Collected, Sink, Source, Stream};
-pub use repository::Repository;
 pub use running::{RunError, run};

@@ -1,13 +1,9 @@
 //! Replies and their texts.
 
-ghost use Rattle.std.specs.Prelude.{◌≡◌, ◌∷◌, ◌++◌, map, OnOk};
-ghost use Rattle.std.specs.List.{flat_map};
+ghost use Rattle.std.specs.Prelude.{◌≡◌};
 ghost use Rattle.history_model.specs.Replies.{reply_text, RefusedFor, Faulted};
-ghost use Rattle.history_model.specs.Spelling.{Line, Field, part_text};
-ghost use Rattle.history_model.specs.Spelling as spelling;
 
-use history_model::{Cause, Fault, FileKind};
-use std::alloc::AllocError;
+use history_model::{Cause, Fault};
 
 /// What is answered. `Text` has the whole text, made before a byte of it is written.
 #[derive(Debug, Drop)]
@@ -81,49 +77,4 @@ impl Reply {
     {
         matches!(self, Reply::Fault(_))
     }
-}
-
-/// The word for a file's kind.
-pub(crate) fn kind_word(kind: FileKind) -> &'static [u8]
-    ensures { result.now ≡ spelling.kind_word kind }
-{
-    match kind {
-        FileKind::File => b"file",
-        FileKind::Exec => b"exec",
-        FileKind::Link => b"link",
-    }
-}
-
-/// Appends words, each behind a space.
-fn more_words(text: &mut Vec<u8>, words: &[&[u8]]) -> Result<(), AllocError>
-    ensures { OnOk result (text.new.items
-        ≡ text.old.items ++ flat_map (λ word. 32 ∷ word.now) words.now) }
-{
-    for word in words {
-        text.push(b' ')?;
-        text.extend_from_slice(word)?;
-    }
-    Ok(())
-}
-
-/// Appends a line of words, with one space between and an LF.
-pub(crate) fn line(text: &mut Vec<u8>, words: &[&[u8]]) -> Result<(), AllocError>
-    ensures { OnOk result (text.new.items
-        ≡ text.old.items ++ part_text (Line (map (λ word. word.now) words.now))) }
-{
-    if let Some((first, rest)) = words.split_first() {
-        text.extend_from_slice(first)?;
-        more_words(text, rest)?;
-    }
-    text.push(b'\n')?;
-    Ok(())
-}
-
-/// Appends a field: its bytes and an LF.
-pub(crate) fn field(text: &mut Vec<u8>, bytes: &[u8]) -> Result<(), AllocError>
-    ensures { OnOk result (text.new.items ≡ text.old.items ++ part_text (Field bytes.now)) }
-{
-    text.extend_from_slice(bytes)?;
-    text.push(b'\n')?;
-    Ok(())
 }

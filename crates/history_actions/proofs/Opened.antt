@@ -6,9 +6,9 @@ use Rattle.history_model.specs.Bytes.{Bytes}
 use Rattle.history_model.specs.Repository as plain
 use Rattle.history_model.specs.StandsFor.{StandsWhole}
 use Rattle.history_opening.specs.Opened.{trees_of}
-use Rattle.history.specs.Face.{names_part, objects_part}
-use Rattle.history.specs.Stands.{Stands}
-use Rattle.history.specs.declared.repository.Repository.{Repository}
+use Rattle.history_repository.specs.Face.{names_part, objects_part}
+use Rattle.history_repository.specs.Stands.{Stands}
+use Rattle.history_repository.specs.declared.repository.Repository.{Repository}
 use Rattle.history.specs.declared.running.RunError.{RunError}
 use Rattle.history_model.specs.declared.End.{End}
 use Rattle.history_actions.specs.Failures.{IsAnswerOf, IsDone}

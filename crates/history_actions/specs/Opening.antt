@@ -14,11 +14,11 @@ use Rattle.history_opening.specs.Causes.{IsOpenCause, IsOpenFault}
 use Rattle.history_opening.specs.Opened.{trees_of}
 use Rattle.history_opening.specs.declared.error.OpenError.{OpenError}
 use Rattle.history.specs.Acts.{CountsFailure}
-use Rattle.history.specs.Face.{has_failed, names_part, objects_part}
+use Rattle.history_repository.specs.Face.{has_failed, names_part, objects_part}
 use Rattle.history.specs.Moments.{IsTraced}
 use Rattle.history.specs.Runs.{EndsRun, MadeLastReading, is_fault_end}
-use Rattle.history.specs.Stands.{RecoversTo, Stands}
-use Rattle.history.specs.declared.repository.Repository.{Repository}
+use Rattle.history_repository.specs.Stands.{RecoversTo, Stands}
+use Rattle.history_repository.specs.declared.repository.Repository.{Repository}
 use Rattle.history.specs.declared.running.RunError.{RunError}
 use Rattle.history.specs.declared.running.RunError.TheVariants as run_errors
 use Rattle.history_actions.specs.Failures.{IsAnswerOf, IsDone}

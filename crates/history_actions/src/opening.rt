@@ -1,6 +1,6 @@
 //! Opening a folder, to tell whether it is whole or to run commands on it.
 ghost use Rattle.std.specs.Prelude.{◌≡◌, Err};
-ghost use Rattle.history.specs.Face.{names_part, objects_part};
+ghost use Rattle.history_repository.specs.Face.{names_part, objects_part};
 ghost use Rattle.history_actions.specs.Failures.{IsAnswerOf, IsDone};
 ghost use Rattle.history_actions.specs.Opening.{Checks, KeepsParts, RunsOn};
 ghost use Rattle.history_actions.specs.Saying.{Says, whole};

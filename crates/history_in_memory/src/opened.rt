@@ -2,8 +2,8 @@
 
 ghost use Rattle.std.specs.Prelude.{◌≡◌, false, IfOk};
 ghost use Rattle.history_model.specs.Repository.{fresh};
-ghost use Rattle.history.specs.Face.{has_failed};
-ghost use Rattle.history.specs.Stands.{Stands};
+ghost use Rattle.history_repository.specs.Face.{has_failed};
+ghost use Rattle.history_repository.specs.Stands.{Stands};
 ghost use Rattle.history_in_memory.specs.declared.opened.NewError.TheVariants as why;
 ghost use Rattle.history_opening.specs.declared.error.OpenRefusal.{OpenRefusal};
 

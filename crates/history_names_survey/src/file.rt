@@ -26,7 +26,7 @@ use gix_object_find::FindHeader;
 use gix_object_lines::Kind as ObjectKind;
 use gix_ref_file::{FileError, Files, Place};
 use history_model::names::{HEAD, REFS};
-use history_store::is_name;
+use history_texts::is_name;
 use std::alloc::Global;
 
 /// How the path of a log begins.

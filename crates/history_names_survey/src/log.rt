@@ -8,7 +8,7 @@ use gix_hash::Kind;
 use gix_object_lines::cut::split_once;
 use gix_ref_format::ids::parse_hex;
 use history_model::limits::MAX_TITLE;
-use history_store::{Actor, hex_digits};
+use history_texts::{Actor, hex_digits};
 use std::alloc::{AllocError, Global};
 
 /// The most bytes of a line that is read, its line feed counted.

@@ -6,7 +6,7 @@ ghost use Rattle.history_names_survey.specs.Sound.{ReadsAs, is_symbolic_line};
 use gix_hash::{Kind, ObjectId};
 use gix_object_lines::cut::{strip_prefix, strip_suffix};
 use gix_ref_format::ids::parse_hex;
-use history_store::is_name;
+use history_texts::is_name;
 
 /// What the text of a name's file says.
 #[derive(Clone, Copy)]

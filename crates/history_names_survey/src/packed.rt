@@ -15,7 +15,7 @@ use crate::error::NamesError;
 use gix_hash::Kind;
 use gix_object_lines::cut::split_once;
 use gix_ref_format::packed::{Header, Iter, Reference};
-use history_store::is_name;
+use history_texts::is_name;
 use std::alloc::Global;
 use std::collections::BTreeSet;
 

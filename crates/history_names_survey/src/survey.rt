@@ -7,7 +7,7 @@ ghost use Rattle.history_names_survey.specs.Packed.{is_packed_text};
 ghost use Rattle.gix_ref_file.specs.Calls.{Finds};
 ghost use Rattle.history_model.specs.Forms.{is_branch};
 ghost use Rattle.history_model.specs.Repository.{Repository};
-ghost use Rattle.history_store.specs.Face.{files_of_names, kind_of_names};
+ghost use Rattle.history_names.specs.Face.{files_of_names, kind_of_names};
 ghost use Rattle.history_names_survey.specs.Causes.{HasCause, IsFault};
 ghost use Rattle.history_names_survey.specs.PackedRead.{ReadsPacked};
 ghost use Rattle.history_names_survey.specs.Parts.{IsNamesPart, NamesBranch, StandsNames};
@@ -22,8 +22,10 @@ use gix_hash::Kind;
 use gix_object_find::{Find, FindHeader};
 use gix_ref_file::paths::{is_deeper, joined};
 use gix_ref_file::{Files, Place};
+use history_folders::Part;
 use history_model::names::{HEAD, HEADS};
-use history_store::{Names, Part, is_name};
+use history_names::Names;
+use history_texts::is_name;
 use std::alloc::Global;
 
 /// HEAD's branch, where the names part is a repository's over this store of objects: HEAD names a branch, each name, in a file of its

@@ -26,7 +26,7 @@ use Rattle.history_model.proofs.WholeItems.{Entry, leaf_in}
 use Rattle.history_model.proofs.WholeLists.{In, in_flat, in_left, in_map, in_right, of_map}
 use Rattle.history_model.proofs.WholePaths.{is_beginning}
 use Rattle.history_model.proofs.WholeRoots.{HasAll, in_inside}
-use Rattle.history_store.specs.Written.{IsWrittenEntry, IsWrittenMode, IsWrittenTree, entry_kind}
+use Rattle.history_texts.specs.Written.{IsWrittenEntry, IsWrittenMode, IsWrittenTree, entry_kind}
 use Rattle.history_survey.specs.Opened.{store_of}
 use Rattle.history_survey.proofs.Empties.{entries-empty}
 

@@ -22,12 +22,12 @@ use Rattle.history_model.proofs.PlaceLemmas.{file_at_id, id_length, values_have_
 use Rattle.history_model.proofs.IdLemmas.{id_from_hex-hex, length-hex}
 use Rattle.history_steps.specs.TreeHalves.{HoldsValues}
 use Rattle.history_steps.proofs.TreePuts.{halves_stand}
-use Rattle.history_store.specs.Face.{ids_of_objects}
-use Rattle.history_store.specs.Ids.{IdSet}
-use Rattle.history_store.specs.KnownObjects.{object_at}
-use Rattle.history_store.specs.ObjectTexts.{object_in}
-use Rattle.history_store.specs.Packing.{KeepsRecords}
-use Rattle.history_store.proofs.TextObjects.{object_in-text}
+use Rattle.history_objects.specs.Face.{ids_of_objects}
+use Rattle.history_objects.specs.Ids.{IdSet}
+use Rattle.history_objects.specs.KnownObjects.{object_at}
+use Rattle.history_texts.specs.ObjectTexts.{object_in}
+use Rattle.history_names.specs.Packing.{KeepsRecords}
+use Rattle.history_texts.proofs.TextObjects.{object_in-text}
 use Rattle.history_survey.specs.Flaws.{IsObjectsFlaw}
 use Rattle.history_survey.specs.Opened.{IsOpened, IsSoundStore, store_of}
 use Rattle.history_survey.specs.declared.flaw.ObjectsFlaw.{ObjectsFlaw}

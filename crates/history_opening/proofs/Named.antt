@@ -19,8 +19,8 @@ use Rattle.history_model.proofs.OnePairLines.{tag_same}
 use Rattle.history_model.proofs.WholeGrowth.{has_stored, holds_value}
 use Rattle.history_model.proofs.WholeLists.{In, all_in, of_map}
 use Rattle.history_model.proofs.WholeRoots.{HasAll}
-use Rattle.history_store.specs.Written.{AreCommitParts, NamesByCommit, NamesByParts, NamesByTag, NamesByTree, NamesObjects, Naming, commit_parts, named_by_item}
-use Rattle.history_store.proofs.CommitTexts.{ids_tell, plain_spelled, value_forms, value_parts, value_spelled}
+use Rattle.history_texts.specs.Written.{AreCommitParts, NamesByCommit, NamesByParts, NamesByTag, NamesByTree, NamesObjects, Naming, commit_parts, named_by_item}
+use Rattle.history_texts.proofs.CommitTexts.{ids_tell, plain_spelled, value_forms, value_parts, value_spelled}
 use Rattle.history_survey.specs.Opened.{store_of}
 use Rattle.history_opening.proofs.Items.{entry_value, item_is}
 

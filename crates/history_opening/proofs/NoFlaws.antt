@@ -28,9 +28,9 @@ use Rattle.history_model.proofs.WholeStores.{in_get}
 use Rattle.history_model.proofs.WholeTexts.{object_same}
 use Rattle.history_steps.specs.TreeHalves.{HoldsValues}
 use Rattle.history_steps.specs.TreeReads.{HasObject}
-use Rattle.history_store.specs.ObjectTexts.{is_empty_tree}
-use Rattle.history_store.specs.Written.{IsMalformed, NamesObjects, named_by_commit, named_by_item}
-use Rattle.history_store.proofs.CommitTexts.{content_of_parts, value_parts}
+use Rattle.history_texts.specs.ObjectTexts.{is_empty_tree}
+use Rattle.history_texts.specs.Written.{IsMalformed, NamesObjects, named_by_commit, named_by_item}
+use Rattle.history_texts.proofs.CommitTexts.{content_of_parts, value_parts}
 use Rattle.history_survey.specs.Flaws.{HasEntry, HasFile, HasMissing, HasPath, HasReserved, HasText, HasWrongKind, IsBadText, IsBadTree, IsObjectsFlaw, IsOther, IsStray, IsTooLong, Leads, Names, by_way_of, deep, deeper, entry, malformed, names, no_commit, no_object, no_tag, stray_file, stray_folder}
 use Rattle.history_survey.specs.Opened.{IsSoundStore, store_of}
 use Rattle.history_survey.specs.declared.flaw.ObjectsFlaw.{ObjectsFlaw}

@@ -7,8 +7,8 @@ use Rattle.gix_ref_file.specs.History.{History}
 use Rattle.history_model.specs.Places.{Pair}
 use Rattle.history_model.specs.Repository.{Repository}
 use Rattle.history_model.specs.StandsFor.{StandsWhole}
-use Rattle.history_store.specs.Face.{ids_of_objects}
-use Rattle.history_store.specs.Packing.{KeepsRecords}
+use Rattle.history_objects.specs.Face.{ids_of_objects}
+use Rattle.history_names.specs.Packing.{KeepsRecords}
 use Rattle.history_opening.specs.declared.folder.OpenedFolder.{OpenedFolder}
 
 -- the trees that stand in two parts

@@ -1,18 +1,19 @@
 -- What the changes of making a repository leave.
-use Rattle.std.proofs.Common.{◌≡◌, refl, ◌∙◌, ap, cond, []}
+use Rattle.std.proofs.Common.{◌≡◌, refl, ◌∙◌, ap, []}
 use Rattle.std.specs.Prelude.{Option, Some, None, unwrap_or}
-use Rattle.std.specs.FinMap.{get, remove}
+use Rattle.std.specs.FinMap.{remove}
 use Rattle.gix_ref_file.specs.Tree.{Tree, Node, file, folder, node_at, place_of, bytes_of, bytes_at}
 use Rattle.gix_ref_file.specs.Changes.{to_write, to_rename, to_remove_file, after}
 use Rattle.gix_ref_file.specs.declared.files.Place.TheVariants.{Absent}
-use Rattle.gix_ref_file.proofs.Trees.{get-removed, get_inserted, same_path_itself}
+use Rattle.gix_ref_file.proofs.Trees.{get_inserted}
 use Rattle.history_model.specs.Bytes.{Bytes}
 use Rattle.history_model.specs.Repository.{first_branch}
 use Rattle.history_model.specs.StandsFor.{head_text}
 use Rattle.history_model.specs.Places.{file_at, head_place, unfinished_place}
-use Rattle.history_store.specs.Creation.{head_lock, IsCleared, HasHead}
-use Rattle.history_store.proofs.Stored.{apart_from_inserted, apart_from_removed}
-use Rattle.history_store.proofs.Beside.{file_removed}
+use Rattle.history_names.specs.References.{head_lock}
+use Rattle.history_store.specs.Creation.{IsCleared, HasHead}
+use Rattle.history_folders.proofs.FilesKept.{apart_from_inserted, apart_from_removed}
+use Rattle.history_names.proofs.Beside.{file_removed}
 
 no_file : (o : Option Node) → Absent ≡ place_of o → bytes_of o ≡ None
 no_file None is = refl

@@ -1,5 +1,5 @@
 -- What opening a repository finds.
-use Rattle.std.proofs.Common.{◌≡◌, ◌≢◌, ◌<◌, ◌==◌, ◌&&◌, nat_lt, ℕ, Bool, true, false, [], ◌∷◌, ◌++◌, length, drop, Option, Some, None, MatchOption, Result, Ok, Err, IfOk, Vec, refl, sym, ap, subst, ◌∙◌, IsTrue, codes, arith}
+use Rattle.std.proofs.Common.{◌≡◌, ◌≢◌, ◌<◌, ◌&&◌, nat_lt, ℕ, true, false, [], ◌∷◌, ◌++◌, length, drop, Option, Some, None, MatchOption, Result, Ok, Err, IfOk, Vec, refl, sym, ap, subst, ◌∙◌, IsTrue, codes, arith}
 use Rattle.std.proofs.lemmas.List.{append_cancel_left, append_cancel_right, length-drop}
 use Rattle.std.proofs.lemmas.Bool.Decides.{nat_tests}
 use Rattle.gix_ref_file.specs.Tree.{Tree, Node, file, folder, node_at, bytes_of, is_folder, place_of}
@@ -14,13 +14,13 @@ use Rattle.history_model.specs.StandsFor.{head_text}
 use Rattle.history_model.specs.Repository.{first_branch}
 use Rattle.history_store.specs.Creation.{IsNew}
 use Rattle.history_store.specs.Opening.{HeadIs}
-use Rattle.history_store.specs.Parts.{IsClear, IsClearAt, may_hold_folder}
-use Rattle.history_store.specs.References.{SpellsBranch}
-use Rattle.history_store.specs.declared.opening.OpenError.{OpenError}
-use Rattle.history_store.specs.declared.parts.Part.{Part}
-use Rattle.history_store.specs.declared.parts.Part.TheVariants.{Objects, Names}
+use Rattle.history_folders.specs.Parts.{IsClear, IsClearAt, may_hold_folder}
+use Rattle.history_names.specs.References.{SpellsBranch}
+use Rattle.history_folders.specs.declared.refusal.OpenError.{OpenError}
+use Rattle.history_folders.specs.declared.parts.Part.{Part}
+use Rattle.history_folders.specs.declared.parts.Part.TheVariants.{Objects, Names}
 use Rattle.std.specs.declared.alloc.Global.{Global}
-use Rattle.std.proofs.lemmas.Bool.{and_parts, eqb-true}
+use Rattle.std.proofs.lemmas.Bool.{and_parts}
 use Rattle.history_model.proofs.WholePaths.{begins_parts}
 use Rattle.history_store.proofs.News.{clear_none}
 

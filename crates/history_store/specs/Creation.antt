@@ -1,5 +1,5 @@
 -- What making a repository does to the files of its two parts.
-use Rattle.std.specs.Prelude.{◌≡◌, ◌≢◌, ◌⊎◌, Some, None, IsTrue, codes}
+use Rattle.std.specs.Prelude.{◌≡◌, ◌≢◌, ◌⊎◌, Some, None, IsTrue}
 use Rattle.std.specs.FinMap.{get}
 use Rattle.gix_ref_file.specs.Tree.{Tree, is_folder}
 use Rattle.gix_ref_file.specs.declared.files.FileError.{FileError}
@@ -8,13 +8,11 @@ use Rattle.history_model.specs.Bytes.{Bytes}
 use Rattle.history_model.specs.Repository.{first_branch}
 use Rattle.history_model.specs.Places.{file_at, head_place, unfinished_place, is_object_folder, is_name_folder}
 use Rattle.history_model.specs.StandsFor.{head_text}
-use Rattle.history_store.specs.Stores.{KeepsFiles}
+use Rattle.history_objects.specs.Stores.{KeepsFiles}
 use Rattle.history_store.specs.declared.creation.CreateError.{CreateError}
 use Rattle.history_store.specs.declared.creation.CreateError.TheVariants as errors
-
--- where HEAD is written before it is renamed to its place
-abbrev pub head_lock : Bytes
-head_lock = codes "HEAD.lock"
+use Rattle.history_folders.specs.Folders.{SameFolders}
+use Rattle.history_names.specs.References.{head_lock}
 
 -- `objects/unfinished` is gone, and each other file as before
 pub record IsCleared (old new : Tree) : Type 0 where
@@ -31,10 +29,6 @@ pub record HasHead (old new : Tree) : Type 0 where
 -- HEAD is as before
 abbrev pub SameHead : Tree → Tree → Type 0
 SameHead old new = file_at new head_place ≡ file_at old head_place
-
--- folders stand where they stood before
-abbrev pub SameFolders : Tree → Tree → Type 0
-SameFolders old new = (path : Bytes) → is_folder (get new path) ≡ is_folder (get old path)
 
 -- what stands while a leftover of a put is removed: each folder, and each file but that one, as before
 abbrev pub LeftoverMayGo : Tree → Tree → Type 0

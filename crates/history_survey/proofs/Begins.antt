@@ -22,7 +22,7 @@ use Rattle.history_model.proofs.IdLemmas.{id_itself, one_id}
 use Rattle.history_model.proofs.PartLemmas.{head_same, tail_same}
 use Rattle.history_model.proofs.WholeLists.{In, clash, none_is_some, one_passes, passes_one}
 use Rattle.history_model.proofs.WholeSteps.{contains_in, in_contains}
-use Rattle.history_store.specs.Ids.{is_one_of}
+use Rattle.history_texts.specs.IdLists.{is_one_of}
 use Rattle.history_survey.specs.Opened.{AreInTree}
 use Rattle.history_survey.specs.Surveyed.{is_open}
 use Rattle.history_survey.specs.Surveying.{AreListed, Dones, IsAmong, Stands, Unmet, by_id}

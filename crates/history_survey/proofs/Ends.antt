@@ -18,7 +18,7 @@ use Rattle.history_model.proofs.IdLemmas.{id_itself, one_id}
 use Rattle.history_model.proofs.PlaceLemmas.{file_at_id, file_has_id}
 use Rattle.history_model.proofs.WholeLists.{clash, none_is_some, one_passes, passes_one}
 use Rattle.history_model.proofs.WholeSteps.{contains_in, in_contains}
-use Rattle.history_store.specs.Ids.{is_one_of}
+use Rattle.history_texts.specs.IdLists.{is_one_of}
 use Rattle.history_survey.specs.Surveyed.{IsWholePart}
 use Rattle.history_survey.specs.Surveying.{Dones, Stands, Unmet, by_id}
 use Rattle.history_survey.specs.declared.order.Done.{Done}

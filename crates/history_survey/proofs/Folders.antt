@@ -28,7 +28,7 @@ use Rattle.history_model.proofs.WholeLists.{In, clash, either, in_map, of_flat, 
 use Rattle.history_model.proofs.WholePaths.{below_below, below_parts, beginning_parts, front_plain, has_parts, inner_below, is_beginning, not_below}
 use Rattle.history_model.proofs.WholeRoots.{AreShorter, HasAll, are_shorter, inside_inside, root_at}
 use Rattle.history_model.proofs.WholeStores.{get_in, in_get, near_stored}
-use Rattle.history_store.specs.Written.{AreWritten, IsWrittenEntry, entry_kind}
+use Rattle.history_texts.specs.Written.{AreWritten, IsWrittenEntry, entry_kind}
 use Rattle.history_survey.specs.Links.{IsReady, IsWithin, PathsWithin, link_by_item}
 use Rattle.history_survey.specs.Opened.{IsSoundStore, store_of}
 use Rattle.history_survey.proofs.Grouped.{AreInOrder, IsEntry, entries_again, files_ascend, in_folder, key, name_of, one_entry}

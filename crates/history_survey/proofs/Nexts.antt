@@ -25,10 +25,10 @@ use Rattle.history_model.proofs.WholeLists.{In, all_in, in_map}
 use Rattle.history_model.proofs.WholeReads.{plain_written}
 use Rattle.history_model.proofs.WholeRoots.{ArePlain, HasAll}
 use Rattle.history_model.proofs.WholeStores.{near_stored}
-use Rattle.history_store.specs.Formats.{plain_parts}
-use Rattle.history_store.specs.ObjectTexts.{is_empty_tree, object_id}
-use Rattle.history_store.specs.Written.{AreCommitParts, IsWrittenTree, NamesByCommit, NamesByParts, NamesByTag, Naming, named_by_commit}
-use Rattle.history_store.proofs.CommitTexts.{content_of_parts}
+use Rattle.history_texts.specs.Formats.{plain_parts}
+use Rattle.history_texts.specs.ObjectTexts.{is_empty_tree, object_id}
+use Rattle.history_texts.specs.Written.{AreCommitParts, IsWrittenTree, NamesByCommit, NamesByParts, NamesByTag, Naming, named_by_commit}
+use Rattle.history_texts.proofs.CommitTexts.{content_of_parts}
 use Rattle.history_survey.specs.Links.{AreReady, IsReady, Link, PathsWithin, link_by_item, plain_link}
 use Rattle.history_survey.specs.Nexts.{IsObject, IsStoredNext, NextsAreStored}
 use Rattle.history_survey.specs.Opened.{AreInTree, store_of}

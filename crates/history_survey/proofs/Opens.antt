@@ -14,11 +14,12 @@ use Rattle.history_model.proofs.IdLemmas.{has_kind, id_itself}
 use Rattle.history_model.proofs.PlaceLemmas.{file_at_id, values_have_ids}
 use Rattle.history_model.proofs.WholeLists.{passes_one}
 use Rattle.history_model.proofs.WholeSteps.{contains_in}
-use Rattle.history_store.specs.Ids.{AreOfKind, IdSet, is_one_of}
-use Rattle.history_store.specs.KnownIds.{AreStanding}
-use Rattle.history_store.specs.KnownObjects.{object_at}
-use Rattle.history_store.specs.ObjectTexts.{object_in}
-use Rattle.history_store.proofs.TextObjects.{object_in-text}
+use Rattle.history_objects.specs.Ids.{AreOfKind, IdSet}
+use Rattle.history_texts.specs.IdLists.{is_one_of}
+use Rattle.history_objects.specs.KnownIds.{AreStanding}
+use Rattle.history_objects.specs.KnownObjects.{object_at}
+use Rattle.history_texts.specs.ObjectTexts.{object_in}
+use Rattle.history_texts.proofs.TextObjects.{object_in-text}
 use Rattle.history_survey.specs.Opened.{IsOpened}
 use Rattle.history_survey.specs.Surveyed.{IsWholePart}
 

@@ -18,8 +18,8 @@ use Rattle.history_model.proofs.IdLemmas.{are_digits, has_kind, hex_tells, id_di
 use Rattle.history_model.proofs.PartLemmas.{head_same, tail_same}
 use Rattle.history_model.proofs.WholeLists.{In, all_pass, of_map}
 use Rattle.history_model.proofs.WholeSteps.{contains_in}
-use Rattle.history_store.specs.Written.{NamesObjects, Naming, named_by_item}
-use Rattle.history_store.proofs.CommitTexts.{value_forms}
+use Rattle.history_texts.specs.Written.{NamesObjects, Naming, named_by_item}
+use Rattle.history_texts.proofs.CommitTexts.{value_forms}
 use Rattle.history_survey.specs.Flaws.{Names}
 use Rattle.std.proofs.lemmas.Bool.{and_from, and_parts}
 

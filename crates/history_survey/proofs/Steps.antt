@@ -26,7 +26,7 @@ use Rattle.history_model.proofs.PlaceLemmas.{values_have_ids}
 use Rattle.history_model.proofs.WholeLists.{In, clash, in_map, none_is_some, of_map}
 use Rattle.history_model.proofs.WholeSteps.{in_contains}
 use Rattle.history_steps.specs.TreeReads.{HasObject}
-use Rattle.history_store.specs.Written.{NamesObjects, Naming, named_by_item}
+use Rattle.history_texts.specs.Written.{NamesObjects, Naming, named_by_item}
 use Rattle.history_survey.specs.Flaws.{HasEntry, HasMissing, HasPath, HasWrongKind, Names, deeper, entry, names, by_way_of}
 use Rattle.history_survey.specs.Flaws.{Leads as Reaching}
 use Rattle.history_survey.specs.Links.{AreReady, IsReady, IsWithin, Link, LinksObjects, PathsWithin, link_by_item, plain_link, reach_of}

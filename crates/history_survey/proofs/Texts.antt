@@ -17,8 +17,8 @@ use Rattle.history_model.specs.Places.{file_at, object_place}
 use Rattle.history_model.proofs.IdLemmas.{has_kind}
 use Rattle.history_model.proofs.WholeTexts.{object_cut, object_same}
 use Rattle.history_steps.specs.TreeReads.{HasObject}
-use Rattle.history_store.specs.ObjectTexts.{IsNoObject, is_empty_tree, is_reserved}
-use Rattle.history_store.specs.Written.{IsMalformed}
+use Rattle.history_texts.specs.ObjectTexts.{IsNoObject, is_empty_tree, is_reserved}
+use Rattle.history_texts.specs.Written.{IsMalformed}
 use Rattle.history_survey.specs.Flaws.{HasFile, HasReserved, HasText, IsBadText, IsBadTree, IsObjectsFlaw, IsOther, IsTooLong, no_object, no_commit, no_tag, malformed}
 use Rattle.history_survey.specs.Links.{Link, LinksObjects}
 use Rattle.history_survey.specs.Nexts.{IsObject}

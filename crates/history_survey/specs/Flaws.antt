@@ -12,8 +12,8 @@ use Rattle.history_model.specs.Forms.{is_id, max_content, max_path}
 use Rattle.history_model.specs.Objects.{object_text}
 use Rattle.history_model.specs.Places.{file_at, is_object_folder, object_place, unfinished_place}
 use Rattle.history_steps.specs.TreeReads.{HasObject}
-use Rattle.history_store.specs.ObjectTexts.{IsNoObject, is_reserved, object_id}
-use Rattle.history_store.specs.Written.{IsMalformed, NamesObjects, Naming}
+use Rattle.history_texts.specs.ObjectTexts.{IsNoObject, is_reserved, object_id}
+use Rattle.history_texts.specs.Written.{IsMalformed, NamesObjects, Naming}
 use Rattle.history_survey.specs.declared.flaw.ObjectsFlaw.{ObjectsFlaw}
 use Rattle.history_survey.specs.declared.flaw.ObjectsFlaw.TheVariants.{Stray, Unfinished, BadObject, WrongId, TooLarge, BadTree, Missing, WrongKind, Cycle, IdReserved, File, Memory}
 

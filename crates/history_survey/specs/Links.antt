@@ -10,7 +10,7 @@ use Rattle.gix_object_lines.specs.declared.kind.Kind.TheVariants as kinds
 use Rattle.history_model.specs.Bytes.{Bytes}
 use Rattle.history_model.specs.Objects.{Value, StoredCommit, StoredTag, StoredBytes, StoredFolder, object_kind}
 use Rattle.history_model.specs.Repository.{Values}
-use Rattle.history_store.specs.Written.{IsWrittenTree, NamesObjects, Naming, entry_kind}
+use Rattle.history_texts.specs.Written.{IsWrittenTree, NamesObjects, Naming, entry_kind}
 
 -- an object that is named, the kind that it must be of, and the length of the name that a tree gives it
 pub record Link : Type 0 where

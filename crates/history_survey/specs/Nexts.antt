@@ -10,7 +10,7 @@ use Rattle.history_model.specs.Forms.{max_content, max_path}
 use Rattle.history_model.specs.Objects.{Value, object_kind, object_text}
 use Rattle.history_model.specs.Places.{file_at, object_place}
 use Rattle.history_model.specs.Repository.{Values}
-use Rattle.history_store.specs.ObjectTexts.{is_reserved, object_id}
+use Rattle.history_texts.specs.ObjectTexts.{is_reserved, object_id}
 use Rattle.history_survey.specs.Links.{AreReady, Link, LinksObjects, PathsWithin}
 use Rattle.history_survey.specs.Opened.{AreInTree}
 

@@ -10,7 +10,7 @@ use Rattle.history_model.specs.Objects.{Value, value_text}
 use Rattle.history_model.specs.Places.{file_at, object_place}
 use Rattle.history_model.specs.Repository.{IsWholeStore, Reference, Repository, Values, fresh}
 use Rattle.history_steps.specs.TreeHalves.{HoldsValues}
-use Rattle.history_store.specs.Ids.{IdSet}
+use Rattle.history_objects.specs.Ids.{IdSet}
 
 -- a repository of these values, without names
 abbrev pub store_of : Kind → Values → Repository

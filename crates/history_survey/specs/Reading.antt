@@ -9,7 +9,7 @@ use Rattle.history_model.specs.Bytes.{Bytes}
 use Rattle.history_model.specs.Forms.{is_id}
 use Rattle.history_model.specs.Objects.{empty_tree_id}
 use Rattle.history_model.specs.Places.{file_at, object_place}
-use Rattle.history_store.specs.ObjectTexts.{is_empty_tree}
+use Rattle.history_texts.specs.ObjectTexts.{is_empty_tree}
 use Rattle.history_survey.specs.Nexts.{IsObject}
 use Rattle.history_survey.specs.Surveying.{links_of}
 use Rattle.history_survey.specs.declared.reading.Found.{Found}

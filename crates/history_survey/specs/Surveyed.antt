@@ -9,7 +9,7 @@ use Rattle.gix_hash_id.specs.declared.object_id.ObjectId.{ObjectId}
 use Rattle.gix_ref_file.specs.Tree.{Tree}
 use Rattle.history_model.specs.Repository.{Values}
 use Rattle.history_steps.specs.TreeHalves.{HoldsValues}
-use Rattle.history_store.specs.Ids.{is_one_of}
+use Rattle.history_texts.specs.IdLists.{is_one_of}
 use Rattle.history_survey.specs.Opened.{IsSoundStore}
 use Rattle.history_survey.specs.Surveying.{Stands}
 use Rattle.history_survey.specs.declared.flaw.ObjectsFlaw.{ObjectsFlaw}

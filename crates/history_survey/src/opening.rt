@@ -1,7 +1,7 @@
 //! Opening the objects of a part.
 ghost use Rattle.std.specs.Prelude.{◌≡◌, IfErr, IfOk};
-ghost use Rattle.history_store.specs.Face.{files_of_objects, ids_of_objects, kind_of_objects};
-ghost use Rattle.history_store.specs.KnownObjects.{HoldsKnown};
+ghost use Rattle.history_objects.specs.Face.{files_of_objects, ids_of_objects, kind_of_objects};
+ghost use Rattle.history_objects.specs.KnownObjects.{HoldsKnown};
 ghost use Rattle.history_survey.specs.Flaws.{IsObjectsFlaw};
 ghost use Rattle.history_survey.specs.Opened.{IsOpened};
 ghost use Rattle.history_survey.specs.Surveyed.{IsWholePart};
@@ -11,7 +11,7 @@ use crate::listing::list_objects;
 use crate::order::survey_objects;
 use gix_hash::{Kind, ObjectId};
 use gix_ref_file::Files;
-use history_store::Objects;
+use history_objects::Objects;
 use std::alloc::Global;
 
 /// Opens the objects of a part that is whole: each file is an object's, in written form and under its own id, all that an object names

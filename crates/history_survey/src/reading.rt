@@ -7,8 +7,8 @@ ghost use Rattle.gix_object_lines.specs.declared.kind.Kind.TheVariants as kinds;
 ghost use Rattle.gix_ref_file.specs.Tree.{Tree};
 ghost use Rattle.history_model.specs.Bytes.{Bytes};
 ghost use Rattle.history_model.specs.Objects.{digest, object_text};
-ghost use Rattle.history_store.specs.ObjectTexts.{is_empty_tree};
-ghost use Rattle.history_store.specs.Written.{IsMalformed, naming_of};
+ghost use Rattle.history_texts.specs.ObjectTexts.{is_empty_tree};
+ghost use Rattle.history_texts.specs.Written.{IsMalformed, naming_of};
 ghost use Rattle.history_survey.specs.Flaws.{HasFile, IsObjectsFlaw};
 ghost use Rattle.history_survey.specs.Links.{LinksByTree, LinksObjects, link_by_item, plain_link};
 ghost use Rattle.history_survey.specs.Reading.{IsFileFor, IsRead, is_reserved_in};
@@ -22,7 +22,8 @@ use gix_object::tree::EntryRef;
 use gix_object::{Kind as ObjectKind, TreeRef};
 use gix_ref_file::{Files, Place};
 use history_model::limits::MAX_CONTENT;
-use history_store::{Named, is_written_tree, named_by, object_place, parse_header};
+use history_objects::object_place;
+use history_texts::{Named, is_written_tree, named_by, parse_header};
 use std::alloc::{AllocError, Global};
 
 /// The most bytes that the header of a content within the limit has: a kind, a space, eight digits and a zero byte.

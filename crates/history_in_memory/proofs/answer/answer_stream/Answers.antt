@@ -1,7 +1,7 @@
 use Rattle.std.proofs.Common.{Some, subst}
 use Rattle.std.specs.Io.KnownBytes.{Consumes, Appends}
 use Rattle.history_model.specs.Repository.{fresh}
-use Rattle.history.specs.Face.{has_failed}
+use Rattle.history_repository.specs.Face.{has_failed}
 use Rattle.history_in_memory.proofs.Answering.{answered, given, none_failed}
 use Rattle.history_in_memory.proofs.answer.answer_stream.Goals as goal
 

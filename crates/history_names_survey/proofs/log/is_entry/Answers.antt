@@ -1,5 +1,5 @@
 use Rattle.std.proofs.Common.{subst}
-use Rattle.history_store.specs.Formats.{actor_of}
+use Rattle.history_texts.specs.Formats.{actor_of}
 use Rattle.history_names_survey.specs.Logs.{TellsIds, parts_of}
 use Rattle.history_names_survey.proofs.LogTexts.{uncut_tells_none, no_ids_tell_none, long_tells_none, actor_told}
 use Rattle.history_names_survey.proofs.log.is_entry.Goals as goal

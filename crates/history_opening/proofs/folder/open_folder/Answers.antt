@@ -1,7 +1,7 @@
 use Rattle.std.proofs.Common.{IfOk, subst, sym}
 use Rattle.gix_hash_id.specs.declared.kind.Kind.{Kind}
 use Rattle.history_model.specs.Repository.{Repository}
-use Rattle.history_store.specs.Face.{ids_of_objects, kind_of_objects}
+use Rattle.history_objects.specs.Face.{ids_of_objects, kind_of_objects}
 use Rattle.history_survey.specs.Opened.{IsOpened}
 use Rattle.history_opening.specs.Causes.{IsOpenFault}
 use Rattle.history_opening.specs.Opened.{IsOpenedAs, trees_of}

@@ -1,9 +1,9 @@
 use Rattle.std.proofs.Common.{◌≡◌, ◌∙◌, IsSome, subst, sym}
 use Rattle.gix_hash_id.specs.declared.kind.Kind.{Kind}
-use Rattle.history_store.specs.Face.{ids_of_objects}
-use Rattle.history_store.specs.Ids.{AreOfKind}
-use Rattle.history_store.specs.KnownIds.{AreStanding}
-use Rattle.history_store.specs.KnownObjects.{object_at}
+use Rattle.history_objects.specs.Face.{ids_of_objects}
+use Rattle.history_objects.specs.Ids.{AreOfKind}
+use Rattle.history_objects.specs.KnownIds.{AreStanding}
+use Rattle.history_objects.specs.KnownObjects.{object_at}
 use Rattle.history_survey.proofs.Opens.{kinds_are, objects_stand, opened, stand}
 use Rattle.history_survey.proofs.opening.open_ids.Goals as goal
 

@@ -7,7 +7,7 @@ use Rattle.gix_hash_id.specs.declared.kind.Kind.{Kind}
 use Rattle.gix_object_lines.specs.declared.kind.Kind.{Kind as ObjectKind}
 use Rattle.history_model.specs.Bytes.{Bytes}
 use Rattle.history_model.specs.Objects.{digest, empty_tree_id}
-use Rattle.history_store.specs.ObjectTexts.{is_empty_tree}
+use Rattle.history_texts.specs.ObjectTexts.{is_empty_tree}
 use Rattle.history_survey.specs.Reading.{is_reserved_in}
 use Rattle.history_survey.proofs.reading.is_reserved.Goals as goal
 

@@ -1,7 +1,7 @@
 use Rattle.std.proofs.Common.{subst}
 use Rattle.gix_hash_id.specs.Id.{id_of}
 use Rattle.history_model.specs.Objects.{object_text}
-use Rattle.history_store.specs.Written.{IsMalformed}
+use Rattle.history_texts.specs.Written.{IsMalformed}
 use Rattle.history_survey.specs.Flaws.{HasFile}
 use Rattle.history_survey.proofs.Texts.{bad_commit, bad_tag, bad_tree, no_bad_blob}
 use Rattle.history_survey.proofs.reading.malformed.Goals as goal

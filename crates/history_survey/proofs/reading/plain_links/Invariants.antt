@@ -1,5 +1,5 @@
 use Rattle.std.proofs.Common.{◌≡◌, map, take}
-use Rattle.history_store.specs.Written.{naming_of}
+use Rattle.history_texts.specs.Written.{naming_of}
 use Rattle.history_survey.specs.Links.{plain_link}
 use Rattle.history_survey.specs.Surveying.{links_of}
 use Rattle.history_survey.proofs.reading.plain_links.Given as goal

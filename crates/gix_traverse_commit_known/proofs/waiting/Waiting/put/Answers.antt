@@ -1,7 +1,7 @@
 use Rattle.std.specs.BTreeMap.{keys}
 use Rattle.std.specs.Map.{keys_of}
 use Rattle.std.proofs.Common.{ap}
-use Rattle.gix_traverse_commit_known.proofs.Waiting.{put_joins, put_once}
+use Rattle.gix_traverse_commit_known.proofs.WaitingLemmas.{put_joins, put_once}
 use Rattle.gix_traverse_commit_known.proofs.waiting.Waiting.put.Goals as goal
 
 pub returns-clause-joins : goal.returns-clause-joins

@@ -10,7 +10,7 @@ use Rattle.gix_traverse_commit_known.specs.declared.waiting.Pending.{Pending}
 use Rattle.gix_traverse_commit_known.proofs.Chosen.{take_all}
 use Rattle.gix_traverse_commit_known.proofs.Pending.{pass_push}
 use Rattle.gix_traverse_commit_known.proofs.Simply.{take_push}
-use Rattle.gix_traverse_commit_known.proofs.Waiting.{waits_in}
+use Rattle.gix_traverse_commit_known.proofs.WaitingLemmas.{waits_in}
 use Rattle.gix_traverse_commit_known.proofs.waiting.Waiting.take_all.Goals as goal
 use Rattle.gix_traverse_commit_known.proofs.waiting.Waiting.take_all.Goals.{then-contains_key+in_ok-push, else-contains_key}
 

@@ -2,7 +2,7 @@ use Rattle.std.proofs.Common.{◌≡◌, take}
 use Rattle.std.specs.BTreeSet as sets
 use Rattle.gix_hash_id.specs.Id.{id_of}
 use Rattle.gix_hash_id.specs.declared.object_id.ObjectId.{ObjectId}
-use Rattle.history_store.specs.Ids.{is_one_of}
+use Rattle.history_texts.specs.IdLists.{is_one_of}
 use Rattle.history_survey.specs.Surveying.{by_id}
 use Rattle.history_survey.proofs.order.Survey.new.Given as goal
 

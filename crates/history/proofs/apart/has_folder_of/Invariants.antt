@@ -1,6 +1,0 @@
-use Rattle.history.proofs.ApartLemmas.{NoneBefore}
-use Rattle.history.proofs.apart.has_folder_of.Given as goal
-
--- no folder that ends before this place is among the names
-abbrev pub invariant-loop-end : goal.invariant-loop-end
-invariant-loop-end l = NoneBefore l.end l.name l.names.keys

@@ -1,6 +1,0 @@
-use Rattle.history.proofs.Puts.{HasPut}
-use Rattle.history.proofs.repository.Repository.put_all.Given as goal
-
--- the objects so far were put
-abbrev pub invariant-loop-object : goal.invariant-loop-object
-invariant-loop-object g l = HasPut g.F.Files.is_honest g.F.Files.history g.F.Files.failures l.objects l.object-index l.initial.self l.self

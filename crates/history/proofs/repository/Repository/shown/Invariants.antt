@@ -1,9 +1,0 @@
-use Rattle.std.proofs.Common.{◌≡◌, map}
-use Rattle.history_model.specs.Repository as plain
-use Rattle.history.specs.NamesShown.{ArePeeled, shown_name, told_name}
-use Rattle.history.specs.Stands.{Stands}
-use Rattle.history.proofs.repository.Repository.shown.Given as goal
-
--- the names so far are shown with what they hold
-abbrev pub invariant-loop-named : goal.invariant-loop-named
-invariant-loop-named g l = (r : plain.Repository) → Stands g.F.Files.is_honest g.F.Files.history l.self r → ArePeeled r l.yielded → map shown_name l.shown.items ≡ map (told_name r) l.yielded

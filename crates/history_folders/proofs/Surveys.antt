@@ -1,0 +1,184 @@
+-- Listings from the root reach each path that stands.
+use Rattle.std.proofs.Common.{◌≡◌, ℕ, zero, suc, Vec, ◌+◌, ◌-◌, ◌<◌, ◌≤◌, Bool, true, false, cond, ◌&&◌, List, [], ◌∷◌, length, map, Option, Some, None, refl, sym, ◌∙◌, ap, subst, arith, length-append}
+use Rattle.std.specs.Prelude.{IsTrue, IsSome, is_some, nat_le, nat_lt, MatchOption, Result, Ok, Err, IfOk}
+use Rattle.gix_ref_file.specs.declared.files.FileError.{FileError}
+use Rattle.history_folders.specs.declared.parts.Stray.{Stray}
+use Rattle.std.specs.List.{suffix_len, list_all, slice_split}
+use Rattle.std.specs.declared.alloc.Global.{Global}
+use borrow.Author.Tests.{ltb-true, ltb-false}
+use Rattle.std.specs.FinMap.{keys, get, contains_key-keys}
+use Rattle.std.proofs.Math.ListN.{get_or}
+use Rattle.std.proofs.lemmas.List.{length-take-le}
+use Rattle.gix_ref_file.specs.declared.files.Place.TheVariants as places
+use Rattle.gix_ref_file.specs.Tree.{Tree, Node, file, folder, is_slash, is_component, is_path, parent, names_at, node_at, place_of, is_folder, bytes_of, IsRooted, under}
+use Rattle.gix_ref_file.specs.Changes.{is_file_at}
+use Rattle.gix_ref_file.proofs.Below.{inside}
+use Rattle.gix_ref_file.proofs.Listings.{in_folder, root_is_no_path, node_is, names_in, found, listed_stands, item_is, map_length}
+use Rattle.history_model.specs.Bytes.{Bytes}
+use Rattle.history_folders.specs.Parts.{may_hold_folder, IsClearAt, IsClear, IsStray, above, IsClearBelow}
+use Rattle.history_folders.specs.declared.parts.Part.{Part}
+use Rattle.gix_ref_file.proofs.Moved.{some_of_folder}
+
+-- a folder's path is shorter than those in it
+pub deeper : (place name : Bytes) → IsTrue (is_path (under place name)) → length place < length (under place name)
+deeper [] [] is = absurd (root_is_no_path is)
+deeper [] (b ∷ name) is = omega arith
+deeper (b ∷ place) name is = omega (arith, length-append (b ∷ place) (47 ∷ name))
+
+-- ---- what stands above
+
+parent_of_folder : (tree : Tree) (path : Bytes) → IsRooted tree → IsTrue (is_folder (node_at tree path)) → IsTrue (is_folder (node_at tree (parent path)))
+parent_of_folder tree [] rooted is = refl
+parent_of_folder tree (b ∷ path) rooted is = (rooted (b ∷ path) (some_of_folder (get tree (b ∷ path)) is)).1
+
+folder_above : (tree : Tree) (n : ℕ) (path : Bytes) → IsRooted tree → IsSome (get tree path) → IsTrue (is_folder (node_at tree (above (suc n) path)))
+folder_above tree zero path rooted there = (rooted path there).1
+folder_above tree (suc n) path rooted there = parent_of_folder tree (above (suc n) path) rooted (folder_above tree n path rooted there)
+
+shorter : (path : Bytes) → length (parent path) ≤ length path - 1
+shorter path = omega (arith, length-take-le (length path - suffix_len inside path - 1) path (omega arith))
+
+above_shorter : (n : ℕ) (path : Bytes) → length (above n path) ≤ length path - n
+above_shorter zero path = omega arith
+above_shorter (suc n) path = omega (arith, shorter (above n path), above_shorter n path)
+
+empty : (path : Bytes) → length path ≤ 0 → path ≡ []
+empty [] short = refl
+empty (b ∷ path) short = absurd (omega (arith, short))
+
+above_all : (path : Bytes) → above (suc (length path)) path ≡ []
+above_all path = empty _ (omega (arith, above_shorter (suc (length path)) path))
+
+if_stands : (part : Part) (permitted path : Bytes) (o : Option Node) → (IsSome o → IsClearAt part permitted path o) → IsClearAt part permitted path o
+if_stands part permitted path None h = tt
+if_stands part permitted path (Some n) h = h refl
+
+-- ---- what a survey of a folder finds
+-- a path and all below it
+abbrev pub IsClearFrom : Part → Bytes → Tree → Bytes → Type 0
+IsClearFrom part permitted tree path = IsClearAt part permitted path (get tree path) × IsClearBelow part permitted path tree
+
+module _ (part : Part) (permitted : Bytes) (tree : Tree) (rooted : IsRooted tree) where
+  child : (place : Bytes) (names : List Bytes) → names ≡ names_at tree place → ((i : ℕ) → i < length names → IsClearFrom part permitted tree (under place (get_or names i [])))
+      → (path : Bytes) → IsSome (get tree path) → parent path ≡ place → IsClearFrom part permitted tree path
+  child place names is all path there here =
+      let r = found place (keys tree) path [] (sym (contains_key-keys tree path) ∙ there) here in
+      let in_place : is_folder (node_at tree place) ≡ true = subst (λ p. IsTrue (is_folder (node_at tree p))) here (rooted path there).1 in
+      let names_are : names ≡ names_in place (keys tree) = is ∙ ap (λ b. cond b (names_in place (keys tree)) []) in_place in
+      let same : under place (get_or names r.0 []) ≡ path = (λ j. under (sym here j) ((ap (λ (ns : List Bytes). get_or ns r.0 []) names_are ∙ r.2) j)) ∙ sym (in_folder path (rooted path there).0) in
+      subst (λ p. IsClearFrom part permitted tree p) same (all r.0 (subst (λ (ns : List Bytes). r.0 < length ns) (sym names_are) r.1))
+
+  below : (place : Bytes) → ((path : Bytes) → IsSome (get tree path) → parent path ≡ place → IsClearFrom part permitted tree path)
+      → (n : ℕ) (path : Bytes) → above (suc n) path ≡ place → IsSome (get tree path) → IsClearAt part permitted path (get tree path)
+  below place child zero path under there = (child path there under).0
+  below place child (suc n) path under there = by_case (above (suc n) path) refl (below place child n path)
+    where
+      by_case : (q : Bytes) → above (suc n) path ≡ q → (above (suc n) path ≡ place → IsSome (get tree path) → IsClearAt part permitted path (get tree path)) → IsClearAt part permitted path (get tree path)
+      by_case [] is rest = rest (is ∙ sym (ap parent is) ∙ under) there
+      by_case (b ∷ q) is rest = (child (b ∷ q) (some_of_folder (get tree (b ∷ q)) (subst (λ p. IsTrue (is_folder (node_at tree p))) is (folder_above tree n path rooted there))) (ap parent (sym is) ∙ under)).1 n path is
+
+  -- all that the folder lists is clear
+  pub all_clear : (place : Bytes) (names : List Bytes) → names ≡ names_at tree place → ((i : ℕ) → i < length names → IsClearFrom part permitted tree (under place (get_or names i []))) → IsClearBelow part permitted place tree
+  all_clear place names is all n path under = if_stands part permitted path (get tree path) (below place (child place names is all) n path under)
+
+  -- nothing some_of_folder below a file
+  pub clear_file : (path : Bytes) (size : ℕ) → IsTrue (is_path path) → place_of (node_at tree path) ≡ places.File size → path ≡ permitted → IsClearFrom part permitted tree path
+  clear_file path size is file_there same = (at_file (get tree path) (ap place_of (sym (node_is tree path is)) ∙ file_there), λ n p under. if_stands part permitted p (get tree p) (λ there. absurd (no_folder (node_at tree path) file_there (subst (λ q. IsTrue (is_folder (node_at tree q))) under (folder_above tree n p rooted there)))))
+    where
+      at_file : (o : Option Node) → place_of o ≡ places.File size → IsClearAt part permitted path o
+      at_file None h = cc
+      at_file (Some (file bytes)) h = same
+      at_file (Some folder) h = cc
+
+      no_folder : (o : Option Node) → place_of o ≡ places.File size → IsTrue (is_folder o) → ⊥
+      no_folder None h is = cc
+      no_folder (Some (file bytes)) h is = cc
+      no_folder (Some folder) h is = cc
+
+  pub clear_folder : (path : Bytes) → IsTrue (is_path path) → place_of (node_at tree path) ≡ places.Folder → IsTrue (may_hold_folder part path) → IsClearBelow part permitted path tree → IsClearFrom part permitted tree path
+  clear_folder path is there may clear = (at_folder (get tree path) (ap place_of (sym (node_is tree path is)) ∙ there), clear)
+    where
+      at_folder : (o : Option Node) → place_of o ≡ places.Folder → IsClearAt part permitted path o
+      at_folder None h = cc
+      at_folder (Some (file bytes)) h = cc
+      at_folder (Some folder) h = may
+
+-- ---- the strays
+pub folder_stands : (tree : Tree) (path : Bytes) → IsTrue (is_path path) → place_of (node_at tree path) ≡ places.Folder → IsTrue (is_folder (get tree path))
+folder_stands tree path is there = by_case (get tree path) (ap place_of (sym (node_is tree path is)) ∙ there)
+  where
+    by_case : (o : Option Node) → place_of o ≡ places.Folder → IsTrue (is_folder o)
+    by_case None h = cc
+    by_case (Some (file bytes)) h = cc
+    by_case (Some folder) h = refl
+
+pub file_stands : (tree : Tree) (path : Bytes) (size : ℕ) → place_of (node_at tree path) ≡ places.File size → IsTrue (is_file_at tree path)
+file_stands tree path size there = by_case (node_at tree path) there
+  where
+    by_case : (o : Option Node) → place_of o ≡ places.File size → IsTrue (is_some (bytes_of o))
+    by_case None h = cc
+    by_case (Some (file bytes)) h = refl
+    by_case (Some folder) h = cc
+
+pub not_absent : (tree : Tree) (path : Bytes) → IsTrue (is_path path) → IsSome (get tree path) → place_of (node_at tree path) ≡ places.Absent → ⊥
+not_absent tree path is there absent = by_case (get tree path) there (ap place_of (sym (node_is tree path is)) ∙ absent)
+  where
+    by_case : (o : Option Node) → IsSome o → place_of o ≡ places.Absent → ⊥
+    by_case None there h = cc
+    by_case (Some (file bytes)) there h = cc
+    by_case (Some folder) there h = cc
+
+-- ---- one name of a listing
+-- the path of a name that is listed
+pub record IsListed (tree : Tree) (place path : Bytes) (xs : List (Vec ℕ Global)) (i : ℕ) : Type 0 where
+  pub there : IsSome (get tree path)
+  pub is_path : IsTrue (is_path path)
+  pub deeper : length place < length path
+  pub at : path ≡ under place (get_or (map (λ (name : Vec ℕ Global). name.items) xs) i [])
+
+pub is_listed : (tree : Tree) (place : Bytes) (xs : List (Vec ℕ Global)) (i : ℕ) (v : Vec ℕ Global) (path name : Bytes) → IsRooted tree
+    → map (λ (name : Vec ℕ Global). name.items) xs ≡ names_at tree place → i < length xs → v ≡ get_or xs i v → name ≡ v.items → path ≡ under place name → IsListed tree place path xs i
+is_listed tree place xs i v path name rooted names below is name_is path_is =
+    let at : path ≡ under place (get_or (map (λ (name : Vec ℕ Global). name.items) xs) i []) = path_is ∙ ap (under place) (name_is ∙ sym (item_is xs i v below is)) in
+    let r = listed_stands tree place (map (λ (name : Vec ℕ Global). name.items) xs) i rooted names (omega (arith, below, map_length xs)) in
+    record {
+      there = subst (λ p. IsSome (get tree p)) (sym at) r.0;
+      is_path = subst (λ p. IsTrue (is_path p)) (sym at) r.1;
+      deeper = subst (λ p. length place < length p) (sym at) (deeper place (get_or (map (λ (name : Vec ℕ Global). name.items) xs) i []) r.1);
+      at = at;
+    }
+
+-- one more name is clear
+pub one_more : (P : Bytes → Type 0) (place path : Bytes) (names : List Bytes) (k : ℕ) → ((i : ℕ) → i < k → P (under place (get_or names i []))) → path ≡ under place (get_or names k []) → P path
+    → (i : ℕ) → i < k + 1 → P (under place (get_or names i []))
+one_more P place path names k before at here i below = by_test (nat_lt i k) refl
+  where
+    by_test : (b : Bool) → nat_lt i k ≡ b → P (under place (get_or names i []))
+    by_test true less = before i (ltb-true _ _ less)
+    by_test false more =
+        let same : k ≡ i = omega (arith, below, ltb-false _ _ more) in
+        subst (λ j. P (under place (get_or names j []))) same (subst P at here)
+
+pub path_short : (path : Bytes) → IsTrue (is_path path) → nat_le (length path) 4096 ≡ true
+path_short path is = by_case (nat_le (length path) 4096) is
+  where
+    by_case : (b : Bool) → IsTrue (b && list_all is_component (slice_split is_slash path)) → b ≡ true
+    by_case true h = refl
+    by_case false h = cc
+
+pub none_stray : {X : Type 0} (o : Option X) (A : Type 0) (B : X → Type 0) → is_some o ≡ false → MatchOption o A B → A
+none_stray None A B none h = h
+none_stray (Some x) A B none h = cc
+
+pub is_deep : (place path : Bytes) → length place < length path → IsTrue (is_path path) → (nat_lt (length place) (length path) && nat_le (length path) 4096) ≡ true
+is_deep place path longer is = ap (λ b. b && nat_le (length path) 4096) (by_test (nat_lt (length place) (length path)) refl) ∙ path_short path is
+  where
+    by_test : (b : Bool) → nat_lt (length place) (length path) ≡ b → b ≡ true
+    by_test true less = refl
+    by_test false more = absurd (omega (arith, longer, ltb-false _ _ more))
+
+pub found_root : (part : Part) (permitted : Bytes) (tree : Tree) (r : Result (Option Stray) FileError)
+    → IfOk r (λ found. MatchOption found (IsClearBelow part permitted [] tree) (IsStray part permitted tree)) → IfOk r (λ found. MatchOption found (IsClear part permitted tree) (IsStray part permitted tree))
+found_root part permitted tree (Ok None) is = λ path. is (length path) path (above_all path)
+found_root part permitted tree (Ok (Some stray)) is = is
+found_root part permitted tree (Err e) is = is

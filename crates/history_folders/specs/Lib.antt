@@ -1,0 +1,4 @@
+pub mod Folders
+pub mod Parts
+pub mod Refusals
+pub mod Ways

@@ -1,0 +1,53 @@
+//! The folders that a file stands in.
+ghost use Rattle.std.specs.Prelude.{◌≡◌, ◌≤◌, OnOk, IsErrOf, IsTrue};
+ghost use Rattle.gix_ref_file.specs.Calls.{Achieves, HasFault, Passes};
+ghost use Rattle.gix_ref_file.specs.Tree.{is_path, parent, node_at, is_folder};
+ghost use Rattle.gix_ref_file.specs.declared.files.FileError.TheVariants.{Failed};
+ghost use Rattle.history_model.specs.Places.{file_at};
+ghost use Rattle.history_folders.specs.Folders.{SameFiles, OneFolderMore, FoldersAbove, NoFileAbove, HasFoldersAbove, KeepsFolders};
+
+use gix_ref_file::{FileError, Files, Place};
+use std::alloc::Global;
+
+/// Makes those folders of a path that are missing, the outermost first.
+pub fn make_folders<F: Files>(alloc: Global, files: &mut F, path: &[u8]) -> Result<(), FileError>
+    ensures honest { F.is_honest files.old → F.is_honest files.new }
+    ensures moments { Passes F.is_honest F.history files.old files.new SameFiles }
+    ensures folders { Passes F.is_honest F.history files.old files.new (FoldersAbove path.now) }
+    ensures stay { Passes F.is_honest F.history files.old files.new KeepsFolders }
+    ensures later { F.failures files.old ≤ F.failures files.new }
+    ensures unfailed { OnOk result (F.failures files.new ≡ F.failures files.old) }
+    ensures made { F.is_honest files.old → NoFileAbove path.now (F.history files.old).tree
+        → OnOk result (HasFoldersAbove path.now (F.history files.new).tree) }
+    ensures failed { F.is_honest files.old → NoFileAbove path.now (F.history files.old).tree
+        → IsTrue (is_path path.now)
+        → IsErrOf result Failed → HasFault F.failures F.reading_may_fail files.old files.new }
+{
+    for (end, byte) in path.iter().enumerate() {
+        if *byte == b'/' {
+            make_folder(alloc, files, &path[..end])?;
+        }
+    }
+    Ok(())
+}
+
+// Makes a folder where nothing stands.
+fn make_folder<F: Files>(alloc: Global, files: &mut F, folder: &[u8]) -> Result<(), FileError>
+    ensures honest { F.is_honest files.old → F.is_honest files.new }
+    ensures moments { Passes F.is_honest F.history files.old files.new SameFiles }
+    ensures folders { Passes F.is_honest F.history files.old files.new (OneFolderMore folder.now) }
+    ensures later { F.failures files.old ≤ F.failures files.new }
+    ensures unfailed { OnOk result (F.failures files.new ≡ F.failures files.old) }
+    ensures stay { Passes F.is_honest F.history files.old files.new KeepsFolders }
+    ensures kept { Achieves F.is_honest F.history files.old files.new result KeepsFolders }
+    ensures made { F.is_honest files.old → file_at (F.history files.old).tree folder.now ≡ None
+        → OnOk result (IsTrue (is_folder (node_at (F.history files.new).tree folder.now))) }
+    ensures failed { F.is_honest files.old → IsTrue (is_path folder.now)
+        → IsTrue (is_folder (node_at (F.history files.old).tree (parent folder.now)))
+        → IsErrOf result Failed → HasFault F.failures F.reading_may_fail files.old files.new }
+{
+    match files.kind_of(folder)? {
+        Place::Absent => files.make_folder(alloc, folder),
+        Place::File(_) | Place::Folder => Ok(()),
+    }
+}

@@ -1,0 +1,232 @@
+-- What `packed-refs` says where a name's record has gone.
+use Rattle.std.proofs.Common.{◌≡◌, refl, sym, ◌∙◌, ap, subst, Bool, true, false, cond, not, ◌&&◌, ◌||◌, List, [], ◌∷◌, map, Option, Some, None, option_map, bytes_eq, MatchOption}
+use Rattle.std.specs.Prelude.{option_and_then}
+use Rattle.std.specs.List.{list_any, list_all, AllByRecursion}
+use Rattle.std.specs.FinMap.{is_sorted}
+use Rattle.std.specs.FinMap.Entries.{below_all}
+use Rattle.std.specs.Ordering.{is_lt, is_eq}
+use Rattle.std.proofs.lemmas.Bool.{and_from, and_parts, or_from}
+use Rattle.std.proofs.lemmas.Map.Text.{is_eq-slice_cmp}
+use Rattle.gix_hash_id.specs.declared.kind.Kind.{Kind}
+use Rattle.gix_ref_format.specs.Lookup.{packed_hit}
+use Rattle.gix_ref_format.specs.Packed.{Record, packed_records}
+use Rattle.gix_ref_format.specs.PackedBuffer.{Keeps, KeepsFile, hit}
+use Rattle.gix_ref_format.specs.PackedKept.{kept}
+use Rattle.gix_ref_format.specs.declared.packed.buffer.Buffer.{Buffer}
+use Rattle.gix_ref_packed.specs.Edited.{Ascend, ComesBefore, IsEdited, Line, line_at, under}
+use Rattle.gix_ref_packed.specs.Written.{AllHaveKind, HasKind}
+use Rattle.history_model.specs.Bytes.{Bytes, by_bytes, has_twice}
+use Rattle.history_model.specs.Forms.{is_name, is_private}
+use Rattle.history_model.specs.PackedNames.{PackedFile, is_packed_form, packed_file, says_sorted}
+use Rattle.history_model.proofs.FormatLemmas.{records_alike}
+use Rattle.history_model.proofs.PlaceLemmas.{one_text, text_itself, texts_apart}
+use Rattle.history_steps.specs.TakeSteps.{LacksName, LacksRecord}
+use Rattle.history_steps.proofs.PackedRecords.{all_by_finds, all_found, found_named, name_in, not_found}
+use Rattle.history_names.specs.Packing.{IfSomeRecords, IsEditedText, kept_hit}
+use Rattle.history_names.proofs.ReadRecords.{records_kind}
+
+none_some : {A X : Type 0} {x : X} → None ≡ Some x → A
+none_some e = cc
+
+clash : {A : Type 0} {b : Bool} → b ≡ true → b ≡ false → A
+clash e f = absurd (go (sym e ∙ f))
+  where
+    go : true ≡ false → ⊥
+    go e = cc
+
+not_false : (b : Bool) → b ≡ false → not b ≡ true
+not_false b e = ap not e
+
+not_true : (b : Bool) → not b ≡ true → b ≡ false
+not_true true e = cc
+not_true false e = refl
+
+same_either_way : (a b : Bytes) (x : Bool) → bytes_eq a b ≡ x → bytes_eq b a ≡ x
+same_either_way a b true e = ap (λ t. bytes_eq b t) (one_text a b e) ∙ text_itself b
+same_either_way a b false e = texts_apart b a (λ same. clash (ap (λ t. bytes_eq t b) (sym same) ∙ text_itself b) e)
+
+pub as_all : (kind : Kind) (rs : List Record) → AllByRecursion (HasKind kind) rs → AllHaveKind kind rs
+as_all kind [] h = tt
+as_all kind (r ∷ rs) h = (h.0, as_all kind rs h.1)
+
+-- ---- records that ascend
+
+abbrev pair_of : Bytes → Bytes × Bytes
+pair_of name = (name, name)
+
+before_below : (name : Bytes) (records : List Record) → ComesBefore name records → below_all by_bytes name (map pair_of (map name_in records)) ≡ true
+before_below name [] h = refl
+before_below name (r ∷ records) h = and_from (is_lt (by_bytes name r.name)) (below_all by_bytes name (map pair_of (map name_in records))) (ap is_lt h.0) (before_below name records h.1)
+
+ascend_sorted : (records : List Record) → Ascend records → is_sorted by_bytes (map pair_of (map name_in records)) ≡ true
+ascend_sorted [] h = refl
+ascend_sorted (r ∷ records) h = and_from (below_all by_bytes r.name (map pair_of (map name_in records))) (is_sorted by_bytes (map pair_of (map name_in records))) (before_below r.name records h.0) (ascend_sorted records h.1)
+
+before_apart : (name : Bytes) (records : List Record) → ComesBefore name records → list_any (bytes_eq name) (map name_in records) ≡ false
+before_apart name [] h = refl
+before_apart name (r ∷ records) h = or_from (bytes_eq name r.name) (list_any (bytes_eq name) (map name_in records)) (sym (is_eq-slice_cmp name r.name) ∙ ap is_eq h.0) (before_apart name records h.1)
+
+pub ascend_once : (records : List Record) → Ascend records → has_twice bytes_eq (map name_in records) ≡ false
+ascend_once [] h = refl
+ascend_once (r ∷ records) h = or_from (list_any (bytes_eq r.name) (map name_in records)) (has_twice bytes_eq (map name_in records)) (before_apart r.name records h.0) (ascend_once records h.1)
+
+-- ---- what is told of all names
+
+all_told : (p : Bytes → Bool) (records : List Record) → AllByRecursion (λ (e : Record). p e.name ≡ true) records → list_all p (map name_in records) ≡ true
+all_told p [] h = refl
+all_told p (r ∷ records) h = and_from (p r.name) (list_all p (map name_in records)) h.0 (all_told p records h.1)
+
+told_all : (p : Bytes → Bool) (records : List Record) → list_all p (map name_in records) ≡ true → AllByRecursion (λ (e : Record). p e.name ≡ true) records
+told_all p [] h = tt
+told_all p (r ∷ records) h = let parts = and_parts (p r.name) (list_all p (map name_in records)) h in (parts.0, told_all p records parts.1)
+
+none_told : (p : Bytes → Bool) (records : List Record) → AllByRecursion (λ (e : Record). p e.name ≡ false) records → list_any p (map name_in records) ≡ false
+none_told p [] h = refl
+none_told p (r ∷ records) h = or_from (p r.name) (list_any p (map name_in records)) h.0 (none_told p records h.1)
+
+-- records that ascend have the form, where their names do
+pub form_made : (records : List Record) → Ascend records → AllByRecursion (λ (e : Record). is_name e.name ≡ true) records → AllByRecursion (λ (e : Record). is_private e.name ≡ false) records
+    → (sorted : Bool) → is_packed_form (record { sorted = sorted; records = records }) ≡ true
+form_made records ascend named public sorted =
+    let own = map name_in records in
+    and_from (list_all is_name own && not (has_twice bytes_eq own) && not (list_any is_private own)) (not sorted || is_sorted by_bytes (map pair_of own))
+    (and_from (list_all is_name own && not (has_twice bytes_eq own)) (not (list_any is_private own))
+    (and_from (list_all is_name own) (not (has_twice bytes_eq own)) (all_told is_name records named) (not_false (has_twice bytes_eq own) (ascend_once records ascend)))
+    (not_false (list_any is_private own) (none_told is_private records public)))
+    (right (not sorted) (is_sorted by_bytes (map pair_of own)) (ascend_sorted records ascend))
+  where
+    right : (a b : Bool) → b ≡ true → (a || b) ≡ true
+    right true b h = refl
+    right false b h = h
+
+-- the parts of a form
+module _ (packed : PackedFile) (formed : is_packed_form packed ≡ true) where
+  abbrev names : List Bytes
+  names = map name_in packed.records
+
+  three : ((list_all is_name names && not (has_twice bytes_eq names) && not (list_any is_private names)) ≡ true) × ((not packed.sorted || is_sorted by_bytes (map pair_of names)) ≡ true)
+  three = and_parts (list_all is_name names && not (has_twice bytes_eq names) && not (list_any is_private names)) (not packed.sorted || is_sorted by_bytes (map pair_of names)) formed
+
+  two : ((list_all is_name names && not (has_twice bytes_eq names)) ≡ true) × (not (list_any is_private names) ≡ true)
+  two = and_parts (list_all is_name names && not (has_twice bytes_eq names)) (not (list_any is_private names)) three.0
+
+  all_names : list_all is_name names ≡ true
+  all_names = (and_parts (list_all is_name names) (not (has_twice bytes_eq names)) two.0).0
+
+  none_private : list_any is_private names ≡ false
+  none_private = not_true (list_any is_private names) two.1
+
+  -- a name that is found is one that a repository may hold
+  found_name : (name : Bytes) (e : Record) → hit packed.records name ≡ Some e → is_name e.name ≡ true
+  found_name name e found = all_found (λ (r : Record). is_name r.name ≡ true) packed.records name e (told_all is_name packed.records all_names) found
+
+  found_public : (name : Bytes) (e : Record) → hit packed.records name ≡ Some e → is_private e.name ≡ false
+  found_public name e found = not_found is_private packed.records name e none_private found
+
+-- ---- without a name
+
+module _ (kind : Kind) (name text : Bytes) (records after : List Record) (read : packed_records kind text ≡ Some records) (edited : IsEdited records (record { name = name; says = None } ∷ []) after) where
+  abbrev old : PackedFile
+  old = record { sorted = says_sorted text; records = records }
+
+  each : (other : Bytes) → hit after other ≡ cond (bytes_eq other name) None (hit records other)
+  each other = edited.each other ∙ go (bytes_eq name other) refl
+    where
+      go : (b : Bool) → bytes_eq name other ≡ b → under (cond b (Some (record { name = name; says = None })) None) (hit records other) ≡ cond (bytes_eq other name) None (hit records other)
+      go true e = ap (λ b. cond b None (hit records other)) (sym (same_either_way name other true e))
+      go false e = ap (λ b. cond b None (hit records other)) (sym (same_either_way name other false e))
+
+  was : (e : Record) → hit after e.name ≡ Some e → hit records e.name ≡ Some e
+  was e found = go (bytes_eq e.name name) (sym (each e.name) ∙ found)
+    where
+      go : (b : Bool) → cond b None (hit records e.name) ≡ Some e → hit records e.name ≡ Some e
+      go true is = none_some is
+      go false is = is
+
+  by_was : (P : Record → Type 0) → ((e : Record) → hit records e.name ≡ Some e → P e) → AllByRecursion P after
+  by_was P told = all_by_finds P after (ascend_once after edited.ascend) (λ e found. told e (was e found))
+
+  same_kind : AllHaveKind kind after
+  same_kind = as_all kind after (by_was (HasKind kind) (λ e found. all_found (HasKind kind) records e.name e (records_kind kind text records read) found))
+
+  module _ (formed : is_packed_form (record { sorted = says_sorted text; records = records }) ≡ true) where
+    left_formed : (sorted : Bool) → is_packed_form (record { sorted = sorted; records = after }) ≡ true
+    left_formed sorted =
+        form_made after edited.ascend (by_was (λ (e : Record). is_name e.name ≡ true) (λ e found. found_name old formed e.name e found))
+        (by_was (λ (e : Record). is_private e.name ≡ false) (λ e found. found_public old formed e.name e found)) sorted
+
+    lacks : (sorted : Bool) → LacksName name old (record { sorted = sorted; records = after })
+    lacks sorted = record { formed = left_formed sorted; each = each }
+
+-- ---- in texts
+
+abbrev removal : Bytes → List Line
+removal name = record { name = name; says = None } ∷ []
+
+abbrev file_of : Bytes → List Record → PackedFile
+file_of text records = record { sorted = says_sorted text; records = records }
+
+abbrev IsFormed : Kind → Bytes → Type 0
+IsFormed kind text = MatchOption (packed_file kind text) ⊥ (λ packed. is_packed_form packed ≡ true)
+
+form_of : (kind : Kind) (text : Bytes) (records : List Record) → packed_records kind text ≡ Some records → IsFormed kind text → is_packed_form (file_of text records) ≡ true
+form_of kind text records read formed = subst (λ o. MatchOption (option_map (file_of text) o) ⊥ (λ packed. is_packed_form packed ≡ true)) read formed
+
+pub lacks_written : (kind : Kind) (name text new : Bytes) (left : List Record) → Keeps kind text left → IsFormed kind text → IsEditedText kind left (removal name) new → LacksRecord kind name (Some text) (Some new)
+lacks_written kind name text new left keeps formed told =
+    let records = keeps.0 in
+    let read : packed_records kind text ≡ Some records = keeps.1 in
+    let edited : IsEdited records (removal name) told.after =
+    record { ascend = told.edited.ascend; each = λ other. told.edited.each other ∙ ap (under (line_at (removal name) other)) (keeps.2.first other) } in
+    let form = form_of kind text records read formed in
+    let read_new : packed_records kind new ≡ Some told.after = told.reads (same_kind kind name text records told.after read edited) in
+    subst (λ o. MatchOption o ⊥ (λ (old : PackedFile). MatchOption (packed_file kind new) ⊥ (LacksName name old))) (sym (ap (option_map (file_of text)) read))
+    (subst (λ o. MatchOption o ⊥ (LacksName name (file_of text records))) (sym (ap (option_map (file_of new)) read_new))
+    (lacks kind name text records told.after read edited form (says_sorted new)))
+
+module _ (kind : Kind) (name text : Bytes) (records left : List Record) (read : packed_records kind text ≡ Some records) (first : (other : Bytes) → hit left other ≡ hit records other)
+    (formed : is_packed_form (file_of text records) ≡ true) (named : is_name name ≡ true) (none : packed_hit left name ≡ None) where
+  none_hit : hit records name ≡ None
+  none_hit = by_kind (is_private name) refl (sym (ap (option_and_then (hit left)) (records_alike name named)) ∙ none)
+    where
+      not_there : is_private name ≡ true → (o : Option Record) → hit records name ≡ o → o ≡ None
+      not_there private None e = refl
+      not_there private (Some r) e =
+          clash (ap is_private (found_named records name r e) ∙ private) (found_public (file_of text records) formed name r e)
+
+      by_kind : (b : Bool) → is_private name ≡ b → option_and_then (hit left) (cond b None (Some name)) ≡ None → hit records name ≡ None
+      by_kind true private e = not_there private (hit records name) refl
+      by_kind false public e = sym (first name) ∙ e
+
+  same_lacks : LacksName name (file_of text records) (file_of text records)
+  same_lacks = record { formed = formed; each = λ other. go other (bytes_eq other name) refl }
+    where
+      go : (other : Bytes) (b : Bool) → bytes_eq other name ≡ b → hit records other ≡ cond b None (hit records other)
+      go other true e = ap (hit records) (one_text other name e) ∙ none_hit
+      go other false e = refl
+
+pub lacks_same : (kind : Kind) (name : Bytes) (file : Option Bytes) (packed : Option Buffer) → KeepsFile kind file (option_map kept packed) → ((text : Bytes) → file ≡ Some text → IsFormed kind text) → is_name name ≡ true
+    → kept_hit packed name ≡ None → LacksRecord kind name file file
+lacks_same kind name None packed keeps formed named none = refl
+lacks_same kind name (Some text) None keeps formed named none = absurd keeps
+lacks_same kind name (Some text) (Some buffer) keeps formed named none =
+    let records = keeps.0 in
+    let read : packed_records kind text ≡ Some records = keeps.1 in
+    subst (λ o. MatchOption o ⊥ (λ (old : PackedFile). MatchOption o ⊥ (LacksName name old))) (sym (ap (option_map (file_of text)) read))
+    (same_lacks kind name text records (kept buffer) read keeps.2.first (form_of kind text records read (formed text refl)) named none)
+
+-- what was written without the name
+module _ (kind : Kind) (name text : Bytes) where
+  pub removed_lacks : (file : Option Bytes) (packed : Option Buffer) → KeepsFile kind file (option_map kept packed) → ((found : Bytes) → file ≡ Some found → IsFormed kind found)
+      → IfSomeRecords packed (λ records. IsEditedText kind records (removal name) text) → LacksRecord kind name file (Some text)
+  removed_lacks file None keeps formed told = absurd told
+  removed_lacks None (Some buffer) keeps formed told = absurd keeps
+  removed_lacks (Some found) (Some buffer) keeps formed told = lacks_written kind name found text (kept buffer) keeps (formed found refl) told
+
+  pub removed_reads : (file : Option Bytes) (packed : Option Buffer) → KeepsFile kind file (option_map kept packed) → IfSomeRecords packed (λ records. IsEditedText kind records (removal name) text) → packed_records kind text ≡ None → ⊥
+  removed_reads file None keeps told none = told
+  removed_reads None (Some buffer) keeps told none = keeps
+  removed_reads (Some found) (Some buffer) keeps told none =
+      let edited : IsEdited keeps.0 (removal name) told.after =
+      record { ascend = told.edited.ascend; each = λ other. told.edited.each other ∙ ap (under (line_at (removal name) other)) (keeps.2.first other) } in
+      none_some (sym none ∙ told.reads (same_kind kind name found keeps.0 told.after keeps.1 edited))

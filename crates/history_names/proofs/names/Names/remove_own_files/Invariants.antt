@@ -1,0 +1,21 @@
+use Rattle.std.proofs.Common.{◌≡◌, ◌≤◌, take}
+use Rattle.gix_ref_file.specs.History.{Adds}
+use Rattle.history_names.specs.Packed.{AreGone, MayBeGone, name_texts}
+use Rattle.history_names.specs.References.{SameFolders}
+use Rattle.history_names.proofs.names.Names.remove_own_files.Given as goal
+
+-- the files of the names so far are gone
+abbrev pub invariant-loop-named : goal.invariant-loop-named
+invariant-loop-named g l =
+    let history = g.F.Files.history in
+    let paths = name_texts (take l.named-index l.names) in
+    record {
+      honest : g.F.Files.is_honest l.fn.self.files → g.F.Files.is_honest l.self.files;
+      kind : l.self.kind ≡ l.fn.self.kind;
+      packed : l.self.packed ≡ l.fn.self.packed;
+      gone : g.F.Files.is_honest l.fn.self.files → AreGone paths (history l.fn.self.files).tree (history l.self.files).tree;
+      moments : g.F.Files.is_honest l.fn.self.files → Adds (MayBeGone paths (history l.fn.self.files).tree) (history l.fn.self.files) (history l.self.files);
+      folders : g.F.Files.is_honest l.fn.self.files → Adds (SameFolders (history l.fn.self.files).tree) (history l.fn.self.files) (history l.self.files);
+      later : g.F.Files.failures l.fn.self.files ≤ g.F.Files.failures l.self.files;
+      unfailed : g.F.Files.failures l.self.files ≡ g.F.Files.failures l.fn.self.files;
+    }

@@ -1,0 +1,120 @@
+-- What is kept of `packed-refs` (git-pack-refs(1)), what names read as by it, and what stands while it is replaced.
+use Rattle.std.specs.Prelude.{◌≡◌, ◌≢◌, ◌⊎◌, List, Option, Some, None, option_map, MatchOption, IsTrue}
+use Rattle.std.specs.FinMap.{get}
+use Rattle.gix_ref_file.specs.Tree.{Tree, folder}
+use Rattle.gix_hash_id.specs.Id.{Id, id_of}
+use Rattle.gix_hash_id.specs.declared.kind.Kind.{Kind}
+use Rattle.gix_hash_id.specs.declared.object_id.ObjectId.{ObjectId}
+use Rattle.gix_ref_format.specs.Lookup.{packed_hit}
+use Rattle.gix_ref_format.specs.Packed.{Record, packed_records}
+use Rattle.gix_ref_format.specs.PackedBuffer.{KeepsFile}
+use Rattle.gix_ref_format.specs.PackedKept.{kept}
+use Rattle.gix_ref_format.specs.declared.packed.buffer.Buffer.{Buffer}
+use Rattle.gix_ref_packed.specs.Edited.{Line, IsEdited}
+use Rattle.gix_ref_packed.specs.Written.{AllHaveKind, packed_text}
+use Rattle.history_model.specs.Bytes.{Bytes}
+use Rattle.history_model.specs.NameStates.{NameState, Holds, Symbolic, Absent, Faulty, name_state}
+use Rattle.history_model.specs.PackedNames.{packed_file, is_packed_form}
+use Rattle.history_model.specs.Places.{file_at, log_place, packed_place}
+use Rattle.history_steps.specs.TakeSteps.{TakesRecord}
+use Rattle.history_names.specs.References.{HasLockRoom, OthersStay, lock_place}
+use Rattle.history_names.specs.declared.names.Names.{Names}
+
+-- ---- what names read as
+
+-- the records that are kept are those of the file; of none where none stands
+abbrev pub KeepsRecords : {F : Type 0} → Names F → Tree → Type 0
+KeepsRecords names tree =
+    KeepsFile names.kind (file_at tree packed_place) (option_map kept names.packed)
+
+-- the id that a state tells
+abbrev pub told_id : NameState → Option Id
+told_id (Holds id) = Some id
+told_id (Symbolic name) = None
+told_id Absent = None
+told_id Faulty = None
+
+-- the name reads as this id: of its own file, or where none stands of its record; or it reads as none
+abbrev pub NameReads : Kind → Tree → Bytes → Option ObjectId → Type 0
+NameReads kind tree name id = option_map id_of id ≡ told_id (name_state kind tree name)
+
+-- the record of a name among those that are kept
+abbrev pub kept_hit : Option Buffer → Bytes → Option Record
+kept_hit None name = None
+kept_hit (Some buffer) name = packed_hit (kept buffer) name
+
+-- ---- records that are written
+
+-- records are kept, and of them this is true
+abbrev pub IfSomeRecords : Option Buffer → (List Record → Type 0) → Type 0
+IfSomeRecords packed P = MatchOption packed ⊥ (λ buffer. P (kept buffer))
+
+-- The text of the records under the edits, and where all their ids are of the kind it is read as them.
+pub record IsEditedText (kind : Kind) (records : List Record) (lines : List Line)
+    (text : Bytes) : Type 0 where
+  pub after : List Record
+  pub edited : IsEdited records lines after
+  pub is : text ≡ packed_text after
+  pub reads : AllHaveKind kind after → packed_records kind text ≡ Some after
+
+-- no folder stands in the place of `packed-refs`, or where it is written beside
+pub record HasPackedRoom (tree : Tree) : Type 0 where
+  pub place : get tree packed_place ≢ Some folder
+  pub lock : HasLockRoom packed_place tree
+
+-- the names of the records are such as a repository may hold, each once
+abbrev pub IsPackedForm : Kind → Tree → Type 0
+IsPackedForm kind tree =
+    (text : Bytes) → file_at tree packed_place ≡ Some text
+    → MatchOption (packed_file kind text) ⊥ (λ packed. IsTrue (is_packed_form packed))
+
+-- ---- a deletion
+
+-- no file stands at the path, and each other file is as before
+pub record FileIsGone (path : Bytes) (old new : Tree) : Type 0 where
+  pub here : file_at new path ≡ None
+  pub others : OthersStay path old new
+
+-- What stands while a file goes: it is as before or gone, and each other file is as before.
+pub record FileMayGo (path : Bytes) (old tree : Tree) : Type 0 where
+  pub here : (file_at tree path ≡ file_at old path) ⊎ (file_at tree path ≡ None)
+  pub others : OthersStay path old tree
+
+-- `packed-refs` has no record of the name, what it was written in is gone, if anything was, and each other file is as before.
+pub record LosesRecord (kind : Kind) (name : Bytes) (old new : Tree) : Type 0 where
+  pub packed : TakesRecord kind name old new
+  pub lock : (file_at new (lock_place packed_place) ≡ None)
+      ⊎ (file_at new (lock_place packed_place) ≡ file_at old (lock_place packed_place))
+  pub others : (path : Bytes) → path ≢ packed_place → path ≢ lock_place packed_place
+      → file_at new path ≡ file_at old path
+
+-- What stands meanwhile: `packed-refs` is as before, or has no record of the name.
+pub record MayLoseRecord (kind : Kind) (name : Bytes) (old tree : Tree) : Type 0 where
+  pub packed : (file_at tree packed_place ≡ file_at old packed_place)
+      ⊎ TakesRecord kind name old tree
+  pub others : (path : Bytes) → path ≢ packed_place → path ≢ lock_place packed_place
+      → file_at tree path ≡ file_at old path
+
+-- The name's file, its log and its record are gone, what `packed-refs` was written in too, if anything was, and each other file is as
+-- before.
+pub record IsTaken (kind : Kind) (name : Bytes) (old new : Tree) : Type 0 where
+  pub here : file_at new name ≡ None
+  pub log : file_at new (log_place name) ≡ None
+  pub packed : TakesRecord kind name old new
+  pub lock : (file_at new (lock_place packed_place) ≡ None)
+      ⊎ (file_at new (lock_place packed_place) ≡ file_at old (lock_place packed_place))
+  pub others : (path : Bytes) → path ≢ name → path ≢ log_place name → path ≢ packed_place
+      → path ≢ lock_place packed_place → file_at new path ≡ file_at old path
+
+-- What stands while a name goes: its log is as before or gone; where it is gone, its record may be gone; and where that is gone too,
+-- its file. Each other file but the lock file of `packed-refs` is as before.
+pub record MayTake (kind : Kind) (name : Bytes) (old tree : Tree) : Type 0 where
+  pub log : (file_at tree (log_place name) ≡ file_at old (log_place name))
+      ⊎ (file_at tree (log_place name) ≡ None)
+  pub packed : (file_at tree packed_place ≡ file_at old packed_place)
+      ⊎ ((file_at tree (log_place name) ≡ None) × TakesRecord kind name old tree)
+  pub here : (file_at tree name ≡ file_at old name)
+      ⊎ ((file_at tree name ≡ None) × (file_at tree (log_place name) ≡ None)
+      × TakesRecord kind name old tree)
+  pub others : (path : Bytes) → path ≢ name → path ≢ log_place name → path ≢ packed_place
+      → path ≢ lock_place packed_place → file_at tree path ≡ file_at old path

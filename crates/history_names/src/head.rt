@@ -1,0 +1,59 @@
+//! HEAD of a repository that stands: its file is written whole.
+ghost use Rattle.std.specs.Prelude.{◌≡◌, ◌≤◌, IfOk, OnOk, IsErrOf};
+ghost use Rattle.gix_ref_file.specs.Calls.{Achieves, Passes};
+ghost use Rattle.gix_ref_file.specs.History.{HasRisen};
+ghost use Rattle.gix_ref_file.specs.declared.files.FileError.TheVariants.{Failed};
+ghost use Rattle.history_model.specs.Places.{head_place};
+ghost use Rattle.history_model.specs.StandsFor.{head_text};
+ghost use Rattle.history_folders.specs.Folders.{SameFolders};
+ghost use Rattle.history_names.specs.Packing.{KeepsRecords};
+ghost use Rattle.history_names.specs.References.{HasHeadRoom, MayBeWritten, PutsBeside};
+
+use crate::names::Names;
+use gix_ref_file::{FileError, Files};
+use history_model::names::HEAD;
+use std::alloc::{AllocError, Global};
+
+/// Where HEAD is written before it is renamed to its place.
+pub const HEAD_LOCK: &[u8] = b"HEAD.lock";
+
+// What HEAD has in it where it names this branch.
+fn head_text(alloc: Global, branch: &[u8]) -> Result<Vec<u8>, AllocError>
+    ensures { IfOk result (λ text. text.items ≡ head_text branch.now) }
+{
+    let mut text = Vec::from_slice(alloc, b"ref: ")?;
+    text.extend_from_slice(branch)?;
+    text.push(b'\n')?;
+    Ok(text)
+}
+
+impl<F: Files> Names<F> {
+    /// Makes HEAD name this branch, whether that stands or not: HEAD is written in its lock file that is then renamed. No log gets a
+    /// line. After an error HEAD is as before or names the branch, whole.
+    pub fn switch(&mut self, alloc: Global, branch: &[u8]) -> Result<(), FileError>
+        ensures honest { F.is_honest self.old.files → F.is_honest self.new.files }
+        ensures kind { self.new.kind ≡ self.old.kind }
+        ensures packed { self.new.packed ≡ self.old.packed }
+        ensures switched { Achieves F.is_honest F.history self.old.files self.new.files result
+            (PutsBeside head_place (head_text branch.now)) }
+        ensures keeps { F.is_honest self.old.files
+            → KeepsRecords self.old (F.history self.old.files).tree
+            → OnOk result (KeepsRecords self.new (F.history self.new.files).tree) }
+
+        // What stands on the way; no folder comes or goes.
+        ensures moments { Passes F.is_honest F.history self.old.files self.new.files
+            (MayBeWritten head_place (head_text branch.now)) }
+        ensures folders { Passes F.is_honest F.history self.old.files self.new.files SameFolders }
+
+        // Where HEAD and its lock file have room, a call of the files fails only of itself.
+        ensures later { F.failures self.old.files ≤ F.failures self.new.files }
+        ensures unfailed { OnOk result (F.failures self.new.files ≡ F.failures self.old.files) }
+        ensures failed { F.is_honest self.old.files
+            → HasHeadRoom (F.history self.old.files).tree → IsErrOf result Failed
+            → HasRisen (F.failures self.old.files) (F.failures self.new.files) }
+    {
+        let text = head_text(alloc, branch)?;
+        self.files.write(alloc, HEAD_LOCK, &text)?;
+        self.files.rename(alloc, HEAD_LOCK, HEAD)
+    }
+}

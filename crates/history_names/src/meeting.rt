@@ -1,0 +1,61 @@
+//! Whether a name meets another, packed or not: at one of its folders, or below it.
+ghost use Rattle.std.specs.Prelude.{◌≢◌, [], IfOk, IsErrOf, IsTrue};
+ghost use Rattle.gix_ref_file.specs.Calls.{Finds};
+ghost use Rattle.gix_ref_file.specs.declared.files.FileError.TheVariants.{Failed};
+ghost use Rattle.history_model.specs.Forms.{is_name};
+ghost use Rattle.history_names.specs.AllNames.{TellsHeldAbove, TellsHeldBelow, TellsMeeting};
+ghost use Rattle.history_names.specs.Packing.{KeepsRecords};
+
+use crate::names::Names;
+use gix_ref_file::{FileError, Files};
+use std::alloc::Global;
+
+impl<F: Files> Names<F> {
+    /// Whether the name meets another, packed or not: where it needs a folder, or below it, a file stands or a name reads as an id.
+    /// Folders without files are in nobody's way. The name's own folders are read, those below it listed, and of the records those
+    /// below it gone through, no others.
+    ///
+    /// It is `Failed` where a file call failed, and `Memory` where no memory is left.
+    pub fn collides_any(&self, alloc: Global, name: &[u8]) -> Result<bool, FileError>
+        ensures found { IsTrue (is_name name.now) → Finds F.is_honest F.history self.now.files
+            (λ tree. KeepsRecords self.now tree
+            → IfOk result (λ found. TellsMeeting self.now.kind name.now tree found)) }
+        ensures failed { IsErrOf result Failed → F.reading_may_fail }
+    {
+        if self.collides(alloc, name)? {
+            return Ok(true);
+        }
+        if self.is_held_above(alloc, name)? {
+            return Ok(true);
+        }
+        self.is_held_below(alloc, name)
+    }
+
+    // Whether a name that reads as an id is one of this name's folders.
+    fn is_held_above(&self, alloc: Global, name: &[u8]) -> Result<bool, FileError>
+        ensures found { Finds F.is_honest F.history self.now.files
+            (λ tree. KeepsRecords self.now tree
+            → IfOk result (λ found. TellsHeldAbove self.now.kind name.now tree found)) }
+        ensures failed { IsErrOf result Failed → F.reading_may_fail }
+    {
+        for (end, byte) in name.iter().enumerate() {
+            if *byte == b'/' {
+                if self.find(alloc, &name[..end])?.is_some() {
+                    return Ok(true);
+                }
+            }
+        }
+        Ok(false)
+    }
+
+    // Whether a name that reads as an id lies below this one, which isn't the root.
+    fn is_held_below(&self, alloc: Global, name: &[u8]) -> Result<bool, FileError>
+        ensures found { name.now ≢ [] → Finds F.is_honest F.history self.now.files
+            (λ tree. KeepsRecords self.now tree
+            → IfOk result (λ found. TellsHeldBelow self.now.kind name.now tree found)) }
+        ensures failed { IsErrOf result Failed → F.reading_may_fail }
+    {
+        let below = self.list_all(alloc, name)?;
+        Ok(!below.as_slice().is_empty())
+    }
+}

@@ -1,0 +1,330 @@
+//! The names of a repository: each is a file of its id, and its moves are a log.
+ghost use Rattle.std.specs.Prelude.{◌≡◌, ◌≤◌, None, IfOk, OnOk, IsErrOf, IsTrue, option_map, option_copied};
+ghost use Rattle.gix_ref_file.specs.Calls.{Achieves, Finds, HasFault, Passes};
+ghost use Rattle.gix_ref_file.specs.Tree.{bytes_at};
+ghost use Rattle.gix_ref_file.specs.Changes.{is_file_at};
+ghost use Rattle.gix_ref_file.specs.declared.files.FileError.TheVariants.{Failed};
+ghost use Rattle.history_model.specs.Forms.{is_name};
+ghost use Rattle.history_model.specs.Bytes.{line};
+ghost use Rattle.history_model.specs.Objects.{hex};
+ghost use Rattle.history_model.specs.Places.{log_place};
+ghost use Rattle.gix_hash_id.specs.declared.kind.Kind.{Kind};
+ghost use Rattle.history_folders.specs.Folders.{FoldersAbove};
+ghost use Rattle.history_names.specs.References.{SpellsBranch, SpellsId, HeadNames, NameHolds, HasMoved, HasLockRoom, HasRoom, PutsBeside, MayBeWritten, KeepsFoldersOfOthers, MayLog, MayMove, Logs, FoldersOfName, TellsCollision, IsGone, MayGo, LogIsGone, LogMayGo, SameFolders, lock_place};
+ghost use Rattle.history_folders.specs.Ways.{KeepsOtherFolders, HasWay};
+ghost use Rattle.history_names.specs.Packing.{KeepsRecords};
+ghost use Rattle.gix_hash_id.specs.Id.{id_of};
+
+use gix_hash::{Kind, ObjectId};
+use gix_object_lines::cut::{strip_prefix, strip_suffix};
+use gix_ref_file::{FileError, Files};
+use gix_ref_format::ids::parse_hex;
+use gix_ref_format::packed::Buffer;
+use history_folders::{has_file_above, has_file_below, is_file, make_way};
+use history_model::names::HEAD;
+use history_texts::{LogEntry, push_hex};
+use std::alloc::{AllocError, Global};
+
+/// The names of a repository, in its names part.
+#[derive(Drop)]
+pub struct Names<F: Files> {
+    pub(crate) files: F,
+    pub(crate) kind: Kind,
+    pub(crate) packed: Option<Buffer>,
+}
+
+impl<F: Files> Names<F> {
+    /// The names in this part, of which none is packed: it keeps no records until they are read.
+    pub fn new(files: F, kind: Kind) -> Self
+        ensures files { result.files ≡ files }
+        ensures kind { result.kind ≡ kind }
+        ensures packed { result.packed ≡ None }
+    {
+        Names {
+            files,
+            kind,
+            packed: None,
+        }
+    }
+
+    pub fn into_files(self) -> F
+        ensures { result ≡ self.files }
+    {
+        let Names {
+            files,
+            kind: _,
+            packed: _,
+        } = self;
+        files
+    }
+
+    pub fn files(&self) -> &F
+        ensures { result.now ≡ self.now.files }
+    {
+        &self.files
+    }
+
+    pub fn kind(&self) -> Kind
+        ensures { result ≡ self.now.kind }
+    {
+        self.kind
+    }
+
+    /// HEAD's branch; `None` where HEAD isn't `ref: <name>` and a line feed.
+    ///
+    /// It is `Failed` where a file call failed, and `Memory` where no memory is left.
+    pub fn head(&self, alloc: Global) -> Result<Option<Vec<u8>>, FileError>
+        ensures found { Finds F.is_honest F.history self.now.files
+            (λ tree. IfOk result (λ found. HeadNames tree
+            (option_map (λ branch. branch.items) found))) }
+        ensures failed { IsErrOf result Failed → F.reading_may_fail }
+    {
+        let mut text = Vec::new(alloc);
+        if self.files.read(HEAD, &mut text)?.is_none() {
+            return Ok(None);
+        }
+        match branch_of(&text) {
+            Some(branch) => Ok(Some(Vec::from_slice(alloc, branch)?)),
+            None => Ok(None),
+        }
+    }
+
+    /// The id that a name holds, of the repository's kind; `None` where its file doesn't stand or isn't an id's hex digits and a line feed.
+    ///
+    /// It is `Failed` where a file call failed, and `Memory` where no memory is left.
+    pub fn read(&self, alloc: Global, name: &[u8]) -> Result<Option<ObjectId>, FileError>
+        ensures found { Finds F.is_honest F.history self.now.files
+            (λ tree. IfOk result (λ found. NameHolds self.now.kind tree name.now found)) }
+        ensures failed { IsErrOf result Failed → F.reading_may_fail }
+    {
+        let mut text = Vec::new(alloc);
+        if self.files.read(name, &mut text)?.is_none() {
+            return Ok(None);
+        }
+        Ok(id_in(self.kind, &text))
+    }
+
+    /// What the name's log has in it, nothing where none stands.
+    ///
+    /// It is `Failed` where a file call failed, and `Memory` where no memory is left.
+    pub fn log(&self, alloc: Global, name: &[u8]) -> Result<Vec<u8>, FileError>
+        ensures found { Finds F.is_honest F.history self.now.files
+            (λ tree. IfOk result (λ log. log.items ≡ bytes_at tree (log_place name.now))) }
+        ensures failed { IsErrOf result Failed → F.reading_may_fail }
+    {
+        let place = log_place(alloc, name)?;
+        let mut log = Vec::new(alloc);
+        self.files.read(&place, &mut log)?;
+        Ok(log)
+    }
+
+    /// Whether the name collides with another: a file stands where it needs a folder, or below it. Folders without files are in
+    /// nobody's way. The name's own folders are read, and those below it listed, no others.
+    ///
+    /// It is `Failed` where a file call failed, and `Memory` where no memory is left.
+    pub fn collides(&self, alloc: Global, name: &[u8]) -> Result<bool, FileError>
+        ensures found { IsTrue (is_name name.now) → Finds F.is_honest F.history self.now.files
+            (λ tree. IfOk result (λ found. TellsCollision name.now tree found)) }
+        ensures failed { IsErrOf result Failed → F.reading_may_fail }
+    {
+        if has_file_above(&self.files, name)? {
+            return Ok(true);
+        }
+        has_file_below(alloc, &self.files, name)
+    }
+
+    /// Moves a name to the id after, packed or not: appends the entry's line to the name's log, unless the two ids are one, and then writes the
+    /// name's file, in the name's lock file that is then renamed. Folders without files that stand in the place of either go. After an error the line may
+    /// stand without the move, and of the line a beginning alone; the log keeps what it held, and the name's file is whole.
+    pub fn move_name(
+        &mut self,
+        alloc: Global,
+        name: &[u8],
+        entry: &LogEntry,
+    ) -> Result<(), FileError>
+        ensures honest { F.is_honest self.old.files → F.is_honest self.new.files }
+        ensures kind { self.new.kind ≡ self.old.kind }
+        ensures packed { self.new.packed ≡ self.old.packed }
+        ensures moved { IsTrue (is_name name.now)
+            → Achieves F.is_honest F.history self.old.files self.new.files result
+            (HasMoved name.now entry.now) }
+        ensures keeps { IsTrue (is_name name.now) → F.is_honest self.old.files
+            → KeepsRecords self.old (F.history self.old.files).tree
+            → OnOk result (KeepsRecords self.new (F.history self.new.files).tree) }
+
+        // What stands on the way; no folder goes but those in the way of the two files, and none comes but those that they stand in.
+        ensures moments { IsTrue (is_name name.now)
+            → Passes F.is_honest F.history self.old.files self.new.files
+            (MayMove name.now entry.now) }
+        ensures stay { Passes F.is_honest F.history self.old.files self.new.files
+            (KeepsFoldersOfOthers name.now) }
+        ensures folders { Passes F.is_honest F.history self.old.files self.new.files
+            (FoldersOfName name.now) }
+
+        // Where the name has room, a call of the files fails only of itself.
+        ensures later { F.failures self.old.files ≤ F.failures self.new.files }
+        ensures unfailed { OnOk result (F.failures self.new.files ≡ F.failures self.old.files) }
+        ensures failed { IsTrue (is_name name.now) → F.is_honest self.old.files
+            → HasRoom name.now (F.history self.old.files).tree
+            → IsErrOf result Failed
+            → HasFault F.failures F.reading_may_fail self.old.files self.new.files }
+    {
+        self.append_to_log(alloc, name, entry)?;
+        self.write_name(alloc, name, &entry.after)
+    }
+
+    fn append_to_log(
+        &mut self,
+        alloc: Global,
+        name: &[u8],
+        entry: &LogEntry,
+    ) -> Result<(), FileError>
+        ensures honest { F.is_honest self.old.files → F.is_honest self.new.files }
+        ensures kind { self.new.kind ≡ self.old.kind }
+        ensures packed { self.new.packed ≡ self.old.packed }
+        ensures logged { Achieves F.is_honest F.history self.old.files self.new.files result
+            (Logs name.now entry.now) }
+        ensures moments { Passes F.is_honest F.history self.old.files self.new.files
+            (MayLog name.now entry.now) }
+        ensures stay { Passes F.is_honest F.history self.old.files self.new.files
+            (KeepsOtherFolders (log_place name.now)) }
+        ensures folders { Passes F.is_honest F.history self.old.files self.new.files
+            (FoldersAbove (log_place name.now)) }
+        ensures later { F.failures self.old.files ≤ F.failures self.new.files }
+        ensures unfailed { OnOk result (F.failures self.new.files ≡ F.failures self.old.files) }
+        ensures failed { IsTrue (is_name name.now) → F.is_honest self.old.files
+            → HasWay (log_place name.now) (F.history self.old.files).tree
+            → IsErrOf result Failed
+            → HasFault F.failures F.reading_may_fail self.old.files self.new.files }
+    {
+        if entry.before == entry.after {
+            return Ok(());
+        }
+        let line = entry.to_bytes(alloc)?;
+        let log = log_place(alloc, name)?;
+        make_way(alloc, &mut self.files, &log)?;
+        self.files.append(alloc, &log, &line)
+    }
+
+    fn write_name(&mut self, alloc: Global, name: &[u8], id: &ObjectId) -> Result<(), FileError>
+        ensures honest { F.is_honest self.old.files → F.is_honest self.new.files }
+        ensures kind { self.new.kind ≡ self.old.kind }
+        ensures packed { self.new.packed ≡ self.old.packed }
+        ensures written { IsTrue (is_name name.now)
+            → Achieves F.is_honest F.history self.old.files self.new.files result
+            (PutsBeside name.now (line (hex (id_of id.now)))) }
+        ensures moments { IsTrue (is_name name.now)
+            → Passes F.is_honest F.history self.old.files self.new.files
+            (MayBeWritten name.now (line (hex (id_of id.now)))) }
+        ensures stay { Passes F.is_honest F.history self.old.files self.new.files
+            (KeepsOtherFolders name.now) }
+        ensures folders { Passes F.is_honest F.history self.old.files self.new.files
+            (FoldersAbove name.now) }
+        ensures later { F.failures self.old.files ≤ F.failures self.new.files }
+        ensures unfailed { OnOk result (F.failures self.new.files ≡ F.failures self.old.files) }
+        ensures failed { IsTrue (is_name name.now) → F.is_honest self.old.files
+            → HasWay name.now (F.history self.old.files).tree
+            → HasLockRoom name.now (F.history self.old.files).tree
+            → IsErrOf result Failed
+            → HasFault F.failures F.reading_may_fail self.old.files self.new.files }
+    {
+        let text = name_text(alloc, id)?;
+        let lock = lock_place(alloc, name)?;
+        make_way(alloc, &mut self.files, name)?;
+        self.files.write(alloc, &lock, &text)?;
+        self.files.rename(alloc, &lock, name)
+    }
+
+    /// Deletes the name: removes its log, where one stands, and then its file. After an error the log may be gone and the name not,
+    /// and no name is gone whose log stands; each is whole or gone. No folder goes.
+    ///
+    /// It is `Failed` where a file call failed or no file stands at the name, and `Memory` where no memory is left.
+    pub fn remove_name(&mut self, alloc: Global, name: &[u8]) -> Result<(), FileError>
+        ensures honest { F.is_honest self.old.files → F.is_honest self.new.files }
+        ensures kind { self.new.kind ≡ self.old.kind }
+        ensures packed { self.new.packed ≡ self.old.packed }
+        ensures gone { Achieves F.is_honest F.history self.old.files self.new.files result
+            (IsGone name.now) }
+
+        // What stands on the way.
+        ensures moments { Passes F.is_honest F.history self.old.files self.new.files
+            (MayGo name.now) }
+        ensures folders { Passes F.is_honest F.history self.old.files self.new.files SameFolders }
+
+        // Where the name's file stands, a call of the files fails only of itself.
+        ensures later { F.failures self.old.files ≤ F.failures self.new.files }
+        ensures unfailed { OnOk result (F.failures self.new.files ≡ F.failures self.old.files) }
+        ensures failed { F.is_honest self.old.files
+            → IsTrue (is_file_at (F.history self.old.files).tree name.now)
+            → IsErrOf result Failed
+            → HasFault F.failures F.reading_may_fail self.old.files self.new.files }
+    {
+        self.remove_log(alloc, name)?;
+        self.files.remove_file(alloc, name)
+    }
+
+    pub(crate) fn remove_log(&mut self, alloc: Global, name: &[u8]) -> Result<(), FileError>
+        ensures honest { F.is_honest self.old.files → F.is_honest self.new.files }
+        ensures kind { self.new.kind ≡ self.old.kind }
+        ensures packed { self.new.packed ≡ self.old.packed }
+        ensures gone { Achieves F.is_honest F.history self.old.files self.new.files result
+            (LogIsGone name.now) }
+        ensures moments { Passes F.is_honest F.history self.old.files self.new.files
+            (LogMayGo name.now) }
+        ensures folders { Passes F.is_honest F.history self.old.files self.new.files SameFolders }
+        ensures later { F.failures self.old.files ≤ F.failures self.new.files }
+        ensures unfailed { OnOk result (F.failures self.new.files ≡ F.failures self.old.files) }
+        ensures failed { F.is_honest self.old.files → IsErrOf result Failed
+            → HasFault F.failures F.reading_may_fail self.old.files self.new.files }
+    {
+        let log = log_place(alloc, name)?;
+        if is_file(&self.files, &log)? {
+            return self.files.remove_file(alloc, &log);
+        }
+        Ok(())
+    }
+}
+
+// The name in `ref: <name>` and a line feed.
+fn branch_of(text: &[u8]) -> Option<&[u8]>
+    ensures { SpellsBranch text.now (option_copied result) }
+{
+    let rest = strip_prefix(text, b"ref: ")?;
+    strip_suffix(rest, b"\n")
+}
+
+// The id of this kind in `<hex>` and a line feed.
+pub(crate) fn id_in(kind: Kind, text: &[u8]) -> Option<ObjectId>
+    ensures { SpellsId kind text.now result }
+{
+    let digits = strip_suffix(text, b"\n")?;
+    parse_hex(kind, digits)
+}
+
+// What the file of a name that holds this id has in it.
+fn name_text(alloc: Global, id: &ObjectId) -> Result<Vec<u8>, AllocError>
+    ensures { IfOk result (λ text. text.items ≡ line (hex (id_of id.now))) }
+{
+    let mut text = Vec::new(alloc);
+    push_hex(&mut text, id)?;
+    text.push(b'\n')?;
+    Ok(text)
+}
+
+// The path of the lock file in which a name's file is written.
+fn lock_place(alloc: Global, name: &[u8]) -> Result<Vec<u8>, AllocError>
+    ensures { IfOk result (λ place. place.items ≡ lock_place name.now) }
+{
+    let mut place = Vec::from_slice(alloc, name)?;
+    place.extend_from_slice(b".lock")?;
+    Ok(place)
+}
+
+// The path of a name's log.
+fn log_place(alloc: Global, name: &[u8]) -> Result<Vec<u8>, AllocError>
+    ensures { IfOk result (λ place. place.items ≡ log_place name.now) }
+{
+    let mut place = Vec::from_slice(alloc, b"logs/")?;
+    place.extend_from_slice(name)?;
+    Ok(place)
+}

@@ -1,0 +1,119 @@
+//! The records of `packed-refs`: read once and kept, looked up, and replaced.
+ghost use Rattle.std.specs.Prelude.{◌≡◌, ◌≢◌, ◌≤◌, None, Some, IfOk, IfErr, OnOk, IsErrOf, IsTrue, option_map};
+ghost use Rattle.gix_hash_id.specs.Id.{id_of};
+ghost use Rattle.gix_ref_file.specs.Calls.{Achieves, Finds, Passes};
+ghost use Rattle.gix_ref_file.specs.History.{HasRisen};
+ghost use Rattle.gix_ref_file.specs.declared.files.FileError.TheVariants.{Failed};
+ghost use Rattle.gix_ref_format.specs.Packed.{Record, packed_records};
+ghost use Rattle.gix_ref_format.specs.PackedBuffer.{FileFault, Keeps};
+ghost use Rattle.gix_ref_format.specs.PackedKept.{kept, text_of};
+ghost use Rattle.gix_ref_format.specs.declared.packed.buffer.Error.TheVariants.{Io};
+ghost use Rattle.history_model.specs.Forms.{is_name};
+ghost use Rattle.history_model.specs.Places.{file_at, packed_place};
+ghost use Rattle.history_names.specs.Packing.{HasPackedRoom, KeepsRecords, NameReads, kept_hit};
+ghost use Rattle.history_names.specs.References.{MayBeWritten, PutsBeside, SameFolders};
+
+use crate::names::{Names, id_in};
+use gix_hash::{Kind, ObjectId};
+use gix_ref_file::{FileError, Files};
+use gix_ref_format::packed::Buffer;
+use gix_ref_format::packed::buffer::Error;
+use gix_ref_name::FullNameRef;
+use history_texts::is_name;
+use std::alloc::Global;
+
+/// Where the records stand.
+pub const PACKED: &[u8] = b"packed-refs";
+
+// Where they are written before that is renamed to their place.
+const PACKED_LOCK: &[u8] = b"packed-refs.lock";
+
+impl<F: Files> Names<F> {
+    /// Reads `packed-refs`, and keeps its records from then on; none where no file stands.
+    ///
+    /// It is `Io` where the file couldn't be read, `Memory` where no memory is left, and else tells the fault of the text.
+    pub fn read_packed(&mut self, alloc: Global) -> Result<(), Error>
+        ensures files { self.new.files ≡ self.old.files }
+        ensures kind { self.new.kind ≡ self.old.kind }
+        ensures keeps { Finds F.is_honest F.history self.new.files
+            (λ tree. OnOk result (KeepsRecords self.new tree)) }
+        ensures faulty { Finds F.is_honest F.history self.new.files
+            (λ tree. IfErr result (FileFault self.new.kind (file_at tree packed_place))) }
+        ensures failed { IsErrOf result Io → F.reading_may_fail }
+    {
+        self.packed = Buffer::open(alloc, &self.files, PACKED, self.kind)?;
+        Ok(())
+    }
+
+    /// The id that a name holds: that of its own file, and where none stands that of its record. `None` where it holds none, and where it
+    /// is no name that a repository may hold.
+    ///
+    /// It is `Failed` where a file call failed, and `Memory` where no memory is left.
+    pub fn find(&self, alloc: Global, name: &[u8]) -> Result<Option<ObjectId>, FileError>
+        ensures found { Finds F.is_honest F.history self.now.files
+            (λ tree. KeepsRecords self.now tree
+            → IfOk result (λ found. NameReads self.now.kind tree name.now found)) }
+        ensures failed { IsErrOf result Failed → F.reading_may_fail }
+    {
+        if !is_name(name) {
+            return Ok(None);
+        }
+        let mut text = Vec::new(alloc);
+        match self.files.read(name, &mut text)? {
+            Some(_) => Ok(id_in(self.kind, &text)),
+            None => Ok(packed_id(&self.packed, name)),
+        }
+    }
+
+    // Puts this text in the place of `packed-refs`, in its lock file that is then renamed, and keeps its records.
+    pub(crate) fn replace_packed(&mut self, alloc: Global, text: Vec<u8>) -> Result<(), FileError>
+        ensures honest { F.is_honest self.old.files → F.is_honest self.new.files }
+        ensures kind { self.new.kind ≡ self.old.kind }
+        ensures put { Achieves F.is_honest F.history self.old.files self.new.files result
+            (PutsBeside packed_place text.items) }
+        ensures keeps { F.is_honest self.old.files
+            → OnOk result (KeepsRecords self.new (F.history self.new.files).tree) }
+        ensures moments { Passes F.is_honest F.history self.old.files self.new.files
+            (MayBeWritten packed_place text.items) }
+        ensures folders { Passes F.is_honest F.history self.old.files self.new.files SameFolders }
+        ensures later { F.failures self.old.files ≤ F.failures self.new.files }
+        ensures unfailed { OnOk result (F.failures self.new.files ≡ F.failures self.old.files) }
+        ensures failed { F.is_honest self.old.files
+            → HasPackedRoom (F.history self.old.files).tree
+            → packed_records self.old.kind text.items ≢ None → IsErrOf result Failed
+            → HasRisen (F.failures self.old.files) (F.failures self.new.files) }
+    {
+        let packed = buffer_of(alloc, text, self.kind)?;
+        self.files.write(alloc, PACKED_LOCK, packed.as_ref())?;
+        self.files.rename(alloc, PACKED_LOCK, PACKED)?;
+        self.packed = Some(packed);
+        Ok(())
+    }
+}
+
+// The id in the name's record, where it has one.
+fn packed_id(packed: &Option<Buffer>, name: &[u8]) -> Option<ObjectId>
+    ensures { IsTrue (is_name name.now) → option_map id_of result
+        ≡ option_map (λ (e : Record). e.target) (kept_hit packed.now name.now) }
+{
+    let packed = packed.as_ref()?;
+    match FullNameRef::new(name) {
+        Ok(full) => Some(packed.try_find_full_name(full)?.target),
+        Err(_) => None,
+    }
+}
+
+// The records of a text, with it.
+fn buffer_of(alloc: Global, text: Vec<u8>, kind: Kind) -> Result<Buffer, FileError>
+    ensures kept { IfOk result (λ buffer. Keeps kind text.items (kept buffer)) }
+    ensures bytes { IfOk result (λ buffer. text_of buffer ≡ text.items) }
+    ensures failed { IsErrOf result Failed → packed_records kind text.items ≡ None }
+{
+    match Buffer::from_bytes(alloc, text, kind) {
+        Ok(buffer) => Ok(buffer),
+        Err(Error::Memory) => Err(FileError::Memory),
+        Err(Error::Iter { .. }) => Err(FileError::Failed),
+        Err(Error::HeaderParsing) => Err(FileError::Failed),
+        Err(Error::Io) => Err(FileError::Failed),
+    }
+}

@@ -1,0 +1,121 @@
+//! Packing of names: `packed-refs` gets a record for each, and then their own files go.
+ghost use Rattle.std.specs.Prelude.{◌≡◌, ◌≤◌, IfOk, OnOk, IsErrOf};
+ghost use Rattle.gix_ref_file.specs.Calls.{Achieves, HasFault, Passes};
+ghost use Rattle.gix_ref_file.specs.declared.files.FileError.TheVariants.{Failed};
+ghost use Rattle.gix_ref_packed.specs.Edited.{line_of, lines_of, own_line};
+ghost use Rattle.history_names.specs.Packing.{HasPackedRoom, KeepsRecords};
+ghost use Rattle.history_names.specs.Packed.{AllFull, AllOfKind, AreGone, ArePacked, IsPackedText, MayBeGone, MayPack, lines_of_names, name_texts, record_of_name, records_of};
+ghost use Rattle.history_names.specs.References.{SameFolders};
+
+use crate::names::Names;
+use gix_hash::{Kind, ObjectId};
+use gix_ref_file::{FileError, Files};
+use gix_ref_format::packed::Reference;
+use gix_ref_name::FullName;
+use gix_ref_packed::laws::written_records_are_read;
+use gix_ref_packed::{Edit, packed_text, written};
+use std::alloc::{AllocError, Global};
+
+/// A name that is packed, and its id.
+#[derive(Debug, Drop, PartialEq, Eq)]
+pub struct PackedName {
+    pub name: FullName,
+    pub id: ObjectId,
+    /// The commit that the name stands for, where the id is a tag's.
+    pub peeled: Option<ObjectId>,
+}
+
+impl<F: Files> Names<F> {
+    /// Packs these names: `packed-refs` is written anew with a record for each, ascending by name, in its lock file that is then
+    /// renamed; and then their own files go, where they stand, one after another. No log and no folder changes.
+    ///
+    /// It is `Failed` where a file call failed, and `Memory` where no memory is left.
+    pub fn pack_names(&mut self, alloc: Global, names: &[PackedName]) -> Result<(), FileError>
+        ensures honest { F.is_honest self.old.files → F.is_honest self.new.files }
+        ensures kind { self.new.kind ≡ self.old.kind }
+        ensures packed { Achieves F.is_honest F.history self.old.files self.new.files result
+            (ArePacked self.old.kind names.now) }
+        ensures keeps { F.is_honest self.old.files
+            → OnOk result (KeepsRecords self.new (F.history self.new.files).tree) }
+
+        // What stands on the way.
+        ensures moments { Passes F.is_honest F.history self.old.files self.new.files
+            (MayPack self.old.kind names.now) }
+        ensures folders { Passes F.is_honest F.history self.old.files self.new.files SameFolders }
+        ensures later { F.failures self.old.files ≤ F.failures self.new.files }
+        ensures unfailed { OnOk result (F.failures self.new.files ≡ F.failures self.old.files) }
+        ensures failed { AllOfKind self.old.kind names.now
+            → F.is_honest self.old.files → HasPackedRoom (F.history self.old.files).tree
+            → IsErrOf result Failed
+            → HasFault F.failures F.reading_may_fail self.old.files self.new.files }
+    {
+        let text = text_of_names(alloc, names, self.kind)?;
+        self.replace_packed(alloc, text)?;
+        self.remove_own_files(alloc, names)
+    }
+
+    // Removes the names' own files, where they stand, one after another.
+    fn remove_own_files(&mut self, alloc: Global, names: &[PackedName]) -> Result<(), FileError>
+        ensures honest { F.is_honest self.old.files → F.is_honest self.new.files }
+        ensures kind { self.new.kind ≡ self.old.kind }
+        ensures packed { self.new.packed ≡ self.old.packed }
+        ensures gone { Achieves F.is_honest F.history self.old.files self.new.files result
+            (AreGone (name_texts names.now)) }
+        ensures moments { Passes F.is_honest F.history self.old.files self.new.files
+            (MayBeGone (name_texts names.now)) }
+        ensures folders { Passes F.is_honest F.history self.old.files self.new.files SameFolders }
+        ensures later { F.failures self.old.files ≤ F.failures self.new.files }
+        ensures unfailed { OnOk result (F.failures self.new.files ≡ F.failures self.old.files) }
+        ensures failed { F.is_honest self.old.files → IsErrOf result Failed
+            → HasFault F.failures F.reading_may_fail self.old.files self.new.files }
+    {
+        for named in names {
+            self.remove_own_file(alloc, named.name.to_path())?;
+        }
+        Ok(())
+    }
+}
+
+// The text of the names' records, ascending by name.
+fn text_of_names(alloc: Global, names: &[PackedName], kind: Kind) -> Result<Vec<u8>, AllocError>
+    ensures text { IfOk result
+        (λ text. IsPackedText kind (records_of names.now) text.items) }
+    ensures full { AllFull (name_texts names.now) }
+{
+    are_full(names);
+    let edits = edits_of(alloc, names)?;
+    let records = written(alloc, edits.as_slice())?;
+    written_records_are_read(records.as_slice(), kind);
+    packed_text(alloc, records.as_slice())
+}
+
+// That each name's record stands.
+fn edits_of<'a>(alloc: Global, names: &'a [PackedName]) -> Result<Vec<Edit<'a>>, AllocError>
+    ensures { IfOk result (λ edits. lines_of edits.items ≡ lines_of_names names.now) }
+{
+    let mut edits = Vec::new(alloc);
+    for named in names {
+        edits.push(edit_of(named))?;
+    }
+    Ok(edits)
+}
+
+// That the name's record stands.
+fn edit_of(named: &PackedName) -> Edit<'_>
+    ensures { line_of result ≡ own_line (record_of_name named.now) }
+{
+    Edit::Write(Reference {
+        name: named.name.as_ref(),
+        target: named.id,
+        object: named.peeled,
+    })
+}
+
+// Each name is a full one.
+fn are_full(names: &[PackedName])
+    ensures { AllFull (name_texts names.now) }
+{
+    for named in names {
+        let _name = named.name.as_bstr();
+    }
+}

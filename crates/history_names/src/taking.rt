@@ -1,0 +1,167 @@
+//! Deletions of names, packed or not: the log goes, then the record, then the file.
+ghost use Rattle.std.specs.Prelude.{◌≡◌, ◌≤◌, [], ◌∷◌, None, Some, IfOk, OnOk, IsErrOf, IsTrue, MatchOption};
+ghost use Rattle.gix_ref_file.specs.Calls.{Achieves, HasFault, Passes};
+ghost use Rattle.gix_ref_file.specs.declared.files.FileError.TheVariants.{Failed};
+ghost use Rattle.gix_ref_name.specs.Names.{name_of};
+ghost use Rattle.gix_ref_format.specs.Lookup.{packed_hit};
+ghost use Rattle.gix_ref_format.specs.PackedKept.{kept};
+ghost use Rattle.history_model.specs.Forms.{is_name};
+ghost use Rattle.history_names.specs.Packing.{FileIsGone, FileMayGo, HasPackedRoom, IsEditedText, IsPackedForm, IsTaken, KeepsRecords, LosesRecord, MayLoseRecord, MayTake, kept_hit, IfSomeRecords};
+ghost use Rattle.history_names.specs.References.{SameFolders};
+ghost use Rattle.gix_hash_id.specs.declared.kind.Kind.{Kind};
+
+use crate::names::Names;
+use gix_hash::Kind;
+use gix_ref_file::{FileError, Files};
+use gix_ref_format::packed::Buffer;
+use gix_ref_name::FullNameRef;
+use gix_ref_packed::laws::written_records_are_read;
+use gix_ref_packed::{Edit, edited, packed_text};
+use history_folders::is_file;
+use std::alloc::{AllocError, Global};
+
+impl<F: Files> Names<F> {
+    /// Deletes the name, packed or not: its log goes, where one stands; where it has a record, `packed-refs` is written anew without
+    /// it, in its lock file that is then renamed; and last the name's file goes, where one stands. After an error the log may be gone
+    /// and the name not; each file is whole or gone. No folder goes.
+    ///
+    /// It is `Failed` where a file call failed, and `Memory` where no memory is left.
+    pub fn take_name(&mut self, alloc: Global, name: &[u8]) -> Result<(), FileError>
+        ensures honest { F.is_honest self.old.files → F.is_honest self.new.files }
+        ensures kind { self.new.kind ≡ self.old.kind }
+        ensures taken { IsTrue (is_name name.now)
+            → KeepsRecords self.old (F.history self.old.files).tree
+            → IsPackedForm self.old.kind (F.history self.old.files).tree
+            → Achieves F.is_honest F.history self.old.files self.new.files result
+            (IsTaken self.old.kind name.now) }
+        ensures keeps { IsTrue (is_name name.now)
+            → KeepsRecords self.old (F.history self.old.files).tree → F.is_honest self.old.files
+            → OnOk result (KeepsRecords self.new (F.history self.new.files).tree) }
+
+        // What stands on the way.
+        ensures moments { IsTrue (is_name name.now)
+            → KeepsRecords self.old (F.history self.old.files).tree
+            → IsPackedForm self.old.kind (F.history self.old.files).tree
+            → Passes F.is_honest F.history self.old.files self.new.files
+            (MayTake self.old.kind name.now) }
+        ensures folders { Passes F.is_honest F.history self.old.files self.new.files SameFolders }
+
+        // Where `packed-refs` has room, a call of the files fails only of itself.
+        ensures later { F.failures self.old.files ≤ F.failures self.new.files }
+        ensures unfailed { OnOk result (F.failures self.new.files ≡ F.failures self.old.files) }
+        ensures failed { IsTrue (is_name name.now) → F.is_honest self.old.files
+            → KeepsRecords self.old (F.history self.old.files).tree
+            → HasPackedRoom (F.history self.old.files).tree → IsErrOf result Failed
+            → HasFault F.failures F.reading_may_fail self.old.files self.new.files }
+    {
+        self.remove_log(alloc, name)?;
+        self.take_record(alloc, name)?;
+        self.remove_own_file(alloc, name)
+    }
+
+    // Writes `packed-refs` anew without the name's record, where it has one.
+    fn take_record(&mut self, alloc: Global, name: &[u8]) -> Result<(), FileError>
+        ensures honest { F.is_honest self.old.files → F.is_honest self.new.files }
+        ensures kind { self.new.kind ≡ self.old.kind }
+        ensures taken { IsTrue (is_name name.now)
+            → KeepsRecords self.old (F.history self.old.files).tree
+            → IsPackedForm self.old.kind (F.history self.old.files).tree
+            → Achieves F.is_honest F.history self.old.files self.new.files result
+            (LosesRecord self.old.kind name.now) }
+        ensures keeps { KeepsRecords self.old (F.history self.old.files).tree
+            → F.is_honest self.old.files
+            → OnOk result (KeepsRecords self.new (F.history self.new.files).tree) }
+        ensures moments { IsTrue (is_name name.now)
+            → KeepsRecords self.old (F.history self.old.files).tree
+            → IsPackedForm self.old.kind (F.history self.old.files).tree
+            → Passes F.is_honest F.history self.old.files self.new.files
+            (MayLoseRecord self.old.kind name.now) }
+        ensures folders { Passes F.is_honest F.history self.old.files self.new.files SameFolders }
+        ensures later { F.failures self.old.files ≤ F.failures self.new.files }
+        ensures unfailed { OnOk result (F.failures self.new.files ≡ F.failures self.old.files) }
+        ensures failed { IsTrue (is_name name.now) → F.is_honest self.old.files
+            → KeepsRecords self.old (F.history self.old.files).tree
+            → HasPackedRoom (F.history self.old.files).tree → IsErrOf result Failed
+            → HasFault F.failures F.reading_may_fail self.old.files self.new.files }
+    {
+        match text_without(alloc, &self.packed, name, self.kind)? {
+            Some(text) => self.replace_packed(alloc, text),
+            None => Ok(()),
+        }
+    }
+
+    // Removes the name's own file, where one stands.
+    pub(crate) fn remove_own_file(&mut self, alloc: Global, name: &[u8]) -> Result<(), FileError>
+        ensures honest { F.is_honest self.old.files → F.is_honest self.new.files }
+        ensures kind { self.new.kind ≡ self.old.kind }
+        ensures packed { self.new.packed ≡ self.old.packed }
+        ensures gone { Achieves F.is_honest F.history self.old.files self.new.files result
+            (FileIsGone name.now) }
+        ensures moments { Passes F.is_honest F.history self.old.files self.new.files
+            (FileMayGo name.now) }
+        ensures folders { Passes F.is_honest F.history self.old.files self.new.files SameFolders }
+        ensures later { F.failures self.old.files ≤ F.failures self.new.files }
+        ensures unfailed { OnOk result (F.failures self.new.files ≡ F.failures self.old.files) }
+        ensures failed { F.is_honest self.old.files → IsErrOf result Failed
+            → HasFault F.failures F.reading_may_fail self.old.files self.new.files }
+    {
+        if is_file(&self.files, name)? {
+            return self.files.remove_file(alloc, name);
+        }
+        Ok(())
+    }
+}
+
+// The text of the records without that of the name; `None` where it has none.
+fn text_without(
+    alloc: Global,
+    packed: &Option<Buffer>,
+    name: &[u8],
+    kind: Kind,
+) -> Result<Option<Vec<u8>>, AllocError>
+    ensures { IsTrue (is_name name.now) → IfOk result (λ found.
+        MatchOption found (kept_hit packed.now name.now ≡ None)
+        (λ text. IfSomeRecords packed.now (λ records. IsEditedText kind records
+        (record { name = name.now; says = None } ∷ []) text.items))) }
+{
+    let Some(records) = packed else {
+        return Ok(None);
+    };
+    match FullNameRef::new(name) {
+        Ok(full) => without_one(alloc, records, full, kind),
+        Err(_) => Ok(None),
+    }
+}
+
+// The text of these records without that of the name; `None` where it has none.
+fn without_one(
+    alloc: Global,
+    records: &Buffer,
+    name: FullNameRef<'_>,
+    kind: Kind,
+) -> Result<Option<Vec<u8>>, AllocError>
+    ensures { IfOk result (λ found.
+        MatchOption found (packed_hit (kept records.now) (name_of name.entry) ≡ None)
+        (λ text. IsEditedText kind (kept records.now)
+        (record { name = name_of name.entry; says = None } ∷ []) text.items)) }
+{
+    if records.try_find_full_name(name).is_none() {
+        return Ok(None);
+    }
+    Ok(Some(without(alloc, records, name, kind)?))
+}
+
+// The text of the records but for that of the name.
+fn without(
+    alloc: Global,
+    records: &Buffer,
+    name: FullNameRef<'_>,
+    kind: Kind,
+) -> Result<Vec<u8>, AllocError>
+    ensures { IfOk result (λ text. IsEditedText kind (kept records.now)
+        (record { name = name_of name.entry; says = None } ∷ []) text.items) }
+{
+    let left = edited(alloc, records.iter(), &[Edit::Remove(name)])?;
+    written_records_are_read(left.as_slice(), kind);
+    packed_text(alloc, left.as_slice())
+}

@@ -1,0 +1,9 @@
+pub mod Face
+pub mod Ids
+pub mod KeptIds
+pub mod KnownIds
+pub mod KnownObjects
+pub mod Lookups
+pub mod Prefixes
+pub mod Puts
+pub mod Stores

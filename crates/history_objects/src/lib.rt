@@ -1,0 +1,14 @@
+//! The store of objects: each is one file in Git's format, under its id, and the ids of all are known.
+#![tactic(auto)]
+
+mod ids;
+mod objects;
+mod opening;
+mod prefixes;
+mod put;
+
+pub use ids::IdIter;
+pub use objects::{Object, Objects, PutMadeError, UNFINISHED, object_place};
+pub use opening::ObjectsRefusal;
+pub use prefixes::{Hit, Lookup};
+pub use put::PutError;

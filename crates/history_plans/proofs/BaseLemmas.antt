@@ -1,0 +1,192 @@
+-- What a commit stands on, and the causes that its words, its name and its parents tell.
+use Rattle.std.specs.declared.alloc.Global.{Global}
+use Rattle.std.specs.Prelude.{Vec, Result, IsErrOf}
+use Rattle.std.proofs.Common.{◌≡◌, ℕ, ◌+◌, ◌<◌, length, take, drop, get_or, Bool, true, false, cond, not, ◌||◌, ◌==◌, List, [], ◌∷◌, ◌++◌, map, filter, refl, sym, ◌∙◌, ap, subst, Option, Some, None, is_some, option_map, option_to_list, Err}
+use Rattle.std.specs.List.{list_any, filter_map}
+use Rattle.std.proofs.lemmas.List.{map-append, take_more}
+use Rattle.history_model.specs.Bytes.{Bytes, has_twice}
+use Rattle.gix_hash_id.specs.Id.{Id, id_of}
+use Rattle.gix_hash_id.specs.Order.{id_eq}
+use Rattle.history_model.specs.Repository.{Repository, stands}
+use Rattle.history_model.specs.Words.{commit_of}
+use Rattle.history_model.specs.Commands.{Commit, CommitCommand, Expect, Any, New, At}
+use Rattle.history_model.specs.CommandParts.{at_word}
+use Rattle.history_model.specs.Meaning.{branch_or_name, name_commit, parents_of}
+use Rattle.history_model.specs.Causes.{is_new, is_at, is_elsewhere, same_id}
+use Rattle.history_model.specs.declared.Cause.{Cause}
+use Rattle.history_model.specs.declared.Cause.TheVariants.{NoSuchName, Taken, NotExpected}
+use Rattle.history_word.specs.Commands.{IsExpect}
+use Rattle.gix_hash_id.specs.declared.object_id.ObjectId.{ObjectId}
+use Rattle.history_repository.specs.Reads.{IsReadingFault, GivesMeant}
+use Rattle.history_plans.specs.Bases.{IsExpected, expected_meanings, held_cause, parents_cause}
+use Rattle.history_repository.specs.Meanings.{words_cause, reads_as, commit_in, commit_or_cause, meaning_of}
+use Rattle.history_plans.specs.CommitCauses.{first_among, word_causes, held_causes, parent_causes, IsToldBy, Tests}
+use Rattle.history_repository.specs.Held.{IsHeld, held_commit}
+use Rattle.history_repository.specs.declared.held.Held.{Held}
+use Rattle.history_plans.specs.declared.base.Expected.{Expected}
+use Rattle.history_repository.specs.declared.stopped.Stopped.{Stopped}
+use Rattle.history_repository.specs.declared.stopped.Stopped.TheVariants.{Refused, Fault}
+use Rattle.history_repository.proofs.WordCauses.{any_map, commit_told, commits_told, words_told}
+use Rattle.history_repository.proofs.HeldLemmas.{commit_stands}
+use Rattle.gix_ref_file.specs.declared.files.FileError.{FileError}
+use Rattle.gix_ref_file.specs.declared.files.FileError.TheVariants.{Failed, Memory}
+use Rattle.history_repository.specs.Faults.{file_fault}
+use Rattle.history_repository.proofs.NameReads.{held}
+use Rattle.history_files.proofs.Lines.{map_twice}
+use Rattle.history_word.specs.declared.command.Expect.TheVariants as sent
+use Rattle.history_repository.specs.declared.words.WordMeaning as own
+use Rattle.history_repository.specs.declared.words.WordMeaning.TheVariants as read
+use Rattle.history_plans.specs.declared.base.Expected.TheVariants as expected
+
+-- ---- what is expected
+
+pub any_sent : (r : Repository) (expect : Expect) → IsExpect sent.Any expect → IsExpected r expect expected.Any
+any_sent r Any h = tt
+any_sent r New h = absurd h
+any_sent r (At word) h = absurd h
+
+pub new_sent : (r : Repository) (expect : Expect) → IsExpect sent.New expect → IsExpected r expect expected.New
+new_sent r Any h = absurd h
+new_sent r New h = tt
+new_sent r (At word) h = absurd h
+
+pub at_sent : (r : Repository) (word : Vec ℕ Global) (meaning : own.WordMeaning) (expect : Expect) → IsExpect (sent.At word) expect → meaning_of meaning ≡ commit_or_cause r word.items → IsExpected r expect (expected.At meaning)
+at_sent r word meaning Any h is = absurd h
+at_sent r word meaning New h is = absurd h
+at_sent r word meaning (At bytes) h is = is ∙ ap (commit_or_cause r) h
+
+-- a fault of reading is told whatever the causes
+pub fault_told : (MayFail : Type 0) (causes : List Cause) (r : Repository) (order : CommitCommand) (stopped : Stopped) → IsReadingFault MayFail stopped → IsToldBy MayFail causes r order stopped
+fault_told MayFail causes r order (Refused cause) h = absurd h
+fault_told MayFail causes r order (Fault fault) h = h
+
+pub gives_told : {A : Type 0} (MayFail : Type 0) (P : A → Type 0) (causes : List Cause) (r : Repository) (order : CommitCommand) (result : Result A Stopped) (stopped : Stopped) → result ≡ Err stopped → GivesMeant MayFail P result → IsToldBy MayFail causes r order stopped
+gives_told {A} MayFail P causes r order result stopped was gives = fault_told MayFail causes r order stopped (subst (λ (x : Result A Stopped). GivesMeant MayFail P x) was gives)
+
+-- ---- words
+
+module _ (r : Repository) (order : CommitCommand) where
+  all_told : first_among word_causes r (Commit order) ≡ words_cause (map (commit_or_cause r) (at_word order.expect ++ order.parents))
+  all_told =
+      let words = at_word order.expect ++ order.parents in
+      words_told r words (map (commit_or_cause r) words) (λ test. any_map test (commit_or_cause r) words) None
+
+  at_meanings : (expect : Expect) (what : Expected) → IsExpected r expect what → expected_meanings what ≡ map (commit_or_cause r) (at_word expect)
+  at_meanings Any expected.Any is = refl
+  at_meanings New expected.New is = refl
+  at_meanings (At word) (expected.At meaning) is = ap (λ x. x ∷ []) is
+  at_meanings Any expected.New is = absurd is
+  at_meanings Any (expected.At meaning) is = absurd is
+  at_meanings New expected.Any is = absurd is
+  at_meanings New (expected.At meaning) is = absurd is
+  at_meanings (At word) expected.Any is = absurd is
+  at_meanings (At word) expected.New is = absurd is
+
+  -- what the parents' words stand for
+  pub parent_meanings : (words : List (Vec ℕ Global)) (meanings : List own.WordMeaning) → map (λ (word : Vec ℕ Global). word.items) words ≡ order.parents
+      → map meaning_of meanings ≡ map (λ (word : Vec ℕ Global). commit_or_cause r word.items) words → map meaning_of meanings ≡ map (commit_or_cause r) order.parents
+  parent_meanings words meanings are is = is ∙ sym (map_twice (commit_or_cause r) (λ (word : Vec ℕ Global). word.items) words) ∙ ap (map (commit_or_cause r)) are
+
+  pub words_so : (what : Expected) (meanings : List own.WordMeaning) → IsExpected r order.expect what → map meaning_of meanings ≡ map (commit_or_cause r) order.parents
+      → first_among word_causes r (Commit order) ≡ words_cause (expected_meanings what ++ map meaning_of meanings)
+  words_so what meanings is are =
+      all_told
+      ∙ ap words_cause (map-append (commit_or_cause r) (at_word order.expect) order.parents ∙ (λ i. sym (at_meanings order.expect what is) i ++ sym are i))
+
+-- ---- what the name holds
+
+module _ (r : Repository) (name : Bytes) where
+  abbrev of_expect : Expect → Option Cause
+  of_expect expect =
+      cond (list_any (λ n. not (stands r n)) (map (λ (e : Bytes × Expect). e.0) (filter (λ (e : Bytes × Expect). is_at e.1) ((name, expect) ∷ [])))) (Some NoSuchName)
+      (cond (list_any (stands r) (map (λ (e : Bytes × Expect). e.0) (filter (λ (e : Bytes × Expect). is_new e.1) ((name, expect) ∷ [])))) (Some Taken)
+      (cond (list_any (is_elsewhere r) ((name, expect) ∷ [])) (Some NotExpected) None))
+
+  compared : (id : Id) (meaning : own.WordMeaning) → cond (not (same_id (Some id) (option_map id_of (commit_in meaning))) || false) (Some NotExpected) None ≡ reads_as id (meaning_of meaning)
+  compared id (read.Commit other) = go (id_eq id (id_of other))
+    where
+      go : (b : Bool) → cond (not b || false) (Some NotExpected) None ≡ cond b None (Some NotExpected)
+      go true = refl
+      go false = refl
+  compared id read.NoCommit = refl
+  compared id read.Unborn = refl
+  compared id read.Unknown = refl
+  compared id read.Ambiguous = refl
+
+  by_expect : (expect : Expect) (what : Expected) (commit : Option Id) → IsExpected r expect what → stands r name ≡ is_some commit → name_commit r name ≡ commit → of_expect expect ≡ held_cause what commit
+  by_expect Any expected.Any commit is there at = refl
+  by_expect New expected.New None is there at = ap (λ s. cond (s || false) (Some Taken) None) there
+  by_expect New expected.New (Some id) is there at = ap (λ s. cond (s || false) (Some Taken) None) there
+  by_expect (At word) (expected.At meaning) None is there at =
+      ap (λ s. cond (not s || false) (Some NoSuchName) (cond (list_any (is_elsewhere r) ((name, At word) ∷ [])) (Some NotExpected) None)) there
+  by_expect (At word) (expected.At meaning) (Some id) is there at =
+      ap (λ s. cond (not s || false) (Some NoSuchName) (cond (list_any (is_elsewhere r) ((name, At word) ∷ [])) (Some NotExpected) None)) there
+      ∙ (λ i. cond (not (same_id (at i) (commit_told r word meaning is i)) || false) (Some NotExpected) None)
+      ∙ compared id meaning
+  by_expect Any expected.New commit is there at = absurd is
+  by_expect Any (expected.At meaning) commit is there at = absurd is
+  by_expect New expected.Any commit is there at = absurd is
+  by_expect New (expected.At meaning) commit is there at = absurd is
+  by_expect (At word) expected.Any commit is there at = absurd is
+  by_expect (At word) expected.New commit is there at = absurd is
+
+  -- by the commit that was read as that of the name
+  pub expected_told : (expect : Expect) (what : Expected) (held : Option Held) (commit : Option ObjectId) → IsExpected r expect what → IsHeld r name held → option_map id_of commit ≡ option_map held_commit held
+      → of_expect expect ≡ held_cause what (option_map id_of commit)
+  expected_told expect what held commit is held_is same = by_expect expect what (option_map held_commit held) is (commit_stands r name held held_is) (sym held_is.commit) ∙ ap (held_cause what) (sym same)
+
+module _ (r : Repository) (order : CommitCommand) where
+  abbrev name : Bytes
+  name = branch_or_name r order.name
+
+  pub held_told : (what : Expected) (held : Option Held) (commit : Option ObjectId) → IsExpected r order.expect what → IsHeld r name held → option_map id_of commit ≡ option_map held_commit held
+      → first_among held_causes r (Commit order) ≡ held_cause what (option_map id_of commit)
+  held_told what held commit is held_is same = expected_told r name order.expect what held commit is held_is same
+
+  -- ---- the parents
+
+  pub parents_told : (held : Option ObjectId) (meanings : List own.WordMeaning) (parents : List ObjectId) → option_map id_of held ≡ name_commit r name → map meaning_of meanings ≡ map (commit_or_cause r) order.parents
+      → parents ≡ option_to_list held ++ filter_map commit_in meanings → map id_of parents ≡ parents_of r order
+  parents_told held meanings parents at are is =
+      ap (map id_of) is ∙ map-append id_of (option_to_list held) (filter_map commit_in meanings)
+      ∙ (λ i. first i ++ second i)
+    where
+      told : (held : Option ObjectId) → map id_of (option_to_list held) ≡ option_to_list (option_map id_of held)
+      told None = refl
+      told (Some id) = refl
+
+      first : map id_of (option_to_list held) ≡ option_to_list (name_commit r name)
+      first = told held ∙ ap option_to_list at
+
+      second : map id_of (filter_map commit_in meanings) ≡ filter_map (commit_of r) order.parents
+      second = commits_told r meanings order.parents are
+
+  pub parents_so : (parents : List ObjectId) → map id_of parents ≡ parents_of r order → first_among parent_causes r (Commit order) ≡ parents_cause (map id_of parents)
+  parents_so parents is = ap parents_cause (sym is)
+
+-- ---- one word after another
+
+-- the meaning of one word more
+pub meaning_added : (r : Repository) (words : List (Vec ℕ Global)) (i : ℕ) (word : Vec ℕ Global) (meaning : own.WordMeaning) (meanings more : List own.WordMeaning) → i < length words → word ≡ get_or words i word
+    → meaning_of meaning ≡ commit_or_cause r word.items → map meaning_of meanings ≡ map (λ (word : Vec ℕ Global). commit_or_cause r word.items) (take i words) → more ≡ meanings ++ meaning ∷ []
+    → map meaning_of more ≡ map (λ (word : Vec ℕ Global). commit_or_cause r word.items) (take (i + 1) words)
+meaning_added r words i word meaning meanings more less is read so_far added =
+    ap (map meaning_of) added ∙ map-append meaning_of meanings (meaning ∷ []) ∙ (λ j. so_far j ++ read j ∷ [])
+    ∙ sym (ap (map (λ (word : Vec ℕ Global). commit_or_cause r word.items)) (take_more words i word less ∙ ap (λ (x : Vec ℕ Global). take i words ++ x ∷ []) (sym is)) ∙ map-append (λ (word : Vec ℕ Global). commit_or_cause r word.items) (take i words) (word ∷ []))
+
+-- ---- ids that stand twice
+
+pub twice_told : (ids : List ObjectId) (d : ObjectId) → (length ids == 0) ≡ false
+    → has_twice id_eq (map id_of ids) ≡ (list_any (λ id. id_eq (id_of (get_or ids 0 d)) (id_of id)) (drop 1 ids) || has_twice id_eq (map id_of (drop 1 ids)))
+twice_told [] d some = cc
+twice_told (x ∷ xs) d some = ap (λ b. b || has_twice id_eq (map id_of xs)) (any_map (id_eq (id_of x)) id_of xs)
+
+-- a call of the files that failed
+pub file_told : {A B : Type 0} (MayFail : Type 0) (causes : List Cause) (r : Repository) (order : CommitCommand) (Q : B → Type 0) (result : Result A FileError) (ends : Result B Stopped) (error : FileError)
+    → result ≡ Err error → ends ≡ Err (Fault (file_fault error)) → (IsErrOf result Failed → MayFail) → Tests MayFail causes r order Q ends
+file_told {A} {B} MayFail causes r order Q result ends error was is_end failed =
+    subst (λ (x : Result B Stopped). Tests MayFail causes r order Q x) (sym is_end) (by_error error (subst (λ (x : Result A FileError). IsErrOf x Failed → MayFail) was failed))
+  where
+    by_error : (error : FileError) → (IsErrOf {T = A} (Err error) Failed → MayFail) → IsReadingFault MayFail (Fault (file_fault error))
+    by_error Failed may = may refl
+    by_error Memory may = tt

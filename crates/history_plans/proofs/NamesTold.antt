@@ -1,0 +1,53 @@
+-- What a commit's name tells of the causes.
+use Rattle.std.proofs.Common.{◌≡◌, Bool, true, false, cond, not, ◌||◌, [], ◌∷◌, refl, sym, ◌∙◌, ap, Option, Some, None, bytes_eq, codes}
+use Rattle.std.specs.List.{list_any}
+use Rattle.history_model.specs.Bytes.{begins}
+use Rattle.history_model.specs.Repository.{Repository}
+use Rattle.history_model.specs.Forms.{is_name, is_private, IsWritten}
+use Rattle.history_model.specs.Words.{head_word}
+use Rattle.history_model.specs.Commands.{Commit, CommitCommand}
+use Rattle.history_model.specs.Meaning.{branch_or_name}
+use Rattle.history_model.specs.declared.Cause.{Cause}
+use Rattle.history_model.specs.declared.Cause.TheVariants.{BadName, PrivateName}
+use Rattle.history_plans.specs.CommitCauses.{first_among, name_form_causes}
+use Rattle.history_repository.specs.NameForms.{form_cause}
+use Rattle.std.proofs.lemmas.Bool.{and_parts}
+use Rattle.history_repository.proofs.NamesFormed.{formed_of}
+
+-- ---- causes
+
+abbrev by_tests : Bool → Bool → Option Cause
+by_tests bad private = cond bad (Some BadName) (cond private (Some PrivateName) None)
+
+module _ (r : Repository) (order : CommitCommand) where
+  abbrev by_head : Bool → Option Cause
+  by_head head = by_tests (list_any (λ n. not (is_name n)) (cond head [] (order.name ∷ [])) || false) (list_any is_private (cond head [] (order.name ∷ [])))
+
+  -- HEAD is no name
+  pub head_named : bytes_eq order.name head_word ≡ true → first_among name_form_causes r (Commit order) ≡ None
+  head_named is = ap by_head is
+
+  pub other_named : bytes_eq order.name head_word ≡ false → first_among name_form_causes r (Commit order) ≡ form_cause order.name
+  other_named is = ap by_head is ∙ told (is_name order.name) (is_private order.name)
+    where
+      told : (x y : Bool) → by_tests ((not x || false) || false) (y || false) ≡ by_tests (not x) y
+      told true true = refl
+      told true false = refl
+      told false y = refl
+
+  pub head_means : bytes_eq order.name head_word ≡ true → branch_or_name r order.name ≡ r.branch
+  head_means is = ap (λ b. cond b r.branch order.name) is
+
+  pub other_means : bytes_eq order.name head_word ≡ false → branch_or_name r order.name ≡ order.name
+  other_means is = ap (λ b. cond b r.branch order.name) is
+
+pub branch_formed : (r : Repository) → IsWritten r → is_name r.branch ≡ true
+branch_formed r written = (and_parts (is_name r.branch) (begins (codes "refs/heads/") r.branch) written.branch).0
+
+-- the name that an accepted commit moves is one
+pub named_so : (r : Repository) (order : CommitCommand) → IsWritten r → first_among name_form_causes r (Commit order) ≡ None → is_name (branch_or_name r order.name) ≡ true
+named_so r order written none = go (bytes_eq order.name head_word) refl
+  where
+    go : (b : Bool) → bytes_eq order.name head_word ≡ b → is_name (branch_or_name r order.name) ≡ true
+    go true e = ap is_name (head_means r order e) ∙ branch_formed r written
+    go false e = ap is_name (other_means r order e) ∙ formed_of order.name (sym (other_named r order e) ∙ none)

@@ -1,0 +1,50 @@
+-- What a commit stands on, and why it can't stand on it.
+use Rattle.std.specs.Prelude.{◌≡◌, ⊤, List, [], ◌∷◌, map, length, nat_lt, Option, Some, None, Result, option_map, if◌then◌else◌}
+use Rattle.history_model.specs.Bytes.{has_twice}
+use Rattle.history_model.specs.Repository.{id_at}
+use Rattle.history_model.specs.Forms.{max_parents}
+use Rattle.history_model.specs.Meaning.{branch_or_name, parents_of}
+use Rattle.history_model.specs.declared.Cause.{Cause}
+use Rattle.history_model.specs.declared.Cause.TheVariants.{NoSuchName, Taken, TooManyParents, DuplicateParent}
+use Rattle.gix_hash_id.specs.Id.{Id, id_of}
+use Rattle.gix_hash_id.specs.Order.{id_eq}
+use Rattle.history_repository.specs.Meanings.{commit_or_cause, meaning_of, reads_as}
+use Rattle.history_plans.specs.declared.base.Base.{Base}
+use Rattle.history_plans.specs.declared.base.Expected.{Expected}
+use Rattle.history_plans.specs.declared.base.Expected.TheVariants.{Any, New, At}
+use Rattle.history_model.specs.Repository as plain
+use Rattle.history_model.specs.Commands as orders
+
+-- the same is expected, its word read
+abbrev pub IsExpected : plain.Repository → orders.Expect → Expected → Type 0
+IsExpected r orders.Any Any = ⊤
+IsExpected r orders.New New = ⊤
+IsExpected r (orders.At word) (At meaning) = meaning_of meaning ≡ commit_or_cause r word
+IsExpected r _ _ = ⊥
+
+-- what the word of the expectation stands for, if there is one
+abbrev pub expected_meanings : Expected → List (Result Id Cause)
+expected_meanings Any = []
+expected_meanings New = []
+expected_meanings (At meaning) = meaning_of meaning ∷ []
+
+-- why what a name holds isn't as expected
+abbrev pub held_cause : Expected → Option Id → Option Cause
+held_cause Any held = None
+held_cause New None = None
+held_cause New (Some id) = Some Taken
+held_cause (At meaning) None = Some NoSuchName
+held_cause (At meaning) (Some id) = reads_as id (meaning_of meaning)
+
+-- why these can't be a commit's parents
+abbrev pub parents_cause : List Id → Option Cause
+parents_cause ids =
+    if nat_lt max_parents (length ids) then Some TooManyParents else if has_twice id_eq ids
+    then Some DuplicateParent else None
+
+-- the name that the commit moves, what it holds, and the commit's parents
+pub record IsCommitBase (r : plain.Repository) (order : orders.CommitCommand)
+    (base : Base) : Type 0 where
+  pub name : base.name.items ≡ branch_or_name r order.name
+  pub held : option_map id_of base.held ≡ id_at r (branch_or_name r order.name)
+  pub parents : map id_of base.parents.items ≡ parents_of r order

@@ -1,0 +1,12 @@
+pub mod Apart
+pub mod Asked
+pub mod Bases
+pub mod CommitCauses
+pub mod Deleting
+pub mod Files
+pub mod Halves
+pub mod Moving
+pub mod Packing
+pub mod Plans
+pub mod Renaming
+pub mod Tagging

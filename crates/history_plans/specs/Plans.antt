@@ -1,0 +1,167 @@
+-- What a commit is to store and how its name is to move, as the plain repository has it.
+use Rattle.std.specs.Prelude.{◌≡◌, ◌⊎◌, ◌<◌, ◌≤◌, ⊤, Bool, List, [], ◌∷◌, ◌++◌, map, length, Contains, MatchOption, Some, None, Result, Ok, Err, IsTrue, IsFalse}
+use Rattle.std.specs.List.{list_all, list_any, flat_map}
+use Rattle.gix_hash_id.specs.declared.kind.Kind.{Kind}
+use Rattle.gix_hash_id.specs.declared.object_id.ObjectId.{ObjectId}
+use Rattle.history_model.specs.Bytes.{Bytes}
+use Rattle.history_objects.specs.Stores.{AreObjectsOf}
+use Rattle.history_texts.specs.declared.object.NewObject.{NewObject}
+use Rattle.history_model.specs.CommandParts.{contents_in}
+use Rattle.history_model.specs.Objects.{CommitValue, Value, commit_content, digest, folder_id, object_text}
+use Rattle.history_model.specs.Forms.{is_id, max_content}
+use Rattle.history_model.specs.Commands.{CommitCommand, Commit}
+use Rattle.history_model.specs.Meaning.{edits_of, first_files, new_commit, parents_of, put_bytes, read_actor, stored_by}
+use Rattle.history_model.specs.Causes.{first_cause}
+use Rattle.history_model.specs.Steps.{MayTake}
+use Rattle.history_steps.specs.OneNameSteps.{NameMove, commit_move, entry_of_move}
+use Rattle.history_steps.specs.TreeSteps.{HasText}
+use Rattle.history_steps.specs.Passing.{StoresWhole}
+use Rattle.history_model.specs.declared.Cause.{Cause}
+use Rattle.history_model.specs.declared.Cause.TheVariants.{TooLarge}
+use Rattle.history_model.specs.declared.Fault.TheVariants.{Memory, File, IdTaken}
+use Rattle.history_files.specs.Editing.{AreEdited, HaveNull}
+use Rattle.history_files.specs.declared.trees.EditedFiles.{EditedFiles}
+use Rattle.history_files.specs.declared.trees.EditedTree.{EditedTree}
+use Rattle.history_texts.specs.Formats.{actor_of, entry_of}
+use Rattle.history_plans.specs.CommitCauses.{first_among, form_causes, is_long, path_causes}
+use Rattle.history_plans.specs.declared.planning.Actors.{Actors}
+use Rattle.history_plans.specs.declared.planning.Below.{Below}
+use Rattle.history_plans.specs.declared.planning.Committed.{Committed}
+use Rattle.history_plans.specs.declared.planning.NewFiles.{NewFiles}
+use Rattle.history_plans.specs.declared.planning.Plan.{Plan}
+use Rattle.history_plans.specs.declared.planning.Moves.{Moves}
+use Rattle.history_repository.specs.declared.stopped.Stopped.{Stopped}
+use Rattle.history_repository.specs.declared.stopped.Stopped.TheVariants.{Refused, Fault}
+use Rattle.gix_hash_id.specs.Id as object_id
+use Rattle.gix_object_lines.specs.declared.kind.Kind as git_object
+use Rattle.gix_object_lines.specs.declared.kind.Kind.TheVariants as kinds
+use Rattle.history_model.specs.Repository as plain
+
+-- ---- the parts of a plan
+
+-- the name moves so
+pub record IsMove (r : plain.Repository) (move : NameMove) (moves : Moves) : Type 0 where
+  pub name : moves.name.items ≡ move.name
+  pub entry : entry_of moves.entry ≡ entry_of_move r move
+
+-- the object of this kind and content, with its id
+pub record IsMade (digests : Kind) (kind : git_object.Kind) (content : Bytes)
+    (object : NewObject) : Type 0 where
+  pub id : object_id.id_of object.id ≡ digest digests (object_text kind content)
+  pub kind_is : object.kind ≡ kind
+  pub content_is : object.content.items ≡ content
+
+-- what tells an object, and a tree
+abbrev pub object_parts : NewObject → ObjectId × git_object.Kind × Bytes
+object_parts object = (object.id, object.kind, object.content.items)
+
+abbrev pub tree_parts : EditedTree → ObjectId × git_object.Kind × Bytes
+tree_parts tree = (tree.id, kinds.Tree, tree.content.items)
+
+abbrev pub is_long_tree : EditedTree → Bool
+is_long_tree tree = is_long tree.content.items
+
+-- the trees are added as objects, each within the limit
+abbrev pub AreAdded : List NewObject → List EditedTree → List NewObject → Type 0
+AreAdded old trees new =
+    IsFalse (list_any is_long_tree trees)
+    × (map object_parts new ≡ map object_parts old ++ map tree_parts trees)
+
+-- why they aren't: one is over the limit, or no memory was left
+abbrev pub IsNotAdded : List EditedTree → Stopped → Type 0
+IsNotAdded trees (Refused cause) = (cause ≡ TooLarge) × IsTrue (list_any is_long_tree trees)
+IsNotAdded trees (Fault Memory) = ⊤
+IsNotAdded trees (Fault File) = ⊥
+IsNotAdded trees (Fault IdTaken) = ⊥
+
+-- the objects of what is put, and behind them those of the trees, with the root's id; or why they aren't added
+abbrev pub GivesObjects : List NewObject → EditedFiles → Result Below Stopped → Type 0
+GivesObjects blobs edited (Ok below) =
+    (below.root ≡ edited.root) × AreAdded blobs edited.trees.items below.objects.items
+GivesObjects blobs edited (Err stopped) = IsNotAdded edited.trees.items stopped
+
+-- None of the causes that the command tells by itself holds, its message and contents are within their limit, and these are its actors.
+pub record HasActors (r : plain.Repository) (order : CommitCommand) (actors : Actors) : Type 0 where
+  pub formed : first_among form_causes r (Commit order) ≡ None
+  pub message : length order.message ≤ max_content
+  pub contents : IsFalse (list_any is_long (contents_in (Commit order)))
+  pub author : actor_of actors.author ≡ read_actor order.author
+  pub committer : actor_of actors.committer ≡ read_actor order.committer
+
+-- The actors are read; else the first cause is told.
+abbrev pub AreActors : plain.Repository → CommitCommand → Result Actors Cause → Type 0
+AreActors r order (Ok actors) = HasActors r order actors
+AreActors r order (Err cause) =
+    first_among (form_causes ++ TooLarge ∷ []) r (Commit order) ≡ Some cause
+
+-- What edits come to, where none of the causes holds that their paths tell. Of a content over its limit only a front is kept, so the
+-- objects and trees are the commit's where no content is.
+pub record AreNewFiles (r : plain.Repository) (order : CommitCommand)
+    (files : NewFiles) : Type 0 where
+  pub paths : first_among path_causes r (Commit order) ≡ None
+  pub long : files.has_long_content ≡ list_any is_long (contents_in (Commit order))
+  pub blobs : IsFalse (list_any is_long (contents_in (Commit order)))
+      → AreObjectsOf r.kind (flat_map put_bytes (edits_of r order)) files.blobs.items
+  pub edited : IsFalse (list_any is_long (contents_in (Commit order)))
+      → MatchOption files.edited
+      (HaveNull r.kind (first_files r (parents_of r order)) (edits_of r order))
+      (AreEdited r.kind (first_files r (parents_of r order)) (edits_of r order))
+
+-- ---- the commit
+
+-- A commit with this tree and these parents, actors and message says what this value says, and its parents' ids are of the kind.
+pub record Says (kind : Kind) (tree : ObjectId) (parents : List ObjectId) (actors : Actors)
+    (message : Bytes) (value : CommitValue) : Type 0 where
+  pub tree_is : object_id.id_of tree ≡ folder_id kind value.files
+  pub parents_are : map object_id.id_of parents ≡ value.parents
+  pub parents_have : IsTrue (list_all (is_id kind) value.parents)
+  pub author_is : actor_of actors.author ≡ value.author
+  pub committer_is : actor_of actors.committer ≡ value.committer
+  pub message_is : message ≡ value.message
+
+-- what is meant, where this content is within its limit; else it is over it, or no memory was left
+abbrev pub IfItFits : {T : Type 0} → Bytes → (T → Type 0) → Result T Stopped → Type 0
+IfItFits content IsMeant (Ok value) = (length content ≤ max_content) × IsMeant value
+IfItFits content IsMeant (Err (Refused cause)) =
+    (cause ≡ TooLarge) × (max_content < length content)
+IfItFits content IsMeant (Err (Fault Memory)) = ⊤
+IfItFits content IsMeant (Err (Fault File)) = ⊥
+IfItFits content IsMeant (Err (Fault IdTaken)) = ⊥
+
+-- the commit's object, with its id
+abbrev pub IsMadeOf : Kind → CommitValue → NewObject → Type 0
+IsMadeOf kind value = IsMade kind kinds.Commit (commit_content kind value)
+
+abbrev pub MakesCommit : Kind → CommitValue → Result NewObject Stopped → Type 0
+MakesCommit kind value = IfItFits (commit_content kind value) (IsMadeOf kind value)
+
+-- the command's commit is made, and its name is to move to it
+abbrev pub GivesCommitted : plain.Repository → CommitCommand → Result Committed Stopped → Type 0
+GivesCommitted r order =
+    IfItFits (commit_content r.kind (new_commit r order)) (λ (made : Committed).
+    IsMadeOf r.kind (new_commit r order) made.object × IsMove r (commit_move r order) made.moves)
+
+-- ---- the plan
+
+-- The objects are those of what the command stores, but for some whose text is stored already, in an order of which each beginning
+-- leaves a whole store; and the name moves to the commit.
+pub record IsPlan (r : plain.Repository) (order : CommitCommand) (plan : Plan) : Type 0 where
+  pub values : List Value
+  pub among : (value : Value) → Contains values value → Contains (stored_by r (Commit order)) value
+  pub all : (value : Value) → Contains (stored_by r (Commit order)) value
+      → Contains values value ⊎ HasText r.kind r.objects value
+  pub whole : StoresWhole r values
+  pub objects : AreObjectsOf r.kind values plan.objects.items
+  pub moves : IsMove r (commit_move r order) plan.moves
+
+-- why there is no plan: the first cause is told, or an id is taken, or a fault was met
+abbrev pub IsUnplanned : Type 0 → plain.Repository → CommitCommand → Stopped → Type 0
+IsUnplanned MayFail r order (Refused cause) = first_cause r (Commit order) ≡ Some cause
+IsUnplanned MayFail r order (Fault Memory) = ⊤
+IsUnplanned MayFail r order (Fault File) = MayFail
+IsUnplanned MayFail r order (Fault IdTaken) = MayTake r (Commit order)
+
+-- A plan is made where no cause holds.
+abbrev pub Plans : Type 0 → plain.Repository → CommitCommand → Result Plan Stopped → Type 0
+Plans MayFail r order (Ok plan) = (first_cause r (Commit order) ≡ None) × IsPlan r order plan
+Plans MayFail r order (Err stopped) = IsUnplanned MayFail r order stopped

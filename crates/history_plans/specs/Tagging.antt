@@ -1,0 +1,85 @@
+-- What a `tag` is refused for, and what it stores.
+use Rattle.std.specs.Prelude.{◌≡◌, ◌≤◌, Bool, ◌&&◌, List, [], ◌∷◌, ◌++◌, length, Some, None, Result, Ok, Err}
+use Rattle.gix_hash_id.specs.Id.{id_of}
+use Rattle.gix_hash_id.specs.declared.kind.Kind.{Kind}
+use Rattle.history_model.specs.Bytes.{Bytes, begins}
+use Rattle.history_model.specs.Causes.{first_cause}
+use Rattle.history_model.specs.Commands.{Tag, TagCommand}
+use Rattle.history_model.specs.Forms.{is_tag_name, max_content, tags_front}
+use Rattle.history_model.specs.Meaning.{new_tag, read_actor, tag_rest}
+use Rattle.history_model.specs.Objects.{TagValue, tag_content}
+use Rattle.history_model.specs.Words.{commit_of}
+use Rattle.history_model.specs.declared.Cause.{Cause}
+use Rattle.history_model.specs.declared.Cause.TheVariants.{BadActor, BadTime, BadMessage, TooLarge, NothingMoves}
+use Rattle.history_steps.specs.OneNameSteps.{tag_move}
+use Rattle.history_texts.specs.Formats.{actor_of}
+use Rattle.history_texts.specs.declared.actor.Actor.{Actor}
+use Rattle.history_texts.specs.declared.object.NewObject.{NewObject}
+use Rattle.history_word.specs.declared.command.Field.{Field}
+use Rattle.history_repository.specs.Reads.{IsReadingFault}
+use Rattle.history_plans.specs.CommitCauses.{first_among, held_causes, name_form_causes, place_causes, word_causes}
+use Rattle.history_repository.specs.Held.{IsHeld}
+use Rattle.history_plans.specs.Plans.{IfItFits, IsMade, IsMove}
+use Rattle.history_repository.specs.declared.stopped.Stopped.{Stopped}
+use Rattle.history_repository.specs.declared.stopped.Stopped.TheVariants.{Refused, Fault}
+use Rattle.history_plans.specs.declared.tagging.TagBase.{TagBase}
+use Rattle.history_plans.specs.declared.tagging.Tagged.{Tagged}
+use Rattle.gix_object_lines.specs.declared.kind.Kind.TheVariants as kinds
+use Rattle.history_model.specs.Repository as plain
+
+-- ---- causes
+
+-- The causes that the words of a tag tell, and what its name holds and stands beside; and those that its tagger and its message tell.
+abbrev pub target_causes : List Cause
+target_causes = word_causes ++ (held_causes ++ place_causes)
+
+abbrev pub tagger_causes : List Cause
+tagger_causes = BadActor ∷ BadTime ∷ BadMessage ∷ []
+
+abbrev pub tag_causes : List Cause
+tag_causes = name_form_causes
+    ++ (target_causes ++ (tagger_causes ++ (TooLarge ∷ NothingMoves ∷ [])))
+
+-- whether a tag may have this name
+abbrev pub is_tag_place : Bytes → Bool
+is_tag_place name = begins tags_front name && is_tag_name (tag_rest name)
+
+-- ---- what is read
+
+-- what the tag's name holds, and the commit that its word stands for
+pub record IsTagBase (r : plain.Repository) (order : TagCommand) (base : TagBase) : Type 0 where
+  pub held : IsHeld r order.name base.held
+  pub commit : commit_of r order.word ≡ Some (id_of base.commit)
+
+-- None of the causes that tagger and message tell holds, the message is within the limit, and this is the tagger.
+pub record HasTagger (r : plain.Repository) (order : TagCommand) (actor : Actor) : Type 0 where
+  pub formed : first_among tagger_causes r (Tag order) ≡ None
+  pub message : length order.message ≤ max_content
+  pub tagger : actor_of actor ≡ read_actor order.tagger
+
+-- the tagger is read; else the first cause is told
+abbrev pub TellsTagger : plain.Repository → TagCommand → Field → Result Actor Cause → Type 0
+TellsTagger r order message (Ok actor) = HasTagger r order actor
+TellsTagger r order message (Err cause) =
+    first_among (tagger_causes ++ TooLarge ∷ []) r (Tag order) ≡ Some cause
+
+-- ---- what is made
+
+-- the tag's object, with its id
+abbrev pub IsMadeTag : Kind → TagValue → NewObject → Type 0
+IsMadeTag kind value = IsMade kind kinds.Tag (tag_content value)
+
+abbrev pub MakesTag : Kind → TagValue → Result NewObject Stopped → Type 0
+MakesTag kind value = IfItFits (tag_content value) (IsMadeTag kind value)
+
+-- No cause holds, the object is the tag's, and the name moves to it.
+pub record IsTagged (r : plain.Repository) (order : TagCommand) (tagged : Tagged) : Type 0 where
+  pub none : first_cause r (Tag order) ≡ None
+  pub object : IsMadeTag r.kind (new_tag r order) tagged.object
+  pub moves : IsMove r (tag_move r order) tagged.moves
+
+-- the tag is made; or the first cause is told, or a fault was met
+abbrev pub PlansTag : Type 0 → plain.Repository → TagCommand → Result Tagged Stopped → Type 0
+PlansTag MayFail r order (Ok tagged) = IsTagged r order tagged
+PlansTag MayFail r order (Err (Refused cause)) = first_cause r (Tag order) ≡ Some cause
+PlansTag MayFail r order (Err (Fault fault)) = IsReadingFault MayFail (Fault fault)

@@ -1,0 +1,61 @@
+//! Who acted, and when, as a command's line tells it.
+
+ghost use Rattle.std.specs.Prelude.{◌≡◌, ◌&&◌, not, IsFalse, MatchOption};
+ghost use Rattle.history_model.specs.Bytes.{Bytes, is_empty};
+ghost use Rattle.history_model.specs.Forms.{is_actor_part, max_actor_part};
+ghost use Rattle.history_model.specs.Causes.{is_bad_actor};
+ghost use Rattle.history_model.specs.Meaning.{read_actor};
+ghost use Rattle.history_word.specs.Commands.{IsActor};
+ghost use Rattle.history_word.specs.Fields.{Keeps};
+ghost use Rattle.history_texts.specs.Formats.{actor_of};
+ghost use Rattle.history_plans.specs.CommitCauses.{IsTime, ReadsTime};
+ghost use Rattle.history_model.specs.Commands as model;
+
+use gix_object::lines::Time;
+use history_repository::into_kept;
+use history_store::{Actor, is_actor_part, parse_time};
+use history_word::{ActorLine, Field};
+
+fn is_name(field: &Field) -> bool
+    ensures { (name : Bytes) → Keeps max_actor_part field.now name
+        → result ≡ (not (is_empty name) && is_actor_part name) }
+{
+    match field {
+        Field::Whole(name) => !name.is_empty() && is_actor_part(name),
+        Field::TooLong(_) => false,
+    }
+}
+
+fn is_email(field: &Field) -> bool
+    ensures { (email : Bytes) → Keeps max_actor_part field.now email
+        → result ≡ is_actor_part email }
+{
+    match field {
+        Field::Whole(email) => is_actor_part(email),
+        Field::TooLong(_) => false,
+    }
+}
+
+/// Whether the name and the email can stand in an actor's line. The email may be empty.
+pub(crate) fn has_good_names(line: &ActorLine) -> bool
+    ensures { (order : model.ActorLine) → IsActor line.now order
+        → result ≡ not (is_bad_actor order) }
+{
+    is_name(&line.name) && is_email(&line.email)
+}
+
+/// When the actor acted, where both words can stand in an actor's line.
+pub(crate) fn time_of(line: &ActorLine) -> Option<Time>
+    ensures { (order : model.ActorLine) → IsActor line.now order → ReadsTime order result }
+{
+    parse_time(&line.seconds, &line.offset)
+}
+
+/// The actor of a line, who acted at this time; `None` where the parts can't stand in an actor's line.
+pub(crate) fn actor_at(line: ActorLine, time: Time) -> Option<Actor>
+    ensures { (order : model.ActorLine) → IsActor line order → IsFalse (is_bad_actor order)
+        → IsTime order time
+        → MatchOption result ⊥ (λ actor. actor_of actor ≡ read_actor order) }
+{
+    Actor::new(into_kept(line.name), into_kept(line.email), time)
+}

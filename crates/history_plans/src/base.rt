@@ -1,0 +1,211 @@
+//! What a `commit` stands on: the name that it moves, what that holds, and the commit's parents.
+
+ghost use Rattle.std.specs.Prelude.{◌≡◌, MatchResult, None, Some, ◌++◌, ⊤, IfOk, IsTrue, map, option_map, option_to_list};
+ghost use Rattle.history_plans.specs.CommitCauses.{IsNamed, Tests, name_form_causes, name_causes, place_causes};
+ghost use Rattle.history_repository.specs.Stands.{Stands};
+ghost use Rattle.std.specs.List.{filter_map};
+ghost use Rattle.history_model.specs.Forms.{is_name};
+ghost use Rattle.history_model.specs.Meaning.{branch_or_name};
+ghost use Rattle.history_word.specs.Commands.{IsExpect};
+ghost use Rattle.history_repository.specs.Reads.{GivesMeant};
+ghost use Rattle.history_plans.specs.Asked.{AskedCommit};
+ghost use Rattle.history_plans.specs.Bases.{IsCommitBase, IsExpected, expected_meanings, held_cause, parents_cause};
+ghost use Rattle.history_repository.specs.Meanings.{words_cause, commit_in, commit_or_cause, meaning_of};
+ghost use Rattle.history_repository.specs.Held.{IsHeld};
+ghost use Rattle.gix_hash_id.specs.Id.{id_of};
+ghost use Rattle.history_model.specs.Repository as plain;
+ghost use Rattle.history_model.specs.Commands as orders;
+
+use gix_hash::ObjectId;
+use gix_ref_file::Files;
+use history_model::Cause;
+use history_model::limits::MAX_PARENTS;
+use history_model::names::HEAD;
+use history_repository::{
+    Held, Repository, Stopped, WordMeaning, commit_held, id_held, read_held, read_word, test_all,
+    test_name,
+};
+use history_store::has_twice;
+use history_word::{CommitCommand, Expect};
+use std::alloc::{AllocError, Global};
+
+/// The name that a `commit` moves: HEAD stands for its branch, and any other is one that a repository may hold.
+pub(crate) fn name_of<F: Files>(
+    repository: &Repository<F>,
+    alloc: Global,
+    name: &[u8],
+) -> Result<Vec<u8>, Stopped>
+    ensures { (r : plain.Repository) (order : orders.CommitCommand)
+        → Stands F.is_honest F.history repository.now r → name.now ≡ order.name
+        → Tests F.reading_may_fail name_form_causes r order (IsNamed r order) result }
+{
+    if name == HEAD {
+        return Ok(Vec::from_slice(alloc, &repository.branch)?);
+    }
+    test_name(name)?;
+    Ok(Vec::from_slice(alloc, name)?)
+}
+
+/// The name that a commit moves, what it holds, and the commit's parents.
+#[derive(Drop)]
+pub(crate) struct Base {
+    pub(crate) name: Vec<u8>,
+    pub(crate) held: Option<ObjectId>,
+    pub(crate) parents: Vec<ObjectId>,
+}
+
+/// What is expected of a name, its word read.
+#[derive(Clone, Copy, Debug, PartialEq, Eq)]
+pub(crate) enum Expected {
+    Any,
+    New,
+    At(WordMeaning),
+}
+
+impl Expected {
+    /// Tests the commit that the name stands for, if it stands.
+    pub(crate) fn test(self, held: Option<ObjectId>) -> Result<(), Cause>
+        ensures { MatchResult result (λ _. held_cause self (option_map id_of held) ≡ None)
+            (λ cause. held_cause self (option_map id_of held) ≡ Some cause) }
+    {
+        match self {
+            Expected::Any => Ok(()),
+            Expected::New => match held {
+                Some(_) => Err(Cause::Taken),
+                None => Ok(()),
+            },
+            Expected::At(meaning) => match held {
+                Some(id) => meaning.test(id),
+                None => Err(Cause::NoSuchName),
+            },
+        }
+    }
+}
+
+/// Tests that the words stand for commits.
+pub(crate) fn test_words(expected: Expected, parents: &[WordMeaning]) -> Result<(), Cause>
+    ensures { MatchResult result
+        (λ _. words_cause (expected_meanings expected ++ map meaning_of parents.now) ≡ None)
+        (λ cause. words_cause (expected_meanings expected ++ map meaning_of parents.now)
+        ≡ Some cause) }
+{
+    match expected {
+        Expected::Any => test_all(&[], parents),
+        Expected::New => test_all(&[], parents),
+        Expected::At(meaning) => test_all(&[meaning], parents),
+    }
+}
+
+/// The parents of a commit: that of its name, and then what its words read as.
+fn parents_of(
+    alloc: Global,
+    held: Option<ObjectId>,
+    words: &[WordMeaning],
+) -> Result<Vec<ObjectId>, AllocError>
+    ensures { IfOk result
+        (λ parents. parents.items ≡ option_to_list held ++ filter_map commit_in words.now) }
+{
+    let mut parents = Vec::new(alloc);
+    parents.extend(held)?;
+    parents.extend(words.iter().filter_map(|word| word.id()))?;
+    Ok(parents)
+}
+
+/// Tests that the parents are few, and that none stands twice.
+fn test_parents(parents: &[ObjectId]) -> Result<(), Cause>
+    ensures { MatchResult result (λ _. parents_cause (map id_of parents.now) ≡ None)
+        (λ cause. parents_cause (map id_of parents.now) ≡ Some cause) }
+{
+    if parents.len() > MAX_PARENTS {
+        return Err(Cause::TooManyParents);
+    }
+    if has_twice(parents) {
+        return Err(Cause::DuplicateParent);
+    }
+    Ok(())
+}
+
+/// What is expected of a name, its word read.
+pub(crate) fn read_expected<F: Files>(
+    repository: &Repository<F>,
+    alloc: Global,
+    expect: &Expect,
+) -> Result<Expected, Stopped>
+    ensures { (r : plain.Repository) (order : orders.Expect)
+        → Stands F.is_honest F.history repository.now r → IsExpect expect.now order
+        → GivesMeant F.reading_may_fail (IsExpected r order) result }
+{
+    Ok(match expect {
+        Expect::Any => Expected::Any,
+        Expect::New => Expected::New,
+        Expect::At(word) => Expected::At(read_word(repository, alloc, word)?),
+    })
+}
+
+/// What words read as.
+fn read_words<F: Files>(
+    repository: &Repository<F>,
+    alloc: Global,
+    words: &[Vec<u8>],
+) -> Result<Vec<WordMeaning>, Stopped>
+    ensures { (r : plain.Repository) → Stands F.is_honest F.history repository.now r
+        → GivesMeant F.reading_may_fail (λ meanings. map meaning_of meanings.items
+        ≡ map (λ word. commit_or_cause r word.items) words.now) result }
+{
+    let mut meanings = Vec::new(alloc);
+    for word in words {
+        meanings.push(read_word(repository, alloc, word)?)?;
+    }
+    Ok(meanings)
+}
+
+/// Tests that the name holds a commit, or may come to stand beside the others.
+fn test_place<F: Files>(
+    repository: &Repository<F>,
+    alloc: Global,
+    name: &[u8],
+    held: Option<Held>,
+) -> Result<(), Stopped>
+    ensures { (r : plain.Repository) (order : orders.CommitCommand)
+        → Stands F.is_honest F.history repository.now r
+        → name.now ≡ branch_or_name r order.name → IsTrue (is_name name.now)
+        → IsHeld r (branch_or_name r order.name) held
+        → Tests F.reading_may_fail place_causes r order (λ _. ⊤) result }
+{
+    if let Some(held) = held {
+        if held.is_tag() {
+            return Err(Stopped::Refused(Cause::HoldsTag));
+        }
+        return Ok(());
+    }
+    if repository.names.collides_any(alloc, name)? {
+        return Err(Stopped::Refused(Cause::Collides));
+    }
+    Ok(())
+}
+
+/// What a `commit` stands on, where no cause of its name, its words and its parents holds.
+pub(crate) fn read_base<F: Files>(
+    repository: &Repository<F>,
+    alloc: Global,
+    command: &CommitCommand,
+) -> Result<Base, Stopped>
+    ensures { (r : plain.Repository) (order : orders.CommitCommand)
+        → AskedCommit F.is_honest F.history repository.now command.now r order
+        → Tests F.reading_may_fail name_causes r order (IsCommitBase r order) result }
+{
+    let name = name_of(repository, alloc, &command.name)?;
+    let expected = read_expected(repository, alloc, &command.expect)?;
+    let words = read_words(repository, alloc, &command.parents)?;
+    test_words(expected, &words)?;
+    let held = read_held(repository, alloc, &name)?;
+    expected.test(commit_held(held))?;
+    test_place(repository, alloc, &name, held)?;
+    let parents = parents_of(alloc, commit_held(held), &words)?;
+    test_parents(&parents)?;
+    Ok(Base {
+        name,
+        held: id_held(held),
+        parents,
+    })
+}

@@ -1,0 +1,47 @@
+//! What a `delete` is refused for.
+
+ghost use Rattle.std.specs.Prelude.{◌≡◌, None, Option, Some, MatchResult, option_map};
+ghost use Rattle.gix_hash_id.specs.Id.{id_of};
+ghost use Rattle.history_model.specs.Bytes.{Bytes};
+ghost use Rattle.history_word.specs.Commands.{IsDelete};
+ghost use Rattle.history_plans.specs.Deleting.{TestsAll, gone_cause};
+ghost use Rattle.history_repository.specs.Stands.{Stands};
+ghost use Rattle.history_model.specs.Commands as orders;
+ghost use Rattle.history_model.specs.Repository as plain;
+
+use crate::base::{Expected, read_expected, test_words};
+use gix_hash::ObjectId;
+use gix_ref_file::Files;
+use history_model::Cause;
+use history_repository::{Repository, Stopped, commit_held, read_held, test_name};
+use history_word::Delete;
+use std::alloc::Global;
+
+/// Tests the commit that a name stands for which is to go: it stands, and is where it is expected.
+fn test_gone(expected: Expected, held: Option<ObjectId>) -> Result<(), Cause>
+    ensures { MatchResult result (λ _. gone_cause expected (option_map id_of held) ≡ None)
+        (λ cause. gone_cause expected (option_map id_of held) ≡ Some cause) }
+{
+    if held.is_none() {
+        return Err(Cause::NoSuchName);
+    }
+    expected.test(held)
+}
+
+/// Tests every cause. It changes nothing.
+pub fn test_delete<F: Files>(
+    repository: &Repository<F>,
+    alloc: Global,
+    command: &Delete,
+) -> Result<(), Stopped>
+    ensures { (r : plain.Repository) (name : Bytes) (at : Option Bytes)
+        → Stands F.is_honest F.history repository.now r → IsDelete command.now name at
+        → TestsAll F.reading_may_fail r (orders.Delete name at) result }
+{
+    test_name(&command.name)?;
+    let expected = read_expected(repository, alloc, &command.expect)?;
+    test_words(expected, &[])?;
+    let held = read_held(repository, alloc, &command.name)?;
+    test_gone(expected, commit_held(held))?;
+    Ok(())
+}

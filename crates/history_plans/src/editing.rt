@@ -1,0 +1,135 @@
+//! What a commit's edits put, and what they make of its first parent's files.
+
+ghost use Rattle.std.specs.Prelude.{◌≡◌, IfOk, List, map, option_to_list};
+ghost use Rattle.std.specs.List.{AllByRecursion};
+ghost use Rattle.gix_hash_id.specs.Id.{id_of};
+ghost use Rattle.history_model.specs.Meaning.{put_bytes};
+ghost use Rattle.history_model.specs.Repository.{HoldsCommit};
+ghost use Rattle.history_files.specs.Editing.{HavePaths};
+ghost use Rattle.history_objects.specs.Stores.{AreObjectsOf};
+ghost use Rattle.history_plans.specs.Files.{AreChangesOf, AreReadAs, TellsEdited, IsChangeOf, change_parts, edit_parts, kept_edit, unmade};
+ghost use Rattle.history_repository.specs.Stands.{Stands};
+ghost use Rattle.history_model.specs.FileMap as model;
+ghost use Rattle.history_model.specs.Repository as plain;
+
+use gix_hash::{Kind, ObjectId};
+use gix_ref_file::Files;
+use history_files::{Change, EditError, EditedFiles, edit_files};
+use history_model::{Cause, Fault};
+use history_repository::{Repository, Stopped, into_kept, tree_before};
+use history_store::NewObject;
+use history_word::Edit;
+use std::alloc::{AllocError, Global};
+
+/// A path, and what is done there.
+#[derive(Drop)]
+pub(crate) struct PathChange {
+    pub(crate) path: Vec<u8>,
+    pub(crate) change: Change,
+}
+
+/// The changes that a commit's edits are, and an object for each content that they put.
+#[derive(Drop)]
+pub(crate) struct Changes {
+    pub(crate) made: Vec<PathChange>,
+    pub(crate) blobs: Vec<NewObject>,
+}
+
+/// What an edit changes, and the object of its content, if it has one.
+fn read_edit(kind: Kind, edit: Edit) -> (PathChange, Option<NewObject>)
+    ensures change { IsChangeOf kind result.0 (kept_edit edit) }
+    ensures blob { AreObjectsOf kind (put_bytes (kept_edit edit)) (option_to_list result.1) }
+{
+    match edit {
+        Edit::Put(put) => {
+            let blob = NewObject::new(kind, gix_object::Kind::Blob, into_kept(put.content));
+            let change = Change::Put {
+                kind: put.kind,
+                id: blob.id,
+            };
+            let path = into_kept(put.path);
+            (PathChange { path, change }, Some(blob))
+        }
+        Edit::Remove(path) => {
+            let path = into_kept(path);
+            let change = Change::Remove;
+            (PathChange { path, change }, None)
+        }
+        Edit::RemoveFile(path) => {
+            let path = into_kept(path);
+            let change = Change::RemoveFile;
+            (PathChange { path, change }, None)
+        }
+    }
+}
+
+/// What edits change. Each content is hashed here, and nowhere else.
+pub(crate) fn read_edits(alloc: Global, kind: Kind, edits: Vec<Edit>) -> Result<Changes, AllocError>
+    ensures { IfOk result (λ changes. AreReadAs kind changes (map kept_edit edits.items)) }
+{
+    let mut made = Vec::with_capacity(alloc, edits.len())?;
+    let mut blobs = Vec::new(alloc);
+    for edit in edits {
+        let (change, blob) = read_edit(kind, edit);
+        made.push(change)?;
+        blobs.extend(blob)?;
+    }
+    Ok(Changes { made, blobs })
+}
+
+/// The changes as edits of files.
+fn edits_of(
+    alloc: Global,
+    changes: &[PathChange],
+) -> Result<Vec<history_files::Edit<'_>>, AllocError>
+    ensures { IfOk result (λ edits. map edit_parts edits.items ≡ map change_parts changes.now) }
+{
+    let mut edits = Vec::with_capacity(alloc, changes.len())?;
+    for change in changes {
+        edits.push(history_files::Edit {
+            path: &change.path,
+            change: change.change,
+        })?;
+    }
+    Ok(edits)
+}
+
+/// What is answered where edits aren't made.
+fn unmade(error: EditError) -> Result<Option<EditedFiles>, Stopped>
+    ensures { result ≡ unmade error }
+{
+    match error {
+        EditError::NullId => Ok(None),
+        EditError::BadPath => Err(Stopped::Refused(Cause::BadPath)),
+        EditError::IsFolder => Err(Stopped::Refused(Cause::IsFolder)),
+        EditError::Failed | EditError::Broken { .. } => Err(Stopped::Fault(Fault::File)),
+        EditError::Memory => Err(Stopped::Fault(Fault::Memory)),
+    }
+}
+
+/// What changes make of the first parent's files, or of none; `None` where what is put or a tree would have the null id.
+pub(crate) fn edited<F: Files>(
+    repository: &Repository<F>,
+    alloc: Global,
+    parents: &[ObjectId],
+    changes: &[PathChange],
+) -> Result<Option<EditedFiles>, Stopped>
+    ensures { (r : plain.Repository) (made : List model.Edit)
+        → Stands F.is_honest F.history repository.now r
+        → AllByRecursion (HoldsCommit r) (map id_of parents.now)
+        → AreChangesOf r.kind changes.now made → HavePaths made
+        → TellsEdited F.reading_may_fail r (map id_of parents.now) made result }
+{
+    let tree = tree_before(repository, alloc, parents)?;
+    let edits = edits_of(alloc, changes)?;
+    match edit_files(
+        alloc,
+        &repository.objects,
+        repository.objects.kind(),
+        tree.as_ref(),
+        &edits,
+    ) {
+        Ok(edited) => Ok(Some(edited)),
+        Err(error) => unmade(error),
+    }
+}

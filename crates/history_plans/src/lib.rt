@@ -1,0 +1,23 @@
+//! The plans of the commands that change files: what each is refused for, and what it is to store and to move. Nothing is changed.
+#![tactic(auto)]
+
+mod actors;
+mod apart;
+mod base;
+mod causes;
+mod deleting;
+mod editing;
+mod moving;
+mod packing;
+mod planning;
+mod renaming;
+mod switching;
+mod tagging;
+
+pub use deleting::test_delete;
+pub use moving::plan_moves;
+pub use packing::names_to_pack;
+pub use planning::{Moves, Plan, plan_commit};
+pub use renaming::plan_rename;
+pub use switching::test_switch;
+pub use tagging::{Tagged, plan_tag};

@@ -1,0 +1,295 @@
+//! What a `commit` is to store, and how its name is to move.
+
+ghost use Rattle.std.specs.Prelude.{◌≡◌, ◌≤◌, ◌<◌, ◌++◌, None, Err, OnOk, MatchOption, MatchResult, map, length};
+ghost use Rattle.std.specs.List.{list_any};
+ghost use Rattle.gix_hash_id.specs.Id.{id_of};
+ghost use Rattle.history_model.specs.Forms.{max_content};
+ghost use Rattle.history_model.specs.CommandParts.{contents_in};
+ghost use Rattle.history_model.specs.Commands.{Commit};
+ghost use Rattle.history_model.specs.Meaning.{new_commit};
+ghost use Rattle.history_model.specs.Objects.{CommitValue, folder_id};
+ghost use Rattle.history_model.specs.declared.Cause.TheVariants.{TooLarge};
+ghost use Rattle.history_model.specs.declared.Fault.TheVariants.{IdTaken};
+ghost use Rattle.history_objects.specs.Face.{kind_of_objects};
+ghost use Rattle.history_word.specs.Commands.{IsActor};
+ghost use Rattle.history_word.specs.Fields.{Keeps};
+ghost use Rattle.history_plans.specs.Asked.{AskedCommit, AskedFiles};
+ghost use Rattle.history_plans.specs.Bases.{IsCommitBase};
+ghost use Rattle.history_plans.specs.CommitCauses.{first_among, is_long, path_causes};
+ghost use Rattle.history_plans.specs.Plans.{AreActors, AreAdded, AreNewFiles, GivesCommitted, GivesObjects, HasActors, IsMade, IsNotAdded, IsUnplanned, MakesCommit, Plans, Says, is_long_tree, object_parts, tree_parts};
+ghost use Rattle.history_repository.specs.Stands.{Stands};
+ghost use Rattle.history_model.specs.Repository as plain;
+ghost use Rattle.history_model.specs.Commands as orders;
+ghost use Rattle.history_repository.specs.declared.stopped.Stopped.TheVariants as why;
+
+use crate::actors::actor_at;
+use crate::base::{Base, read_base};
+use crate::causes::{have_long_content, read_times, test_paths};
+use crate::editing::{edited, read_edits};
+use gix_hash::ObjectId;
+use gix_ref_file::Files;
+use history_files::{EditedFiles, EditedTree};
+use history_model::limits::MAX_CONTENT;
+use history_model::{Cause, Fault};
+use history_repository::{Repository, Stopped, into_kept};
+use history_store::{Actor, LogEntry, NewObject, commit_bytes, plain_commit, title};
+use history_word::{ActorLine, CommitCommand, Edit, Field};
+use std::alloc::{AllocError, Global};
+
+/// What a commit is to store, and how its name is to move.
+#[derive(Drop)]
+pub struct Plan {
+    /// The content of each `put`, the trees, each behind those of its folders, the commit.
+    pub objects: Vec<NewObject>,
+    pub moves: Moves,
+}
+
+/// A name that is to hold another id, and the line of its log that tells so.
+#[derive(Drop)]
+pub struct Moves {
+    pub name: Vec<u8>,
+    pub entry: LogEntry,
+}
+
+/// Who wrote a commit, and who made it.
+#[derive(Drop)]
+struct Actors {
+    author: Actor,
+    committer: Actor,
+}
+
+/// What a commit's edits come to: the object of each content that they put, the trees of what they make (`None` where one would have the
+/// null id), and whether a content is over its limit.
+#[derive(Drop)]
+struct NewFiles {
+    blobs: Vec<NewObject>,
+    edited: Option<EditedFiles>,
+    has_long_content: bool,
+}
+
+/// The objects that are stored before a commit's own, and the id of its root.
+#[derive(Drop)]
+struct Below {
+    root: ObjectId,
+    objects: Vec<NewObject>,
+}
+
+/// A commit's own object, and how its name moves to it.
+#[derive(Drop)]
+struct Committed {
+    object: NewObject,
+    moves: Moves,
+}
+
+/// Whether a tree is over the limit.
+fn has_long(trees: &[EditedTree]) -> bool
+    ensures { result ≡ list_any is_long_tree trees.now }
+{
+    trees.iter().any(|tree| tree.content.len() > MAX_CONTENT)
+}
+
+/// Adds the objects of trees, which have their ids.
+fn add_all(objects: &mut Vec<NewObject>, trees: Vec<EditedTree>) -> Result<(), AllocError>
+    ensures { OnOk result (map object_parts objects.new.items
+        ≡ map object_parts objects.old.items ++ map tree_parts trees.items) }
+{
+    for tree in trees {
+        objects.push(NewObject {
+            id: tree.id,
+            kind: gix_object::Kind::Tree,
+            content: tree.content,
+        })?;
+    }
+    Ok(())
+}
+
+/// Adds the objects of trees, where each is within the limit.
+fn add_trees(objects: &mut Vec<NewObject>, trees: Vec<EditedTree>) -> Result<(), Stopped>
+    ensures { MatchResult result (λ _. AreAdded objects.old.items trees.items objects.new.items)
+        (IsNotAdded trees.items) }
+{
+    if has_long(&trees) {
+        return Err(Stopped::Refused(Cause::TooLarge));
+    }
+    Ok(add_all(objects, trees)?)
+}
+
+impl NewFiles {
+    /// The objects of the contents and of the trees, where each tree is within the limit and none has the null id.
+    fn into_objects(self) -> Result<Below, Stopped>
+        ensures { MatchOption self.edited (result ≡ Err (why.Fault IdTaken))
+            (λ edited. GivesObjects self.blobs.items edited result) }
+    {
+        let edited = self.edited.ok_or(Fault::IdTaken)?;
+        let mut objects = self.blobs;
+        add_trees(&mut objects, edited.trees)?;
+        Ok(Below {
+            root: edited.root,
+            objects,
+        })
+    }
+}
+
+/// The actors of a commit's lines, where no cause holds that the command tells by itself behind its paths.
+fn read_actors(
+    author: ActorLine,
+    committer: ActorLine,
+    message: &Field,
+    has_long_content: bool,
+) -> Result<Actors, Cause>
+    ensures { (r : plain.Repository) (order : orders.CommitCommand)
+        → IsActor author order.author → IsActor committer order.committer
+        → Keeps max_content message.now order.message
+        → has_long_content ≡ list_any is_long (contents_in (Commit order))
+        → first_among path_causes r (Commit order) ≡ None
+        → AreActors r order result }
+{
+    let times = read_times(&author, &committer, message, has_long_content)?;
+    let author = actor_at(author, times.author).ok_or(Cause::BadActor)?;
+    let committer = actor_at(committer, times.committer).ok_or(Cause::BadActor)?;
+    Ok(Actors { author, committer })
+}
+
+/// The move of a name from one id to another, of which its log tells with this actor and message.
+pub(crate) fn moves_to(
+    name: Vec<u8>,
+    before: ObjectId,
+    after: ObjectId,
+    actor: Actor,
+    message: Vec<u8>,
+) -> Moves
+    ensures name { result.name ≡ name }
+    ensures before { result.entry.before ≡ before }
+    ensures after { result.entry.after ≡ after }
+    ensures actor { result.entry.actor ≡ actor }
+    ensures message { result.entry.message ≡ message }
+{
+    Moves {
+        name,
+        entry: LogEntry {
+            before,
+            after,
+            actor,
+            message,
+        },
+    }
+}
+
+/// An object of this content, where that is within the limit.
+pub(crate) fn new_object<F: Files>(
+    repository: &Repository<F>,
+    kind: gix_object::Kind,
+    content: Vec<u8>,
+) -> Result<NewObject, Cause>
+    ensures { MatchResult result
+        (λ made. IsMade (kind_of_objects repository.now.objects) kind content.items made
+        × (length content.items ≤ max_content))
+        (λ cause. (cause ≡ TooLarge) × (max_content < length content.items)) }
+{
+    if content.len() > MAX_CONTENT {
+        return Err(Cause::TooLarge);
+    }
+    Ok(NewObject::new(repository.objects.kind(), kind, content))
+}
+
+/// The object of the commit that says this, where its content is within the limit.
+fn commit_object<F: Files>(
+    repository: &Repository<F>,
+    alloc: Global,
+    tree: ObjectId,
+    parents: Vec<ObjectId>,
+    actors: Actors,
+    message: Vec<u8>,
+) -> Result<NewObject, Stopped>
+    ensures { (value : CommitValue)
+        → Says (kind_of_objects repository.now.objects) tree parents.items actors message.items value
+        → MakesCommit (kind_of_objects repository.now.objects) value result }
+{
+    let commit = plain_commit(
+        alloc,
+        tree,
+        parents,
+        actors.author,
+        actors.committer,
+        message,
+    );
+    // Its ids are of the kind of the store, so it can be spelled.
+    let content = commit_bytes(alloc, &commit)?.ok_or(Fault::File)?;
+    Ok(new_object(repository, gix_object::Kind::Commit, content)?)
+}
+
+/// The object of a commit with this root and message on its base, and how its name moves to it.
+fn make_commit<F: Files>(
+    repository: &Repository<F>,
+    alloc: Global,
+    base: Base,
+    root: ObjectId,
+    actors: Actors,
+    message: Vec<u8>,
+) -> Result<Committed, Stopped>
+    ensures { (r : plain.Repository) (order : orders.CommitCommand)
+        → Stands F.is_honest F.history repository.now r → IsCommitBase r order base
+        → id_of root ≡ folder_id r.kind (new_commit r order).files
+        → HasActors r order actors → message.items ≡ order.message
+        → GivesCommitted r order result }
+{
+    let title = Vec::from_slice(alloc, title(&message))?;
+    let log_actor = actors.committer.try_clone()?;
+    let object = commit_object(repository, alloc, root, base.parents, actors, message)?;
+    let before = base
+        .held
+        .unwrap_or(ObjectId::null(repository.objects.kind()));
+    let moves = moves_to(base.name, before, object.id, log_actor, title);
+    Ok(Committed { object, moves })
+}
+
+/// What edits put, and what they make of the first parent's files, where no cause holds that their paths tell.
+fn new_files<F: Files>(
+    repository: &Repository<F>,
+    alloc: Global,
+    parents: &[ObjectId],
+    edits: Vec<Edit>,
+) -> Result<NewFiles, Stopped>
+    ensures { (r : plain.Repository) (order : orders.CommitCommand)
+        → AskedFiles F.is_honest F.history repository.now parents.now edits.items r order
+        → MatchResult result (AreNewFiles r order) (IsUnplanned F.reading_may_fail r order) }
+{
+    test_paths(&edits)?;
+    let has_long_content = have_long_content(&edits);
+    let changes = read_edits(alloc, repository.objects.kind(), edits)?;
+    let edited = edited(repository, alloc, parents, &changes.made)?;
+    Ok(NewFiles {
+        blobs: changes.blobs,
+        edited,
+        has_long_content,
+    })
+}
+
+/// Tests every cause, and makes all that is to be stored. It changes nothing.
+pub fn plan_commit<F: Files>(
+    repository: &Repository<F>,
+    alloc: Global,
+    command: CommitCommand,
+) -> Result<Plan, Stopped>
+    ensures { (r : plain.Repository) (order : orders.CommitCommand)
+        → AskedCommit F.is_honest F.history repository.now command r order
+        → Plans F.reading_may_fail r order result }
+{
+    let base = read_base(repository, alloc, &command)?;
+    let files = new_files(repository, alloc, &base.parents, command.edits)?;
+    let actors = read_actors(
+        command.author,
+        command.committer,
+        &command.message,
+        files.has_long_content,
+    )?;
+    let below = files.into_objects()?;
+    let message = into_kept(command.message);
+    let committed = make_commit(repository, alloc, base, below.root, actors, message)?;
+    let mut objects = below.objects;
+    objects.push(committed.object)?;
+    Ok(Plan {
+        objects,
+        moves: committed.moves,
+    })
+}

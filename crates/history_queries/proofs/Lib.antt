@@ -1,0 +1,14 @@
+pub mod AllTold
+pub mod Answered
+pub mod CommitsWalked
+pub mod DifferingLemmas
+pub mod FoundLemmas
+pub mod Headers
+pub mod LineTexts
+pub mod LogItems
+pub mod LogLemmas
+pub mod OrderLemmas
+pub mod PastLemmas
+pub mod PastTexts
+pub mod ReplyTexts
+pub mod RowsRead

@@ -1,0 +1,61 @@
+use Rattle.std.proofs.Common.{◌≡◌, ◌∙◌, ap, sym, subst, arith, Err, List, []}
+use Rattle.std.proofs.lemmas.Result.{err_from_is_err_and}
+use Rattle.gix_hash_id.specs.Id.{id_of}
+use Rattle.gix_hash_id.specs.declared.object_id.ObjectId.{ObjectId}
+use Rattle.gix_traverse_commit_graph.specs.declared.parents.Parents.TheVariants.{All}
+use Rattle.history_model.specs.Answers.{rows_of}
+use Rattle.history_rows.specs.Rows.{AreTheRows}
+use Rattle.history_rows.specs.Telling.{AreAllTold}
+use Rattle.history_rows.specs.declared.told.Told.{Told}
+use Rattle.history_walks.specs.declared.listing.Order.TheVariants.{Topological}
+use Rattle.history_walks.specs.declared.listing.Request.{Request}
+use Rattle.history_queries.specs.Indexing.{AreTheCommits, AreToldOf}
+use Rattle.history_queries.specs.Walked.{AllHold, IsLogged}
+use Rattle.history_queries.proofs.AllTold.{all_told, none_hold}
+use Rattle.history_repository.proofs.Befores.{gives_stopped}
+use Rattle.history_queries.proofs.CommitsWalked.{logged_hold}
+use Rattle.history_queries.proofs.rows.all_rows.Goals as goal
+
+pub returns-in_err-stored_commits-clause-rows : goal.returns-in_err-stored_commits-clause-rows
+returns-in_err-stored_commits-clause-rows g c = λ r stands.
+    let stopped = err_from_is_err_and c.from_residual.result c.from_residual.ensures.1 in
+    gives_stopped g.F.Files.reading_may_fail (λ ids. AreTheCommits r ids.items) (λ rows. AreTheRows (rows_of r) rows.items) c.stored_commits.result c.from_residual.result c.in_err-stored_commits.field-0.0 c.in_err-stored_commits.was (stopped.1 ∙ ap Err stopped.2)
+    (c.stored_commits.ensures r stands)
+
+pub returns-in_err-ids-clause-rows : goal.returns-in_err-ids-clause-rows
+returns-in_err-ids-clause-rows g c = λ r stands.
+    let commits = c.in_ok-stored_commits.ensures r stands in
+    let request : Request = record { order = Topological All; tips = c.in_ok-stored_commits.field-0; hidden = c.new.result } in
+    let stopped = err_from_is_err_and c.from_residual-in_err-ids.result c.from_residual-in_err-ids.ensures.1 in
+    gives_stopped g.F.Files.reading_may_fail (IsLogged r request) (λ rows. AreTheRows (rows_of r) rows.items) c.commits.result c.from_residual-in_err-ids.result c.in_err-ids.field-0.0 c.in_err-ids.was (stopped.1 ∙ ap Err stopped.2)
+    (c.commits.ensures.lists r stands commits.hold (none_hold r c.new.result.items c.new.ensures.items))
+
+pub returns-in_err-told-clause-rows : goal.returns-in_err-told-clause-rows
+returns-in_err-told-clause-rows g c = λ r stands.
+    let commits = c.in_ok-stored_commits.ensures r stands in
+    let request : Request = record { order = Topological All; tips = c.in_ok-stored_commits.field-0; hidden = c.new.result } in
+    let logged = c.in_ok-ids.ensures.lists r stands commits.hold (none_hold r c.new.result.items c.new.ensures.items) in
+    let hold = logged_hold r stands.whole.whole.store stands.whole.written request c.in_ok-ids.ids logged commits.hold in
+    let stopped = err_from_is_err_and c.from_residual-in_err-told.result c.from_residual-in_err-told.ensures.1 in
+    gives_stopped g.F.Files.reading_may_fail (λ told. AreToldOf r c.deref.result.now told.items) (λ rows. AreTheRows (rows_of r) rows.items) c.told.result c.from_residual-in_err-told.result c.in_err-told.field-0.0 c.in_err-told.was (stopped.1 ∙ ap Err stopped.2)
+    (c.told.ensures r stands (subst (AllHold r) (sym c.deref.ensures.value) hold))
+
+pub returns-clause-rows : goal.returns-clause-rows
+returns-clause-rows g c = λ r stands.
+    let commits = c.in_ok-stored_commits.ensures r stands in
+    let request : Request = record { order = Topological All; tips = c.in_ok-stored_commits.field-0; hidden = c.new.result } in
+    let logged = c.in_ok-ids.ensures.lists r stands commits.hold (none_hold r c.new.result.items c.new.ensures.items) in
+    let hold = logged_hold r stands.whole.whole.store stands.whole.written request c.in_ok-ids.ids logged commits.hold in
+    let told = c.in_ok-told.ensures r stands (subst (AllHold r) (sym c.deref.ensures.value) hold) in
+    c.in_ok-rows_of.ensures.rows r
+    (all_told r stands.whole.whole.store stands.whole.written c.in_ok-stored_commits.field-0.items c.in_ok-ids.ids.items c.in_ok-told.field-0.items commits c.new.result.items c.new.ensures.items logged (subst (λ (ids : List ObjectId). AreToldOf r ids c.in_ok-told.field-0.items) c.deref.ensures.value told))
+
+pub returns-clause-graph : goal.returns-clause-graph
+returns-clause-graph g c = λ r stands.
+    let commits = c.in_ok-stored_commits.ensures r stands in
+    let request : Request = record { order = Topological All; tips = c.in_ok-stored_commits.field-0; hidden = c.new.result } in
+    let logged = c.in_ok-ids.ensures.lists r stands commits.hold (none_hold r c.new.result.items c.new.ensures.items) in
+    let hold = logged_hold r stands.whole.whole.store stands.whole.written request c.in_ok-ids.ids logged commits.hold in
+    let told = c.in_ok-told.ensures r stands (subst (AllHold r) (sym c.deref.ensures.value) hold) in
+    c.in_ok-rows_of.ensures.graph r
+    (all_told r stands.whole.whole.store stands.whole.written c.in_ok-stored_commits.field-0.items c.in_ok-ids.ids.items c.in_ok-told.field-0.items commits c.new.result.items c.new.ensures.items logged (subst (λ (ids : List ObjectId). AreToldOf r ids c.in_ok-told.field-0.items) c.deref.ensures.value told))

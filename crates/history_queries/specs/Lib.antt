@@ -1,0 +1,4 @@
+pub mod Indexing
+pub mod Logs
+pub mod Shown
+pub mod Walked

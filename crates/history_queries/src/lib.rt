@@ -1,0 +1,20 @@
+//! The replies to the commands that change no file: `names`, `files`, `past`, `log` and `show`, and the rows that `index` keeps.
+#![tactic(auto)]
+
+mod differing;
+mod lines;
+mod listed;
+mod listing;
+mod logs;
+mod pasts;
+mod reading;
+mod rows;
+mod showing;
+
+pub use lines::line;
+pub use listed::list_names;
+pub use listing::list_files;
+pub use logs::log;
+pub use pasts::past;
+pub use rows::all_rows;
+pub use showing::show;

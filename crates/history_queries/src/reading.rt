@@ -1,0 +1,109 @@
+//! Stored commits, files and lists of commits.
+
+ghost use Rattle.std.specs.Prelude.{◌≡◌, IfErr, IfOk, Some, map, option_map};
+ghost use Rattle.std.specs.FinMap.{entries, get};
+ghost use Rattle.history_model.specs.Answers.{file_line};
+ghost use Rattle.history_files.specs.Reading.{entry_of, line_of};
+ghost use Rattle.history_model.specs.FileMap.{FileMap};
+ghost use Rattle.history_model.specs.Objects.{CommitValue, StoredCommit, StoredFolder};
+ghost use Rattle.history_texts.specs.Commits.{SaysCommit};
+ghost use Rattle.gix_hash_id.specs.Id.{id_of};
+ghost use Rattle.gix_traverse_commit_graph.specs.Rows.{AllHeld};
+ghost use Rattle.gix_traverse_commit_known.specs.Told.{rows_of};
+ghost use Rattle.history_model.specs.declared.Fault.TheVariants.{Memory};
+ghost use Rattle.history_repository.specs.Stands.{Stands};
+ghost use Rattle.history_repository.specs.Reads.{GivesMeant};
+ghost use Rattle.history_repository.specs.Face.{rows_in};
+ghost use Rattle.history_queries.specs.Walked.{AllHold, IsLogged};
+ghost use Rattle.history_model.specs.Objects as model;
+ghost use Rattle.history_repository.specs.declared.stopped.Stopped.TheVariants as why;
+ghost use Rattle.history_model.specs.Repository as plain;
+
+use gix_hash::ObjectId;
+use gix_object::Commit;
+use gix_ref_file::Files;
+use gix_traverse_commit_graph::Graph;
+use history_files::{File, Found, entry_at, files};
+use history_model::Fault;
+use history_repository::{Repository, Stopped, content};
+use history_store::parse_commit;
+use history_walks::{Request, list_commits};
+use std::alloc::{AllocError, Global};
+
+// In a whole repository each id that is read names an object of its kind, so only a failed call leads to `fault File`.
+
+/// A stored commit.
+pub(crate) fn read_commit<F: Files>(
+    repository: &Repository<F>,
+    alloc: Global,
+    id: &ObjectId,
+) -> Result<Commit, Stopped>
+    ensures { (r : plain.Repository) (value : CommitValue)
+        → Stands F.is_honest F.history repository.now r
+        → get r.objects (id_of id.now) ≡ Some (StoredCommit value)
+        → GivesMeant F.reading_may_fail (λ commit. SaysCommit r.kind commit value) result }
+{
+    let content = content(repository, alloc, gix_object::Kind::Commit, id)?;
+    Ok(parse_commit(alloc, repository.objects.kind(), &content)?.ok_or(Fault::File)?)
+}
+
+/// The files below a stored tree, their paths ascending. No content of theirs is read.
+pub(crate) fn files_below<F: Files>(
+    repository: &Repository<F>,
+    alloc: Global,
+    tree: &ObjectId,
+) -> Result<Vec<File>, Stopped>
+    ensures { (r : plain.Repository) (below : FileMap) → Stands F.is_honest F.history repository.now r
+        → get r.objects (id_of tree.now) ≡ Some (StoredFolder below)
+        → GivesMeant F.reading_may_fail (λ found. map line_of found.items
+        ≡ map (file_line r.kind) (entries below)) result }
+{
+    Ok(files(alloc, &repository.objects, tree)?)
+}
+
+/// The rows that are kept, once more, of which no row is copied.
+fn copied_rows<F: Files>(repository: &Repository<F>) -> Result<Option<Graph>, AllocError>
+    ensures { IfOk result (λ rows. rows ≡ rows_in repository.now) }
+{
+    match &repository.rows {
+        Some(rows) => Ok(Some(rows.try_clone()?)),
+        None => Ok(None),
+    }
+}
+
+/// The commits that some tips reach and no hidden commit reaches, each once, in the order that is asked for. Of a commit that has a
+/// row no file is read.
+///
+/// The tips and the hidden ones are stored commits. It is a fault where a call of the files failed, or where no memory is left.
+pub(crate) fn commits<F: Files>(
+    repository: &Repository<F>,
+    alloc: Global,
+    request: Request,
+) -> Result<Vec<ObjectId>, Stopped>
+    ensures lists { (r : plain.Repository) → Stands F.is_honest F.history repository.now r
+        → AllHold r request.tips.items → AllHold r request.hidden.items
+        → GivesMeant F.reading_may_fail (IsLogged r request) result }
+    // Where all of them have rows the walk asks for no object, so that no failed call stops it.
+    ensures rowed { (r : plain.Repository) → Stands F.is_honest F.history repository.now r
+        → AllHeld (rows_of (rows_in repository.now)) request.tips.items
+        → AllHeld (rows_of (rows_in repository.now)) request.hidden.items
+        → IfErr result (λ stopped. stopped ≡ why.Fault Memory) }
+{
+    let rows = copied_rows(repository)?;
+    Ok(list_commits(alloc, &repository.objects, rows, request)?)
+}
+
+/// What stands at a path below a stored tree. The trees on the path are read, and no other.
+pub(crate) fn found_below<F: Files>(
+    repository: &Repository<F>,
+    alloc: Global,
+    tree: &ObjectId,
+    path: &[u8],
+) -> Result<Option<Found>, Stopped>
+    ensures { (r : plain.Repository) (below : FileMap) → Stands F.is_honest F.history repository.now r
+        → get r.objects (id_of tree.now) ≡ Some (StoredFolder below)
+        → GivesMeant F.reading_may_fail (λ found.
+        option_map entry_of found ≡ model.entry_at r.kind below path.now) result }
+{
+    Ok(entry_at(alloc, &repository.objects, tree, path)?)
+}

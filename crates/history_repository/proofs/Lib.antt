@@ -1,0 +1,16 @@
+pub mod Befores
+pub mod Extended
+pub mod FieldLemmas
+pub mod HeldLemmas
+pub mod NameLines
+pub mod NameReads
+pub mod NamesFormed
+pub mod OpenLemmas
+pub mod ReadingFaults
+pub mod RowsAgree
+pub mod SecondsLemmas
+pub mod ShortIds
+pub mod StoredValues
+pub mod Tables
+pub mod WordCauses
+pub mod WordReads

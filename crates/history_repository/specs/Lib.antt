@@ -1,0 +1,11 @@
+pub mod Face
+pub mod Faults
+pub mod Fields
+pub mod Held
+pub mod KeptRows
+pub mod Meanings
+pub mod NameForms
+pub mod NamesShown
+pub mod Reads
+pub mod Stands
+pub mod TreesBefore

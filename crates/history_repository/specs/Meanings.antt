@@ -1,0 +1,89 @@
+-- What a word was read as, the commit that it stands for, and why words that were read stand for none.
+use Rattle.std.specs.Prelude.{◌≡◌, Bool, true, false, List, Option, Some, None, Result, Ok, Err, IsTrue, find, ok_or, if◌then◌else◌}
+use Rattle.history_model.specs.Bytes.{Bytes}
+use Rattle.history_model.specs.Repository.{Repository, id_at, peeled, stands}
+use Rattle.history_model.specs.Words.{candidates, is_short_id, word_meaning}
+use Rattle.history_model.specs.declared.Cause.{Cause}
+use Rattle.history_model.specs.declared.Cause.TheVariants.{UnknownWord, AmbiguousWord, UnbornHead, NotACommit, NotExpected}
+use Rattle.history_repository.specs.declared.words.Standing.{Standing}
+use Rattle.history_repository.specs.declared.words.WordMeaning.{WordMeaning}
+use Rattle.history_repository.specs.declared.words.WordMeaning.TheVariants.{Commit, NoCommit, Unborn, Unknown, Ambiguous}
+use Rattle.gix_hash_id.specs.declared.kind.Kind.{Kind}
+use Rattle.gix_hash_id.specs.declared.object_id.ObjectId.{ObjectId}
+use Rattle.gix_hash_id.specs.Id.{Id, id_of}
+use Rattle.gix_hash_id.specs.Spelling.{IsHexOf}
+use Rattle.std.specs.List.{list_any}
+use Rattle.gix_hash_id.specs.Order.{id_eq}
+use Rattle.history_model.specs.Words as model
+
+-- the commit that a word of this meaning stands for, or why it stands for none
+abbrev pub stands_for : Repository → model.WordMeaning → Result Id Cause
+stands_for r (model.ReadsAs id) = ok_or (peeled r id) NotACommit
+stands_for r model.Unborn = Err UnbornHead
+stands_for r model.Unknown = Err UnknownWord
+stands_for r model.Ambiguous = Err AmbiguousWord
+
+-- the commit that a word stands for, or why it stands for none
+abbrev pub commit_or_cause : Repository → Bytes → Result Id Cause
+commit_or_cause r word = stands_for r (word_meaning r word)
+
+-- the same, of a word that was read
+abbrev pub meaning_of : WordMeaning → Result Id Cause
+meaning_of (Commit id) = Ok (id_of id)
+meaning_of NoCommit = Err NotACommit
+meaning_of Unborn = Err UnbornHead
+meaning_of Unknown = Err UnknownWord
+meaning_of Ambiguous = Err AmbiguousWord
+
+-- the commit that a word was read as
+abbrev pub commit_in : WordMeaning → Option ObjectId
+commit_in (Commit id) = Some id
+commit_in NoCommit = None
+commit_in Unborn = None
+commit_in Unknown = None
+commit_in Ambiguous = None
+
+-- whether a word stands for no commit for this cause
+abbrev pub is_unknown_word : Result Id Cause → Bool
+is_unknown_word (Err UnknownWord) = true
+is_unknown_word _ = false
+
+abbrev pub is_ambiguous_word : Result Id Cause → Bool
+is_ambiguous_word (Err AmbiguousWord) = true
+is_ambiguous_word _ = false
+
+abbrev pub is_unborn_head : Result Id Cause → Bool
+is_unborn_head (Err UnbornHead) = true
+is_unborn_head _ = false
+
+abbrev pub is_not_a_commit : Result Id Cause → Bool
+is_not_a_commit (Err NotACommit) = true
+is_not_a_commit _ = false
+
+-- the word is a short id of this kind, and spells the digits of the prefix
+pub record SpellsPrefix (kind : Kind) (word : Bytes) (prefix : Id) : Type 0 where
+  pub short : IsTrue (is_short_id kind word)
+  pub digits : IsHexOf word prefix.digits
+
+-- the first that stands of the names that the word may mean, with the id that it holds
+pub record IsFirst (r : Repository) (word : Bytes) (standing : Standing) : Type 0 where
+  pub first : find (stands r) (candidates word) ≡ Some standing.name.items
+  pub holds : id_at r standing.name.items ≡ Some (id_of standing.id)
+
+-- the same, or none stands
+abbrev pub IsFirstStanding : Repository → Bytes → Option Standing → Type 0
+IsFirstStanding r word (Some standing) = IsFirst r word standing
+IsFirstStanding r word None = find (stands r) (candidates word) ≡ None
+
+-- why one of the words that stand so stands for no commit: a cause of any comes before the next cause of all
+abbrev pub words_cause : List (Result Id Cause) → Option Cause
+words_cause words =
+    if list_any is_unknown_word words then Some UnknownWord
+    else if list_any is_ambiguous_word words then Some AmbiguousWord
+    else if list_any is_unborn_head words then Some UnbornHead
+    else if list_any is_not_a_commit words then Some NotACommit else None
+
+-- whether a word that stands so stands for this commit
+abbrev pub reads_as : Id → Result Id Cause → Option Cause
+reads_as id (Ok other) = if id_eq id other then None else Some NotExpected
+reads_as id (Err cause) = Some NotExpected

@@ -1,0 +1,49 @@
+-- What reading of a repository gives: a fault, what a word stands for, the reply of a command that changes nothing.
+use Rattle.std.specs.Prelude.{◌≡◌, ⊤, ℕ, Some, None, Result, Ok, Err, Vec}
+use Rattle.std.specs.declared.alloc.Global.{Global}
+use Rattle.history_model.specs.Bytes.{Bytes}
+use Rattle.history_model.specs.Replies.{reply_text}
+use Rattle.history_model.specs.Causes.{first_cause}
+use Rattle.history_model.specs.Answers.{Answers}
+use Rattle.history_model.specs.declared.Fault.TheVariants.{Memory, File, IdTaken}
+use Rattle.gix_hash_id.specs.declared.object_id.ObjectId.{ObjectId}
+use Rattle.history_repository.specs.Meanings.{commit_or_cause}
+use Rattle.history_repository.specs.declared.stopped.Stopped.{Stopped}
+use Rattle.history_repository.specs.declared.stopped.Stopped.TheVariants.{Refused, Fault}
+use Rattle.gix_hash_id.specs.Id.{id_of}
+use Rattle.history_model.specs.Repository as plain
+use Rattle.history_model.specs.Commands as orders
+use Rattle.history_model.specs.Replies as replies
+
+-- ---- faults
+
+-- Why a reading has no result: memory may run out at any time, a call of the files fails only where readings may fail.
+abbrev pub IsReadingFault : Type 0 → Stopped → Type 0
+IsReadingFault MayFail (Refused cause) = ⊥
+IsReadingFault MayFail (Fault Memory) = ⊤
+IsReadingFault MayFail (Fault File) = MayFail
+IsReadingFault MayFail (Fault IdTaken) = ⊥
+
+-- what is meant, or a fault of reading
+abbrev pub GivesMeant : {T : Type 0} → Type 0 → (T → Type 0) → Result T Stopped → Type 0
+GivesMeant MayFail IsMeant (Ok value) = IsMeant value
+GivesMeant MayFail IsMeant (Err stopped) = IsReadingFault MayFail stopped
+
+-- ---- words
+
+-- the word stands for this commit, or for none, for this cause
+abbrev pub ReadsWord : Type 0 → plain.Repository → Bytes → Result ObjectId Stopped → Type 0
+ReadsWord MayFail r word (Ok id) = commit_or_cause r word ≡ Ok (id_of id)
+ReadsWord MayFail r word (Err (Refused cause)) = commit_or_cause r word ≡ Err cause
+ReadsWord MayFail r word (Err (Fault fault)) = IsReadingFault MayFail (Fault fault)
+
+-- ---- commands
+
+-- A command that changes nothing is answered, refused for the first cause that holds, or met a fault.
+abbrev pub OnlyAnswers : Type 0 → plain.Repository → orders.Command
+    → Result (Vec ℕ Global) Stopped → Type 0
+OnlyAnswers MayFail r order (Ok text) =
+    (reply : replies.Reply) × (text.items ≡ reply_text reply) × (first_cause r order ≡ None)
+    × Answers r order reply
+OnlyAnswers MayFail r order (Err (Refused cause)) = first_cause r order ≡ Some cause
+OnlyAnswers MayFail r order (Err (Fault fault)) = IsReadingFault MayFail (Fault fault)

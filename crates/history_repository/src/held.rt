@@ -1,0 +1,87 @@
+//! What a name holds.
+
+ghost use Rattle.std.specs.Prelude.{◌≡◌, not, option_map, unwrap_or, IsTrue};
+ghost use Rattle.gix_hash_id.specs.Id.{id_of, null_id};
+ghost use Rattle.gix_hash_id.specs.Order.{id_eq};
+ghost use Rattle.history_model.specs.Forms.{is_name};
+ghost use Rattle.history_repository.specs.Reads.{GivesMeant};
+ghost use Rattle.history_repository.specs.Held.{IsHeld, held_commit, held_id, tagged_commit};
+ghost use Rattle.history_repository.specs.Stands.{Stands};
+ghost use Rattle.history_model.specs.Repository as plain;
+
+use crate::repository::Repository;
+use crate::stopped::Stopped;
+use crate::stored::peeled;
+use gix_hash::{Kind, ObjectId};
+use gix_ref_file::Files;
+use history_model::Fault;
+use std::alloc::Global;
+
+/// The id that a name holds, and the commit that it stands for: that of a tag, else the id itself.
+#[derive(Clone, Copy, Debug, PartialEq, Eq)]
+pub struct Held {
+    pub id: ObjectId,
+    pub commit: ObjectId,
+}
+
+impl Held {
+    /// Whether the id is a tag's.
+    pub fn is_tag(self) -> bool
+        ensures { result ≡ not (id_eq (held_id self) (held_commit self)) }
+    {
+        self.id != self.commit
+    }
+
+    /// The commit of the tag that is held; none where a commit is.
+    pub fn tagged(self) -> Option<ObjectId>
+        ensures { option_map id_of result ≡ tagged_commit self }
+    {
+        if self.is_tag() {
+            Some(self.commit)
+        } else {
+            None
+        }
+    }
+}
+
+/// The commit that a name stands for, where it stands.
+pub fn commit_held(held: Option<Held>) -> Option<ObjectId>
+    ensures { option_map id_of result ≡ option_map held_commit held }
+{
+    Some(held?.commit)
+}
+
+/// The id that a name holds, where it stands.
+pub fn id_held(held: Option<Held>) -> Option<ObjectId>
+    ensures { option_map id_of result ≡ option_map held_id held }
+{
+    Some(held?.id)
+}
+
+/// The id before a name's move: the null id, where it doesn't stand.
+pub fn id_before(held: Option<Held>, kind: Kind) -> ObjectId
+    ensures { id_of result ≡ unwrap_or (option_map held_id held) (null_id kind) }
+{
+    match held {
+        Some(held) => held.id,
+        None => ObjectId::null(kind),
+    }
+}
+
+/// What a name holds, where it stands.
+pub fn read_held<F: Files>(
+    repository: &Repository<F>,
+    alloc: Global,
+    name: &[u8],
+) -> Result<Option<Held>, Stopped>
+    ensures { (r : plain.Repository) → Stands F.is_honest F.history repository.now r
+        → IsTrue (is_name name.now)
+        → GivesMeant F.reading_may_fail (IsHeld r name.now) result }
+{
+    let Some(id) = repository.names.find(alloc, name)? else {
+        return Ok(None);
+    };
+    // In a whole repository each name stands for a commit.
+    let commit = peeled(repository, alloc, id)?.ok_or(Fault::File)?;
+    Ok(Some(Held { id, commit }))
+}

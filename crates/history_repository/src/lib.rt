@@ -1,0 +1,21 @@
+//! A repository over two file trees: how it is opened, and what it reads of its names and objects.
+#![tactic(auto)]
+
+mod fields;
+mod held;
+mod naming;
+mod open;
+mod repository;
+mod shown;
+mod stopped;
+mod stored;
+mod words;
+
+pub use fields::{into_kept, is_bad_path, is_too_long, kept};
+pub use held::{Held, commit_held, id_before, id_held, read_held};
+pub use naming::{is_private, test_name};
+pub use repository::Repository;
+pub use shown::{ALL_NAMES, Shown, read_shown};
+pub use stopped::Stopped;
+pub use stored::{content, tree_before};
+pub use words::{Standing, WordMeaning, commit_of, first_standing, read_word, test_all};

@@ -1,0 +1,70 @@
+//! Opening a repository.
+
+ghost use Rattle.std.specs.Prelude.{◌≡◌, false, None, IfOk, IfErr};
+ghost use Rattle.history_model.specs.StandsFor.{StandsWhole};
+ghost use Rattle.history_opening.specs.Causes.{IsOpenCause, IsOpenFault};
+ghost use Rattle.history_opening.specs.Opened.{trees_of};
+ghost use Rattle.history_store.specs.Creation.{IsNew};
+ghost use Rattle.history_model.specs.Repository.{fresh};
+ghost use Rattle.history_repository.specs.Face.{objects_part, names_part, has_failed, rows_in};
+ghost use Rattle.history_repository.specs.Stands.{Stands};
+ghost use Rattle.history_model.specs.Repository as plain;
+
+use crate::repository::Repository;
+use gix_hash::Kind;
+use gix_ref_file::Files;
+use history_opening::{OpenRefusal, OpenedFolder, open_folder};
+use std::alloc::Global;
+
+impl<F: Files> Repository<F> {
+    /// Opens a folder whose two parts are those of one repository with ids of this kind: whole, in written form and within the limits,
+    /// with no file and no folder besides. So are those that `create` and `run` leave, and, where a
+    /// call stopped or failed, `recover` behind it. No file is changed.
+    ///
+    /// Else the refusal names a cause that holds of them, and hands both parts back. The objects are surveyed before the names.
+    /// `File` comes where a call of the files failed, `Memory` where a growth was refused.
+    pub fn open(
+        alloc: Global,
+        objects: F,
+        names: F,
+        kind: Kind,
+    ) -> Result<Repository<F>, OpenRefusal<F>>
+        ensures ok { IfOk result (λ opened. (objects_part opened ≡ objects)
+            × (names_part opened ≡ names) × (has_failed opened ≡ false)
+            × (rows_in opened ≡ None)) }
+        // What is opened stands for a repository of this kind, whole and in its written form.
+        ensures stands { F.is_honest objects → F.is_honest names
+            → IfOk result (λ opened. (r : plain.Repository) × (r.kind ≡ kind)
+            × Stands F.is_honest F.history opened r) }
+        // Whichever repository the two parts stand for, it is that one.
+        ensures same { (r : plain.Repository) → F.is_honest objects → F.is_honest names
+            → StandsWhole kind (trees_of F.history objects names) r
+            → IfOk result (λ opened. Stands F.is_honest F.history opened r) }
+        // Of a new folder it is the one without names and objects, on `refs/heads/main`.
+        ensures fresh { F.is_honest objects → F.is_honest names
+            → IsNew (F.history objects).tree (F.history names).tree
+            → IfOk result (λ opened. Stands F.is_honest F.history opened (fresh kind)) }
+        ensures refused { F.is_honest objects → F.is_honest names → IfErr result (λ refusal.
+            IsOpenCause F.reading_may_fail kind (trees_of F.history objects names)
+            refusal.error) }
+        // A repository's parts are refused for a fault alone.
+        ensures accepted { (r : plain.Repository) → F.is_honest objects → F.is_honest names
+            → StandsWhole kind (trees_of F.history objects names) r
+            → IfErr result (λ refusal. IsOpenFault refusal.error) }
+        ensures handed_back { IfErr result (λ refusal. (refusal.objects ≡ objects)
+            × (refusal.names ≡ names)) }
+    {
+        let OpenedFolder {
+            objects,
+            names,
+            branch,
+        } = open_folder(alloc, objects, names, kind)?;
+        Ok(Repository {
+            objects,
+            names,
+            branch,
+            rows: None,
+            has_failed: false,
+        })
+    }
+}

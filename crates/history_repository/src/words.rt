@@ -1,0 +1,304 @@
+//! What a word of a command stands for.
+
+ghost use Rattle.std.specs.Prelude.{◌≡◌, ◌++◌, ◌&&◌, not, Some, None, Ok, Err, IfOk, IsFalse, MatchOption, MatchResult, map};
+ghost use Rattle.std.specs.List.{list_any};
+ghost use Rattle.history_model.specs.Bytes.{begins};
+ghost use Rattle.history_model.specs.Forms.{is_private, refs_front};
+ghost use Rattle.history_model.specs.Words.{is_short_id, ReadsAs, id_meaning};
+ghost use Rattle.history_repository.specs.Meanings.{reads_as, words_cause, commit_in, is_ambiguous_word, is_not_a_commit, is_unborn_head, is_unknown_word, meaning_of, SpellsPrefix, commit_or_cause, stands_for, IsFirstStanding};
+ghost use Rattle.gix_hash_id.specs.Id.{id_of};
+ghost use Rattle.history_repository.specs.Stands.{Stands};
+ghost use Rattle.history_repository.specs.Reads.{GivesMeant, ReadsWord};
+ghost use Rattle.history_model.specs.Objects.{Value};
+ghost use Rattle.std.specs.FinMap.{get};
+ghost use Rattle.history_model.specs.Repository as plain;
+
+use crate::naming::is_private;
+use crate::repository::Repository;
+use crate::stopped::Stopped;
+use crate::stored::peeled;
+use gix_hash::{Kind, ObjectId, Prefix};
+use gix_ref_file::Files;
+use history_model::Cause;
+use history_model::names::{HEAD, HEADS, REFS, TAGS};
+use history_store::Hit;
+use std::alloc::{AllocError, Global};
+use std::str;
+
+/// What a word reads as.
+#[derive(Clone, Copy, Debug, PartialEq, Eq)]
+pub enum WordMeaning {
+    /// The id of a commit.
+    Commit(ObjectId),
+    /// The id of an object that is neither a commit nor a tag of one.
+    NoCommit,
+    /// HEAD, whose branch doesn't stand.
+    Unborn,
+    /// No candidate stands, and no stored object's id begins with the word.
+    Unknown,
+    /// No candidate stands, and several ids begin with the word.
+    Ambiguous,
+}
+
+/// A name that stands, and the id that it holds.
+#[derive(Drop)]
+pub struct Standing {
+    pub name: Vec<u8>,
+    pub id: ObjectId,
+}
+
+/// What stands before and behind a word in the names that it may mean, in the order of the search.
+const CANDIDATES: [(&[u8], &[u8]); 6] = [
+    (b"", b""),
+    (REFS, b""),
+    (TAGS, b""),
+    (HEADS, b""),
+    (b"refs/remotes/", b""),
+    (b"refs/remotes/", b"/HEAD"),
+];
+
+/// The three texts, one behind the other.
+fn joined(alloc: Global, front: &[u8], word: &[u8], back: &[u8]) -> Result<Vec<u8>, AllocError>
+    ensures { IfOk result (λ name. name.items ≡ front.now ++ word.now ++ back.now) }
+{
+    let mut name = Vec::from_slice(alloc, front)?;
+    name.extend_from_slice(word)?;
+    name.extend_from_slice(back)?;
+    Ok(name)
+}
+
+/// Whether a word may mean this name.
+fn is_candidate(name: &[u8]) -> bool
+    ensures { result ≡ (begins refs_front name.now && not (is_private name.now)) }
+{
+    name.starts_with(REFS) && !is_private(name)
+}
+
+/// The prefix that a short id spells: 4 hexadecimal digits at least, in any letter case, and no more than an id of the kind has.
+fn short_id(kind: Kind, word: &[u8]) -> Option<Prefix>
+    ensures { MatchOption result (IsFalse (is_short_id kind word.now))
+        (SpellsPrefix kind word.now) }
+{
+    if word.len() > kind.len_in_hex() {
+        return None;
+    }
+    let Ok(text) = str::from_utf8(word) else {
+        return None;
+    };
+    match Prefix::from_hex(text) {
+        Ok(prefix) => Some(prefix),
+        Err(_) => None,
+    }
+}
+
+impl WordMeaning {
+    /// Tests that the word reads as the commit that its name stands for.
+    pub fn test(self, held: ObjectId) -> Result<(), Cause>
+        ensures { MatchResult result (λ _. reads_as (id_of held) (meaning_of self) ≡ None)
+            (λ cause. reads_as (id_of held) (meaning_of self) ≡ Some cause) }
+    {
+        match self {
+            WordMeaning::Commit(id) => {
+                if held == id {
+                    Ok(())
+                } else {
+                    Err(Cause::NotExpected)
+                }
+            }
+            WordMeaning::NoCommit => Err(Cause::NotExpected),
+            WordMeaning::Unborn => Err(Cause::NotExpected),
+            WordMeaning::Unknown => Err(Cause::NotExpected),
+            WordMeaning::Ambiguous => Err(Cause::NotExpected),
+        }
+    }
+
+    /// The commit that the word stands for.
+    pub fn id(self) -> Option<ObjectId>
+        ensures { result ≡ commit_in self }
+    {
+        match self {
+            WordMeaning::Commit(id) => Some(id),
+            WordMeaning::NoCommit => None,
+            WordMeaning::Unborn => None,
+            WordMeaning::Unknown => None,
+            WordMeaning::Ambiguous => None,
+        }
+    }
+
+    fn is_unknown(self) -> bool
+        ensures { result ≡ is_unknown_word (meaning_of self) }
+    {
+        matches!(self, WordMeaning::Unknown)
+    }
+
+    fn is_ambiguous(self) -> bool
+        ensures { result ≡ is_ambiguous_word (meaning_of self) }
+    {
+        matches!(self, WordMeaning::Ambiguous)
+    }
+
+    fn is_unborn(self) -> bool
+        ensures { result ≡ is_unborn_head (meaning_of self) }
+    {
+        matches!(self, WordMeaning::Unborn)
+    }
+
+    fn is_no_commit(self) -> bool
+        ensures { result ≡ is_not_a_commit (meaning_of self) }
+    {
+        matches!(self, WordMeaning::NoCommit)
+    }
+
+    /// The commit, where there is one; else why there is none.
+    pub fn commit(self) -> Result<ObjectId, Cause>
+        ensures { MatchResult result (λ id. meaning_of self ≡ Ok (id_of id))
+            (λ cause. meaning_of self ≡ Err cause) }
+    {
+        match self {
+            WordMeaning::Commit(id) => Ok(id),
+            WordMeaning::NoCommit => Err(Cause::NotACommit),
+            WordMeaning::Unborn => Err(Cause::UnbornHead),
+            WordMeaning::Unknown => Err(Cause::UnknownWord),
+            WordMeaning::Ambiguous => Err(Cause::AmbiguousWord),
+        }
+    }
+}
+
+fn have_unknown(meanings: &[WordMeaning]) -> bool
+    ensures { result ≡ list_any is_unknown_word (map meaning_of meanings.now) }
+{
+    meanings.iter().any(|meaning| meaning.is_unknown())
+}
+
+fn have_ambiguous(meanings: &[WordMeaning]) -> bool
+    ensures { result ≡ list_any is_ambiguous_word (map meaning_of meanings.now) }
+{
+    meanings.iter().any(|meaning| meaning.is_ambiguous())
+}
+
+fn have_unborn(meanings: &[WordMeaning]) -> bool
+    ensures { result ≡ list_any is_unborn_head (map meaning_of meanings.now) }
+{
+    meanings.iter().any(|meaning| meaning.is_unborn())
+}
+
+fn have_no_commit(meanings: &[WordMeaning]) -> bool
+    ensures { result ≡ list_any is_not_a_commit (map meaning_of meanings.now) }
+{
+    meanings.iter().any(|meaning| meaning.is_no_commit())
+}
+
+/// Tests that the words of a command stand for commits, which are told in two lists. Of the causes of all of them the first is
+/// told: `UnknownWord`, `AmbiguousWord`, `UnbornHead`, `NotACommit`.
+pub fn test_all(some: &[WordMeaning], others: &[WordMeaning]) -> Result<(), Cause>
+    ensures { MatchResult result
+        (λ _. words_cause (map meaning_of some.now ++ map meaning_of others.now) ≡ None)
+        (λ cause. words_cause (map meaning_of some.now ++ map meaning_of others.now)
+        ≡ Some cause) }
+{
+    if have_unknown(some) || have_unknown(others) {
+        return Err(Cause::UnknownWord);
+    }
+    if have_ambiguous(some) || have_ambiguous(others) {
+        return Err(Cause::AmbiguousWord);
+    }
+    if have_unborn(some) || have_unborn(others) {
+        return Err(Cause::UnbornHead);
+    }
+    if have_no_commit(some) || have_no_commit(others) {
+        return Err(Cause::NotACommit);
+    }
+    Ok(())
+}
+
+/// The first that stands of the names that a word may mean.
+pub fn first_standing<F: Files>(
+    repository: &Repository<F>,
+    alloc: Global,
+    word: &[u8],
+) -> Result<Option<Standing>, Stopped>
+    ensures { (r : plain.Repository) → Stands F.is_honest F.history repository.now r
+        → GivesMeant F.reading_may_fail (IsFirstStanding r word.now) result }
+{
+    for (front, back) in CANDIDATES {
+        let name = joined(alloc, front, word, back)?;
+        if is_candidate(&name) {
+            if let Some(id) = repository.names.find(alloc, &name)? {
+                return Ok(Some(Standing { name, id }));
+            }
+        }
+    }
+    Ok(None)
+}
+
+/// What a word stands for: HEAD for its branch, another word for the first candidate that stands, and else for the stored object
+/// whose id alone begins with it.
+pub fn read_word<F: Files>(
+    repository: &Repository<F>,
+    alloc: Global,
+    word: &[u8],
+) -> Result<WordMeaning, Stopped>
+    ensures { (r : plain.Repository) → Stands F.is_honest F.history repository.now r
+        → GivesMeant F.reading_may_fail (λ meaning.
+        meaning_of meaning ≡ commit_or_cause r word.now) result }
+{
+    if word == HEAD {
+        return match repository.names.find(alloc, &repository.branch)? {
+            Some(id) => read_stored(repository, alloc, id),
+            None => Ok(WordMeaning::Unborn),
+        };
+    }
+    match first_standing(repository, alloc, word)? {
+        Some(standing) => read_stored(repository, alloc, standing.id),
+        None => read_short_id(repository, alloc, word),
+    }
+}
+
+/// What a word stands for that is no name: the stored object whose id alone begins with it, where it is a short id.
+fn read_short_id<F: Files>(
+    repository: &Repository<F>,
+    alloc: Global,
+    word: &[u8],
+) -> Result<WordMeaning, Stopped>
+    ensures { (r : plain.Repository) → Stands F.is_honest F.history repository.now r
+        → GivesMeant F.reading_may_fail (λ meaning.
+        meaning_of meaning ≡ stands_for r (id_meaning r word.now)) result }
+{
+    let Some(prefix) = short_id(repository.objects.kind(), word) else {
+        return Ok(WordMeaning::Unknown);
+    };
+    match repository.objects.lookup_prefix(&prefix).hit {
+        Hit::Absent => Ok(WordMeaning::Unknown),
+        Hit::One(id) => read_stored(repository, alloc, id),
+        Hit::Several => Ok(WordMeaning::Ambiguous),
+    }
+}
+
+/// What the id of a stored object stands for: a commit for itself, a tag for its commit, another object for none.
+fn read_stored<F: Files>(
+    repository: &Repository<F>,
+    alloc: Global,
+    id: ObjectId,
+) -> Result<WordMeaning, Stopped>
+    ensures { (r : plain.Repository) (value : Value) → Stands F.is_honest F.history repository.now r
+        → get r.objects (id_of id) ≡ Some value
+        → GivesMeant F.reading_may_fail (λ meaning.
+        meaning_of meaning ≡ stands_for r (ReadsAs (id_of id))) result }
+{
+    Ok(match peeled(repository, alloc, id)? {
+        Some(commit) => WordMeaning::Commit(commit),
+        None => WordMeaning::NoCommit,
+    })
+}
+
+/// The commit that a word stands for.
+pub fn commit_of<F: Files>(
+    repository: &Repository<F>,
+    alloc: Global,
+    word: &[u8],
+) -> Result<ObjectId, Stopped>
+    ensures { (r : plain.Repository) → Stands F.is_honest F.history repository.now r
+        → ReadsWord F.reading_may_fail r word.now result }
+{
+    Ok(read_word(repository, alloc, word)?.commit()?)
+}

@@ -1,9 +1,0 @@
-use Rattle.std.proofs.Common.{map, take}
-use Rattle.std.specs.List.{All}
-use Rattle.gix_object_entries.specs.Entry.{item_of}
-use Rattle.history_store.specs.Written.{IsWrittenEntry}
-use Rattle.history_store.proofs.written.trees.are_entries_written.Given as goal
-
--- the entries so far
-abbrev pub invariant-loop-entry : goal.invariant-loop-entry
-invariant-loop-entry l = All (IsWrittenEntry l.fn.digests) (take l.entry-index (map item_of l.entries))

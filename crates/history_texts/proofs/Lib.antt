@@ -1,0 +1,14 @@
+pub mod ActorTexts
+mod CommitNames
+pub mod CommitTexts
+pub mod CommitWrites
+mod Cuts
+mod FirstLine
+pub mod LogLines
+pub mod Offsets
+pub mod Spelled
+mod TagLines
+mod TagTargets
+mod TagWrites
+pub mod TextObjects
+mod Titles

@@ -1,0 +1,7 @@
+pub mod Actors
+pub mod Commits
+pub mod Formats
+pub mod IdLists
+pub mod ObjectTexts
+pub mod Tags
+pub mod Written

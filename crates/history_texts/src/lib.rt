@@ -1,0 +1,18 @@
+//! What objects and logs have in them: the written forms of actors, commits, trees and tags, the texts of objects, and the lines of logs.
+#![tactic(auto)]
+
+mod actor;
+mod commit;
+mod id_text;
+mod log_entry;
+mod object;
+mod tag;
+mod written;
+
+pub use actor::{Actor, is_actor_part, parse_time};
+pub use commit::{commit_bytes, commit_tree, parse_commit, plain_commit};
+pub use id_text::{hex_digits, parse_lower_hex, push_hex};
+pub use log_entry::{LogEntry, log_lines};
+pub use object::{NewObject, parse_header};
+pub use tag::{tag_bytes, tag_target};
+pub use written::{Named, has_twice, is_name, is_written_tree, named_by, title};

@@ -1,0 +1,53 @@
+//! The lines of a name's log: each is `<old> <new> <actor>`, a tab, the message and a line feed.
+ghost use Rattle.std.specs.Prelude.{◌≡◌, ◌++◌, List, IfOk, map, reverse};
+ghost use Rattle.std.specs.List.{All, flat_map};
+ghost use Rattle.gix_object_lines.specs.Bytes.{Lacks};
+ghost use Rattle.history_model.specs.Bytes.{Bytes, line};
+ghost use Rattle.history_model.specs.Logs.{log_line};
+ghost use Rattle.history_texts.specs.Formats.{entry_of};
+
+use crate::actor::Actor;
+use crate::id_text::push_hex;
+use gix_hash::ObjectId;
+use std::alloc::{AllocError, Global};
+
+/// One move of a name. The id before is null where the name was made.
+#[derive(Drop, Debug)]
+pub struct LogEntry {
+    pub before: ObjectId,
+    pub after: ObjectId,
+    pub actor: Actor,
+    /// One line, without its line feed.
+    pub message: Vec<u8>,
+}
+
+impl LogEntry {
+    /// The entry's line.
+    pub fn to_bytes(&self, alloc: Global) -> Result<Vec<u8>, AllocError>
+        ensures { IfOk result (λ text. text.items ≡ log_line (entry_of self.now)) }
+    {
+        let mut line = Vec::new(alloc);
+        push_hex(&mut line, &self.before)?;
+        line.push(b' ')?;
+        push_hex(&mut line, &self.after)?;
+        line.push(b' ')?;
+        self.actor.write_to(&mut line)?;
+        line.push(b'\t')?;
+        line.extend_from_slice(&self.message)?;
+        line.push(b'\n')?;
+        Ok(line)
+    }
+}
+
+/// The lines of a log without their line feeds, the newest first. What stands behind the last line feed is left out. An error is want
+/// of memory.
+pub fn log_lines(alloc: Global, log: &[u8]) -> Result<Vec<&[u8]>, AllocError>
+    ensures { (lines : List Bytes) (rest : Bytes) → All (Lacks 10) lines → Lacks 10 rest
+        → log.now ≡ flat_map line (reverse lines) ++ rest
+        → IfOk result (λ found. map (λ text. text.now) found.items ≡ lines) }
+{
+    let mut lines: Vec<&[u8]> = log.split(|byte| *byte == b'\n').collect(alloc)?;
+    lines.pop();
+    lines.reverse();
+    Ok(lines)
+}
