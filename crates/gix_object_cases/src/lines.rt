@@ -9,4 +9,4 @@ mod kinds;
 mod strings;
 mod times;
 
-pub use cases::answer;
+pub use cases::put_answer;

@@ -9,28 +9,32 @@ mod tag;
 
 use crate::commit::Commits;
 use crate::tag::Tags;
+use case_page::Page;
 use std::alloc::{AllocError, Global};
 use std::io;
-
-// An answer, or that the line is no case.
-fn told(alloc: Global, answer: Option<String>) -> Result<String, AllocError> {
-    match answer {
-        Some(text) => Ok(text),
-        None => format!(in alloc; "no case"),
-    }
-}
 
 // What the line's operation gives: its family stands first.
 fn answer(alloc: Global, line: &str) -> Result<String, AllocError> {
     let (family, case) = line.split_once(' ').unwrap_or((line, ""));
     match family {
-        "lines" => told(alloc, lines::answer(alloc, case)),
-        "message" => told(alloc, message::answer(alloc, case)),
-        "signature" => signature::answer(alloc, case),
         "tag" => case_ids::answer::<Tags>(alloc, case),
         "commit" => case_ids::answer::<Commits>(alloc, case),
-        _ => told(alloc, None),
+        _ => told(alloc, family, case),
     }
+}
+
+fn told(alloc: Global, family: &str, case: &str) -> Result<String, AllocError> {
+    let mut page = Page::new(alloc);
+    let answered = match family {
+        "lines" => lines::put_answer(alloc, case, &mut page),
+        "message" => message::put_answer(alloc, case, &mut page),
+        "signature" => signature::put_answer(alloc, case, &mut page),
+        _ => None,
+    };
+    if answered.is_none() {
+        page.text("no case");
+    }
+    page.finish()
 }
 
 fn main(rt: HostRuntime) -> io::Result<()> {

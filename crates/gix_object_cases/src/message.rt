@@ -5,4 +5,4 @@ mod cases;
 mod messages;
 mod trailers;
 
-pub use cases::answer;
+pub use cases::put_answer;

@@ -6,4 +6,4 @@ mod signing;
 mod verifying;
 mod words;
 
-pub use operations::answer;
+pub use operations::put_answer;

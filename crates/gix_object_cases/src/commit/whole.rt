@@ -4,8 +4,8 @@ use crate::commit::parts::show_header;
 use case_ids::Case;
 use case_objects::{show_actor, show_object};
 use case_page::Page;
-use gix_object_commit::CommitRef;
 use gix_object_commit::laws::ids_read_are_ids;
+use gix_object_commit::{Commit, CommitRef};
 use gix_object_lines::WriteTo;
 use std::alloc::Global;
 
@@ -60,10 +60,17 @@ pub fn lent(alloc: Global, case: &Case, page: &mut Page) {
 /// The length and the id of what is written of a commit that owns its parts, and whether one that was given is the same as one
 /// that was lent.
 pub fn own(alloc: Global, kind: gix_hash::Kind, commit: CommitRef<'_>, page: &mut Page) {
-    let (Ok(lent), Ok(given)) = (commit.to_owned(), commit.into_owned()) else {
+    let Ok(lent) = commit.to_owned() else {
         return page.text("not owned");
     };
-    show_object(alloc, kind, &given, page);
+    match commit.into_owned() {
+        Ok(given) => show_alike(alloc, kind, &given, &lent, page),
+        Err(_) => page.text("not owned"),
+    }
+}
+
+fn show_alike(alloc: Global, kind: gix_hash::Kind, given: &Commit, lent: &Commit, page: &mut Page) {
+    show_object(alloc, kind, given, page);
     page.text(if lent == given {
         " alike"
     } else {

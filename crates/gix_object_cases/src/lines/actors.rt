@@ -1,44 +1,46 @@
 //! Actors.
 
-use crate::lines::fields::quoted;
+use crate::lines::fields::put_quoted;
 use crate::lines::times::of_numbers;
 use bstr::BStr;
-use gix_object_lines::lines::{Actor, ActorRef, Time, read_actor, write_actor, write_actor_parts};
+use case_page::Page;
+use gix_object_lines::lines::{Actor, ActorRef, read_actor, write_actor, write_actor_parts};
 use std::alloc::Global;
 
 /// The parts of the line, and the line as it is written again.
-pub fn actor(alloc: Global, fields: &[Vec<u8>]) -> Option<String> {
+pub fn actor(alloc: Global, fields: &[Vec<u8>], page: &mut Page) -> Option<()> {
     let [line] = fields else {
         return None;
     };
     match read_actor(line) {
-        Ok(actor) => parts(alloc, actor),
-        Err(error) => format!(in alloc; "{error}").ok(),
+        Ok(actor) => put_parts(alloc, actor, page),
+        Err(error) => {
+            page.put(error);
+            Some(())
+        }
     }
 }
 
-fn parts(alloc: Global, actor: ActorRef<'_>) -> Option<String> {
-    let written = owned_and_written(alloc, actor)?;
-    let ActorRef { name, email, time } = actor;
-    format!(in alloc; "{name:?} {email:?} {time:?} {written}").ok()
-}
-
-fn owned_and_written(alloc: Global, actor: ActorRef<'_>) -> Option<String> {
-    let actor = actor.to_owned(alloc).ok()?;
-    written(alloc, &actor)
+fn put_parts(alloc: Global, actor: ActorRef<'_>, page: &mut Page) -> Option<()> {
+    let owned = actor.to_owned(alloc).ok()?;
+    put_quoted(actor.name.as_bytes(), page);
+    put_quoted(actor.email.as_bytes(), page);
+    put_quoted(actor.time.as_bytes(), page);
+    put_written(alloc, &owned, page);
+    Some(())
 }
 
 // The actor as it is written, or why it isn't.
-fn written(alloc: Global, actor: &Actor) -> Option<String> {
+fn put_written(alloc: Global, actor: &Actor, page: &mut Page) {
     let mut out = Vec::new(alloc);
     match write_actor(actor, &mut out) {
-        Ok(()) => quoted(alloc, &out),
-        Err(error) => format!(in alloc; "{error}").ok(),
+        Ok(()) => put_quoted(&out, page),
+        Err(error) => page.value(error),
     }
 }
 
 /// The actor of three texts, name, email and time, owned, and whether its copy equals it.
-pub fn own(alloc: Global, fields: &[Vec<u8>]) -> Option<String> {
+pub fn own(alloc: Global, fields: &[Vec<u8>], page: &mut Page) -> Option<()> {
     let [name, email, time] = fields else {
         return None;
     };
@@ -48,32 +50,37 @@ pub fn own(alloc: Global, fields: &[Vec<u8>]) -> Option<String> {
         time: BStr::new(time),
     };
     match actor.to_owned(alloc) {
-        Ok(actor) => copied(alloc, &actor),
-        Err(error) => format!(in alloc; "{error}").ok(),
+        Ok(actor) => put_copied(&actor, page),
+        Err(error) => {
+            page.put(error);
+            Some(())
+        }
     }
 }
 
-fn copied(alloc: Global, actor: &Actor) -> Option<String> {
+fn put_copied(actor: &Actor, page: &mut Page) -> Option<()> {
     let copy = actor.try_clone().ok()?;
-    told(alloc, &copy, copy == *actor)
-}
-
-fn told(alloc: Global, actor: &Actor, is_equal: bool) -> Option<String> {
-    let name = actor.name.as_bstr();
-    let email = actor.email.as_bstr();
-    let Time { seconds, offset } = actor.time;
-    format!(in alloc; "{name:?} {email:?} {seconds} {offset} {is_equal}").ok()
+    put_quoted(copy.name.as_bytes(), page);
+    put_quoted(copy.email.as_bytes(), page);
+    page.value(copy.time.seconds);
+    page.value(copy.time.offset);
+    page.value(copy == *actor);
+    Some(())
 }
 
 /// The line of a name, an email and a time in numbers.
-pub fn write(alloc: Global, fields: &[Vec<u8>]) -> Option<String> {
+pub fn write(alloc: Global, fields: &[Vec<u8>], page: &mut Page) -> Option<()> {
     let [name, email, seconds, offset] = fields else {
         return None;
     };
     let time = of_numbers(seconds, offset)?;
     let mut out = Vec::new(alloc);
     match write_actor_parts(name, email, time, &mut out) {
-        Ok(()) => quoted(alloc, &out),
-        Err(error) => format!(in alloc; "{error}, {} written", out.len()).ok(),
+        Ok(()) => put_quoted(&out, page),
+        Err(error) => {
+            page.put_between("", error, ", ");
+            page.put_between("", out.len(), " written");
+        }
     }
+    Some(())
 }

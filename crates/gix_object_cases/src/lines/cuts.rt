@@ -1,67 +1,70 @@
 //! Names, and cuts of bytes.
 
-use crate::lines::fields::quoted;
-use bstr::BStr;
+use crate::lines::fields::put_quoted;
+use case_page::Page;
 use gix_object_lines::cut::{
     lacks, rsplit_once, split_once, starts_with, strip_prefix, strip_suffix,
 };
 use gix_object_lines::lines::{is_capitals, is_full_name, is_partial_name};
-use std::alloc::Global;
 
 /// Whether the bytes are a partial name, a full one, and capital letters and `_` alone.
-pub fn name(alloc: Global, fields: &[Vec<u8>]) -> Option<String> {
+pub fn name(fields: &[Vec<u8>], page: &mut Page) -> Option<()> {
     let [name] = fields else {
         return None;
     };
-    let is_full = is_full_name(name);
-    let is_capitals = is_capitals(name);
-    format!(in alloc; "{} {is_full} {is_capitals}", is_partial_name(name)).ok()
+    page.put(is_partial_name(name));
+    page.value(is_full_name(name));
+    page.value(is_capitals(name));
+    Some(())
 }
 
 // Both sides of a cut, and whether the byte stands nowhere.
-fn sides(alloc: Global, cut: Option<(&[u8], &[u8])>, is_lacking: bool) -> Option<String> {
+fn put_sides(cut: Option<(&[u8], &[u8])>, is_lacking: bool, page: &mut Page) {
     match cut {
         Some((front, back)) => {
-            let front = BStr::new(front);
-            let back = BStr::new(back);
-            format!(in alloc; "{front:?} {back:?} {is_lacking}").ok()
+            put_quoted(front, page);
+            put_quoted(back, page);
         }
-        None => format!(in alloc; "none {is_lacking}").ok(),
+        None => page.text("none"),
     }
+    page.value(is_lacking);
 }
 
 /// The cut of bytes at the first byte of this value.
-pub fn cut(alloc: Global, fields: &[Vec<u8>]) -> Option<String> {
+pub fn cut(fields: &[Vec<u8>], page: &mut Page) -> Option<()> {
     let [mark, text] = fields else {
         return None;
     };
     let byte = *mark.first()?;
-    sides(alloc, split_once(text, byte), lacks(text, byte))
+    put_sides(split_once(text, byte), lacks(text, byte), page);
+    Some(())
 }
 
 /// The cut of bytes at the last byte of this value.
-pub fn rcut(alloc: Global, fields: &[Vec<u8>]) -> Option<String> {
+pub fn rcut(fields: &[Vec<u8>], page: &mut Page) -> Option<()> {
     let [mark, text] = fields else {
         return None;
     };
     let byte = *mark.first()?;
-    sides(alloc, rsplit_once(text, byte), lacks(text, byte))
+    put_sides(rsplit_once(text, byte), lacks(text, byte), page);
+    Some(())
 }
 
 // What is left, where the edge stands there.
-fn rest(alloc: Global, rest: Option<&[u8]>) -> Option<String> {
+fn put_rest(rest: Option<&[u8]>, page: &mut Page) {
     match rest {
-        Some(rest) => quoted(alloc, rest),
-        None => format!(in alloc; "none").ok(),
+        Some(rest) => put_quoted(rest, page),
+        None => page.word("none"),
     }
 }
 
 /// What stands behind and before an edge of bytes, and whether they begin with it.
-pub fn edges(alloc: Global, fields: &[Vec<u8>]) -> Option<String> {
+pub fn edges(fields: &[Vec<u8>], page: &mut Page) -> Option<()> {
     let [edge, text] = fields else {
         return None;
     };
-    let behind = rest(alloc, strip_prefix(text, edge))?;
-    let before = rest(alloc, strip_suffix(text, edge))?;
-    format!(in alloc; "{behind} {before} {}", starts_with(text, edge)).ok()
+    put_rest(strip_prefix(text, edge), page);
+    put_rest(strip_suffix(text, edge), page);
+    page.value(starts_with(text, edge));
+    Some(())
 }

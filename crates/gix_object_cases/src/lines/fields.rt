@@ -1,9 +1,10 @@
 //! Bytes as they are shown.
 
 use bstr::BStr;
-use std::alloc::Global;
+use case_page::Page;
 
-/// The bytes in quotes, with escapes for what doesn't print.
-pub fn quoted(alloc: Global, bytes: &[u8]) -> Option<String> {
-    format!(in alloc; "{:?}", BStr::new(bytes)).ok()
+/// Adds the bytes as a word, in quotes and with escapes for what doesn't print.
+pub fn put_quoted(bytes: &[u8], page: &mut Page) {
+    page.word("");
+    page.name(BStr::new(bytes));
 }

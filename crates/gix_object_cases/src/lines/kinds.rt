@@ -2,9 +2,9 @@
 
 ghost use Rattle.gix_object_lines.specs.declared.kind.Kind.TheVariants as kinds;
 
-use crate::lines::fields::quoted;
+use crate::lines::fields::put_quoted;
 use bstr::BStr;
-use case_page::{order_told, text_of};
+use case_page::{Page, order_told, text_of};
 use gix_object_lines::decode::loose_header;
 use gix_object_lines::write::{Error, write_bytes};
 use gix_object_lines::{Kind, WriteTo, encode};
@@ -12,55 +12,62 @@ use std::alloc::Global;
 use std::io;
 
 /// The kind that a word names, and its answers.
-pub fn kind(alloc: Global, fields: &[Vec<u8>]) -> Option<String> {
+pub fn kind(fields: &[Vec<u8>], page: &mut Page) -> Option<()> {
     let [word] = fields else {
         return None;
     };
     match Kind::from_bytes(word) {
-        Ok(kind) => told(alloc, kind),
-        Err(error) => format!(in alloc; "{error}").ok(),
+        Ok(kind) => put_kind(kind, page),
+        Err(error) => page.put(error),
     }
+    Some(())
 }
 
-fn told(alloc: Global, kind: Kind) -> Option<String> {
-    let word = BStr::new(kind.as_bytes());
-    let is_tree = kind.is_tree();
-    let is_blob = kind.is_blob();
-    let is_commit = kind.is_commit();
-    let is_tag = kind.is_tag();
-    format!(in alloc; "{kind} {word} {is_tree} {is_blob} {is_commit} {is_tag}").ok()
+fn put_kind(kind: Kind, page: &mut Page) {
+    page.put(kind);
+    page.value(BStr::new(kind.as_bytes()));
+    page.value(kind.is_tree());
+    page.value(kind.is_blob());
+    page.value(kind.is_commit());
+    page.value(kind.is_tag());
 }
 
 /// How the kinds of two words stand to each other.
-pub fn order(alloc: Global, fields: &[Vec<u8>]) -> Option<String> {
+pub fn order(alloc: Global, fields: &[Vec<u8>], page: &mut Page) -> Option<()> {
     let [first, second] = fields else {
         return None;
     };
     let first = Kind::from_bytes(first).ok()?;
     let second = Kind::from_bytes(second).ok()?;
-    order_told(alloc, &first, &second).ok()
+    page.put(order_told(alloc, &first, &second).ok()?);
+    Some(())
 }
 
 /// The kind, the size and the length of the header that begins the bytes.
-pub fn header(alloc: Global, fields: &[Vec<u8>]) -> Option<String> {
+pub fn header(fields: &[Vec<u8>], page: &mut Page) -> Option<()> {
     let [input] = fields else {
         return None;
     };
     match loose_header(input) {
-        Ok((kind, size, taken)) => format!(in alloc; "{kind} {size} {taken}").ok(),
-        Err(error) => format!(in alloc; "{error}").ok(),
+        Ok((kind, size, taken)) => {
+            page.put(kind);
+            page.value(size);
+            page.value(taken);
+        }
+        Err(error) => page.put(error),
     }
+    Some(())
 }
 
 /// The header of an object of this kind and size.
-pub fn write_header(alloc: Global, fields: &[Vec<u8>]) -> Option<String> {
+pub fn write_header(fields: &[Vec<u8>], page: &mut Page) -> Option<()> {
     let [word, size] = fields else {
         return None;
     };
     let kind = Kind::from_bytes(word).ok()?;
     let size = text_of(size)?.parse().ok()?;
-    let header = encode::loose_header(kind, size);
-    quoted(alloc, header.as_slice())
+    put_quoted(encode::loose_header(kind, size).as_slice(), page);
+    Some(())
 }
 
 // The content of a blob.
@@ -86,20 +93,19 @@ impl WriteTo for Content<'_> {
 }
 
 /// The size of a blob that has the bytes, its header and its written content.
-pub fn blob(alloc: Global, fields: &[Vec<u8>]) -> Option<String> {
+pub fn blob(alloc: Global, fields: &[Vec<u8>], page: &mut Page) -> Option<()> {
     let [text] = fields else {
         return None;
     };
     let content = Content(text);
-    let size = content.size()?;
-    let header = content.loose_header()?;
-    let header = BStr::new(header.as_slice());
-    let written = written(alloc, &content)?;
-    format!(in alloc; "{size} {header:?} {written}").ok()
+    page.put(content.size()?);
+    put_quoted(content.loose_header()?.as_slice(), page);
+    put_written(alloc, &content, page)
 }
 
-fn written(alloc: Global, content: &Content<'_>) -> Option<String> {
+fn put_written(alloc: Global, content: &Content<'_>, page: &mut Page) -> Option<()> {
     let mut out = Vec::new(alloc);
     content.write_to(&mut out).ok()?;
-    quoted(alloc, &out)
+    put_quoted(&out, page);
+    Some(())
 }

@@ -1,25 +1,26 @@
 //! The operations by their names.
 
 use crate::message::{bodies, messages, trailers};
-use case_page::read_digits;
+use case_page::{Page, read_digits};
 use std::alloc::Global;
 
-/// What the operation of the line gives. `None` where the line is no case or no memory is left.
-pub fn answer(alloc: Global, line: &str) -> Option<String> {
+/// Adds what the operation of the line gives. `None` where the line is no case or no memory is left.
+pub fn put_answer(alloc: Global, line: &str, page: &mut Page) -> Option<()> {
     let (operation, field) = line.split_once(' ')?;
     let bytes = read_digits(alloc, field)?;
-    answer_of(alloc, operation, &bytes)
+    put_of_bytes(alloc, operation, &bytes, page)
 }
 
-fn answer_of(alloc: Global, operation: &str, bytes: &[u8]) -> Option<String> {
+fn put_of_bytes(alloc: Global, operation: &str, bytes: &[u8], page: &mut Page) -> Option<()> {
     match operation {
-        "parts" => messages::parts(alloc, bytes),
-        "summary" => messages::summary(alloc, bytes),
-        "message" => messages::message(alloc, bytes),
-        "body" => bodies::body(alloc, bytes),
-        "blocks" => bodies::blocks(alloc, bytes),
-        "selected" => trailers::selected(alloc, bytes),
-        "token" => trailers::token(alloc, bytes),
-        _ => None,
+        "parts" => messages::parts(bytes, page),
+        "summary" => messages::summary(alloc, bytes, page)?,
+        "message" => messages::message(alloc, bytes, page)?,
+        "body" => bodies::body(alloc, bytes, page)?,
+        "blocks" => bodies::blocks(alloc, bytes, page)?,
+        "selected" => trailers::selected(alloc, bytes, page)?,
+        "token" => trailers::token(bytes, page),
+        _ => return None,
     }
+    Some(())
 }

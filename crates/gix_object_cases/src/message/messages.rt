@@ -1,55 +1,57 @@
 //! Messages.
 
-use crate::message::trailers::lines_of;
+use crate::message::trailers::put_lines;
 use bstr::BStr;
+use case_page::Page;
 use gix_object_message::MessageRef;
 use std::alloc::Global;
 use std::borrow::CowSlice;
 
 /// The title and the body of a message.
-pub fn parts(alloc: Global, bytes: &[u8]) -> Option<String> {
+pub fn parts(bytes: &[u8], page: &mut Page) {
     let message = MessageRef::from_bytes(bytes);
-    let title = message.title;
+    page.name(message.title);
     match message.body {
-        Some(body) => format!(in alloc; "{title:?} {body:?}").ok(),
-        None => format!(in alloc; "{title:?} none").ok(),
+        Some(body) => {
+            page.text(" ");
+            page.name(body);
+        }
+        None => page.text(" none"),
     }
 }
 
 /// The summary of a title, and whether it is borrowed.
-pub fn summary(alloc: Global, bytes: &[u8]) -> Option<String> {
+pub fn summary(alloc: Global, bytes: &[u8], page: &mut Page) -> Option<()> {
     let message = MessageRef {
         title: BStr::new(bytes),
         body: None,
     };
     let summary = message.summary(alloc).ok()?;
-    let origin = match &summary {
-        CowSlice::Borrowed(_) => "borrowed",
-        CowSlice::Owned(_) => "owned",
-    };
-    let summary = summary.into_owned(alloc).ok()?;
-    format!(in alloc; "{:?} {origin}", BStr::new(&summary)).ok()
+    page.name(BStr::new(summary.as_slice()));
+    page.text(match &summary {
+        CowSlice::Borrowed(_) => " borrowed",
+        CowSlice::Owned(_) => " owned",
+    });
+    Some(())
 }
 
 // The lines of the trailers of a message's body.
-fn trailers(alloc: Global, message: MessageRef<'_>) -> Option<Vec<u8>> {
+fn put_trailers(alloc: Global, message: MessageRef<'_>, page: &mut Page) -> Option<()> {
     match message.body() {
-        Some(body) => lines_of(alloc, body.trailers()).ok(),
-        None => Some(Vec::new(alloc)),
+        Some(body) => put_lines(alloc, body.trailers(), page),
+        None => {
+            page.name(BStr::new(b""));
+            Some(())
+        }
     }
 }
 
 /// The summary of a message, its body, empty where there is none, and the lines of its trailers.
-pub fn message(alloc: Global, bytes: &[u8]) -> Option<String> {
+pub fn message(alloc: Global, bytes: &[u8], page: &mut Page) -> Option<()> {
     let message = MessageRef::from_bytes(bytes);
-    let summary = message.summary(alloc).ok()?.into_owned(alloc).ok()?;
-    told(alloc, message, &summary)
-}
-
-fn told(alloc: Global, message: MessageRef<'_>, summary: &[u8]) -> Option<String> {
-    let body = message.body.unwrap_or(BStr::new(b""));
-    let trailers = trailers(alloc, message)?;
-    let summary = BStr::new(summary);
-    let trailers = BStr::new(&trailers);
-    format!(in alloc; "{summary:?} {body:?} {trailers:?}").ok()
+    page.name(BStr::new(message.summary(alloc).ok()?.as_slice()));
+    page.text(" ");
+    page.name(message.body.unwrap_or(BStr::new(b"")));
+    page.text(" ");
+    put_trailers(alloc, message, page)
 }

@@ -1,9 +1,9 @@
 //! Trailers.
 
 use bstr::BStr;
+use case_page::Page;
 use gix_object_message::{BodyRef, SelectedTrailers, TrailerRef, Trailers};
 use std::alloc::{AllocError, Global};
-use std::fmt::Write;
 
 fn append(out: &mut Vec<u8>, trailer: TrailerRef<'_>) -> Result<(), AllocError> {
     out.extend_from_slice(trailer.token.as_bytes())?;
@@ -14,42 +14,44 @@ fn append(out: &mut Vec<u8>, trailer: TrailerRef<'_>) -> Result<(), AllocError> 
 }
 
 /// A line for each trailer.
-pub fn lines_of(alloc: Global, trailers: Trailers<'_>) -> Result<Vec<u8>, AllocError> {
+pub fn put_lines(alloc: Global, trailers: Trailers<'_>, page: &mut Page) -> Option<()> {
     let mut out = Vec::new(alloc);
     for trailer in trailers {
-        append(&mut out, trailer)?;
+        append(&mut out, trailer).ok()?;
     }
-    Ok(out)
+    page.name(BStr::new(&out));
+    Some(())
 }
 
-// The lines of a filter's trailers, behind what was shown before.
-fn show(alloc: Global, out: &mut String, trailers: SelectedTrailers<'_>) -> Option<()> {
+// The lines of a filter's trailers.
+fn put_selected(alloc: Global, trailers: SelectedTrailers<'_>, page: &mut Page) -> Option<()> {
     let mut lines = Vec::new(alloc);
     for trailer in trailers {
         append(&mut lines, trailer).ok()?;
     }
-    write!(out, "[{:?}]", BStr::new(&lines)).ok()
+    page.text("[");
+    page.name(BStr::new(&lines));
+    page.text("]");
+    Some(())
 }
 
 /// The trailers of a body that each of the filters gives.
-pub fn selected(alloc: Global, bytes: &[u8]) -> Option<String> {
+pub fn selected(alloc: Global, bytes: &[u8], page: &mut Page) -> Option<()> {
     let trailers = BodyRef::from_bytes(bytes).trailers();
-    let mut out = String::new(alloc);
-    show(alloc, &mut out, trailers.signed_off_by())?;
-    show(alloc, &mut out, trailers.co_authored_by())?;
-    show(alloc, &mut out, trailers.assisted_by())?;
-    show(alloc, &mut out, trailers.authors())?;
-    show(alloc, &mut out, trailers.attributions())?;
-    Some(out)
+    put_selected(alloc, trailers.signed_off_by(), page)?;
+    put_selected(alloc, trailers.co_authored_by(), page)?;
+    put_selected(alloc, trailers.assisted_by(), page)?;
+    put_selected(alloc, trailers.authors(), page)?;
+    put_selected(alloc, trailers.attributions(), page)
 }
 
 /// What a trailer's token tells.
-pub fn token(alloc: Global, bytes: &[u8]) -> Option<String> {
+pub fn token(bytes: &[u8], page: &mut Page) {
     let trailer = TrailerRef {
         token: BStr::new(bytes),
         value: BStr::new(b"A"),
     };
-    format!(in alloc; "{:?}", answers(trailer)).ok()
+    page.name(answers(trailer));
 }
 
 fn answers(trailer: TrailerRef<'_>) -> [bool; 7] {

@@ -3,7 +3,7 @@
 use crate::signature::{signing, verifying, words};
 use case_page::{Page, Texts};
 use gix_object_signature::Format;
-use std::alloc::{AllocError, Global};
+use std::alloc::Global;
 
 fn write_answer(alloc: Global, operation: &str, case: &Texts, page: &mut Page) {
     match operation {
@@ -23,15 +23,12 @@ fn write_answer(alloc: Global, operation: &str, case: &Texts, page: &mut Page) {
     }
 }
 
-/// What the operation of the line gives.
-pub fn answer(alloc: Global, line: &str) -> Result<String, AllocError> {
-    let mut page = Page::new(alloc);
-    match line.split_once(' ') {
-        Some((operation, words)) => match Texts::read(alloc, words) {
-            Some(case) => write_answer(alloc, operation, &case, &mut page),
-            None => page.text("no bytes"),
-        },
-        None => page.text("no case"),
+/// Adds what the operation of the line gives. `None` where the line is no case.
+pub fn put_answer(alloc: Global, line: &str, page: &mut Page) -> Option<()> {
+    let (operation, words) = line.split_once(' ')?;
+    match Texts::read(alloc, words) {
+        Some(case) => write_answer(alloc, operation, &case, page),
+        None => page.text("no bytes"),
     }
-    page.finish()
+    Some(())
 }
