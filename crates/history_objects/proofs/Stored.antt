@@ -9,7 +9,7 @@ use Rattle.gix_ref_file.specs.Changes.{Change, to_write, to_append, to_rename, a
 use Rattle.gix_ref_file.specs.History.{History, Adds}
 use Rattle.gix_ref_file.proofs.Histories.{adds_weaker, adds_joined}
 use Rattle.gix_ref_file.proofs.Rooted.{adds_now, first}
-use Rattle.gix_ref_file.proofs.Trees.{get-removed, get_inserted}
+use Rattle.gix_ref_file.proofs.Trees.{get-removed, get_inserted, same_path_itself}
 use Rattle.history_model.specs.Bytes.{Bytes}
 use Rattle.gix_hash_id.specs.Id.{id_of}
 use Rattle.history_model.specs.Places.{file_at, unfinished_place}
