@@ -1,14 +1,11 @@
 -- Why a repository isn't opened.
 use Rattle.std.specs.Prelude.{◌≡◌, ◌≢◌, ◌⊎◌, ⊤, [], ◌++◌, Some, None, codes}
 use Rattle.gix_ref_file.specs.Tree.{Tree}
-use Rattle.gix_ref_file.specs.declared.files.FileError.TheVariants as files
 use Rattle.history_model.specs.Bytes.{Bytes}
 use Rattle.history_model.specs.Forms.{heads_front}
 use Rattle.history_model.specs.Places.{file_at, head_place}
 use Rattle.history_model.specs.StandsFor.{head_text}
 use Rattle.history_folders.specs.declared.parts.Part.TheVariants.{Objects, Names}
-use Rattle.history_folders.specs.declared.parts.Stray as parts
-use Rattle.history_folders.specs.declared.parts.Stray.TheVariants as strays
 use Rattle.history_folders.specs.declared.refusal.OpenError.{OpenError}
 use Rattle.history_folders.specs.declared.refusal.OpenError.TheVariants.{NoHead, BadHead, Stray, NotYet, File, Memory}
 use Rattle.history_folders.specs.Refusals.{IsWrongPart}
