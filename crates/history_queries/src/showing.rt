@@ -22,7 +22,7 @@ ghost use Rattle.history_model.specs.Repository as plain;
 ghost use Rattle.history_model.specs.Commands as model;
 
 use crate::lines::{field, kind_word, line};
-use crate::reading::{found_below, read_commit};
+use crate::reading::read_commit;
 use gix_hash::{Kind, ObjectId};
 use gix_object::Commit;
 use gix_object::lines::{Actor, write_time};
