@@ -39,9 +39,6 @@ use Rattle.history_repository.specs.Faults.{file_fault}
 use Rattle.history_repository.proofs.NameReads.{held}
 use Rattle.history_files.proofs.Lines.{map_twice}
 use Rattle.history_word.specs.declared.command.Expect.TheVariants as sent
-use Rattle.history_repository.specs.declared.words.WordMeaning as own
-use Rattle.history_repository.specs.declared.words.WordMeaning.TheVariants as read
-use Rattle.history_plans.specs.declared.base.Expected.TheVariants as expected
 
 -- ---- what is expected
 

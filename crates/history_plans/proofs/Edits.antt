@@ -32,7 +32,6 @@ use Rattle.history_plans.proofs.Shapes.{IsAlike}
 use Rattle.history_model.proofs.PartLemmas.{head_same, tail_same}
 use Rattle.std.proofs.lemmas.Bool.{or_parts}
 use Rattle.history_model.specs.FileMap as model
-use Rattle.history_model.specs.Repository as plain
 use Rattle.history_files.specs.declared.edits.Edit as editing
 
 -- ---- lists

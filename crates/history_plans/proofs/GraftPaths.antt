@@ -10,7 +10,8 @@ use Rattle.gix_hash_id.specs.declared.object_id.ObjectId.{ObjectId}
 use Rattle.history_model.specs.Bytes.{Bytes, is_empty}
 use Rattle.history_model.specs.FileMap.{Content, FileMap, Graft, IsFileMap, carried, grafted_paths, grafts_nothing, is_path, with_rest}
 use Rattle.history_model.specs.Causes.{is_bad_path}
-use Rattle.history_model.specs.Answers.{FileLine, file_line}
+use Rattle.history_model.specs.Answers.{file_line}
+use Rattle.history_model.specs.Replies.{FileLine}
 use Rattle.history_model.specs.Forms.{max_path}
 use Rattle.history_model.specs.Objects.{folder_id}
 use Rattle.history_model.proofs.PartLemmas.{head_same, tail_same}

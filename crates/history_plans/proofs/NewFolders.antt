@@ -36,8 +36,6 @@ use Rattle.history_repository.proofs.Befores.{entries-empty, held_commit, held_f
 use Rattle.history_repository.proofs.FieldLemmas.{within}
 use Rattle.history_model.proofs.PartLemmas.{head_same, tail_same}
 use Rattle.std.proofs.lemmas.Bool.{or_from}
-use Rattle.gix_hash_id.specs.Id as object_id
-use Rattle.gix_object_lines.specs.declared.kind.Kind.TheVariants as kinds
 
 -- ---- lists
 

@@ -55,6 +55,7 @@ use Rattle.history_plans.specs.declared.planning.Below.{Below}
 use Rattle.history_plans.specs.declared.planning.Plan.{Plan}
 use Rattle.history_repository.specs.declared.stopped.Stopped.{Stopped}
 use Rattle.history_repository.specs.declared.stopped.Stopped.TheVariants.{Refused}
+use Rattle.history_model.specs.Repository as plain
 use Rattle.history_repository.specs.declared.stopped.Stopped.TheVariants as why
 use Rattle.history_plans.proofs.Edits.{edits_alike, edits_same, objects_joined}
 use Rattle.history_repository.proofs.FieldLemmas.{within, beyond}

@@ -1,6 +1,5 @@
 -- What a commit stands on, and why it can't stand on it.
-use Rattle.std.specs.Prelude.{◌≡◌, ⊤, List, [], ◌∷◌, map, length, nat_lt, Option, Some, None, Result, Ok, Err, option_map, option_and_then, if◌then◌else◌}
-use Rattle.std.specs.List.{list_any}
+use Rattle.std.specs.Prelude.{◌≡◌, ⊤, List, [], ◌∷◌, map, length, nat_lt, Option, Some, None, Result, option_map, option_and_then, if◌then◌else◌}
 use Rattle.history_model.specs.Bytes.{Bytes, has_twice}
 use Rattle.history_model.specs.Repository as plain
 use Rattle.history_model.specs.Repository.{id_at}
@@ -16,8 +15,6 @@ use Rattle.history_repository.specs.Meanings.{commit_or_cause, meaning_of, reads
 use Rattle.history_plans.specs.declared.base.Base.{Base}
 use Rattle.history_plans.specs.declared.base.Expected.{Expected}
 use Rattle.history_plans.specs.declared.base.Expected.TheVariants.{Any, New, At}
-use Rattle.history_model.specs.Repository as plain
-use Rattle.history_model.specs.Commands as orders
 
 -- the same is expected, its word read
 abbrev pub IsExpected : plain.Repository → orders.Expect → Expected → Type 0

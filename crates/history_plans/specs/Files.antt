@@ -22,6 +22,7 @@ use Rattle.history_files.specs.declared.found.Found.{Found}
 use Rattle.history_files.specs.declared.edits.Change.{Change}
 use Rattle.history_files.specs.declared.edits.Change.TheVariants as change
 use Rattle.history_files.specs.declared.edits.Edit as files
+use Rattle.history_files.specs.declared.edits.EditError.{EditError}
 use Rattle.history_files.specs.declared.edits.EditError.TheVariants as refused
 use Rattle.history_files.specs.declared.trees.EditedFiles.{EditedFiles}
 use Rattle.history_objects.specs.Stores.{AreObjectsOf}

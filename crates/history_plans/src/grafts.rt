@@ -18,6 +18,7 @@ ghost use Rattle.history_model.specs.Repository as plain;
 ghost use Rattle.history_files.specs.Edits.{IsSource};
 ghost use Rattle.history_files.specs.Laws.{table_of};
 ghost use Rattle.history_files.specs.Reading.{line_of};
+ghost use Rattle.history_files.specs.declared.found.Found.TheVariants as found;
 ghost use Rattle.history_word.specs.Commands.{IsEdit};
 ghost use Rattle.history_repository.specs.Reads.{GivesMeant};
 ghost use Rattle.history_repository.specs.Stands.{Stands};
@@ -85,7 +86,7 @@ fn found_in<F: Files>(
     Ok(Some(Found::Folder { id: root }))
 }
 
-/// Tests that a graft at a path would put each file at one within the limit. Each different tree below a folder is read once.
+/// Tests that a graft at a path would put each file at one within the limit: one file comes at the path itself.
 fn test_graft<F: Files>(
     repository: &Repository<F>,
     alloc: Global,
@@ -98,11 +99,29 @@ fn test_graft<F: Files>(
         → StandsWithFolders r other
         → TellsRead F.reading_may_fail (Graft path.now source other ∷ []) (λ _. ⊤) result }
 {
-    if let Some(Found::Folder { id }) = found {
-        let files = files_in(repository, alloc, &id)?;
-        if have_long_below(path.len(), &files) {
-            return Err(Stopped::Refused(Cause::BadPath));
-        }
+    match found {
+        None => Ok(()),
+        Some(Found::File { .. }) => Ok(()),
+        Some(Found::Folder { id }) => test_folder(repository, alloc, path, id),
+    }
+}
+
+/// The same of a folder. Each different tree below it is read once.
+fn test_folder<F: Files>(
+    repository: &Repository<F>,
+    alloc: Global,
+    path: &[u8],
+    tree: ObjectId,
+) -> Result<(), Stopped>
+    ensures { (r : plain.Repository) (source : Bytes) (other : FileMap)
+        → Stands F.is_honest F.history repository.now r → IsFalse (is_bad_path path.now)
+        → IsSource (table_of r) r.kind source other (Some (found.Folder tree))
+        → StandsWithFolders r other
+        → TellsRead F.reading_may_fail (Graft path.now source other ∷ []) (λ _. ⊤) result }
+{
+    let files = files_in(repository, alloc, &tree)?;
+    if have_long_below(path.len(), &files) {
+        return Err(Stopped::Refused(Cause::BadPath));
     }
     Ok(())
 }

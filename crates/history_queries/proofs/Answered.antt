@@ -12,7 +12,7 @@ use Rattle.history_model.specs.Meaning.{first_files, word_files}
 use Rattle.history_model.specs.Words.{word_meaning}
 use Rattle.history_model.specs.Commands.{Command, Files, Show}
 use Rattle.history_model.specs.Replies.{FilesAre, ShowsCommit, ShowsContent, reply_text}
-use Rattle.history_model.specs.Answers.{StandsForCommit, files_shown, commit_shown, content_shown}
+use Rattle.history_model.specs.Answers.{StandsForCommit, files_shown, commit_shown, content_shown, file_line}
 use Rattle.history_model.specs.Causes.{is_bad_path, first_cause}
 use Rattle.history_model.specs.declared.FileKind.{FileKind}
 use Rattle.history_model.specs.declared.FileKind.TheVariants.{File, Exec, Link}

@@ -1,45 +1,17 @@
-use Rattle.std.proofs.Common.{◌≡◌, ◌∙◌, ◌+◌, [], ◌∷◌, Err, ap, length, nat_lt, refl, sym, subst}
-use Rattle.std.specs.Prelude.{⊤}
-use Rattle.std.specs.List.{list_any}
-use Rattle.std.proofs.lemmas.Result.{err_from_is_err_and}
-use Rattle.history_model.specs.FileMap as model
-use Rattle.history_model.specs.Forms.{max_path}
+use Rattle.std.proofs.Common.{◌∙◌, ap, sym, subst, Some}
+use Rattle.history_files.specs.Edits.{IsSource}
 use Rattle.history_files.specs.Laws.{table_of}
-use Rattle.history_files.specs.declared.listing.File.{File}
-use Rattle.history_files.proofs.Grafted.{source_files}
-use Rattle.history_plans.specs.Files.{TellsRead}
-use Rattle.history_plans.proofs.GraftFound.{fault_told}
-use Rattle.history_plans.proofs.GraftPaths.{by_listed, no_folder_passes}
-use Rattle.history_plans.proofs.SourcesStand.{source_stands}
+use Rattle.history_plans.proofs.GraftPaths.{no_folder_passes}
 use Rattle.history_plans.proofs.grafts.test_graft.Goals as goal
 
-pub returns-in_err-files : goal.returns-in_err-files
-returns-in_err-files g c = λ r source other h good is stands.
-    let MayFail = g.F.Files.reading_may_fail in
-    let one = model.Graft c.args.path.now source other ∷ [] in
-    let folder = source_stands r h.whole.whole.store other is.map stands source c.args.found c.in-Some-Folder.id is c.in-Some-Folder.is in
-    let fault = c.in_err-files.ensures r (source_files source other) h folder in
-    let stopped = err_from_is_err_and c.from_residual.result c.from_residual.ensures.1 in
-    subst (TellsRead {T = Unit {0}} MayFail one (λ _. ⊤)) (sym (stopped.1 ∙ ap Err stopped.2)) (fault_told {T = Unit {0}} MayFail one (λ _. ⊤) c.in_err-files.field-0.0 fault)
+pub returns-in-None : goal.returns-in-None
+returns-in-None g c = λ r source other h good is stands.
+    (no_folder_passes g.F.Files.reading_may_fail (table_of r) r.kind c.args.path.now source other c.args.found good is (λ id e. cc (sym c.in-None.is ∙ e)), tt)
 
-pub returns-then-have_long_below : goal.returns-then-have_long_below
-returns-then-have_long_below g c = λ r source other h good is stands.
-    let folder = source_stands r h.whole.whole.store other is.map stands source c.args.found c.in-Some-Folder.id is c.in-Some-Folder.is in
-    let files = c.in_ok-files.files.items in
-    let told = by_listed g.F.Files.reading_may_fail (table_of r) r.kind c.args.path.now source other c.args.found good is files (c.in_ok-files.ensures r (source_files source other) h folder) in
-    let long = c.have_long_below.ensures ∙ (λ i. list_any (λ (file : File). nat_lt max_path (c.len.ensures i + 1 + length file.path.items)) (c.deref.ensures.value i)) in
-    (refl, sym told ∙ sym long ∙ c.if-have_long_below.true)
-
-pub returns-else-have_long_below : goal.returns-else-have_long_below
-returns-else-have_long_below g c = λ r source other h good is stands.
-    let folder = source_stands r h.whole.whole.store other is.map stands source c.args.found c.in-Some-Folder.id is c.in-Some-Folder.is in
-    let files = c.in_ok-files.files.items in
-    let told = by_listed g.F.Files.reading_may_fail (table_of r) r.kind c.args.path.now source other c.args.found good is files (c.in_ok-files.ensures r (source_files source other) h folder) in
-    let long = c.have_long_below.ensures ∙ (λ i. list_any (λ (file : File). nat_lt max_path (c.len.ensures i + 1 + length file.path.items)) (c.deref.ensures.value i)) in
-    (sym told ∙ sym long ∙ c.if-have_long_below.false, tt)
+pub returns-in-Some-File : goal.returns-in-Some-File
+returns-in-Some-File g c = λ r source other h good is stands.
+    (no_folder_passes g.F.Files.reading_may_fail (table_of r) r.kind c.args.path.now source other c.args.found good is (λ id e. cc (sym (c.in-Some-File.is ∙ ap Some c.in-Some-File.field-0-is) ∙ e)), tt)
 
 pub returns : goal.returns
-returns g c = ?
-
-pub returns-2 : goal.returns-2
-returns-2 g c = ?
+returns g c = λ r source other h good is stands.
+    c.test_folder.ensures r source other h good (subst (IsSource (table_of r) r.kind source other) (c.in-Some-Folder.is ∙ ap Some c.in-Some-Folder.field-0-is) is) stands
