@@ -18,7 +18,7 @@ ghost use Rattle.history_model.specs.Repository as plain;
 ghost use Rattle.history_files.specs.Edits.{IsSource};
 ghost use Rattle.history_files.specs.Laws.{table_of};
 ghost use Rattle.history_files.specs.Reading.{line_of};
-ghost use Rattle.history_files.specs.declared.found.Found.TheVariants as found;
+ghost use Rattle.history_files.specs.declared.found.Found.TheVariants.{Folder};
 ghost use Rattle.history_word.specs.Commands.{IsEdit};
 ghost use Rattle.history_repository.specs.Reads.{GivesMeant};
 ghost use Rattle.history_repository.specs.Stands.{Stands};
@@ -115,7 +115,7 @@ fn test_folder<F: Files>(
 ) -> Result<(), Stopped>
     ensures { (r : plain.Repository) (source : Bytes) (other : FileMap)
         → Stands F.is_honest F.history repository.now r → IsFalse (is_bad_path path.now)
-        → IsSource (table_of r) r.kind source other (Some (found.Folder tree))
+        → IsSource (table_of r) r.kind source other (Some (Folder tree))
         → StandsWithFolders r other
         → TellsRead F.reading_may_fail (Graft path.now source other ∷ []) (λ _. ⊤) result }
 {
