@@ -21,7 +21,7 @@ ghost use Rattle.history_word.specs.declared.reader.Stop.TheVariants.{Broken as 
 
 use crate::buffer::Buffer;
 use crate::command::{ActorLine, Command, Edit, Field, LogCommand};
-use crate::draft::{Draft, actor_line, pushed, graft, put};
+use crate::draft::{Draft, actor_line, graft, pushed, put};
 use crate::heading::{ActorHeading, EditHeading, Heading, Opening, parse};
 use crate::logs::LogLine;
 use crate::place::Place;
