@@ -10,4 +10,4 @@ returns-clause-kept g c = λ honest kept.
     let content = c.find_into.new.buffer in
     let stands = tree_stands table (id_of c.args.id) content (ap (kind_at table) (sym c.as_oid.ensures) ∙ sym (c.in_ok-find_into.ensures.kind honest) ∙ c.in-Some-Tree.is ∙ ap Some c.in-Some-Tree.field-0-is)
     (c.in_ok-find_into.ensures.content honest ∙ ap (content_at table) c.as_oid.ensures) in
-    one_kept table c.args.contents.old c.insert.new.self c.args.id content c.in_ok-insert.ensures.updates stands kept
+    one_kept table c.args.contents.now c.insert.new.self c.args.id content c.in_ok-insert.ensures.updates stands kept
