@@ -1,15 +1,10 @@
--- An accepted commit's or tag's name may move, and its reply.
-use Rattle.std.proofs.Common.{◌≡◌, refl, sym, ◌∙◌, ap, subst, Bool, true, false, ◌||◌, [], ◌∷◌, ◌++◌, None, codes}
+-- An accepted commit's or tag's name may move.
+use Rattle.std.proofs.Common.{◌≡◌, refl, sym, ap, subst, Bool, true, false, ◌||◌, None}
 use Rattle.std.specs.Prelude.{not}
-use Rattle.std.proofs.lemmas.List.{append-nil}
-use Rattle.history_model.specs.Bytes.{Bytes}
-use Rattle.history_model.specs.Objects.{hex}
-use Rattle.gix_hash_id.specs.Id.{Id, id_of}
+use Rattle.gix_hash_id.specs.Id.{id_of}
 use Rattle.history_model.specs.Forms.{IsWritten, is_name}
 use Rattle.history_model.specs.Repository.{HasWholeNames}
 use Rattle.history_model.specs.Commands.{Commit, CommitCommand, Tag, TagCommand}
-use Rattle.history_model.specs.Replies.{Committed, Tagged, reply_text}
-use Rattle.history_model.specs.Spelling.{Line, part_text}
 use Rattle.history_model.specs.Meaning.{branch_or_name}
 use Rattle.history_model.specs.Causes.{holds, first_cause}
 use Rattle.history_model.specs.declared.Cause.TheVariants.{BadName, PrivateName, Collides}
@@ -47,18 +42,6 @@ commit_fits r order moves written whole none is =
 pub tag_fits : (r : plain.Repository) (order : TagCommand) (moves : Moves) → HasWholeNames r → first_cause r (Tag order) ≡ None → IsMove r (tag_move r order) moves → FitsAmong r moves.name.items
 tag_fits r order moves whole none is =
     subst (FitsAmong r) (sym is.name) (fits_so r order.name whole (tag_is_name r order none) (no_cause r (Tag order) none Collides tests_collides))
-
--- the reply of a commit, to the id that its name moves to
-pub committed_text : (id : Id) (before text ok word digits : Bytes) → before ≡ [] → ok ≡ codes "ok" → word ≡ codes "commit" → digits ≡ hex id
-    → text ≡ before ++ part_text (Line (ok ∷ word ∷ digits ∷ [])) → text ≡ reply_text (Committed id)
-committed_text id before text ok word digits none is_ok is_word is_digits is =
-    is ∙ (λ i. none i ++ part_text (Line (is_ok i ∷ is_word i ∷ is_digits i ∷ []))) ∙ sym (append-nil (part_text (Line (codes "ok" ∷ codes "commit" ∷ hex id ∷ []))))
-
--- the reply of a tag
-pub tagged_text : (id : Id) (before text ok word digits : Bytes) → before ≡ [] → ok ≡ codes "ok" → word ≡ codes "tag" → digits ≡ hex id
-    → text ≡ before ++ part_text (Line (ok ∷ word ∷ digits ∷ [])) → text ≡ reply_text (Tagged id)
-tagged_text id before text ok word digits none is_ok is_word is_digits is =
-    is ∙ (λ i. none i ++ part_text (Line (is_ok i ∷ is_word i ∷ is_digits i ∷ []))) ∙ sym (append-nil (part_text (Line (codes "ok" ∷ codes "tag" ∷ hex id ∷ []))))
 
 -- the id that the name moves to
 pub moved_to : (r : plain.Repository) (move : NameMove) (moves : Moves) → IsMove r move moves → id_of (moves.entry).after ≡ move.id

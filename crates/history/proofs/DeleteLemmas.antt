@@ -1,16 +1,13 @@
 -- A `delete` on its way, and what it leaves.
-use Rattle.std.proofs.Common.{◌≡◌, ◌≢◌, ◌⊎◌, inl, inr, ℕ, bytes_eq, Bool, true, false, cond, not, ◌||◌, refl, sym, ◌∙◌, ap, subst, Option, Some, None}
-use Rattle.std.specs.Prelude.{IsTrue, MatchOption, Result, Err, Vec}
-use Rattle.std.specs.declared.alloc.Global.{Global}
-use Rattle.gix_hash_id.specs.declared.kind.Kind.{Kind}
+use Rattle.std.proofs.Common.{◌≡◌, ◌≢◌, ◌⊎◌, inl, inr, bytes_eq, Bool, true, false, cond, not, ◌||◌, refl, sym, ◌∙◌, ap, subst, Option, Some, None}
+use Rattle.std.specs.Prelude.{IsTrue, MatchOption}
 use Rattle.gix_ref_file.specs.Tree.{Tree}
 use Rattle.gix_ref_file.specs.History.{History, Adds}
-use Rattle.gix_ref_file.specs.declared.files.FileError.{FileError}
 use Rattle.gix_ref_file.proofs.Histories.{adds_both, adds_weaker}
 use Rattle.history_model.specs.Bytes.{Bytes}
 use Rattle.history_model.specs.Repository.{stands}
 use Rattle.history_model.specs.Forms.{is_name}
-use Rattle.history_model.specs.Commands.{Command, Delete}
+use Rattle.history_model.specs.Commands.{Delete}
 use Rattle.history_model.specs.Meaning.{after}
 use Rattle.history_model.specs.Causes.{first_cause, holds}
 use Rattle.history_model.specs.Replies.{Deleted}
@@ -20,7 +17,6 @@ use Rattle.history_model.specs.Steps.{Accepts}
 use Rattle.history_model.specs.StandsFor.{StandsFor}
 use Rattle.history_model.specs.declared.Cause.{Cause}
 use Rattle.history_model.specs.declared.Cause.TheVariants.{NoSuchName}
-use Rattle.history_model.specs.declared.Fault.TheVariants.{Memory, File, IdTaken}
 use Rattle.history_steps.specs.TakeSteps.{TakesName, TakesOnTheWay}
 use Rattle.history_steps.specs.Passing.{HoldsBetween}
 use Rattle.history_steps.specs.TreeHalves.{HoldsNames}
@@ -29,36 +25,18 @@ use Rattle.history_steps.proofs.PassedStates.{names_pass}
 use Rattle.history_steps.proofs.TreePuts.{halves_stand}
 use Rattle.history_names.specs.Packing.{HasPackedRoom, IsPackedForm, IsTaken, MayTake}
 use Rattle.history_names.specs.References.{SameFolders, lock_place}
-use Rattle.history.specs.Acts.{Acts}
 use Rattle.history_plans.specs.CommitCauses.{first_among, held_causes, word_causes}
 use Rattle.history_repository.specs.NameForms.{form_cause}
-use Rattle.history.specs.Deleting.{DeletesFiles}
-use Rattle.history_plans.specs.Deleting.{TestsAll}
 use Rattle.history_repository.specs.Face.{KeepsAllButNames, names_part}
-use Rattle.history_repository.specs.Faults.{file_fault}
 use Rattle.history_plans.specs.Halves.{NamesStand, names_tree}
 use Rattle.history_repository.specs.Stands.{Stands, pair_of}
-use Rattle.history_repository.specs.declared.stopped.Stopped.{Stopped}
 use Rattle.history_plans.proofs.PartsStand.{name_formed}
 use Rattle.history.proofs.NamesAlone.{ChangesNames}
 use Rattle.history_plans.proofs.NameWays.{no_lock_stands}
 use Rattle.history_model.proofs.WholeLists.{either, same_text}
 use Rattle.history_plans.proofs.DeleteCauses.{by_form, by_words, by_held, formed_name}
-use Rattle.gix_ref_file.specs.declared.files.FileError.TheVariants as files
 use Rattle.history_model.specs.Repository as plain
 use Rattle.history_repository.specs.declared.repository.Repository as own
-use Rattle.history_repository.specs.declared.stopped.Stopped.TheVariants as why
-
--- where the tests stop, so does the command
-pub acts_tested : (MayFail C : Type 0) (StandsNow : plain.Repository → Type 0) → (MayFail → C) → (r : plain.Repository) (command : Command) (result : Result (Unit {0}) Stopped) (ends : Result (Vec ℕ Global) Stopped) (stopped : Stopped)
-    → result ≡ Err stopped → ends ≡ Err stopped → TestsAll MayFail r command result → Acts C StandsNow r command ends
-acts_tested MayFail C StandsNow may r command result ends stopped was is_end h = subst (Acts C StandsNow r command) (sym is_end) (by_case stopped (subst (TestsAll MayFail r command) was h))
-  where
-    by_case : (stopped : Stopped) → TestsAll MayFail r command (Err stopped) → Acts C StandsNow r command (Err stopped)
-    by_case (why.Refused cause) k = k
-    by_case (why.Fault Memory) k = tt
-    by_case (why.Fault File) k = may k
-    by_case (why.Fault IdTaken) k = absurd k
 
 -- ---- the name's files
 
@@ -115,13 +93,6 @@ files_gone r name old new holds named gone same = record {
   folders = λ path is. holds.folders path ((same path).0 is);
 }
 
-stopped_delete : (C : Type 0) (kind : Kind) (old new : Tree) (name : Bytes) (error : FileError) → (error ≡ files.Failed → C) → DeletesFiles C kind old new name (Err (why.Fault (file_fault error)))
-stopped_delete C kind old new name files.Failed failed = failed refl
-stopped_delete C kind old new name files.Memory failed = tt
-
-pub delete_stopped : (C : Type 0) (kind : Kind) (old new : Tree) (name : Bytes) (error : FileError) (ends : Result (Unit {0}) Stopped) → ends ≡ Err (why.Fault (file_fault error)) → (error ≡ files.Failed → C) → DeletesFiles C kind old new name ends
-delete_stopped C kind old new name error ends is_end failed = subst (DeletesFiles C kind old new name) (sym is_end) (stopped_delete C kind old new name error failed)
-
 -- ---- the command
 
 accepted : (r : plain.Repository) (name : Bytes) (at : Option Bytes) → first_cause r (Delete name at) ≡ None → Accepts r (Delete name at) Deleted (after r (Delete name at))
@@ -129,17 +100,6 @@ accepted r name at none = record { no_cause = none; not_taken = refl; answer = r
 
 pub names_only : (r : plain.Repository) (name : Bytes) (at : Option Bytes) → first_cause r (Delete name at) ≡ None → ChangesNames r (Delete name at) Deleted
 names_only r name at none = record { changes = refl; spoken = refl; free = refl; values = refl; branch = refl; accepts = accepted r name at none; steps = accepted r name at none }
-
--- where the removal stops, so does the command
-pub acts_stopped : (C : Type 0) (kind : Kind) (old new : Tree) (StandsNow : plain.Repository → Type 0) (r : plain.Repository) (name place : Bytes) (at : Option Bytes) (result : Result (Unit {0}) Stopped) (ends : Result (Vec ℕ Global) Stopped) (stopped : Stopped)
-    → result ≡ Err stopped → ends ≡ Err stopped → DeletesFiles C kind old new place result → Acts C StandsNow r (Delete name at) ends
-acts_stopped C kind old new StandsNow r name place at result ends stopped was is_end h = subst (Acts C StandsNow r (Delete name at)) (sym is_end) (by_case stopped (subst (DeletesFiles C kind old new place) was h))
-  where
-    by_case : (stopped : Stopped) → DeletesFiles C kind old new place (Err stopped) → Acts C StandsNow r (Delete name at) (Err stopped)
-    by_case (why.Refused cause) k = absurd k
-    by_case (why.Fault Memory) k = tt
-    by_case (why.Fault File) k = k
-    by_case (why.Fault IdTaken) k = absurd k
 
 module _ {F : Type 0} (IsHonest : F → Type 0) (history : F → History) (old : own.Repository F) (r : plain.Repository) (h : Stands IsHonest history old r) where
   pub stand_now : NamesStand IsHonest history old r

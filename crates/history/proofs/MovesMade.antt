@@ -12,7 +12,7 @@ use Rattle.history_model.specs.Replies.{Moved}
 use Rattle.history_model.specs.Steps.{Accepts}
 use Rattle.history_model.specs.StandsFor.{StandsFor}
 use Rattle.history_model.specs.Wholeness.{IsSound}
-use Rattle.history_model.specs.declared.Fault.TheVariants.{Memory, File, IdTaken}
+use Rattle.history_model.specs.declared.Fault.{Fault}
 use Rattle.history_model.proofs.WholeSteps.{steps_keep_sound}
 use Rattle.history_steps.specs.MoveSteps.{FitsThen, IsNextLine, after_lines, line_entry}
 use Rattle.history_steps.specs.Passing.{HoldsBetween, MovesOnTheWay}
@@ -23,17 +23,16 @@ use Rattle.history_texts.specs.Formats.{entry_of}
 use Rattle.history_names.specs.Packing.{KeepsRecords}
 use Rattle.history.specs.Acts.{CountsRise, KeepsCounts}
 use Rattle.history_repository.specs.Face.{names_part, KeepsAllButNames}
-use Rattle.history_plans.specs.Halves.{FitsAmong, MovesNames, NamesStand, names_tree}
+use Rattle.history_plans.specs.Halves.{FitsAmong, NamesStand, names_tree}
 use Rattle.history.specs.Moments.{NamesPass}
 use Rattle.history.specs.Moving.{AskedMoves, LeavesMoved}
 use Rattle.history_plans.specs.Moving.{IsLineMove}
 use Rattle.history_repository.specs.Stands.{pair_of}
 use Rattle.history_plans.specs.declared.planning.Moves.{Moves}
 use Rattle.history_repository.specs.declared.repository.Repository.{Repository}
-use Rattle.history_repository.specs.declared.stopped.Stopped.{Stopped}
-use Rattle.history_repository.specs.declared.stopped.Stopped.TheVariants.{Refused, Fault}
 use Rattle.history_plans.proofs.PartsStand.{name_formed}
 use Rattle.history.proofs.Counts.{counts_joined, counts_same, stay_joined, stay_same}
+use Rattle.history.proofs.MoveFaults.{stopped_too}
 use Rattle.history.proofs.NamesAlone.{ChangesNames}
 use Rattle.history_plans.proofs.SideBySide.{next_of, long_zip}
 use Rattle.history_model.specs.Repository as plain
@@ -153,18 +152,12 @@ module _ {F : Type 0} (IsHonest : F → Type 0) (history : F → History) (failu
     }
 
     -- or the move of a name stops, and so do all
-    pub names_stopped : (C D M : Type 0) (result ends : Result (Unit {0}) Stopped) (stopped : Stopped) → result ≡ Err stopped → ends ≡ Err stopped → (C → D)
-        → ((r : plain.Repository) → NamesStand IsHonest history mid r → FitsAmong r one.name.items → MovesNames C (names_tree history mid) (names_tree history new) one result)
-        → (r : plain.Repository) (order : MoveCommand) → AskedMoves IsHonest history old moves r order → LeavesMoved D M ends
-    names_stopped C D M result ends stopped was is_end keep moved r order asked =
-        subst (LeavesMoved D M) (sym is_end) (by_case stopped
-        (subst (MovesNames C (names_tree history mid) (names_tree history new) one) was (moved (then r order asked) (stand_then r order asked) (fits_then r order asked))))
-      where
-        by_case : (stopped : Stopped) → MovesNames C (names_tree history mid) (names_tree history new) one (Err stopped) → LeavesMoved D M (Err stopped)
-        by_case (Refused cause) k = absurd k
-        by_case (Fault Memory) k = tt
-        by_case (Fault File) k = keep k
-        by_case (Fault IdTaken) k = absurd k
+    pub names_stopped : (C D N : Type 0) (result ends : Result (Unit {0}) Fault) (fault : Fault) → result ≡ Err fault → ends ≡ Err fault → (C → D)
+        → ((r : plain.Repository) → NamesStand IsHonest history mid r → FitsAmong r one.name.items → LeavesMoved C (MovesName one.name.items (entry_of one.entry) (names_tree history mid) (names_tree history new)) result)
+        → (r : plain.Repository) (order : MoveCommand) → AskedMoves IsHonest history old moves r order → LeavesMoved D N ends
+    names_stopped C D N result ends fault was is_end keep moved r order asked =
+        stopped_too C D (MovesName one.name.items (entry_of one.entry) (names_tree history mid) (names_tree history new)) N result ends fault was is_end keep
+        (moved (then r order asked) (stand_then r order asked) (fits_then r order asked))
 
     pub names_passed : ((r : plain.Repository) → NamesStand IsHonest history mid r → FitsAmong r one.name.items → NamesPass history one mid new)
         → (r : plain.Repository) (order : MoveCommand) → AskedMoves IsHonest history old moves r order → Adds (HoldsBetween r (Move order)) (history (names_part old)) (history (names_part new))

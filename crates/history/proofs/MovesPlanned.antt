@@ -1,23 +1,63 @@
--- A `move` that is refused or met a fault before its names move.
-use Rattle.std.proofs.Common.{◌≡◌, ℕ, sym, subst}
-use Rattle.std.specs.Prelude.{Vec, Result, Err}
+-- The moves of a command that stores nothing, and what is told where there are none.
+use Rattle.std.proofs.Common.{◌≡◌, sym, subst}
+use Rattle.std.specs.Prelude.{Some, Result, Ok, Err, Vec}
 use Rattle.std.specs.declared.alloc.Global.{Global}
-use Rattle.history_model.specs.Commands.{Move, MoveCommand}
+use Rattle.history_model.specs.Bytes.{Bytes}
+use Rattle.history_model.specs.Causes.{first_cause}
+use Rattle.history_model.specs.Commands.{Command, Move, MoveCommand, Pack, Rename}
+use Rattle.history_model.specs.declared.Cause.{Cause}
 use Rattle.history_model.specs.declared.Fault.TheVariants.{Memory, File, IdTaken}
-use Rattle.history.specs.Acts.{Acts}
-use Rattle.history_plans.specs.Moving.{PlansMoves}
-use Rattle.history_plans.specs.declared.planning.Moves.{Moves}
+use Rattle.history_names.specs.declared.packs.PackedName.{PackedName}
+use Rattle.history_repository.specs.Reads.{GivesMeant}
 use Rattle.history_repository.specs.declared.stopped.Stopped.{Stopped}
+use Rattle.history_repository.specs.declared.stopped.Stopped.TheVariants.{Refused, Fault}
+use Rattle.history_plans.specs.Deleting.{TestsAll}
+use Rattle.history_plans.specs.Moving.{PlansMoves}
+use Rattle.history_plans.specs.Renaming.{PlansRename}
+use Rattle.history.specs.Storing.{GivesMoves, StoresObjects}
+use Rattle.history.specs.declared.moves.Moves.{Moves}
 use Rattle.history_model.specs.Repository as plain
-use Rattle.history_repository.specs.declared.stopped.Stopped.TheVariants as why
+use Rattle.history_plans.specs.declared.planning.Moves as planned
 
--- where nothing is planned, the command stops so
-pub plan_acts : (MayFail CallFailed : Type 0) (StandsNow : plain.Repository → Type 0) → (MayFail → CallFailed) → (r : plain.Repository) (order : MoveCommand) (result : Result (Vec Moves Global) Stopped) (ends : Result (Vec ℕ Global) Stopped) (stopped : Stopped)
-    → result ≡ Err stopped → ends ≡ Err stopped → PlansMoves MayFail r order result → Acts CallFailed StandsNow r (Move order) ends
-plan_acts MayFail CallFailed StandsNow keep r order result ends stopped was is_end h = subst (Acts CallFailed StandsNow r (Move order)) (sym is_end) (by_case stopped (subst (PlansMoves MayFail r order) was h))
-  where
-    by_case : (stopped : Stopped) → PlansMoves MayFail r order (Err stopped) → Acts CallFailed StandsNow r (Move order) (Err stopped)
-    by_case (why.Refused cause) k = k
-    by_case (why.Fault Memory) k = tt
-    by_case (why.Fault File) k = keep k
-    by_case (why.Fault IdTaken) k = absurd k
+module _ (MayFail : Type 0) (r : plain.Repository) where
+  -- where nothing is planned, there are no moves, for what the plan tells
+  module _ (ends : Result Moves Stopped) (stopped : Stopped) (is_end : ends ≡ Err stopped) where
+    pub moves_unplanned : (order : MoveCommand) (result : Result (Vec planned.Moves Global) Stopped) → result ≡ Err stopped → PlansMoves MayFail r order result → GivesMoves MayFail r (Move order) ends
+    moves_unplanned order result was h = subst (GivesMoves MayFail r (Move order)) (sym is_end) (by_case stopped (subst (PlansMoves MayFail r order) was h))
+      where
+        by_case : (stopped : Stopped) → PlansMoves MayFail r order (Err stopped) → GivesMoves MayFail r (Move order) (Err stopped)
+        by_case (Refused cause) k = k
+        by_case (Fault fault) k = k
+
+    pub rename_unplanned : (from to : Bytes) (result : Result planned.Moves Stopped) → result ≡ Err stopped → PlansRename MayFail r from to result → GivesMoves MayFail r (Rename from to) ends
+    rename_unplanned from to result was h = subst (GivesMoves MayFail r (Rename from to)) (sym is_end) (by_case stopped (subst (PlansRename MayFail r from to) was h))
+      where
+        by_case : (stopped : Stopped) → PlansRename MayFail r from to (Err stopped) → GivesMoves MayFail r (Rename from to) (Err stopped)
+        by_case (Refused cause) k = k
+        by_case (Fault fault) k = k
+
+    pub tests_failed : (order : Command) (result : Result (Unit {0}) Stopped) → result ≡ Err stopped → TestsAll MayFail r order result → GivesMoves MayFail r order ends
+    tests_failed order result was h = subst (GivesMoves MayFail r order) (sym is_end) (by_case stopped (subst (TestsAll MayFail r order) was h))
+      where
+        by_case : (stopped : Stopped) → TestsAll MayFail r order (Err stopped) → GivesMoves MayFail r order (Err stopped)
+        by_case (Refused cause) k = k
+        by_case (Fault fault) k = k
+
+    pub names_unread : (IsMeant : Vec PackedName Global → Type 0) (result : Result (Vec PackedName Global) Stopped) → result ≡ Err stopped → GivesMeant MayFail IsMeant result → GivesMoves MayFail r Pack ends
+    names_unread IsMeant result was h = subst (GivesMoves MayFail r Pack) (sym is_end) (by_case stopped (subst (GivesMeant MayFail IsMeant) was h))
+      where
+        by_case : (stopped : Stopped) → GivesMeant MayFail IsMeant (Err stopped) → GivesMoves MayFail r Pack (Err stopped)
+        by_case (Refused cause) k = absurd k
+        by_case (Fault fault) k = k
+
+  -- or for the cause that holds
+  pub refused_so : (order : Command) (cause : Cause) (ends : Result Moves Stopped) → ends ≡ Err (Refused cause) → first_cause r order ≡ Some cause → GivesMoves MayFail r order ends
+  refused_so order cause ends is_end first = subst (GivesMoves MayFail r order) (sym is_end) first
+
+  -- where nothing is to be stored, the moves are all
+  pub given_stores : (C S : Type 0) (order : Command) (result : Result Moves Stopped) → (MayFail → C) → S → GivesMoves MayFail r order result → StoresObjects C S r order result
+  given_stores C S order (Ok moves) may stored h = (h, stored)
+  given_stores C S order (Err (Refused cause)) may stored h = h
+  given_stores C S order (Err (Fault Memory)) may stored h = tt
+  given_stores C S order (Err (Fault File)) may stored h = may h
+  given_stores C S order (Err (Fault IdTaken)) may stored h = absurd h

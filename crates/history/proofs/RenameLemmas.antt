@@ -1,8 +1,6 @@
 -- A `rename` on its way, and what it leaves.
 use Rattle.std.proofs.Common.{◌≡◌, inl, inr, Bool, true, false, not, ◌||◌, [], ◌∷◌, refl, sym, ◌∙◌, ap, subst, None, bytes_eq, codes}
-use Rattle.std.specs.Prelude.{OnOk, Result, Ok, Err, Vec, ℕ}
-use Rattle.std.specs.declared.alloc.Global.{Global}
-use Rattle.gix_ref_file.specs.Tree.{Tree}
+use Rattle.std.specs.Prelude.{OnOk, Result}
 use Rattle.gix_ref_file.specs.History.{History, Adds}
 use Rattle.gix_ref_file.proofs.Histories.{adds_joined, adds_weaker}
 use Rattle.history_model.specs.Bytes.{Bytes}
@@ -16,7 +14,7 @@ use Rattle.history_model.specs.Steps.{Accepts}
 use Rattle.history_model.specs.Places.{Pair}
 use Rattle.history_model.specs.Wholeness.{IsSound}
 use Rattle.history_model.specs.declared.Cause.TheVariants.{NoSuchName}
-use Rattle.history_model.specs.declared.Fault.TheVariants.{Memory, File, IdTaken}
+use Rattle.history_model.specs.declared.Fault.{Fault}
 use Rattle.history_model.proofs.WholeLists.{either, none_passes, same_text}
 use Rattle.history_model.proofs.WholeReads.{no_cause, tests_no_such_name}
 use Rattle.history_model.proofs.WholeSteps.{steps_keep_sound}
@@ -30,34 +28,20 @@ use Rattle.history_steps.proofs.TreeMoves.{stands_moved}
 use Rattle.history_steps.proofs.TreePuts.{halves_stand}
 use Rattle.history_texts.specs.Formats.{entry_of}
 use Rattle.history_names.specs.Packing.{KeepsRecords}
-use Rattle.history.specs.Acts.{Acts}
-use Rattle.history.specs.Deleting.{DeletesFiles}
 use Rattle.history_repository.specs.Face.{names_part}
-use Rattle.history_plans.specs.Halves.{FitsAmong, MovesNames, NamesStand, names_tree}
+use Rattle.history_plans.specs.Halves.{FitsAmong, NamesStand, names_tree}
 use Rattle.history.specs.Moments.{NamesPass}
 use Rattle.history.specs.Moving.{LeavesMoved}
 use Rattle.history.specs.Renaming.{AskedRename}
-use Rattle.history_plans.specs.Renaming.{MakesName, PlansRename}
+use Rattle.history_plans.specs.Renaming.{MakesName}
 use Rattle.history_repository.specs.Stands.{Stands, pair_of}
 use Rattle.history_plans.specs.declared.planning.Moves.{Moves}
 use Rattle.history_repository.specs.declared.repository.Repository.{Repository}
-use Rattle.history_repository.specs.declared.stopped.Stopped.{Stopped}
-use Rattle.history_repository.specs.declared.stopped.Stopped.TheVariants.{Refused, Fault}
 use Rattle.history_plans.proofs.PartsStand.{name_formed}
 use Rattle.history.proofs.DeleteLemmas.{stand_now}
+use Rattle.history.proofs.MoveFaults.{leaves_so}
 use Rattle.history.proofs.NamesAlone.{ChangesNames}
 use Rattle.history_model.specs.Repository as plain
-
--- where the plan stops, so does the command
-pub acts_planned : (MayFail C : Type 0) (StandsNow : plain.Repository → Type 0) → (MayFail → C) → (r : plain.Repository) (from to : Bytes) (result : Result Moves Stopped) (ends : Result (Vec ℕ Global) Stopped) (stopped : Stopped)
-    → result ≡ Err stopped → ends ≡ Err stopped → PlansRename MayFail r from to result → Acts C StandsNow r (Rename from to) ends
-acts_planned MayFail C StandsNow may r from to result ends stopped was is_end h = subst (Acts C StandsNow r (Rename from to)) (sym is_end) (by_case stopped (subst (PlansRename MayFail r from to) was h))
-  where
-    by_case : (stopped : Stopped) → PlansRename MayFail r from to (Err stopped) → Acts C StandsNow r (Rename from to) (Err stopped)
-    by_case (Refused cause) k = k
-    by_case (Fault Memory) k = tt
-    by_case (Fault File) k = may k
-    by_case (Fault IdTaken) k = absurd k
 
 -- ---- the command
 
@@ -103,16 +87,6 @@ module _ {F : Type 0} (IsHonest : F → Type 0) (history : F → History) (old :
       bringing_passes r from to (pair_of history old) tree first
       (subst (λ entry. MovesOnTheWay to entry (names_tree history old) tree) asked.makes.entry
       (subst (λ n. MovesOnTheWay n (entry_of moves.entry) (names_tree history old) tree) asked.makes.name may)))
-
-  -- where that stops, so does the rename
-  pub first_stopped : (C D M : Type 0) (a b : Tree) (result ends : Result (Unit {0}) Stopped) (stopped : Stopped) → result ≡ Err stopped → ends ≡ Err stopped → (C → D) → MovesNames C a b moves result → LeavesMoved D M ends
-  first_stopped C D M a b result ends stopped was is_end keep h = subst (LeavesMoved D M) (sym is_end) (by_case stopped (subst (MovesNames C a b moves) was h))
-    where
-      by_case : (stopped : Stopped) → MovesNames C a b moves (Err stopped) → LeavesMoved D M (Err stopped)
-      by_case (Refused cause) k = absurd k
-      by_case (Fault Memory) k = tt
-      by_case (Fault File) k = keep k
-      by_case (Fault IdTaken) k = absurd k
 
   -- ---- the old name goes
 
@@ -164,12 +138,11 @@ module _ {F : Type 0} (IsHonest : F → Type 0) (history : F → History) (old :
         records = records_last;
       }
 
-      pub rename_ends : (C D : Type 0) → (C → D) → (result : Result (Unit {0}) Stopped) → OnOk result (KeepsRecords last.names (names_tree history last)) → DeletesFiles C r.kind (names_tree history mid) (names_tree history last) from result → LeavesMoved D (NamesStand IsHonest history last new) result
-      rename_ends C D keep (Ok done) kept gone = stand_last kept gone
-      rename_ends C D keep (Err (Refused cause)) kept k = absurd k
-      rename_ends C D keep (Err (Fault Memory)) kept k = tt
-      rename_ends C D keep (Err (Fault File)) kept k = keep k
-      rename_ends C D keep (Err (Fault IdTaken)) kept k = absurd k
+      pub rename_ends : (C D : Type 0) → (C → D) → (result : Result (Unit {0}) Fault) → OnOk result (KeepsRecords last.names (names_tree history last))
+          → LeavesMoved C (TakesName r.kind from (names_tree history mid) (names_tree history last)) result → LeavesMoved D (NamesStand IsHonest history last new) result
+      rename_ends C D keep result kept gone =
+          leaves_so C D (TakesName r.kind from (names_tree history mid) (names_tree history last)) (NamesStand IsHonest history last new) (KeepsRecords last.names (names_tree history last)) result keep kept
+          (λ taken records. stand_last records taken) gone
 
 -- ---- the old name as it is passed on
 
@@ -180,5 +153,5 @@ module _ {F : Type 0} (IsHonest : F → Type 0) (history : F → History) (r : p
   pub passes_so : (a b : History) → Adds (HoldsBetween r (Rename place to)) a b → Adds (HoldsBetween r (Rename from to)) a b
   passes_so a b pass = subst (λ n. Adds (HoldsBetween r (Rename n to)) a b) same pass
 
-  pub renames_so : (D : Type 0) (new : Repository F) (result : Result (Unit {0}) Stopped) → LeavesMoved D (NamesStand IsHonest history new (after r (Rename place to))) result → LeavesMoved D (NamesStand IsHonest history new (after r (Rename from to))) result
+  pub renames_so : (D : Type 0) (new : Repository F) (result : Result (Unit {0}) Fault) → LeavesMoved D (NamesStand IsHonest history new (after r (Rename place to))) result → LeavesMoved D (NamesStand IsHonest history new (after r (Rename from to))) result
   renames_so D new result h = subst (λ n. LeavesMoved D (NamesStand IsHonest history new (after r (Rename n to))) result) same h

@@ -1,7 +1,6 @@
 -- The object of a planned tag is put, and its name is to move.
-use Rattle.std.proofs.Common.{◌≡◌, inl, sym, subst, [], ◌∷◌}
-use Rattle.std.specs.Prelude.{Vec, ℕ, Result, Err, OnOk}
-use Rattle.std.specs.declared.alloc.Global.{Global}
+use Rattle.std.proofs.Common.{◌≡◌, sym, subst, [], ◌∷◌}
+use Rattle.std.specs.Prelude.{Result, Err, OnOk}
 use Rattle.gix_ref_file.specs.History.{History, Adds}
 use Rattle.gix_ref_file.specs.Tree.{Tree}
 use Rattle.gix_ref_file.proofs.Histories.{adds_weaker}
@@ -14,10 +13,11 @@ use Rattle.history_model.specs.declared.Fault.TheVariants.{Memory, File, IdTaken
 use Rattle.history_steps.specs.Passing.{HoldsFirst}
 use Rattle.history_steps.proofs.PassedStops.{first_are_some, tags_store_whole}
 use Rattle.history_objects.specs.Stores.{IsObjectOf}
-use Rattle.history.specs.Acts.{Acts}
 use Rattle.history_repository.specs.Face.{objects_part}
 use Rattle.history_plans.specs.Halves.{KnowsIds, ObjectsStand, StoresValues}
 use Rattle.history.specs.Moments.{ObjectsPass}
+use Rattle.history.specs.Storing.{StoresObjects}
+use Rattle.history.specs.declared.moves.Moves.{Moves}
 use Rattle.history_repository.specs.Stands.{Stands}
 use Rattle.history_plans.specs.Tagging.{IsTagged, PlansTag}
 use Rattle.history_repository.specs.declared.repository.Repository.{Repository}
@@ -27,12 +27,12 @@ use Rattle.history_plans.specs.declared.tagging.Tagged.{Tagged}
 use Rattle.history_plans.proofs.PartsStand.{objects_stand}
 use Rattle.history_model.specs.Repository as plain
 
--- where nothing is planned, the command stops so
-pub plan_acts : (MayFail CallFailed : Type 0) (StandsNow : plain.Repository → Type 0) → (MayFail → CallFailed) → (r : plain.Repository) (order : TagCommand) (result : Result Tagged Stopped) (ends : Result (Vec ℕ Global) Stopped) (stopped : Stopped)
-    → result ≡ Err stopped → ends ≡ Err stopped → PlansTag MayFail r order result → Acts CallFailed StandsNow r (Tag order) ends
-plan_acts MayFail CallFailed StandsNow keep r order result ends stopped was is_end h = subst (Acts CallFailed StandsNow r (Tag order)) (sym is_end) (by_case stopped (subst (PlansTag MayFail r order) was h))
+-- where nothing is planned, nothing is stored
+pub tag_unplanned : (MayFail C S : Type 0) → (MayFail → C) → (r : plain.Repository) (order : TagCommand) (result : Result Tagged Stopped) (ends : Result Moves Stopped) (stopped : Stopped)
+    → result ≡ Err stopped → ends ≡ Err stopped → PlansTag MayFail r order result → StoresObjects C S r (Tag order) ends
+tag_unplanned MayFail C S keep r order result ends stopped was is_end h = subst (StoresObjects C S r (Tag order)) (sym is_end) (by_case stopped (subst (PlansTag MayFail r order) was h))
   where
-    by_case : (stopped : Stopped) → PlansTag MayFail r order (Err stopped) → Acts CallFailed StandsNow r (Tag order) (Err stopped)
+    by_case : (stopped : Stopped) → PlansTag MayFail r order (Err stopped) → StoresObjects C S r (Tag order) (Err stopped)
     by_case (Refused cause) k = k
     by_case (Fault Memory) k = tt
     by_case (Fault File) k = keep k
@@ -68,15 +68,3 @@ module _ {F : Type 0} (IsHonest : F → Type 0) (history : F → History) (old :
       (subst (λ kind. Adds (HoldsFirst kind r.objects (value ∷ [])) (history (objects_part old)) (history (objects_part new))) h.objects_kind
       (put r.objects value (objects_stand IsHonest history old r h) object_is))
       (λ tree first. (is.none, first_are_some r (stored_by r (Tag order)) tree (tags_store_whole r order sound is.none) first))
-
-  -- where the put stops, so does the command
-  pub put_acts : (C : Type 0) (StandsNow : plain.Repository → Type 0) (new : Tree) (result : Result (Unit {0}) Stopped) (ends : Result (Vec ℕ Global) Stopped) (stopped : Stopped) → result ≡ Err stopped → ends ≡ Err stopped → PutsSo C new result
-      → Acts C StandsNow r (Tag order) ends
-  put_acts C StandsNow new result ends stopped was is_end put =
-      subst (Acts C StandsNow r (Tag order)) (sym is_end) (by_case stopped (subst (StoresValues C r.kind r.objects (stored_by r (Tag order)) new) was (tag_stored C new result put)))
-    where
-      by_case : (stopped : Stopped) → StoresValues C r.kind r.objects (stored_by r (Tag order)) new (Err stopped) → Acts C StandsNow r (Tag order) (Err stopped)
-      by_case (Refused cause) k = absurd k
-      by_case (Fault Memory) k = tt
-      by_case (Fault File) k = k
-      by_case (Fault IdTaken) k = (inl is.none, k)

@@ -1,5 +1,5 @@
 -- What a `pack` does to the files of names.
-use Rattle.std.specs.Prelude.{⊤, ℕ, List, ◌∷◌, Result, Ok, Err, Vec, OnOk}
+use Rattle.std.specs.Prelude.{⊤, ℕ, List, ◌∷◌, Result, Vec, OnOk}
 use Rattle.std.specs.declared.alloc.Global.{Global}
 use Rattle.gix_ref_file.specs.History.{History}
 use Rattle.gix_ref_file.specs.Tree.{Tree}
@@ -7,19 +7,14 @@ use Rattle.history_model.specs.Commands.{Command, Pack}
 use Rattle.history_model.specs.Moments.{Moment, StoodAt}
 use Rattle.history_model.specs.Replies.{Packed, Reply}
 use Rattle.history_model.specs.Steps.{next}
-use Rattle.history_model.specs.declared.Fault.TheVariants.{Memory, File, IdTaken}
 use Rattle.history_steps.specs.PackSteps.{PacksNames}
 use Rattle.history_repository.specs.declared.stopped.Stopped.{Stopped}
-use Rattle.history_repository.specs.declared.stopped.Stopped.TheVariants.{Refused, Fault}
 use Rattle.history_model.specs.Repository as plain
 
--- All names are packed, or a fault was met.
-abbrev pub PacksFiles : Type 0 → plain.Repository → Tree → Tree → Result (Unit {0}) Stopped → Type 0
-PacksFiles CallFailed r old new (Ok done) = PacksNames r old new
-PacksFiles CallFailed r old new (Err (Refused cause)) = ⊥
-PacksFiles CallFailed r old new (Err (Fault Memory)) = ⊤
-PacksFiles CallFailed r old new (Err (Fault File)) = CallFailed
-PacksFiles CallFailed r old new (Err (Fault IdTaken)) = ⊥
+-- A `pack` packs all names.
+abbrev pub PacksAsAsked : plain.Repository → Command → Tree → Tree → Type 0
+PacksAsAsked r Pack old new = PacksNames r old new
+PacksAsAsked r order old new = ⊤
 
 -- An accepted `pack` packs all names.
 abbrev pub LeavesPacked : plain.Repository → Command → Result (Vec ℕ Global) Stopped → Tree → Tree

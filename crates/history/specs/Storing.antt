@@ -1,27 +1,87 @@
--- What storing the objects of a commit leaves.
-use Rattle.std.specs.Prelude.{◌≡◌, ⊤, Some, None, Result, Ok, Err, IsFalse}
-use Rattle.gix_ref_file.specs.Tree.{Tree}
-use Rattle.history_model.specs.Commands.{CommitCommand, Commit}
-use Rattle.history_model.specs.Meaning.{after, takes_id}
+-- What storing a command's objects leaves, and what is then to be done to names.
+use Rattle.std.specs.Prelude.{◌≡◌, ⊤, Some, None, Result, Ok, Err, IsTrue, IsFalse}
+use Rattle.gix_ref_file.specs.History.{History}
 use Rattle.history_model.specs.Causes.{first_cause}
+use Rattle.history_model.specs.Meaning.{after, takes_id}
 use Rattle.history_model.specs.Steps.{MayTake}
-use Rattle.history_steps.specs.OneNameSteps.{commit_move}
-use Rattle.history_steps.specs.TreeHalves.{HoldsValues}
+use Rattle.history_model.specs.Stops.{is_changing}
 use Rattle.history_model.specs.declared.Fault.TheVariants.{Memory, File, IdTaken}
-use Rattle.history_plans.specs.declared.planning.Moves.{Moves}
+use Rattle.history_steps.specs.OneNameSteps.{commit_move, tag_move}
+use Rattle.history_steps.specs.TreeHalves.{HoldsValues}
+use Rattle.history_objects.specs.Face.{kind_of_objects}
+use Rattle.history_word.specs.Commands.{IsCommandOf}
+use Rattle.history_word.specs.declared.command.Command.{Command}
+use Rattle.history_repository.specs.Face.{KeepsAllButObjects, objects_part}
+use Rattle.history_repository.specs.Reads.{IsReadingFault}
+use Rattle.history_repository.specs.Stands.{Stands}
+use Rattle.history_repository.specs.declared.repository.Repository.{Repository}
 use Rattle.history_repository.specs.declared.stopped.Stopped.{Stopped}
 use Rattle.history_repository.specs.declared.stopped.Stopped.TheVariants.{Refused, Fault}
+use Rattle.history_plans.specs.Halves.{KnowsIds, objects_tree}
+use Rattle.history_plans.specs.Moving.{AreMoves}
+use Rattle.history_plans.specs.Packing.{AreAllNames}
 use Rattle.history_plans.specs.Plans.{IsMove}
+use Rattle.history_plans.specs.Renaming.{MakesName}
+use Rattle.history.specs.declared.moves.Moves.{Moves}
+use Rattle.history.specs.declared.moves.Moves.TheVariants as move
+use Rattle.history_model.specs.Commands as orders
 use Rattle.history_model.specs.Repository as plain
 
--- The objects are those after the command, and the name is still to move; else the first cause is told, or a fault was met.
-abbrev pub StoresObjects : Type 0 → Tree → plain.Repository → CommitCommand → Result Moves Stopped
-    → Type 0
-StoresObjects CallFailed new r order (Ok moves) =
-    (first_cause r (Commit order) ≡ None) × IsFalse (takes_id r (Commit order))
-    × HoldsValues r.kind new (after r (Commit order)).objects × IsMove r (commit_move r order) moves
-StoresObjects CallFailed new r order (Err (Refused cause)) =
-    first_cause r (Commit order) ≡ Some cause
-StoresObjects CallFailed new r order (Err (Fault Memory)) = ⊤
-StoresObjects CallFailed new r order (Err (Fault File)) = CallFailed
-StoresObjects CallFailed new r order (Err (Fault IdTaken)) = MayTake r (Commit order)
+-- A repository is asked for a command that changes files.
+pub record AskedChange {F : Type 0} (IsHonest : F → Type 0) (history : F → History)
+    (repository : Repository F) (command : Command)
+    (r : plain.Repository) (order : orders.Command) : Type 0 where
+  pub serves : Stands IsHonest history repository r
+  pub reads : IsCommandOf command order
+  pub changes : IsTrue (is_changing order)
+
+-- ---- moves
+
+-- how names are to move
+abbrev pub TellMoves : plain.Repository → orders.Command → Moves → Type 0
+TellMoves r (orders.Commit c) (move.Commit one) = IsMove r (commit_move r c) one
+TellMoves r (orders.Tag c) (move.Tag one) = IsMove r (tag_move r c) one
+TellMoves r (orders.Move c) (move.Together each) = AreMoves r c c.to each.items
+TellMoves r (orders.Rename from to) (move.Rename made gone) =
+    MakesName r from to made × (gone.items ≡ from)
+TellMoves r (orders.Delete name at) (move.Delete gone) = gone.items ≡ name
+TellMoves r (orders.Switch name) (move.Switch branch) = branch.items ≡ name
+TellMoves r orders.Pack (move.Pack names) = AreAllNames r names.items
+TellMoves r _ _ = ⊥
+
+-- These are the moves of a command of which no cause holds, so that no name stands twice or collides, and each holds what is
+-- expected of it; and what it stores takes no id.
+pub record AreMovesOf (r : plain.Repository) (order : orders.Command)
+    (moves : Moves) : Type 0 where
+  pub none : first_cause r order ≡ None
+  pub free : IsFalse (takes_id r order)
+  pub told : TellMoves r order moves
+
+-- the moves of a command that stores nothing; or the first cause is told, or a fault of reading was met
+abbrev pub GivesMoves : Type 0 → plain.Repository → orders.Command → Result Moves Stopped → Type 0
+GivesMoves MayFail r order (Ok moves) = AreMovesOf r order moves
+GivesMoves MayFail r order (Err (Refused cause)) = first_cause r order ≡ Some cause
+GivesMoves MayFail r order (Err (Fault fault)) = IsReadingFault MayFail (Fault fault)
+
+-- ---- objects
+
+-- The repository stood for this plain one before the command, and all but its objects is as it was: they are those after the
+-- command, so that each id that a name is to move to is stored.
+pub record HasStored {F : Type 0} (IsHonest : F → Type 0) (history : F → History)
+    (repository : Repository F) (r : plain.Repository) (order : orders.Command) : Type 0 where
+  pub before : Repository F
+  pub stood : Stands IsHonest history before r
+  pub kept : KeepsAllButObjects before repository
+  pub honest : IsHonest (objects_part repository)
+  pub kind : kind_of_objects repository.objects ≡ r.kind
+  pub holds : HoldsValues r.kind (objects_tree history repository) (after r order).objects
+  pub known : KnowsIds repository (after r order).objects
+
+-- The objects are stored, and these are the moves; else the first cause is told, or a fault was met.
+abbrev pub StoresObjects : Type 0 → Type 0 → plain.Repository → orders.Command
+    → Result Moves Stopped → Type 0
+StoresObjects CallFailed Stored r order (Ok moves) = AreMovesOf r order moves × Stored
+StoresObjects CallFailed Stored r order (Err (Refused cause)) = first_cause r order ≡ Some cause
+StoresObjects CallFailed Stored r order (Err (Fault Memory)) = ⊤
+StoresObjects CallFailed Stored r order (Err (Fault File)) = CallFailed
+StoresObjects CallFailed Stored r order (Err (Fault IdTaken)) = MayTake r order

@@ -1,13 +1,16 @@
 //! A version store with Git's ids, names and logs: a repository, and a run of commands over it.
 //!
 //! [`create`] makes a repository of two file trees, [`Repository::open`] opens one, and [`run`] reads commands, acts on
-//! each and writes its reply. [`recover`] makes whole what a stopped or failed call left.
+//! each and writes its reply. [`recover`] makes whole what a stopped or failed call left. A command that changes files is two calls,
+//! [`store_objects`] and [`move_names`], and a run changes files by these alone.
 #![tactic(auto)]
 
 mod act;
+mod changing;
 mod commit;
 mod deleting;
 mod indexing;
+mod moves;
 mod moving;
 mod packing;
 mod renaming;
@@ -21,13 +24,23 @@ pub mod lookups {
     pub use gix_object::{Data, Exists, Find, FindHeader, Header, Kind, Lookup, find};
 }
 
+/// What a [`Command`] asks: what it is made of, as it is read.
+pub mod commands {
+    pub use history_model::FileKind;
+    pub use history_word::{
+        ActorLine, CommitCommand, Delete, Edit, Expect, Field, LogCommand, LogItem, MoveCommand,
+        Order, Put, Rename, Show, TagCommand, To,
+    };
+}
+
 pub use gix_hash::{Kind, ObjectId, Prefix, oid};
 pub use gix_traverse_commit_graph::{Graph, Row};
-pub use history_model::{Cause, End, Fault};
+pub use history_model::{Cause, End, Fault, laws};
 pub use history_opening::{NamedBy, OpenError, OpenRefusal};
 pub use history_recovery::{RecoverError, recover};
-pub use history_repository::Repository;
+pub use history_repository::{Repository, Stopped};
 pub use history_store::{CreateError, Hit, IdIter, Lookup, Object, Objects, PutError, create};
 pub use history_survey::{ObjectsFlaw, Unopened, open_objects};
-pub use history_word::{Broken, Bytes, Collected, Sink, Source, Stream};
+pub use history_word::{Broken, Bytes, Collected, Command, Sink, Source, Stream};
+pub use moves::{Moves, move_names, store_objects};
 pub use running::{RunError, run};

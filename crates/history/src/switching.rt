@@ -1,48 +1,64 @@
 //! The command `switch`: HEAD names another branch.
 
-ghost use Rattle.std.specs.Prelude.{◌≡◌, IfErr, OnOk};
-ghost use Rattle.history_model.specs.Moments.{LeavesStopped};
-ghost use Rattle.history_model.specs.Places.{Pair};
-ghost use Rattle.history.specs.Acts.{Acts, CountsFailure, CountsRise, KeepsCounts};
-ghost use Rattle.history_repository.specs.Face.{has_failed, rows_in};
-ghost use Rattle.history_repository.specs.Faults.{IsRefusal};
-ghost use Rattle.history.specs.Moments.{GoesLater, StoodOnTheWay};
+ghost use Rattle.std.specs.Prelude.{◌≡◌, None, OnOk};
+ghost use Rattle.gix_ref_file.specs.History.{Adds};
+ghost use Rattle.history_model.specs.Causes.{first_cause};
+ghost use Rattle.history_model.specs.Meaning.{after};
+ghost use Rattle.history_steps.specs.Passing.{HoldsBetween};
+ghost use Rattle.history_names.specs.Face.{kind_of_names};
+ghost use Rattle.history.specs.Acts.{CountsFailure, CountsRise, KeepsCounts};
+ghost use Rattle.history.specs.Moving.{LeavesMoved, MovesNamesAlone};
+ghost use Rattle.history.specs.Storing.{GivesMoves};
+ghost use Rattle.history_repository.specs.Face.{names_part};
 ghost use Rattle.history_repository.specs.Stands.{Stands};
 ghost use Rattle.history_model.specs.Commands as orders;
 ghost use Rattle.history_model.specs.Repository as plain;
 
+use crate::moves::{Moves, fault_of};
 use gix_ref_file::Files;
+use history_model::Fault;
 use history_plans::test_switch;
-use history_queries::line;
 use history_repository::{Repository, Stopped};
 use std::alloc::Global;
 
-/// Acts on a `switch`, and answers its reply. The reply is made before HEAD is written, and the branch in memory changes once that
-/// took effect.
-pub(crate) fn switch<F: Files>(
+/// The branch that HEAD is to name after a `switch`, where no cause holds. It changes nothing.
+pub(crate) fn plan_switch<F: Files>(
+    repository: &Repository<F>,
+    name: Vec<u8>,
+) -> Result<Moves, Stopped>
+    ensures { (r : plain.Repository) → Stands F.is_honest F.history repository.now r
+        → GivesMoves F.reading_may_fail r (orders.Switch name.items) result }
+{
+    test_switch(repository, &name)?;
+    Ok(Moves::Switch(name))
+}
+
+/// Makes HEAD name the branch, and the branch in memory changes once that took effect. The objects stay as they are.
+pub(crate) fn switch_head<F: Files>(
     repository: &mut Repository<F>,
     alloc: Global,
     name: Vec<u8>,
-) -> Result<Vec<u8>, Stopped>
-    ensures refused { IfErr result (λ stopped. IsRefusal stopped → repository.new ≡ repository.old) }
-    ensures failed { has_failed repository.new ≡ has_failed repository.old }
-    ensures rows { rows_in repository.new ≡ rows_in repository.old }
+) -> Result<(), Fault>
+    ensures kept { MovesNamesAlone repository.old repository.new }
+    ensures honest { F.is_honest (names_part repository.old) → F.is_honest (names_part repository.new) }
+    ensures kind { kind_of_names repository.new.names ≡ kind_of_names repository.old.names }
     ensures counts { CountsRise F.failures repository.old repository.new }
     ensures unfailed { OnOk result (KeepsCounts F.failures repository.old repository.new) }
-    ensures later { (r : plain.Repository) → Stands F.is_honest F.history repository.old r
-        → GoesLater F.history F.failures repository.old repository.new }
-    // A stop at any moment on the way, once recovered, leaves HEAD's branch as before or after.
-    ensures stops { (r : plain.Repository) → Stands F.is_honest F.history repository.old r
-        → (pair : Pair) → StoodOnTheWay F.history F.failures repository.old repository.new pair
-        → LeavesStopped r (orders.Switch name.items) pair }
-    ensures acts { (r : plain.Repository) → Stands F.is_honest F.history repository.old r
-        → Acts (CountsFailure F.failures F.reading_may_fail repository.old repository.new)
-        (Stands F.is_honest F.history repository.new) r (orders.Switch name.items) result }
+    // On the way HEAD, once recovered, names the branch before or after.
+    ensures passes { (r : plain.Repository) → Stands F.is_honest F.history repository.old r
+        → first_cause r (orders.Switch name.items) ≡ None
+        → Adds (HoldsBetween r (orders.Switch name.items)) (F.history (names_part repository.old))
+        (F.history (names_part repository.new)) }
+    ensures switches { (r : plain.Repository) → Stands F.is_honest F.history repository.old r
+        → first_cause r (orders.Switch name.items) ≡ None
+        → LeavesMoved (CountsFailure F.failures F.reading_may_fail repository.old repository.new)
+        (Stands F.is_honest F.history repository.new (after r (orders.Switch name.items))) result }
 {
-    test_switch(repository, &name)?;
-    let mut text = Vec::new(alloc);
-    line(&mut text, &[b"ok".as_slice(), b"switch".as_slice()])?;
-    repository.names.switch(alloc, &name)?;
-    repository.branch = name;
-    Ok(text)
+    match repository.names.switch(alloc, &name) {
+        Ok(()) => {
+            repository.branch = name;
+            Ok(())
+        }
+        Err(error) => Err(fault_of(error)),
+    }
 }

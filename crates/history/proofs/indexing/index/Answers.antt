@@ -1,5 +1,4 @@
-use Rattle.std.proofs.Common.{◌∙◌, ap, sym, subst, Err, List}
-use Rattle.std.proofs.lemmas.Result.{err_from_is_err_and}
+use Rattle.std.proofs.Common.{◌∙◌, sym, subst, List}
 use Rattle.gix_traverse_commit_graph.specs.declared.rows.Row.{Row}
 use Rattle.history_model.specs.Answers.{rows_of}
 use Rattle.history_rows.specs.Rows.{AreTheRows}

@@ -14,33 +14,33 @@ loop-one-init g c = none_moved g.F.Files.is_honest g.F.Files.history g.F.Files.f
 pub loop-one-preserved : goal.loop-one-preserved
 loop-one-preserved g c =
     name_moved g.F.Files.is_honest g.F.Files.history g.F.Files.failures c.args.moves.now c.loop-one.one-index c.one-item.result c.loop-one-test.true c.one-item.is
-    c.args.repository.now c.loop-one.repository c.move_names.new.repository c.loop-one.invariant c.move_names.ensures.kept c.move_names.ensures.counts c.in_ok-move_names.ensures.unfailed c.move_names.ensures.honest c.move_names.ensures.kind
-    c.in_ok-move_names.ensures.records c.in_ok-move_names.ensures.moves c.move_names.ensures.passes
+    c.args.repository.now c.loop-one.repository c.move_name.new.repository c.loop-one.invariant c.move_name.ensures.kept c.move_name.ensures.counts c.in_ok-move_name.ensures.unfailed c.move_name.ensures.honest c.move_name.ensures.kind
+    c.in_ok-move_name.ensures.records c.in_ok-move_name.ensures.moves c.move_name.ensures.passes
 
-pub returns-in_err-move_names-clause-kept : goal.returns-in_err-move_names-clause-kept
-returns-in_err-move_names-clause-kept g c = kept_then g.F.Files.is_honest g.F.Files.history g.F.Files.failures c.args.repository.now c.loop-one.repository c.move_names.new.repository c.loop-one.invariant.kept c.move_names.ensures.kept
+pub returns-in_err-move_name-clause-kept : goal.returns-in_err-move_name-clause-kept
+returns-in_err-move_name-clause-kept g c = kept_then g.F.Files.is_honest g.F.Files.history g.F.Files.failures c.args.repository.now c.loop-one.repository c.move_name.new.repository c.loop-one.invariant.kept c.move_name.ensures.kept
 
-pub returns-in_err-move_names-clause-honest : goal.returns-in_err-move_names-clause-honest
-returns-in_err-move_names-clause-honest g c = λ honest. c.move_names.ensures.honest (c.loop-one.invariant.honest honest)
+pub returns-in_err-move_name-clause-honest : goal.returns-in_err-move_name-clause-honest
+returns-in_err-move_name-clause-honest g c = λ honest. c.move_name.ensures.honest (c.loop-one.invariant.honest honest)
 
-pub returns-in_err-move_names-clause-counts : goal.returns-in_err-move_names-clause-counts
-returns-in_err-move_names-clause-counts g c = counts_joined g.F.Files.failures c.args.repository.now c.loop-one.repository c.move_names.new.repository c.loop-one.invariant.counts c.move_names.ensures.counts
+pub returns-in_err-move_name-clause-counts : goal.returns-in_err-move_name-clause-counts
+returns-in_err-move_name-clause-counts g c = counts_joined g.F.Files.failures c.args.repository.now c.loop-one.repository c.move_name.new.repository c.loop-one.invariant.counts c.move_name.ensures.counts
 
-pub returns-in_err-move_names-clause-moves : goal.returns-in_err-move_names-clause-moves
-returns-in_err-move_names-clause-moves g c = λ r order asked.
+pub returns-in_err-move_name-clause-moves : goal.returns-in_err-move_name-clause-moves
+returns-in_err-move_name-clause-moves g c = λ r order asked.
     let stopped = err_from_is_err_and c.from_residual.result c.from_residual.ensures.1 in
     names_stopped g.F.Files.is_honest g.F.Files.history g.F.Files.failures c.args.moves.now c.loop-one.one-index c.one-item.result c.loop-one-test.true c.one-item.is
-    c.args.repository.now c.loop-one.repository c.move_names.new.repository c.loop-one.invariant
-    (CountsFailure g.F.Files.failures g.F.Files.reading_may_fail c.loop-one.repository c.move_names.new.repository) (CountsFailure g.F.Files.failures g.F.Files.reading_may_fail c.args.repository.now c.move_names.new.repository)
-    (NamesStand g.F.Files.is_honest g.F.Files.history c.move_names.new.repository (after r (Move order)))
-    c.move_names.result c.from_residual.result c.in_err-move_names.field-0.0 c.in_err-move_names.was (stopped.1 ∙ ap Err stopped.2)
-    (failed_before g.F.Files.failures g.F.Files.reading_may_fail c.args.repository.now c.loop-one.repository c.move_names.new.repository c.loop-one.invariant.counts)
-    c.move_names.ensures.moves r order asked
+    c.args.repository.now c.loop-one.repository c.move_name.new.repository c.loop-one.invariant
+    (CountsFailure g.F.Files.failures g.F.Files.reading_may_fail c.loop-one.repository c.move_name.new.repository) (CountsFailure g.F.Files.failures g.F.Files.reading_may_fail c.args.repository.now c.move_name.new.repository)
+    (NamesStand g.F.Files.is_honest g.F.Files.history c.move_name.new.repository (after r (Move order)))
+    c.move_name.result c.from_residual.result c.in_err-move_name.field-0.0 c.in_err-move_name.was (stopped.1 ∙ ap Err stopped.2)
+    (failed_before g.F.Files.failures g.F.Files.reading_may_fail c.args.repository.now c.loop-one.repository c.move_name.new.repository c.loop-one.invariant.counts)
+    c.move_name.ensures.moves r order asked
 
-pub returns-in_err-move_names-clause-passes : goal.returns-in_err-move_names-clause-passes
-returns-in_err-move_names-clause-passes g c = λ r order asked.
+pub returns-in_err-move_name-clause-passes : goal.returns-in_err-move_name-clause-passes
+returns-in_err-move_name-clause-passes g c = λ r order asked.
     names_passed g.F.Files.is_honest g.F.Files.history g.F.Files.failures c.args.moves.now c.loop-one.one-index c.one-item.result c.loop-one-test.true c.one-item.is
-    c.args.repository.now c.loop-one.repository c.move_names.new.repository c.loop-one.invariant c.move_names.ensures.passes r order asked
+    c.args.repository.now c.loop-one.repository c.move_name.new.repository c.loop-one.invariant c.move_name.ensures.passes r order asked
 
 pub returns-clause-kept : goal.returns-clause-kept
 returns-clause-kept g c = c.loop-one.invariant.kept

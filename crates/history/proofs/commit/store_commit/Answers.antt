@@ -1,12 +1,14 @@
 use Rattle.std.proofs.Common.{◌∙◌, ap, Ok, Err, refl}
 use Rattle.std.proofs.lemmas.Result.{err_from_is_err_and}
 use Rattle.gix_ref_file.proofs.Histories.{adds_weaker}
+use Rattle.history_model.specs.Commands.{Commit}
 use Rattle.history.specs.Acts.{CountsFailure}
+use Rattle.history.specs.Storing.{HasStored}
 use Rattle.history_repository.specs.Face.{objects_part}
 use Rattle.history_plans.specs.Halves.{objects_tree}
 use Rattle.history.proofs.Storing.{objects_stopped, planned_stored, planned_pass, planned_known}
 use Rattle.history.proofs.Stood.{adds_same}
-use Rattle.history.proofs.commit.store_objects.Goals as goal
+use Rattle.history.proofs.commit.store_commit.Goals as goal
 
 pub returns-in_err-put_all-clause-stores : goal.returns-in_err-put_all-clause-stores
 returns-in_err-put_all-clause-stores g c = λ r order asked.
@@ -15,7 +17,7 @@ returns-in_err-put_all-clause-stores g c = λ r order asked.
     let new = c.put_all.new.repository in
     let plan = c.in_ok-plan.ensures r order asked in
     let stopped = err_from_is_err_and c.from_residual-in_err-put_all.result c.from_residual-in_err-put_all.ensures.1 in
-    objects_stopped (CountsFailure g.F.Files.failures g.F.Files.reading_may_fail old new) r order (objects_tree g.F.Files.history new)
+    objects_stopped (CountsFailure g.F.Files.failures g.F.Files.reading_may_fail old new) (HasStored g.F.Files.is_honest g.F.Files.history new r (Commit order)) r (Commit order) (objects_tree g.F.Files.history new)
     c.put_all.result c.from_residual-in_err-put_all.result c.in_err-put_all.field-0.0 c.in_err-put_all.was (stopped.1 ∙ ap Err stopped.2) plan.0
     (planned_stored g.F.Files.is_honest g.F.Files.history old r order c.in_ok-plan.plan h plan.1 c.deref.result.now c.deref.ensures.value _ (objects_tree g.F.Files.history new) c.put_all.result c.put_all.ensures.stores)
 
@@ -25,16 +27,21 @@ returns-clause-stores g c = λ r order asked.
     let old = c.args.repository.now in
     let new = c.put_all.new.repository in
     let plan = c.in_ok-plan.ensures r order asked in
+    let CallFailed = CountsFailure g.F.Files.failures g.F.Files.reading_may_fail old new in
     let stored = planned_stored g.F.Files.is_honest g.F.Files.history old r order c.in_ok-plan.plan h plan.1 c.deref.result.now c.deref.ensures.value
-    (CountsFailure g.F.Files.failures g.F.Files.reading_may_fail old new) (objects_tree g.F.Files.history new) (Ok tt) c.in_ok-put_all.ensures.stores in
-    (plan.0, stored.0, stored.1, plan.1.moves)
-
-pub returns-clause-known : goal.returns-clause-known
-returns-clause-known g c = λ r order asked.
-    let h = asked.serves in
-    let plan = c.in_ok-plan.ensures r order asked in
-    planned_known g.F.Files.is_honest g.F.Files.history c.args.repository.now r order c.in_ok-plan.plan h plan.1 c.deref.result.now c.deref.ensures.value
-    (CountsFailure g.F.Files.failures g.F.Files.reading_may_fail c.args.repository.now c.put_all.new.repository) c.put_all.new.repository (objects_tree g.F.Files.history c.put_all.new.repository) (Ok tt) c.in_ok-put_all.ensures.stores c.in_ok-put_all.ensures.known
+    CallFailed (objects_tree g.F.Files.history new) (Ok tt) c.in_ok-put_all.ensures.stores in (
+      record { none = plan.0; free = stored.0; told = plan.1.moves },
+      record {
+        before = old;
+        stood = h;
+        kept = c.put_all.ensures.kept;
+        honest = c.put_all.ensures.honest h.honest_objects;
+        kind = c.put_all.ensures.kind ∙ h.objects_kind;
+        holds = stored.1;
+        known = planned_known g.F.Files.is_honest g.F.Files.history old r order c.in_ok-plan.plan h plan.1 c.deref.result.now c.deref.ensures.value
+            CallFailed new (objects_tree g.F.Files.history new) (Ok tt) c.in_ok-put_all.ensures.stores c.in_ok-put_all.ensures.known;
+      },
+    )
 
 pub returns-in_err-plan-clause-passes : goal.returns-in_err-plan-clause-passes
 returns-in_err-plan-clause-passes g c = λ r order asked. adds_same _ _ refl

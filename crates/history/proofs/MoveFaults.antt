@@ -1,0 +1,41 @@
+-- Where names don't move a fault was met.
+use Rattle.std.proofs.Common.{◌≡◌, refl, sym, subst}
+use Rattle.std.specs.Prelude.{OnOk, Result, Ok, Err}
+use Rattle.gix_ref_file.specs.declared.files.FileError.{FileError}
+use Rattle.history_model.specs.declared.Fault.{Fault}
+use Rattle.history_model.specs.declared.Fault.TheVariants.{Memory, File, IdTaken}
+use Rattle.history_repository.specs.Faults.{file_fault}
+use Rattle.history.specs.Moving.{LeavesMoved}
+use Rattle.gix_ref_file.specs.declared.files.FileError.TheVariants as files
+
+-- the fault is that of a change of the files
+pub met_fault : (C M : Type 0) (error : FileError) (fault : Fault) → fault ≡ file_fault error → (error ≡ files.Failed → C) → LeavesMoved C M (Err fault)
+met_fault C M files.Failed fault is failed = subst (λ f. LeavesMoved C M (Err f)) (sym is) (failed refl)
+met_fault C M files.Memory fault is failed = subst (λ f. LeavesMoved C M (Err f)) (sym is) tt
+
+-- where one of several moves stops, so do all
+pub stopped_too : (C D M N : Type 0) (result ends : Result (Unit {0}) Fault) (fault : Fault) → result ≡ Err fault → ends ≡ Err fault → (C → D) → LeavesMoved C M result → LeavesMoved D N ends
+stopped_too C D M N result ends fault was is_end keep h = subst (LeavesMoved D N) (sym is_end) (by_case fault (subst (LeavesMoved C M) was h))
+  where
+    by_case : (fault : Fault) → LeavesMoved C M (Err fault) → LeavesMoved D N (Err fault)
+    by_case Memory k = tt
+    by_case File k = keep k
+    by_case IdTaken k = absurd k
+
+-- what follows where all have moved
+pub leaves_so : (C D M N X : Type 0) (result : Result (Unit {0}) Fault) → (C → D) → OnOk result X → (M → X → N) → LeavesMoved C M result → LeavesMoved D N result
+leaves_so C D M N X (Ok done) keep x so m = so m x
+leaves_so C D M N X (Err Memory) keep x so m = tt
+leaves_so C D M N X (Err File) keep x so m = keep m
+leaves_so C D M N X (Err IdTaken) keep x so m = absurd m
+
+pub leaves_more : (C M N : Type 0) (result : Result (Unit {0}) Fault) → (M → N) → LeavesMoved C M result → LeavesMoved C N result
+leaves_more C M N (Ok done) so m = so m
+leaves_more C M N (Err Memory) so m = tt
+leaves_more C M N (Err File) so m = m
+leaves_more C M N (Err IdTaken) so m = absurd m
+
+-- what all of them leave, where no fault was met
+pub where_moved : (C M : Type 0) (result : Result (Unit {0}) Fault) → LeavesMoved C M result → OnOk result M
+where_moved C M (Ok done) m = m
+where_moved C M (Err fault) m = tt

@@ -1,0 +1,115 @@
+//! A command that changes files: its objects are stored, its reply is made, and then names move.
+
+ghost use Rattle.std.specs.Prelude.{◌≡◌, [], ◌∷◌, codes, IfErr, IfOk, OnOk};
+ghost use Rattle.gix_hash_id.specs.Id.{id_of};
+ghost use Rattle.history_model.specs.Moments.{LeavesStopped};
+ghost use Rattle.history_model.specs.Objects.{hex};
+ghost use Rattle.history_model.specs.Places.{Pair};
+ghost use Rattle.history_model.specs.Spelling.{Line, parts_text};
+ghost use Rattle.history.specs.Acts.{Acts, CountsFailure, CountsRise, KeepsCounts};
+ghost use Rattle.history_repository.specs.Face.{has_failed, rows_in};
+ghost use Rattle.history_repository.specs.Faults.{IsRefusal};
+ghost use Rattle.history_repository.specs.Stands.{Stands};
+ghost use Rattle.history_plans.specs.Halves.{names_tree};
+ghost use Rattle.history.specs.Moments.{GoesLater, StoodOnTheWay};
+ghost use Rattle.history.specs.Packing.{LeavesPacked};
+ghost use Rattle.history.specs.Replies.{TellsDone, done_word};
+ghost use Rattle.history.specs.Storing.{AreMovesOf, AskedChange};
+ghost use Rattle.history_model.specs.Commands as orders;
+ghost use Rattle.history_model.specs.Repository as plain;
+
+use crate::moves::{Moves, move_names, store_objects};
+use gix_hash::{Kind, ObjectId};
+use gix_ref_file::Files;
+use history_queries::line;
+use history_repository::{Repository, Stopped};
+use history_store::hex_digits;
+use history_word::Command;
+use std::alloc::{AllocError, Global};
+
+/// The word that tells which command is done.
+fn done_word(moves: &Moves) -> &'static [u8]
+    ensures { result.now ≡ done_word moves.now }
+{
+    match moves {
+        Moves::Commit(_) => b"commit",
+        Moves::Tag(_) => b"tag",
+        Moves::Together(_) => b"move",
+        Moves::Rename { .. } => b"rename",
+        Moves::Delete(_) => b"delete",
+        Moves::Switch(_) => b"switch",
+        Moves::Pack(_) => b"pack",
+        Moves::Nothing => b"",
+    }
+}
+
+/// The text that tells with this word that a command is done.
+fn word_text(alloc: Global, word: &[u8]) -> Result<Vec<u8>, AllocError>
+    ensures { IfOk result (λ text. text.items
+        ≡ parts_text (Line (codes "ok" ∷ word.now ∷ []) ∷ [])) }
+{
+    let mut text = Vec::new(alloc);
+    line(&mut text, &[b"ok".as_slice(), word])?;
+    Ok(text)
+}
+
+/// The text that tells, with the id that was made.
+fn id_text(alloc: Global, word: &[u8], id: &ObjectId) -> Result<Vec<u8>, AllocError>
+    ensures { IfOk result (λ text. text.items
+        ≡ parts_text (Line (codes "ok" ∷ word.now ∷ hex (id_of id.now) ∷ []) ∷ [])) }
+{
+    let mut text = Vec::new(alloc);
+    let mut digits = Kind::hex_buf();
+    line(
+        &mut text,
+        &[b"ok".as_slice(), word, hex_digits(id, &mut digits)],
+    )?;
+    Ok(text)
+}
+
+/// The text of the reply to a command whose moves these are.
+fn done_text(alloc: Global, moves: &Moves) -> Result<Vec<u8>, AllocError>
+    ensures { (r : plain.Repository) (order : orders.Command) → AreMovesOf r order moves.now
+        → IfOk result (λ text. TellsDone r order text.items) }
+{
+    match moves {
+        Moves::Commit(one) => id_text(alloc, done_word(moves), &one.entry.after),
+        Moves::Tag(one) => id_text(alloc, done_word(moves), &one.entry.after),
+        _ => word_text(alloc, done_word(moves)),
+    }
+}
+
+/// Acts on a command that changes files, and answers its reply. The reply is made once the objects are stored, and before the first
+/// name moves.
+pub(crate) fn change<F: Files>(
+    repository: &mut Repository<F>,
+    alloc: Global,
+    command: Command,
+) -> Result<Vec<u8>, Stopped>
+    ensures refused { IfErr result (λ stopped. IsRefusal stopped → repository.new ≡ repository.old) }
+    ensures failed { has_failed repository.new ≡ has_failed repository.old }
+    ensures rows { rows_in repository.new ≡ rows_in repository.old }
+    ensures counts { CountsRise F.failures repository.old repository.new }
+    ensures unfailed { OnOk result (KeepsCounts F.failures repository.old repository.new) }
+    ensures later { (r : plain.Repository) (order : orders.Command)
+        → AskedChange F.is_honest F.history repository.old command r order
+        → GoesLater F.history F.failures repository.old repository.new }
+    // A stop at any moment on the way, once recovered, leaves what it may.
+    ensures stops { (r : plain.Repository) (order : orders.Command)
+        → AskedChange F.is_honest F.history repository.old command r order → (pair : Pair)
+        → StoodOnTheWay F.history F.failures repository.old repository.new pair
+        → LeavesStopped r order pair }
+    ensures acts { (r : plain.Repository) (order : orders.Command)
+        → AskedChange F.is_honest F.history repository.old command r order
+        → Acts (CountsFailure F.failures F.reading_may_fail repository.old repository.new)
+        (Stands F.is_honest F.history repository.new) r order result }
+    ensures packs { (r : plain.Repository) (order : orders.Command)
+        → AskedChange F.is_honest F.history repository.old command r order
+        → LeavesPacked r order result
+        (names_tree F.history repository.old) (names_tree F.history repository.new) }
+{
+    let moves = store_objects(repository, alloc, command)?;
+    let text = done_text(alloc, &moves)?;
+    move_names(repository, alloc, moves)?;
+    Ok(text)
+}
