@@ -1,6 +1,6 @@
 use Rattle.history_repository.proofs.Tables.{holds_known, root_of}
-use Rattle.history_queries.proofs.RowsRead.{read_told}
-use Rattle.history_queries.proofs.reading.found_below.Goals as goal
+use Rattle.history_repository.proofs.ReadingFaults.{read_told}
+use Rattle.history_repository.proofs.stored.found_below.Goals as goal
 use Rattle.gix_hash_id.specs.Id.{id_of}
 
 pub returns : goal.returns
