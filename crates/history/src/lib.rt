@@ -28,8 +28,8 @@ pub mod lookups {
 pub mod commands {
     pub use history_model::FileKind;
     pub use history_word::{
-        ActorLine, CommitCommand, Delete, Edit, Expect, Field, LogCommand, LogItem, MoveCommand,
-        Order, Put, Rename, Show, TagCommand, To,
+        ActorLine, CommitCommand, Delete, Edit, Expect, Field, Graft, LogCommand, LogItem,
+        MoveCommand, Order, Put, Rename, Show, TagCommand, To,
     };
 }
 

@@ -15,6 +15,7 @@ from by_chance import by_chance, logs_by_chance
 from case_words import write
 from commits import first_causes, limits, nested, removals, rows, times, two_branches
 from failures import faults, index_faults, log_faults, reading_faults, refused_or_failed
+from grafts import graft_readings, graft_stops, grafts, grafts_by_chance
 from logs import indexes, logs, one_time, path_logs
 from names import deletions, moves, of_names, switches
 from openings import opening, reopened_between, reopening
@@ -31,7 +32,7 @@ BY_HAND = (
     rows, first_causes, two_branches, of_names, moves, renames, deletions, switches, tags, renamed_tags, indexes, logs, path_logs, short_ids,
     removals, nested, limits, times, one_time, opening, reopening, reopened_between, readings, readers, faults, index_faults, reading_faults,
     refused_or_failed, log_faults, move_stops, rename_stops, delete_stops, switch_stops, tag_stops, tag_rename_stops, stops, reopened_stops,
-    packs, pack_stops, packed_delete_stops, packed_rename_stops, reopened_packs)
+    packs, pack_stops, packed_delete_stops, packed_rename_stops, reopened_packs, grafts, graft_readings, graft_stops)
 
 
 if __name__ == "__main__":
@@ -48,4 +49,7 @@ if __name__ == "__main__":
     chance = random.Random(41)
     for number in range(60):
         logs_by_chance(chance, list(KINDS)[number % 2])
+    chance = random.Random(29)
+    for number in range(80):
+        grafts_by_chance(chance, list(KINDS)[number % 2])
     write(Path(__file__), ROWS)

@@ -120,6 +120,9 @@ class Reader:
                 edits.append((words[1], *self.fields(words[2:])))
             elif words[0] in (b"remove", b"remove-file") and len(words) == 2:
                 edits.append((words[0], *self.fields(words[1:])))
+            elif words[0] == b"graft" and len(words) == 4:
+                path, source = self.fields([words[1], words[3]])
+                edits.append((words[0], path, words[2], source))
             else:
                 break
             words = self.line()
@@ -156,6 +159,16 @@ def is_path(path):
 def at_paths(files, paths):
     """The files at one of the paths or below it."""
     return {it: file for it, file in files.items() if any((it + b"/").startswith(path + b"/") for path in paths)}
+
+
+def with_rest(path, rest):
+    return path + b"/" + rest if rest else path
+
+
+def carried(files, path, source):
+    """What a graft puts at a path: what these files have at or below a source, or all of them at an empty one."""
+    found = at_paths(files, [source]) if source else files
+    return {with_rest(path, it[len(source):].lstrip(b"/")): file for it, file in found.items()}
 
 
 def is_part(part):
@@ -294,7 +307,9 @@ class Plain:
         name = self.branch if name == b"HEAD" else name
         refuse_where(not is_name(name), "BadName")
         refuse_where(name.startswith(PRIVATE), "PrivateName")
-        *at, = self.resolved(expect[1:] + parents)
+        words = expect[1:] + parents
+        *at, = self.resolved(words + [it[2] for it in edits if it[0] == b"graft"])
+        sources, at = at[len(words):], at[:len(words)]
         wanted, at = (at[0], at[1:]) if expect[1:] else (None, at)
         self.expected(name, expect, wanted)
         stands = self.held(name)
@@ -304,6 +319,9 @@ class Plain:
         refuse_where(len(parents) > 64, "TooManyParents")
         refuse_where(len(set(parents)) < len(parents), "DuplicateParent")
         refuse_where(any(not is_path(it[1]) for it in edits), "BadPath")
+        refuse_where(any(it[3] and not is_path(it[3]) for it in edits if it[0] == b"graft"), "BadPath")
+        edits = self.found(edits, sources)
+        refuse_where(any(not is_path(path) for it in edits if it[0] == b"graft" for path in it[2]), "BadPath")
         kept = dict(self.objects)
         try:
             return self.make(name, parents, edits, author, committer, message)
@@ -318,6 +336,12 @@ class Plain:
         refuse_where(expect == [b"new"] and stands, "Taken")
         refuse_where(wanted and wanted != stands, "NotExpected")
 
+    def found(self, edits, sources):
+        """The edits, and of each graft, in place of its word and its source, the files that it puts."""
+        sources = iter(sources)
+        return [(it[0], it[1], carried(self.commits[next(sources)]["files"], it[1], it[3])) if it[0] == b"graft" else it
+                for it in edits]
+
     def make(self, name, parents, edits, author, committer, message):
         files = dict(self.commits[parents[0]]["files"]) if parents else {}
         for kind, path, *content in edits:
@@ -326,14 +350,17 @@ class Plain:
             above = [it for it in files if path.startswith(it + b"/")] if content else []
             for gone in below + above + [path]:
                 files.pop(gone, None)
-            if content:
+            if kind == b"graft":
+                files.update(content[0])
+            elif content:
                 files[path] = (MODES[kind], self.id(b"blob", content[0])[0])
+        refuse_where(any(it[0] == b"graft" and not it[2] for it in edits), "NoSuchPath")
         refuse_where(any(it[0] == b"" or not is_part(it[0]) or not is_part(it[1]) for it in (author, committer)), "BadActor")
         refuse_where(any(not is_time(*it[2:]) for it in (author, committer)), "BadTime")
         title = message.partition(b"\n")[0]
         refuse_where(not is_title(title), "BadMessage")
-        for _, _, *content in edits:
-            for it in content:
+        for kind, _, *content in edits:
+            for it in content if kind != b"graft" else ():
                 self.put(b"blob", it)
         lines = [b"tree " + self.tree(files)] + [b"parent " + it for it in parents]
         lines += [b"%s %s <%s> %s %s" % (who, *actor) for who, actor in ((b"author", author), (b"committer", committer))]

@@ -3,7 +3,8 @@ against this.
 
 Each word asks once for the object that its name holds, or whose id it begins, since that may be a commit, a tag or neither. Besides, a
 command asks once for each commit, tree and content that its answer is made of, but for a commit that has a row. A log with paths asks for
-what it compares each time that it compares two commits."""
+what it compares each time that it compares two commits. A graft asks for its word's commit, for the trees on the way to its source, and for
+each different tree below it once."""
 
 from plain import Plain, Reader
 
@@ -43,11 +44,25 @@ def of_log(plain, command):
     return [it for digits in pairs for it in (digits, *of_folders(plain, plain.commits[digits]["files"], command[5]))]
 
 
+def of_grafts(plain, edits):
+    """Of each graft its word's commit, the trees in which the names of its source are looked up, and each different tree below it once."""
+    found = []
+    for _, _, target, source in edits:
+        commit = plain.peeled(of_word(plain, target)[0])
+        files, front = plain.commits[commit]["files"], source + b"/" if source else b""
+        below = {it[len(front):]: file for it, file in files.items() if it.startswith(front)}
+        found += [commit, *(of_folders(plain, files, [source]) if source else []), *(set(of_folders(plain, below)) if below else [])]
+    return found
+
+
 def objects(plain, rows, command):
     """The objects that a command asks for, as often as it does."""
     name, *parts = command
     if name == "index":
         return list(plain.objects)
+    if name == "commit":
+        # One with grafts alone, on a new name, without parents, and refused before it stores anything.
+        return [it for edit in parts[3] for it in of_word(plain, edit[2])] + of_grafts(plain, parts[3])
     words = [target for _, target in parts[3]] if name == "log" else [parts[0]]
     held = [it for word in words for it in of_word(plain, word)]
     if name == "log":
@@ -62,6 +77,8 @@ def objects(plain, rows, command):
 def names(command):
     """The words of a command, each of which asks for names."""
     name, *parts = command
+    if name == "commit":
+        return [edit[2] for edit in parts[3]]
     return [] if name == "index" else [target for _, target in parts[3]] if name == "log" else [parts[0]]
 
 

@@ -4,12 +4,14 @@ more, and a round behind it. What each stop leaves is the repository before the 
 from copy import deepcopy
 
 from case_words import word
+from grafts import graft
 from streams import KINDS, PACK, PUT_HELLO, branch, move, tag, told
 from plain import Plain
 
 MAIN, X, Y, V, W = b"refs/heads/main", b"refs/heads/x", b"refs/heads/y", b"refs/tags/v", b"refs/tags/w"
 MADE = PUT_HELLO + branch(X + b" new", 2, b"parent main\n") + tag(V + b" new main", 3)
 NESTED = branch(b"HEAD any", 4, b"put file 5 1\nb/c/d\n1\nput exec 3 1\nb/e\n2\nremove 1\na\n")
+GRAFTED = branch(b"HEAD any", 4, graft(b"d/e", b"x", b"") + graft(b"b", b"v", b"a"))
 NEXT = branch(b"refs/heads/next new", 9, b"put file 3 1\nb/c\n1\n") + PACK
 FAULT = b"fault File\n"
 
@@ -77,6 +79,8 @@ def ways(kind):
     return {
         "commit": Way(kind, MADE, NESTED, [logged(MAIN)], [MAIN]),
         "commit-packed": Way(kind, packed, NESTED, [logged(MAIN)], [MAIN]),
+        "graft": Way(kind, MADE, GRAFTED, [logged(MAIN)], [MAIN]),
+        "graft-packed": Way(kind, packed, GRAFTED, [logged(MAIN)], [MAIN]),
         "tag": Way(kind, MADE, tag(W + b" new x", 5), [], [W]),
         "tag-moved": Way(kind, packed, tag(V + b" at v x", 5), [logged(V)], [V]),
         "move": Way(kind, MADE, two, [logged(MAIN), moved([MAIN])], [MAIN, W]),
@@ -91,10 +95,10 @@ def ways(kind):
 
 
 # Commands that put objects or ask for one, and those behind whose last change a call still comes that changes no name.
-ASKING = ("commit", "commit-packed", "tag", "tag-moved", "move", "move-two", "pack")
+ASKING = ("commit", "commit-packed", "graft", "graft-packed", "tag", "tag-moved", "move", "move-two", "pack")
 CLEARED = ("rename-packed", "rename-tag", "delete-packed", "pack")
 # Those that are tried with both hash functions.
-OTHER = ("commit", "tag-moved", "move", "rename-packed", "delete-packed", "pack")
+OTHER = ("commit", "graft", "tag-moved", "move", "rename-packed", "delete-packed", "pack")
 
 
 def stops():

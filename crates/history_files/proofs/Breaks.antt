@@ -13,7 +13,7 @@ use Rattle.gix_object_find.specs.Table.{Object, Table}
 use Rattle.gix_object_find.specs.declared.find.Error.TheVariants as looked_up
 use Rattle.gix_object_find.specs.declared.find.existing_object.Error as existing
 use Rattle.gix_object_find.specs.declared.find.existing_object.Error.TheVariants as not_given
-use Rattle.gix_object_editor.specs.Editor.{EditFault, LeafFault}
+use Rattle.gix_object_editor.specs.Editor.{EditFault, GraftFault, LeafFault}
 use Rattle.gix_object_nodes.specs.Files.{Path}
 use Rattle.gix_object_editor.specs.Refusals.{OpeningFault, TreeIsMalformed, TreeIsUnread}
 use Rattle.gix_object_editor.specs.declared.tree.editor.error.Error as editor
@@ -97,6 +97,12 @@ module _ (honest may_fail : Type 0) (table : Table) (path : Path) where
   edit_broken Through (refused.MalformedTree oid) (id, through_it, h) = malformed_broken honest may_fail table id oid h
   edit_broken Through refused.EmptyTree h = tt
   edit_broken Through refused.Memory h = tt
+
+  pub graft_broken : (id : Id) (Through : Id → Type 0) (error : editor.Error) → GraftFault honest may_fail table path id Through error → TellsBroken honest table (as_edited error)
+  graft_broken id Through error h = elim h [
+    | inl empty ↦ subst (λ e. TellsBroken honest table (as_edited e)) (sym empty.0) tt
+    | inr other ↦ edit_broken Through error other
+  ]
 
   pub leaf_broken : (Into : Id → Type 0) (Folder : Type 0) (error : editor.Error) → LeafFault honest may_fail table path Into Folder error → TellsBroken honest table (as_edited error)
   leaf_broken Into Folder refused.EmptyPathComponent h = tt

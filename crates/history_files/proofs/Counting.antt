@@ -13,7 +13,7 @@ use Rattle.history_model.specs.FileMap.{components}
 use Rattle.history_files.specs.Edits.{name_count}
 use Rattle.history_files.specs.Lookups.{AsksOf, RisesBy, edit_way, root_count, way_of}
 use Rattle.history_files.specs.declared.edits.Change.{Change}
-use Rattle.history_files.specs.declared.edits.Change.TheVariants.{Put, Remove, RemoveFile}
+use Rattle.history_files.specs.declared.edits.Change.TheVariants.{Put, Remove, RemoveFile, Graft}
 use Rattle.history_files.specs.declared.edits.Edit.{Edit}
 
 -- ---- no more trees than names
@@ -66,6 +66,7 @@ pub way_short : (path : Bytes) (change : Change) → length (way_of path change)
 way_short path (Put kind id) = front_short (components path)
 way_short path Remove = front_short (components path)
 way_short path RemoveFile = omega arith
+way_short path (Graft found) = front_short (components path)
 
 -- ---- one edit more
 

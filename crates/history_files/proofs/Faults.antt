@@ -23,8 +23,8 @@ use Rattle.gix_object_nodes.specs.declared.node.NodeId.{NodeId}
 use Rattle.gix_object_nodes.specs.declared.node.Slot.{Slot}
 use Rattle.gix_object_editor.specs.Entries.{EachHas}
 use Rattle.gix_object_editor.specs.declared.tree.editor.state.Editor.{Editor}
-use Rattle.gix_object_editor.specs.Editor.{EachEntryHas, EditFault, IsFilled, IsFolder, IsTreeNamed, LeadsInto, LeadsThrough, LeafFault, files_of}
-use Rattle.gix_object_nodes.specs.Files.{Path, Leaf, Trees, HasFile as HasEntryFile, named, through, tree_under, unless_tree, files_of_entry, files_of_tree, leaf_of, is_null, NamesAreFull, SameFiles}
+use Rattle.gix_object_editor.specs.Editor.{EachEntryHas, EditFault, GraftFault, IsFilled, IsFolder, IsTreeNamed, LeadsInto, LeadsThrough, LeafFault, files_of}
+use Rattle.gix_object_nodes.specs.Files.{Path, Leaf, Trees, HasFile as HasEntryFile, named, through, tree_under, unless_tree, files_of_entry, files_of_tree, leaf_of, is_null, NamesAreFull, SameFiles, IsEmptyTree}
 use Rattle.gix_object_nodes.specs.Nodes.{AreFilled, Slots, child_or, files_of_node, files_of_slot, leaf_in, slots_of}
 use Rattle.history_model.specs.Bytes.{Bytes}
 use Rattle.history_model.specs.FileMap as model
@@ -35,7 +35,7 @@ use Rattle.history_model.proofs.WholeLists.{In, clash, none_is_some}
 use Rattle.history_model.proofs.WholeRoots.{all_values}
 use Rattle.history_files.specs.Unfolding.{IsInTable, file_leaf}
 use Rattle.history_files.specs.Edits.{as_edited, as_unread, unless_memory}
-use Rattle.history_files.specs.Entries.{is_filename, names_only, own_folders}
+use Rattle.history_files.specs.Entries.{is_filename, names_only}
 use Rattle.history_files.specs.Opening.{EditsFiles, MakingFault}
 use Rattle.history_files.specs.declared.edits.EditError.TheVariants.{Broken}
 use Rattle.history_files.proofs.Components.{some_parts}
@@ -44,9 +44,10 @@ use Rattle.history_files.proofs.InOrder.{root_well_formed}
 use Rattle.history_files.proofs.Inside.{HasFile}
 use Rattle.history_files.proofs.Items.{all_of, digest_kind, items, items_spelled}
 use Rattle.history_files.proofs.LawLemmas.{folders_agree}
-use Rattle.history_files.proofs.Named.{base_inner, items_have, own_deeper, part_name}
+use Rattle.history_files.proofs.Named.{items_have, part_name}
 use Rattle.history_files.proofs.OneList.{named_is}
 use Rattle.history_files.proofs.Parsed.{has_stored, trees_in}
+use Rattle.history_files.proofs.Standing.{stands_deeper, stands_inner}
 use Rattle.history_files.proofs.Unfolded.{plain_map, root_unfolds, tree_there}
 use Rattle.std.proofs.lemmas.Option.{same_Some}
 
@@ -253,29 +254,36 @@ full_path path fine =
 
 -- ---- an edit of an editor
 
-module _ {S : Type 0} (honest may_fail : Type 0) (answers : honest) (kind : Kind) (table : Table) (base files : FileMap) (made : List model.Edit) (old new : Editor S) (can : EditsFiles table kind base files old)
-    (each : EachEntryHas (names_only kind (own_folders base)) new) (path : Bytes) (fine : is_path path ≡ true) (names : Path) (are : names ≡ components path) where
-  inner_of : (g : FileMap) → In g (own_folders base) → IsInner kind table (own_folders base) g
-  inner_of = base_inner kind table base can.map can.trees
+module _ {S : Type 0} (honest may_fail : Type 0) (answers : honest) (kind : Kind) (table : Table) (stands : List FileMap) (files : FileMap) (made : List model.Edit) (old new : Editor S) (can : EditsFiles table kind stands files old)
+    (each : EachEntryHas (names_only kind stands) new) (path : Bytes) (fine : is_path path ≡ true) (names : Path) (are : names ≡ components path) where
+  inner_of : (g : FileMap) → In g stands → IsInner kind table stands g
+  inner_of = stands_inner table kind stands can.standing
+
+  deeper_of : (g : FileMap) → In g stands → (name : Bytes) → HasFile (inside name g) → In (inside name g) stands
+  deeper_of = stands_deeper table kind stands can.standing
 
   full : NamesAreFull names
   full = subst NamesAreFull (sym are) (full_path path fine)
 
   pub put_fault : (error : editor.Error) → EditFault honest may_fail table names (LeadsThrough (λ trees. files_of trees new) names) error → MakingFault may_fail files made (as_edited error)
   put_fault error h =
-      edit_fault kind table (own_folders base) inner_of (own_deeper base) honest may_fail answers files made names (LeadsThrough (λ trees. files_of trees new) names) full
-      (λ id led. led_through kind table (own_folders base) inner_of (own_deeper base) id (slots_of new.nodes.items) each names led) error h
+      edit_fault kind table stands inner_of deeper_of honest may_fail answers files made names (LeadsThrough (λ trees. files_of trees new) names) full
+      (λ id led. led_through kind table stands inner_of deeper_of id (slots_of new.nodes.items) each names led) error h
+
+  -- what is grafted isn't the empty tree
+  pub graft_fault : (id : Id) → (IsEmptyTree id → ⊥) → (error : editor.Error) → GraftFault honest may_fail table names id (LeadsThrough (λ trees. files_of trees new) names) error → MakingFault may_fail files made (as_edited error)
+  graft_fault id some error h = elim h [ inl empty ↦ absurd (some empty.2) | inr other ↦ put_fault error other ]
 
   pub remove_fault : SameFiles (files_of (trees_in table) new) (files_of (trees_in table) old) → (has_below files path ≡ true → some_refused files made ≡ true) → (error : editor.Error)
       → LeafFault honest may_fail table names (LeadsInto (λ trees. files_of trees new) names) (IsFolder (λ trees. IsFilled trees new) (λ trees. files_of trees new) names) error → MakingFault may_fail files made (as_edited error)
   remove_fault same refused error h =
-      leaf_fault kind table (own_folders base) inner_of (own_deeper base) honest may_fail answers files made names (LeadsInto (λ trees. files_of trees new) names)
+      leaf_fault kind table stands inner_of deeper_of honest may_fail answers files made names (LeadsInto (λ trees. files_of trees new) names)
       (IsFolder (λ trees. IsFilled trees new) (λ trees. files_of trees new) names) full
-      (λ id led. led_into kind table (own_folders base) inner_of (own_deeper base) id (slots_of new.nodes.items) each names led) folder error h
+      (λ id led. led_into kind table stands inner_of deeper_of id (slots_of new.nodes.items) each names led) folder error h
     where
       folder : IsFolder (λ trees. IsFilled trees new) (λ trees. files_of trees new) names → some_refused files made ≡ true
       folder there =
-          let found = there (trees_in table) (all_filled kind table (own_folders base) inner_of (own_deeper base) (slots_of new.nodes.items) each) in
+          let found = there (trees_in table) (all_filled kind table stands inner_of deeper_of (slots_of new.nodes.items) each) in
           go (has_below files path) refl found.0 found.1 found.2 (ap (λ ps. files_of (trees_in table) old (ps ++ found.0 ∷ found.1)) (sym are) ∙ sym (same (names ++ found.0 ∷ found.1)) ∙ found.3)
         where
           go : (b : Bool) → has_below files path ≡ b → (name : Bytes) (rest : Path) (file : Leaf) → files_of (trees_in table) old (components path ++ name ∷ rest) ≡ Some file → some_refused files made ≡ true

@@ -21,7 +21,7 @@ use Rattle.history_model.specs.Objects.{digest, folder_id, tree_text}
 use Rattle.history_model.proofs.WholeLists.{In, either, in_all, in_either, in_left, none_is_some, of_map}
 use Rattle.history_model.proofs.WholeSteps.{in_contains}
 use Rattle.history_files.specs.Editing.{AreGiven, AreTreesOf, HasTreeOf}
-use Rattle.history_files.specs.Entries.{names_only, own_folders}
+use Rattle.history_files.specs.Entries.{names_only}
 use Rattle.history_files.specs.Handing.{AreKept, HasWritten, IsTextOf}
 use Rattle.history_files.specs.Unfolding.{IsUnfolded}
 use Rattle.history_files.specs.declared.trees.EditedFiles.{EditedFiles}
@@ -227,12 +227,12 @@ due_each kind folders slots marks each i name s at = go (slots i name) refl at
     go None e k = none_is_some s k
     go (Some x) e k = subst (λ y. names_only kind folders name (leaf_in y) ≡ true) (same_Some (slot_if (is_due marks 0) x) s k) (each i name x e)
 
--- where an editor has files of a base whose trees stand, what is written of it is theirs, unless a tree has the null id
-pub written_trees : {S : Type 0} (kind : Kind) (table : Table) (base : FileMap) → ((g : FileMap) → In g (own_folders base) → IsInner kind table (own_folders base) g) → (editor : Editor S)
-    → EachEntryHas (names_only kind (own_folders base)) editor → IsAsRead (trees_in table) editor → (m : FileMap) → IsFileMap m → IsUnfolded kind m (files_of (trees_in table) editor)
+-- where an editor has files among folders that stand, what is written of it is theirs, unless a tree has the null id
+pub written_trees : {S : Type 0} (kind : Kind) (table : Table) (stands : List FileMap) → ((g : FileMap) → In g stands → IsInner kind table stands g) → (editor : Editor S)
+    → EachEntryHas (names_only kind stands) editor → IsAsRead (trees_in table) editor → (m : FileMap) → IsFileMap m → IsUnfolded kind m (files_of (trees_in table) editor)
     → (edited : EditedFiles) → HasWritten kind editor edited
-    → ((id_of edited.root ≡ folder_id kind m) × AreGiven kind (own_folders base) m edited.trees.items) ⊎ ((tree : FileMap) × In tree (folders_of m) × (is_null (folder_id kind tree) ≡ true) × (list_any (λ (k : EditedTree). is_null (id_of k.id)) edited.trees.items ≡ true))
-written_trees kind table base inner editor each read m fits is edited (handed, written, kept) =
+    → ((id_of edited.root ≡ folder_id kind m) × AreGiven kind stands m edited.trees.items) ⊎ ((tree : FileMap) × In tree (folders_of m) × (is_null (folder_id kind tree) ≡ true) × (list_any (λ (k : EditedTree). is_null (id_of k.id)) edited.trees.items ≡ true))
+written_trees kind table stands inner editor each read m fits is edited (handed, written, kept) =
     let last = written.last in
     let below = last.0 in
     let top : HandedOut = record { path = []; items = last.1; id = id_of edited.root } in
@@ -242,17 +242,17 @@ written_trees kind table base inner editor each read m fits is edited (handed, w
     let order = subst (EachBehind (IsHandedOut (due slots marks 0)) []) last.2 written.in_order in
     let some = λ (c : HandedOut) (i : In c below). (of_all (λ (t : HandedOut). (t.items ≢ []) × IsChanged editor t.path) below last.3 c i).0 in
     let unfolds = same_unfolded kind m (files_of (trees_in table) editor) (files_of_node (trees_in table) (due slots marks 0) 0) is (λ q. due_files (trees_in table) slots marks 0 read q 0) in
-    let known = all_known kind (own_folders base) m table (trees_in table) (has_stored table) (own_folders base) inner (due slots marks 0) (due_each kind (own_folders base) slots marks each) fits unfolds
-    [] (below ++ top ∷ []) (λ c i. absurd i) order (but_last below top some) (kept_named kind (own_folders base) m (below ++ top ∷ []) edited.trees.items kept_all) in
+    let known = all_known kind stands m table (trees_in table) (has_stored table) stands inner (due slots marks 0) (due_each kind stands slots marks each) fits unfolds
+    [] (below ++ top ∷ []) (λ c i. absurd i) order (but_last below top some) (kept_named kind stands m (below ++ top ∷ []) edited.trees.items kept_all) in
     elim known [
-      | inl fine ↦ inl (root_id below top fine, given_trees kind (own_folders base) m below top edited.trees.items refl fine kept_all some)
+      | inl fine ↦ inl (root_id below top fine, given_trees kind stands m below top edited.trees.items refl fine kept_all some)
       | inr null ↦ inr (folder m null.tree, among below top refl some null, ap is_null (sym null.id_is) ∙ null.null, null_kept kind (below ++ top ∷ []) edited.trees.items kept_all null.tree null.among null.null)
     ]
   where
-    root_id : (below : List HandedOut) (top : HandedOut) → EachBehind (IsFine kind (own_folders base) m) [] (below ++ top ∷ []) → top.id ≡ folder_id kind (folder m top)
-    root_id below top fine = (each_at (IsFine kind (own_folders base) m) [] (below ++ top ∷ []) below top [] fine refl).0.id_is
+    root_id : (below : List HandedOut) (top : HandedOut) → EachBehind (IsFine kind stands m) [] (below ++ top ∷ []) → top.id ≡ folder_id kind (folder m top)
+    root_id below top fine = (each_at (IsFine kind stands m) [] (below ++ top ∷ []) below top [] fine refl).0.id_is
 
-    among : (below : List HandedOut) (top : HandedOut) → top.path ≡ [] → ((c : HandedOut) → In c below → c.items ≢ []) → (null : HasNullTree kind (own_folders base) m (below ++ top ∷ [])) → In (folder m null.tree) (folders_of m)
+    among : (below : List HandedOut) (top : HandedOut) → top.path ≡ [] → ((c : HandedOut) → In c below → c.items ≢ []) → (null : HasNullTree kind stands m (below ++ top ∷ [])) → In (folder m null.tree) (folders_of m)
     among below top at some null = go (in_either null.tree below (top ∷ []) null.among)
       where
         go : In null.tree below ⊎ In null.tree (top ∷ []) → In (folder m null.tree) (folders_of m)

@@ -3,10 +3,13 @@ use Rattle.std.proofs.Common.{◌≡◌, sym, ◌∙◌, refl, Bool, true, false
 use Rattle.gix_object_nodes.specs.Files.{HasNoneBelow}
 use Rattle.history_model.specs.FileMap.{components, has_below}
 use Rattle.history_model.proofs.WholeLists.{none_is_some}
-use Rattle.history_files.specs.Laws.{TreesUnfold, WholeStoresHaveTrees, PutsAgree, RemovalsAgree, FoldersAgree, UnfoldingsTellRoots}
+use Rattle.history_files.specs.Laws.{TreesUnfold, WholeStoresHaveTrees, PutsAgree, GraftsAgree, RemovalsAgree, FoldersAgree, UnfoldingsTellRoots}
 use Rattle.history_files.proofs.Unfolded.{id_unfolds}
 use Rattle.history_files.proofs.Edited.{put_unfolds, removed_unfolds, none_below, some_below}
+use Rattle.history_files.specs.Entries.{found_leaf}
+use Rattle.history_files.proofs.Grafted.{graft_put}
 use Rattle.history_files.proofs.OneRoot.{one_root}
+use Rattle.history_files.proofs.Sources.{leaf_has}
 use Rattle.history_files.proofs.Stores.{has_trees}
 
 pub trees_unfold : TreesUnfold
@@ -17,6 +20,10 @@ whole_stores_have_trees r id files whole at = has_trees r whole id files at
 
 pub puts_agree : PutsAgree
 puts_agree kind files there path content trees is isnt_null = put_unfolds kind files there is path content isnt_null trees
+
+pub grafts_agree : GraftsAgree
+grafts_agree table trees kind files other there path source found stored is from =
+    graft_put kind files there is path source other from.map trees (found_leaf found) (leaf_has table kind trees stored source other found from)
 
 pub removals_agree : RemovalsAgree
 removals_agree kind files there path is = removed_unfolds kind files there is path

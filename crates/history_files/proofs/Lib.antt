@@ -2,6 +2,8 @@ pub mod Components
 pub mod Items
 pub mod Unfolded
 pub mod Edited
+pub mod Grafted
+pub mod Sources
 pub mod OneRoot
 pub mod Stores
 pub mod LawLemmas
@@ -23,8 +25,10 @@ pub mod StandInEdits
 pub mod Faults
 pub mod EmptyFiles
 pub mod Outcome
+pub mod Standing
 pub mod Leftover
 pub mod Counting
 pub mod Unopened
 pub mod Breaks
 pub mod SeveralPaths
+mod TreesKept

@@ -1,10 +1,12 @@
 -- Entries of the trees of a file map name files and its folders alone.
 use Rattle.std.proofs.Common.{◌≡◌, Bool, true, false, cond, not, ◌&&◌, ◌||◌, List, [], ◌∷◌, ◌++◌, refl, sym, ◌∙◌, ap, subst, inl, inr, ◌⊎◌, Some, None, ◌==◌}
+use Rattle.std.specs.Prelude.{⊤}
 use Rattle.std.specs.List.{AllByRecursion, flat_map, list_any, list_all, onto_first}
 use Rattle.std.specs.FinMap.{entries, keys, get}
 use Rattle.gix_hash_id.specs.Id.{Id, id_of, null_id}
 use Rattle.gix_hash_id.specs.Order.{id_eq}
 use Rattle.gix_hash_id.specs.declared.kind.Kind.{Kind}
+use Rattle.gix_hash_id.specs.declared.kind.Kind.TheVariants.{Sha1}
 use Rattle.gix_hash_id.specs.declared.object_id.ObjectId.{ObjectId}
 use Rattle.gix_object_entries.specs.Entry.{Item, SpellsTree}
 use Rattle.gix_object_entries.specs.Mode.{kind_value}
@@ -26,10 +28,11 @@ use Rattle.history_model.proofs.WholeRoots.{all_values, has_all, in_inside, insi
 use Rattle.history_model.proofs.WholeStores.{get_in, in_get}
 use Rattle.history_files.specs.Unfolding.{IsInTable, HasTrees, entry_kind}
 use Rattle.history_files.specs.Editing.{HavePaths, NameEdits, Names}
-use Rattle.history_files.specs.Entries.{MayBeMade, MayPut, is_file_mode, is_filename, is_folder_mode, names_only, own_folders}
+use Rattle.history_files.specs.Entries.{MayBeMade, MayPut, found_leaf, is_file_mode, is_filename, is_folder_mode, names_only, own_folders}
 use Rattle.history_files.specs.declared.edits.Change.{Change}
-use Rattle.history_files.specs.declared.edits.Change.TheVariants.{Put, Remove, RemoveFile}
+use Rattle.history_files.specs.declared.edits.Change.TheVariants.{Put, Remove, RemoveFile, Graft}
 use Rattle.history_files.specs.declared.edits.Edit.{Edit}
+use Rattle.history_files.specs.declared.found.Found.TheVariants.{File, Folder}
 use Rattle.history_files.proofs.AtNames.{parts_plain}
 use Rattle.history_files.proofs.Components.{some_parts}
 use Rattle.history_files.proofs.Handed.{IsInner, NamesOne, file_no_tree, names_one}
@@ -97,23 +100,44 @@ module _ (kind : Kind) (folders : List FileMap) where
   made_has name k fine = folder_has name (made_leaf k) fine refl
       (some_or (is_null (null_id k)) (list_any (λ f. id_eq (null_id k) (folder_id kind f)) folders) (inl (id_itself (null_id k))))
 
-  pub may_put : (path : Bytes) (change : Change) → is_path path ≡ true → MayPut (names_only kind folders) path change
-  may_put path (Put k id) fine = all_of (λ name. (names_only kind folders name (leaf_of_kind (entry_kind k) id) ≡ true) × (names_only kind folders name (made_leaf (id_of id).kind) ≡ true)) (components path)
+  -- a folder that is grafted is one of these
+  abbrev pub GraftIn : Change → Type 0
+  GraftIn (Graft (Some (Folder id))) = (g : FileMap) × In g folders × (id_of id ≡ folder_id kind g)
+  GraftIn _ = ⊤
+
+  pub may_put : (path : Bytes) (change : Change) → is_path path ≡ true → GraftIn change → MayPut (names_only kind folders) path change
+  may_put path (Put k id) fine among = all_of (λ name. (names_only kind folders name (leaf_of_kind (entry_kind k) id) ≡ true) × (names_only kind folders name (made_leaf (id_of id).kind) ≡ true)) (components path)
       (λ name i. let named = part_name path name fine i in (file_leaf_has name k id named, made_has name (id_of id).kind named))
-  may_put path Remove fine = tt
-  may_put path RemoveFile fine = tt
+  may_put path Remove fine among = tt
+  may_put path RemoveFile fine among = tt
+  may_put path (Graft (Some (File k id))) fine among = all_of (λ name. (names_only kind folders name (leaf_of_kind (entry_kind k) id) ≡ true) × (names_only kind folders name (made_leaf (id_of id).kind) ≡ true)) (components path)
+      (λ name i. let named = part_name path name fine i in (file_leaf_has name k id named, made_has name (id_of id).kind named))
+  may_put path (Graft (Some (Folder id))) fine (g, among, same) =
+      let leaf = found_leaf (Some (Folder id)) in
+      all_of (λ name. (names_only kind folders name leaf ≡ true) × (names_only kind folders name (made_leaf (id_of id).kind) ≡ true)) (components path)
+      (λ name i. let named = part_name path name fine i in (
+        folder_has name leaf named refl (some_or (is_null (id_of id)) (list_any (λ f. id_eq (id_of id) (folder_id kind f)) folders)
+            (inr (passes_one (λ f. id_eq (id_of id) (folder_id kind f)) folders g among (ap (λ x. id_eq x (folder_id kind g)) same ∙ id_itself (folder_id kind g))))),
+        made_has name (id_of id).kind named,
+      ))
+  may_put path (Graft None) fine among = all_of (λ name. (names_only kind folders name (found_leaf None) ≡ true) × (names_only kind folders name (made_leaf (found_leaf None).id.kind) ≡ true)) (components path)
+      (λ name i. let named = part_name path name fine i in (made_has name Sha1 named, made_has name Sha1 named))
 
-  path_of : (path : Bytes) (change : Change) (made : model.Edit) → Names kind path change made → edit_path made ≡ path
-  path_of path (Put k id) made (bytes, e, same) = ap edit_path e
-  path_of path Remove made e = ap edit_path e
-  path_of path RemoveFile made e = ap edit_path e
+  path_of : (table : Table) (path : Bytes) (change : Change) (made : model.Edit) → Names table kind path change made → edit_path made ≡ path
+  path_of table path (Put k id) made (bytes, e, same) = ap edit_path e
+  path_of table path Remove made e = ap edit_path e
+  path_of table path RemoveFile made e = ap edit_path e
+  path_of table path (Graft found) made (source, other, e, is) = ap edit_path e
 
-  pub may_be_made : (edits : List Edit) (made : List model.Edit) → NameEdits kind edits made → HavePaths made → MayBeMade (names_only kind folders) edits
-  may_be_made [] made named fine = tt
-  may_be_made (edit ∷ edits) [] named fine = absurd named
-  may_be_made (edit ∷ edits) (one ∷ more) named fine =
-      let both = and_parts (is_path (edit_path one)) (list_all (λ e. is_path (edit_path e)) more) fine in
-      (may_put edit.path.now edit.change (ap is_path (sym (path_of edit.path.now edit.change one named.0)) ∙ both.0), may_be_made edits more named.1 both.1)
+  pub may_be_made : (table : Table) (edits : List Edit) (made : List model.Edit) → NameEdits table kind edits made → HavePaths made → ((change : Change) (path : Bytes) (one : model.Edit) → Names table kind path change one → In one made → GraftIn change)
+      → MayBeMade (names_only kind folders) edits
+  may_be_made table [] made named fine among = tt
+  may_be_made table (edit ∷ edits) [] named fine among = absurd named
+  may_be_made table (edit ∷ edits) (one ∷ more) named fine among =
+      let both = and_parts (is_path (edit_path one)) (list_all (λ e. is_path (edit_path e)) more) fine in (
+        may_put edit.path.now edit.change (ap is_path (sym (path_of table edit.path.now edit.change one named.0)) ∙ both.0) (among edit.change edit.path.now one named.0 (inl refl)),
+        may_be_made table edits more named.1 both.1 (λ change path e n i. among change path e n (inr i)),
+      )
 
   item_has : (g : FileMap) → IsFileMap g → ((name : Bytes) → HasFile (inside name g) → In (inside name g) folders) → (t : TreeEntry) → In t (tree_entries (entries g))
       → names_only kind folders (item_of kind (tree_of kind g) t).name (leaf_of (item_of kind (tree_of kind g) t)) ≡ true
@@ -215,10 +239,10 @@ own_trees kind table files fits trees = in_all (HasTrees table kind) (own_folder
 
 -- ---- paths
 
-pub same_paths : (kind : Kind) (edits : List Edit) (made : List model.Edit) → NameEdits kind edits made → list_all (λ (edit : Edit). is_path edit.path.now) edits ≡ list_all (λ e. is_path (edit_path e)) made
-same_paths kind [] [] are = refl
-same_paths kind [] (one ∷ made) are = absurd are
-same_paths kind (edit ∷ edits) [] are = absurd are
-same_paths kind (edit ∷ edits) (one ∷ made) are =
-    let path = sym (path_of kind [] edit.path.now edit.change one are.0) in
-    λ i. is_path (path i) && same_paths kind edits made are.1 i
+pub same_paths : (table : Table) (kind : Kind) (edits : List Edit) (made : List model.Edit) → NameEdits table kind edits made → list_all (λ (edit : Edit). is_path edit.path.now) edits ≡ list_all (λ e. is_path (edit_path e)) made
+same_paths table kind [] [] are = refl
+same_paths table kind [] (one ∷ made) are = absurd are
+same_paths table kind (edit ∷ edits) [] are = absurd are
+same_paths table kind (edit ∷ edits) (one ∷ made) are =
+    let path = sym (path_of kind [] table edit.path.now edit.change one are.0) in
+    λ i. is_path (path i) && same_paths table kind edits made are.1 i

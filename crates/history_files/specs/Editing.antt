@@ -14,15 +14,16 @@ use Rattle.history_model.specs.FileMap.{FileMap, edit_path, edited_by, folders_o
 use Rattle.history_model.specs.Meaning.{put_bytes}
 use Rattle.history_model.specs.Objects as objects
 use Rattle.history_model.specs.Objects.{Value, StoredFolder, blob_id, folder_id, root}
-use Rattle.history_files.specs.Entries.{own_folders}
+use Rattle.history_files.specs.Edits.{IsGraft}
+use Rattle.history_files.specs.Entries.{other_folders, own_folders}
 use Rattle.history_files.specs.Reading.{IsRootOf}
 use Rattle.history_files.specs.declared.trees.EditedFiles.{EditedFiles}
 use Rattle.history_files.specs.declared.trees.EditedTree.{EditedTree}
 use Rattle.history_files.specs.declared.edits.Change.{Change}
-use Rattle.history_files.specs.declared.edits.Change.TheVariants.{Put, Remove, RemoveFile}
+use Rattle.history_files.specs.declared.edits.Change.TheVariants.{Put, Remove, RemoveFile, Graft}
 use Rattle.history_files.specs.declared.edits.Edit.{Edit}
 use Rattle.history_files.specs.declared.edits.EditError.{EditError}
-use Rattle.history_files.specs.declared.edits.EditError.TheVariants.{BadPath, IsFolder, NullId, Failed, Broken, Memory}
+use Rattle.history_files.specs.declared.edits.EditError.TheVariants.{BadPath, IsFolder, NullId, EmptyTree, Failed, Broken, Memory}
 
 -- ---- what is edited
 
@@ -34,26 +35,28 @@ abbrev pub IsBase : Table → Kind → Option Id → FileMap → Type 0
 IsBase table kind None files = files ≡ empty
 IsBase table kind (Some root) files = IsRootOf table kind files root
 
--- the change at this path is this edit of a file map, and the id is that of the bytes that are put
-abbrev pub Names : Kind → Bytes → Change → model.Edit → Type 0
-Names kind path (Put file id) made =
+-- The change at this path is this edit of a file map: the id is that of the bytes that are put, and the trees of what is grafted stand
+-- in the table.
+abbrev pub Names : Table → Kind → Bytes → Change → model.Edit → Type 0
+Names table kind path (Put file id) made =
     (bytes : Bytes) × (made ≡ model.Put file path bytes) × (id_of id ≡ blob_id kind bytes)
-Names kind path Remove made = made ≡ model.Remove path
-Names kind path RemoveFile made = made ≡ model.RemoveFile path
+Names table kind path Remove made = made ≡ model.Remove path
+Names table kind path RemoveFile made = made ≡ model.RemoveFile path
+Names table kind path (Graft found) made = IsGraft table kind path found made
 
-abbrev pub NameEdits : Kind → List Edit → List model.Edit → Type 0
-NameEdits kind [] [] = ⊤
-NameEdits kind [] (made ∷ more) = ⊥
-NameEdits kind (edit ∷ edits) [] = ⊥
-NameEdits kind (edit ∷ edits) (made ∷ more) =
-    Names kind edit.path.now edit.change made × NameEdits kind edits more
+abbrev pub NameEdits : Table → Kind → List Edit → List model.Edit → Type 0
+NameEdits table kind [] [] = ⊤
+NameEdits table kind [] (made ∷ more) = ⊥
+NameEdits table kind (edit ∷ edits) [] = ⊥
+NameEdits table kind (edit ∷ edits) (made ∷ more) =
+    Names table kind edit.path.now edit.change made × NameEdits table kind edits more
 
 -- It holds of the files that are edited, and of the edits that these are, where the store answers by its table.
 abbrev pub OfEdits : Type 0 → Table → Kind → Option Id → List Edit
     → (FileMap → List model.Edit → Type 0) → Type 0
 OfEdits honest table kind root edits P =
     honest → (files : FileMap) (made : List model.Edit) → IsBase table kind root files
-    → NameEdits kind edits made → P files made
+    → NameEdits table kind edits made → P files made
 
 -- each path is one
 abbrev pub HavePaths : List model.Edit → Type 0
@@ -73,6 +76,10 @@ AreTreesOf kind [] (tree ∷ trees) = ⊥
 AreTreesOf kind (files ∷ folders) [] = ⊥
 AreTreesOf kind (files ∷ folders) (tree ∷ trees) =
     IsTreeOf kind files tree × AreTreesOf kind folders trees
+
+-- the folders that stand before: those of the files, and those of what is grafted
+abbrev pub standing : FileMap → List model.Edit → List FileMap
+standing files made = own_folders files ++ flat_map other_folders made
 
 -- one of these folders has the same tree
 abbrev pub HasTreeOf : Kind → List FileMap → FileMap → Type 0
@@ -108,7 +115,7 @@ pub record AreEdited (kind : Kind) (files : FileMap) (made : List model.Edit)
   pub accepted : IsFalse (some_refused files made)
   pub ids : HaveIds kind made
   pub root : id_of edited.root ≡ folder_id kind (edited_by files made)
-  pub trees : AreGiven kind (own_folders files) (edited_by files made) edited.trees.items
+  pub trees : AreGiven kind (standing files made) (edited_by files made) edited.trees.items
 
 -- ---- why there are none
 
@@ -131,6 +138,7 @@ EditsFault may_fail kind files made BadPath =
     IsFalse (list_all (λ edit. is_path (edit_path edit)) made)
 EditsFault may_fail kind files made IsFolder = HavePaths made × IsTrue (some_refused files made)
 EditsFault may_fail kind files made NullId = HaveNull kind files made
+EditsFault may_fail kind files made EmptyTree = ⊥
 EditsFault may_fail kind files made Failed = may_fail
 EditsFault may_fail kind files made (Broken oid) = ⊥
 EditsFault may_fail kind files made Memory = ⊤

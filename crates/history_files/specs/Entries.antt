@@ -1,26 +1,40 @@
 -- Entries of trees while files are edited: each names a file or a folder.
-use Rattle.std.specs.Prelude.{◌==◌, ◌&&◌, ◌||◌, ⊤, Bool, not, List, [], ◌∷◌, map}
-use Rattle.std.specs.List.{flat_map, list_any}
+use Rattle.std.specs.Prelude.{◌==◌, ◌&&◌, ◌||◌, ⊤, Bool, not, false, List, [], ◌∷◌, map, Option, Some, None, Contains, if◌then◌else◌}
+use Rattle.std.specs.List.{AllByRecursion, flat_map, list_any}
 use Rattle.std.specs.FinMap.{keys}
+use Rattle.gix_hash_id.specs.Id.{null_id}
 use Rattle.gix_hash_id.specs.Order.{id_eq}
 use Rattle.gix_hash_id.specs.declared.kind.Kind.{Kind}
+use Rattle.gix_hash_id.specs.declared.kind.Kind.TheVariants.{Sha1}
 use Rattle.gix_object_entries.specs.Mode.{kind_value}
 use Rattle.gix_object_entries.specs.ModeText.{Mode}
 use Rattle.gix_object_entries.specs.declared.tree.mode.EntryKind.TheVariants as entries
 use Rattle.gix_object_editor.specs.Editor.{leaf_of_kind}
 use Rattle.gix_object_editor.specs.Entries.{Property, MayStand}
-use Rattle.gix_object_nodes.specs.Files.{is_null}
+use Rattle.gix_object_nodes.specs.Files.{Leaf, is_null}
 use Rattle.history_model.specs.Bytes.{Bytes, has_byte, is_empty}
-use Rattle.history_model.specs.FileMap.{FileMap, beginnings, components, inside}
+use Rattle.history_model.specs.FileMap as model
+use Rattle.history_model.specs.FileMap.{FileMap, beginnings, components, folders_of, inside}
 use Rattle.history_model.specs.Objects.{folder_id}
 use Rattle.history_files.specs.Unfolding.{entry_kind}
 use Rattle.history_files.specs.declared.edits.Change.{Change}
-use Rattle.history_files.specs.declared.edits.Change.TheVariants.{Put, Remove, RemoveFile}
+use Rattle.history_files.specs.declared.edits.Change.TheVariants.{Put, Remove, RemoveFile, Graft}
 use Rattle.history_files.specs.declared.edits.Edit.{Edit}
+use Rattle.history_files.specs.declared.found.Found.{Found}
+use Rattle.history_files.specs.declared.found.Found.TheVariants.{File, Folder}
 
 -- the folders of a file map, without itself
 abbrev pub own_folders : FileMap → List FileMap
 own_folders files = map (λ folder. inside folder files) (flat_map beginnings (keys files))
+
+-- the folders of files that are grafted, where there are any
+abbrev pub other_folders : model.Edit → List FileMap
+other_folders (model.Graft path source other) =
+    if is_empty (keys other) then [] else folders_of other
+other_folders _ = []
+
+abbrev pub GraftsStand : List FileMap → model.Edit → Type 0
+GraftsStand stands made = AllByRecursion (Contains stands) (other_folders made)
 
 -- a name of one folder: not empty, without `/` and without a zero byte
 abbrev pub is_filename : Bytes → Bool
@@ -44,11 +58,23 @@ names_only kind folders name leaf = is_filename name
     (is_folder_mode leaf.mode
     && (is_null leaf.id || list_any (λ folder. id_eq leaf.id (folder_id kind folder)) folders)))
 
+-- what an entry names of what is found: that of nothing has the null id
+abbrev pub found_leaf : Option Found → Leaf
+found_leaf (Some (File kind id)) = leaf_of_kind (entry_kind kind) id
+found_leaf (Some (Folder id)) = leaf_of_kind entries.Tree id
+found_leaf None =
+    record {
+      mode =
+          record { value = kind_value entries.Tree; padded = false };
+      id = null_id Sha1;
+    }
+
 -- what the edits put may stand at the names of their paths
 abbrev pub MayPut : Property → Bytes → Change → Type 0
 MayPut has path (Put file id) = MayStand has (components path) (leaf_of_kind (entry_kind file) id)
 MayPut has path Remove = ⊤
 MayPut has path RemoveFile = ⊤
+MayPut has path (Graft found) = MayStand has (components path) (found_leaf found)
 
 abbrev pub MayBeMade : Property → List Edit → Type 0
 MayBeMade has [] = ⊤

@@ -1,5 +1,5 @@
 -- What the laws say: file maps and what their trees unfold to.
-use Rattle.std.specs.Prelude.{◌≡◌, false, List, Some, option_map, IsFalse, ◌↔◌}
+use Rattle.std.specs.Prelude.{◌≡◌, false, List, Option, Some, option_map, IsFalse, ◌↔◌}
 use Rattle.std.specs.FinMap.{get}
 use Rattle.gix_hash_id.specs.Id.{Id}
 use Rattle.gix_hash_id.specs.declared.kind.Kind.{Kind}
@@ -11,10 +11,13 @@ use Rattle.gix_object_nodes.specs.Files.{Trees, SameFiles, HasNoneBelow, is_null
 use Rattle.gix_object_editor.specs.Stored.{HasStored}
 use Rattle.gix_object_nodes.specs.Written.{files_under}
 use Rattle.history_model.specs.Bytes.{Bytes}
-use Rattle.history_model.specs.FileMap.{FileMap, Content, IsFileMap, components, has_below, removed, put_at}
+use Rattle.history_model.specs.FileMap.{FileMap, Content, IsFileMap, Graft, components, edited, has_below, removed, put_at}
 use Rattle.history_model.specs.Objects.{StoredFolder, object_kind, content_of, root, folder_id, blob_id}
 use Rattle.history_model.specs.Repository.{Repository, IsWholeStore}
+use Rattle.history_files.specs.Edits.{IsSource}
+use Rattle.history_files.specs.Entries.{found_leaf}
 use Rattle.history_files.specs.Unfolding.{file_leaf, IsUnfolded, HasTrees}
+use Rattle.history_files.specs.declared.found.Found.{Found}
 
 -- Over each table of trees that has the stored ones, the tree of a file map unfolds to its files.
 abbrev pub TreesUnfold : Type 0
@@ -44,6 +47,16 @@ PutsAgree =
     → IsUnfolded kind files there → is_null (blob_id kind content.bytes) ≡ false
     → IsUnfolded kind (put_at path content files)
     (unfolded.put trees (components path) (file_leaf kind content) there)
+
+-- A graft in a file map puts what stands at its source at the path's components, over trees that have the other files and their folders.
+abbrev pub GraftsAgree : Type 0
+GraftsAgree =
+    (table : Table) (trees : Trees) (kind : Kind) (files other : FileMap)
+    (there : unfolded.FileMap) (path source : Bytes) (found : Option Found)
+    → HasStored table trees → IsUnfolded kind files there
+    → IsSource table kind source other found
+    → IsUnfolded kind (edited files (Graft path source other))
+    (unfolded.put trees (components path) (found_leaf found) there)
 
 -- A removal in a file map is one at the path's components.
 abbrev pub RemovalsAgree : Type 0

@@ -9,3 +9,4 @@ pub mod TreeIds
 pub mod StandIns
 pub mod Opening
 pub mod Lookups
+pub mod KeptTrees

@@ -8,7 +8,7 @@ use Rattle.history_model.specs.Bytes.{Bytes}
 use Rattle.history_model.specs.FileMap.{components}
 use Rattle.history_files.specs.Edits.{name_count}
 use Rattle.history_files.specs.declared.edits.Change.{Change}
-use Rattle.history_files.specs.declared.edits.Change.TheVariants.{Put, Remove, RemoveFile}
+use Rattle.history_files.specs.declared.edits.Change.TheVariants.{Put, Remove, RemoveFile, Graft}
 use Rattle.history_files.specs.declared.edits.Edit.{Edit}
 
 -- the names that lead to the trees for which an edit asks: a file's removal looks into a folder at its path too
@@ -16,6 +16,7 @@ abbrev pub way_of : Bytes → Change → Path
 way_of path (Put kind id) = front_of (components path)
 way_of path Remove = front_of (components path)
 way_of path RemoveFile = components path
+way_of path (Graft found) = front_of (components path)
 
 abbrev pub edit_way : Edit → Path
 edit_way edit = way_of edit.path.now edit.change

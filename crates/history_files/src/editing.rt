@@ -12,6 +12,7 @@ ghost use Rattle.history_model.specs.Bytes.{is_empty};
 ghost use Rattle.history_model.specs.FileMap.{FileMap, components, is_path};
 ghost use Rattle.history_files.specs.StandIns.{puts_null, stand_in};
 ghost use Rattle.history_files.specs.Edits.{name_count};
+ghost use Rattle.history_files.specs.Entries.{own_folders};
 ghost use Rattle.gix_object_entries.specs.Entry.{own_item};
 ghost use Rattle.gix_object_entries.specs.Writing.{tree_text};
 ghost use Rattle.history_files.specs.Editing.{OfEdits, AreEdited, EditsFault, IsBase, root_id};
@@ -38,8 +39,8 @@ use std::alloc::{AllocError, Global};
 /// into which an edit leads and that wasn't asked for before: for one more than the names in the edited paths at most.
 ///
 /// It is `BadPath` where a path has an empty name or a zero byte, whatever the other edits are, and before anything is looked up;
-/// `IsFolder` where a `RemoveFile` finds files below its path; `NullId` where no edit is refused and what is put or one of the trees
-/// has the null id; `Failed` where a lookup failed; `Broken` where the root or a tree on a path isn't there or can't be read; and
+/// `IsFolder` where a `RemoveFile` finds files below its path; `EmptyTree` where what is grafted has the id of the tree without entries;
+/// `NullId` where no edit is refused and what is put or one of the trees has the null id; `Failed` where a lookup failed; `Broken` where the root or a tree on a path isn't there or can't be read; and
 /// `Memory` where no memory is left.
 pub fn edit_files<S: Find>(
     alloc: Global,
@@ -109,7 +110,7 @@ fn editor_of<'a, S: Find>(
 ) -> Result<Editor<&'a S>, EditError>
     ensures base { S.is_honest store.now → (kind : Kind) (files : FileMap)
         → IsBase (S.table store.now) kind (root_id root.entry) files
-        → IfOk result (EditsFiles (S.table store.now) kind files files) }
+        → IfOk result (EditsFiles (S.table store.now) kind (own_folders files) files) }
     ensures as_read { IfOk result (λ editor. (trees : Trees) → IsAsRead trees editor) }
     ensures store { IfOk result (λ editor. editor.store ≡ store.entry) }
     ensures uncounted { IfOk result (λ editor. editor.lookups ≡ 0) }
@@ -144,7 +145,7 @@ fn puts_null(change: &Change) -> bool
 {
     match change {
         Change::Put { id, .. } => is_null(id),
-        Change::Remove | Change::RemoveFile => false,
+        Change::Remove | Change::RemoveFile | Change::Graft(_) => false,
     }
 }
 
@@ -162,6 +163,7 @@ fn stand_in<'a>(id: ObjectId, edit: &Edit<'a>) -> Edit<'a>
         Change::Put { kind, .. } => Change::Put { kind, id },
         Change::Remove => Change::Remove,
         Change::RemoveFile => Change::RemoveFile,
+        Change::Graft(found) => Change::Graft(found),
     };
     Edit {
         path: edit.path,

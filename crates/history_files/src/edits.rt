@@ -5,10 +5,11 @@ ghost use Rattle.gix_hash_id.specs.declared.kind.Kind.{Kind};
 ghost use Rattle.gix_object_nodes.specs.Files.{Trees};
 ghost use Rattle.gix_object_editor.specs.Stored.{HasStored};
 ghost use Rattle.gix_object_editor.specs.Asked.{CountsUp};
-ghost use Rattle.gix_object_editor.specs.Editor.{asked_by, files_of, EachEntryHas, IsAsRead};
+ghost use Rattle.gix_object_editor.specs.Editor.{asked_by, files_of, leaf_of_kind, EachEntryHas, IsAsRead};
 ghost use Rattle.gix_object_editor.specs.Entries.{Property, PassesDown};
 ghost use Rattle.history_files.specs.Editing.{HavePaths};
-ghost use Rattle.history_files.specs.Entries.{MayPut, MayBeMade};
+ghost use Rattle.std.specs.List.{AllByRecursion};
+ghost use Rattle.history_files.specs.Entries.{MayPut, MayBeMade, GraftsStand, found_leaf};
 ghost use Rattle.history_files.specs.Lookups.{AsksOf, edit_way};
 ghost use Rattle.history_files.specs.Opening.{EditsFiles, MakingFault, TellsBroken};
 ghost use Rattle.history_model.specs.FileMap as model;
@@ -19,8 +20,9 @@ ghost use Rattle.history_files.specs.Edits.{AreEdits, IsEdit, EditsMake, EditsPa
 ghost use Rattle.history_files.specs.declared.edits.EditError.TheVariants.{Failed, Memory};
 
 use crate::error::ReadError;
+use crate::found::Found;
 use crate::names::names_of;
-use gix_hash::ObjectId;
+use gix_hash::{Kind, ObjectId};
 use gix_object_editor::tree::editor::{self, Editor};
 use gix_object_entries::tree::EntryKind;
 use gix_object_find::find::existing_object;
@@ -43,6 +45,9 @@ pub enum Change {
     Remove,
     /// The same, but refused where files stand below the path.
     RemoveFile,
+    /// Puts there what was found in other files: a file, or a folder with all that it has. All at or below the path goes, and each
+    /// file above it; that alone, where nothing was found.
+    Graft(Option<Found>),
 }
 
 /// An edit of files.
@@ -66,6 +71,9 @@ pub enum EditError {
     /// What is put, or the tree of a folder, has the null id, by which a tree names nothing.
     #[error("an object has the null id")]
     NullId,
+    /// What is to be grafted has the id of the tree without entries.
+    #[error("a graft has the id of the tree without entries")]
+    EmptyTree,
     /// The store failed to look a tree up.
     #[error("a tree couldn't be looked up")]
     Failed,
@@ -89,8 +97,7 @@ impl From<editor::Error> for EditError {
             editor::Error::FindExistingObject(error) => unread(error),
             editor::Error::CannotRemoveNonLeaf { .. } => EditError::IsFolder,
             editor::Error::MalformedTree { oid } => EditError::Broken { oid },
-            // No edit here grafts a tree.
-            editor::Error::EmptyTree => EditError::NullId,
+            editor::Error::EmptyTree => EditError::EmptyTree,
             editor::Error::Memory => EditError::Memory,
         }
     }
@@ -136,9 +143,9 @@ fn unread(error: existing_object::Error) -> EditError
 
 /// Makes the edits in their order. The files are those that the editor has over trees of its store.
 ///
-/// It is `BadPath` where a path has an empty name, `IsFolder` where a `RemoveFile` finds files below its path, `Failed` where a
-/// lookup failed, `Broken` where a tree on a path isn't there or can't be read, and `Memory` where no memory is left. Some of the
-/// edits before may be made then.
+/// It is `BadPath` where a path has an empty name, `IsFolder` where a `RemoveFile` finds files below its path, `EmptyTree` where what
+/// is grafted has the id of the tree without entries, `Failed` where a lookup failed, `Broken` where a tree on a path isn't there or
+/// can't be read, and `Memory` where no memory is left. Some of the edits before may be made then.
 pub fn make_edits<S: Find>(
     alloc: Global,
     editor: &mut Editor<S>,
@@ -151,9 +158,10 @@ pub fn make_edits<S: Find>(
         → OnOk result (EditsPass (S.table editor.old.store) edits.now
         (λ trees. files_of trees editor.old)) }
     ensures refused { S.is_honest editor.old.store
-        → (kind : Kind) (base files : FileMap) (made : List model.Edit)
-        → EditsFiles (S.table editor.old.store) kind base files editor.old
-        → HavePaths made → AreEdits kind edits.now made
+        → (kind : Kind) (stands : List FileMap) (files : FileMap) (made : List model.Edit)
+        → EditsFiles (S.table editor.old.store) kind stands files editor.old
+        → HavePaths made → AreEdits (S.table editor.old.store) kind edits.now made
+        → AllByRecursion (GraftsStand stands) made
         → IfErr result (MakingFault (S.may_fail editor.old.store) files made) }
     ensures broken { IfErr result
         (TellsBroken (S.is_honest editor.old.store) (S.table editor.old.store)) }
@@ -185,18 +193,21 @@ fn make_edit<S: Find>(
 ) -> Result<(), EditError>
     ensures files { S.is_honest editor.old.store
         → OnOk result ((trees : Trees) (kind : Kind) (files : FileMap) (made : model.Edit)
-        → HasStored (S.table editor.old.store) trees → IsEdit kind edit.now made
+        → HasStored (S.table editor.old.store) trees
+        → IsEdit (S.table editor.old.store) kind edit.now made
         → IsUnfolded kind files (files_of trees editor.old)
         → IsUnfolded kind (edited files made) (files_of trees editor.new)) }
     ensures accepted { S.is_honest editor.old.store
         → OnOk result ((trees : Trees) (kind : Kind) (files : FileMap) (made : model.Edit)
-        → HasStored (S.table editor.old.store) trees → IsEdit kind edit.now made
+        → HasStored (S.table editor.old.store) trees
+        → IsEdit (S.table editor.old.store) kind edit.now made
         → IsUnfolded kind files (files_of trees editor.old)
         → IsFalse (is_refused files made)) }
     ensures refused { S.is_honest editor.old.store
-        → (kind : Kind) (base files : FileMap) (made : model.Edit)
-        → EditsFiles (S.table editor.old.store) kind base files editor.old
-        → IsTrue (is_path edit.now.path.now) → IsEdit kind edit.now made
+        → (kind : Kind) (stands : List FileMap) (files : FileMap) (made : model.Edit)
+        → EditsFiles (S.table editor.old.store) kind stands files editor.old
+        → IsTrue (is_path edit.now.path.now)
+        → IsEdit (S.table editor.old.store) kind edit.now made → GraftsStand stands made
         → IfErr result (MakingFault (S.may_fail editor.old.store) files (made ∷ [])) }
     ensures broken { IfErr result
         (TellsBroken (S.is_honest editor.old.store) (S.table editor.old.store)) }
@@ -223,6 +234,37 @@ fn make_edit<S: Find>(
         }
         Change::Remove => Ok(editor.remove(alloc, names.as_slice())?),
         Change::RemoveFile => Ok(editor.remove_leaf(alloc, names.as_slice())?),
+        Change::Graft(found) => {
+            let entry = entry_for(found);
+            Ok(editor.graft(alloc, names.as_slice(), entry.kind, entry.id)?)
+        }
+    }
+}
+
+// What a tree's entry says.
+#[derive(Drop)]
+struct NewEntry {
+    kind: EntryKind,
+    id: ObjectId,
+}
+
+// The entry of what was found; that of nothing has the null id.
+fn entry_for(found: Option<Found>) -> NewEntry
+    ensures { leaf_of_kind result.kind result.id ≡ found_leaf found }
+{
+    match found {
+        Some(Found::File { kind, id }) => NewEntry {
+            kind: entry_kind(kind),
+            id,
+        },
+        Some(Found::Folder { id }) => NewEntry {
+            kind: EntryKind::Tree,
+            id,
+        },
+        None => NewEntry {
+            kind: EntryKind::Tree,
+            id: ObjectId::null(Kind::Sha1),
+        },
     }
 }
 

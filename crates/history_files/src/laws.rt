@@ -1,6 +1,6 @@
 //! Laws of file maps and of what their trees unfold to: each is the contract of a function that does nothing.
 
-ghost use Rattle.history_files.specs.Laws.{TreesUnfold, WholeStoresHaveTrees, PutsAgree, RemovalsAgree, FoldersAgree, UnfoldingsTellRoots, RootsAreWellFormed};
+ghost use Rattle.history_files.specs.Laws.{TreesUnfold, WholeStoresHaveTrees, PutsAgree, GraftsAgree, RemovalsAgree, FoldersAgree, UnfoldingsTellRoots, RootsAreWellFormed};
 
 /// Over trees that have a file map and its folders, its tree unfolds to its files: at the components of each path the mode of
 /// its kind and the id of its bytes, and nothing elsewhere.
@@ -16,6 +16,12 @@ pub fn whole_stores_have_trees()
 /// A put in a file map is one at the path's components of what it unfolds to.
 pub fn puts_agree()
     ensures { PutsAgree }
+{}
+
+/// A graft in a file map puts what stands at its source at the path's components of what it unfolds to, over trees that have the
+/// other files and their folders.
+pub fn grafts_agree()
+    ensures { GraftsAgree }
 {}
 
 /// A removal in a file map is one at the path's components of what it unfolds to.

@@ -11,8 +11,8 @@ use Rattle.gix_hash_id.specs.Order.{id_eq}
 use Rattle.history_model.specs.Repository.{Repository, Reference, fresh, id_at, stands, commit_at, peeled, peeled_value, as_commit}
 use Rattle.history_model.specs.Commands.{Commit, Files, Show, CommitCommand, EditLine}
 use Rattle.history_model.specs.Words.{ReadsAs, word_meaning, commit_of, commit_read, candidates, name_meaning, id_meaning}
-use Rattle.history_model.specs.Meaning.{after, new_commit, stored_by, store_all, store_one, some_taken, is_taken, is_other, moved_reference, first_files}
-use Rattle.history_model.specs.Causes.{first_cause, word_files, is_unknown, is_ambiguous, is_unborn, is_no_commit}
+use Rattle.history_model.specs.Meaning.{after, new_commit, stored_by, store_all, store_one, some_taken, is_taken, is_other, moved_reference, first_files, word_files}
+use Rattle.history_model.specs.Causes.{first_cause, is_unknown, is_ambiguous, is_unborn, is_no_commit}
 use Rattle.history_model.specs.Answers.{StandsForCommit, files_shown, commit_shown, content_shown}
 use Rattle.history_model.specs.Replies.{Committed, FilesAre, ShowsCommit, ShowsContent}
 use Rattle.history_model.specs.Steps.{Step}

@@ -4,13 +4,13 @@ use Rattle.std.specs.List.{flat_map, filter_map}
 use Rattle.std.specs.FinMap.{get, empty}
 use Rattle.std.specs.Prelude.{pos}
 use Rattle.history_model.specs.Bytes.{Bytes}
-use Rattle.history_model.specs.FileMap.{FileMap, Edit, Put, Remove, RemoveFile, edited, edited_by, folders_of}
+use Rattle.history_model.specs.FileMap.{FileMap, Edit, edited, edited_by, folders_of}
 use Rattle.history_model.specs.Objects.{CommitValue, StoredCommit, StoredFolder, id_of, folder_id}
 use Rattle.gix_hash_id.specs.Id.{Id}
 use Rattle.history_model.specs.Repository.{Repository, Reference, as_commit, peeled, peeled_value, id_at}
-use Rattle.history_model.specs.Commands.{Commit, CommitCommand, EditLine, PutLine, RemoveLine, RemoveFileLine, LogCommand}
+use Rattle.history_model.specs.Commands.{Commit, CommitCommand, EditLine, LogCommand}
 use Rattle.history_model.specs.Words.{commit_of}
-use Rattle.history_model.specs.Meaning.{after, takes_id, branch_or_name, name_commit, first_files, files_at, read_edit, edits_of, new_commit, put_bytes, read_actor, moved_reference}
+use Rattle.history_model.specs.Meaning.{after, takes_id, branch_or_name, name_commit, first_files, files_at, read_line, read_edit, edits_of, new_commit, put_bytes, read_actor, moved_reference}
 use Rattle.history_model.specs.Replies.{Committed, LogIs}
 use Rattle.gix_traverse_commit_graph.specs.Walks.{InSomeOrder}
 use Rattle.gix_traverse_commit_graph.specs.declared.parents.Parents.TheVariants.{All as AllParents, First as FirstParent}
@@ -24,7 +24,7 @@ use Rattle.history_model.proofs.LogLemmas.{some_order}
 use Rattle.history_model.proofs.WholeLists.{in_right, text_itself}
 use Rattle.history_model.proofs.WholeStored.{stored_there}
 use Rattle.history_model.proofs.WholeSteps.{steps_keep_sound}
-use Rattle.history_model.specs.Alike.{base_files, files_of_name, Commits, EditsCutAnyWay, IsPlainLog, OrdersPrintOneSet}
+use Rattle.history_model.specs.Alike.{base_files, files_of_name, GraftsRead, Commits, EditsCutAnyWay, IsPlainLog, OrdersPrintOneSet}
 use Rattle.history_model.proofs.AfterFirstLemmas.{get-with}
 
 -- ---- orders
@@ -70,12 +70,10 @@ map_join : (f : EditLine → Edit) (xs ys : List EditLine) → map f (xs ++ ys) 
 map_join f [] ys = refl
 map_join f (x ∷ xs) ys = ap (λ l. f x ∷ l) (map_join f xs ys)
 
--- an edit's line reads alike everywhere
-reads_alike : (r s : Repository) (lines : List EditLine) → map (read_edit r) lines ≡ map (read_edit s) lines
-reads_alike r s [] = refl
-reads_alike r s (PutLine kind path bytes ∷ lines) = ap (λ l. Put kind path bytes ∷ l) (reads_alike r s lines)
-reads_alike r s (RemoveLine path ∷ lines) = ap (λ l. Remove path ∷ l) (reads_alike r s lines)
-reads_alike r s (RemoveFileLine path ∷ lines) = ap (λ l. RemoveFile path ∷ l) (reads_alike r s lines)
+-- the lines of edits read so
+reads_so : (read : Bytes → FileMap) (r : Repository) (lines : List EditLine) → GraftsRead read r lines → map (read_edit r) lines ≡ map (read_line read) lines
+reads_so read r [] so = refl
+reads_so read r (line ∷ lines) so = λ i. so.0 i ∷ reads_so read r lines so.1 i
 
 -- ---- one commit
 
@@ -131,38 +129,40 @@ record Ended (r new : Repository) (name : Bytes) (files : FileMap) : Type 0 wher
   kind : new.kind ≡ r.kind
   files_there : files_of_name new name ≡ files
 
-ended : (name : Bytes) (r new : Repository) (c : CommitCommand) (cs : List CommitCommand) → IsSound r → Commits name r (c ∷ cs) new → Ended r new name (edited_by (base_files r c) (map (read_edit r) (lines_of (c ∷ cs))))
-ended name r new c [] sound (mid, id, is, step, end) = record {
+ended : (read : Bytes → FileMap) (name : Bytes) (r new : Repository) (c : CommitCommand) (cs : List CommitCommand) → IsSound r → Commits read name r (c ∷ cs) new
+    → Ended r new name (edited_by (base_files r c) (map (read_line read) (lines_of (c ∷ cs))))
+ended read name r new c [] sound (mid, id, is, so, step, end) = record {
   kind = ap (λ (x : Repository). x.kind) (end ∙ step.result);
   files_there =
       ap (λ x. files_of_name x name) end
       ∙ named_files mid name (edited_by (base_files r c) (edits_of r c)) (advanced r mid name c id sound is step)
-      ∙ ap (λ lines. edited_by (base_files r c) (map (read_edit r) lines)) (sym (append-nil c.edits));
+      ∙ ap (edited_by (base_files r c)) (reads_so read r c.edits so)
+      ∙ ap (λ lines. edited_by (base_files r c) (map (read_line read) lines)) (sym (append-nil c.edits));
 }
-ended name r new c (d ∷ ds) sound (mid, id, is, step, more) =
-    let rest = ended name mid new d ds (steps_keep_sound r mid (Commit c) (Committed id) step sound) more in
+ended read name r new c (d ∷ ds) sound (mid, id, is, so, step, more) =
+    let rest = ended read name mid new d ds (steps_keep_sound r mid (Commit c) (Committed id) step sound) more in
     let base : base_files mid d ≡ edited_by (base_files r c) (edits_of r c) =
     next_base mid name (edited_by (base_files r c) (edits_of r c)) (advanced r mid name c id sound is step) d more.2 in
     record {
       kind = rest.kind ∙ ap (λ (x : Repository). x.kind) step.result;
       files_there =
           rest.files_there
-          ∙ (λ i. edited_by (base i) (reads_alike mid r (lines_of (d ∷ ds)) i))
-          ∙ sym (edits_join (base_files r c) (edits_of r c) (map (read_edit r) (lines_of (d ∷ ds))))
-          ∙ ap (edited_by (base_files r c)) (sym (map_join (read_edit r) c.edits (lines_of (d ∷ ds))));
+          ∙ ap (λ files. edited_by files (map (read_line read) (lines_of (d ∷ ds)))) (base ∙ ap (edited_by (base_files r c)) (reads_so read r c.edits so))
+          ∙ sym (edits_join (base_files r c) (map (read_line read) c.edits) (map (read_line read) (lines_of (d ∷ ds))))
+          ∙ ap (edited_by (base_files r c)) (sym (map_join (read_line read) c.edits (lines_of (d ∷ ds))));
     }
 
 pub edits_cut_any_way : EditsCutAnyWay
-edits_cut_any_way name other r s new end c d cs ds sound_r sound_s kinds base edits left right = record {
+edits_cut_any_way read name other r s new end c d cs ds sound_r sound_s kinds base edits left right = record {
   files = files;
   tree = λ i. folder_id (kind i) (files i);
 }
   where
-    ended_left : Ended r new name (edited_by (base_files r c) (map (read_edit r) (lines_of (c ∷ cs))))
-    ended_left = ended name r new c cs sound_r left
+    ended_left : Ended r new name (edited_by (base_files r c) (map (read_line read) (lines_of (c ∷ cs))))
+    ended_left = ended read name r new c cs sound_r left
 
-    ended_right : Ended s end other (edited_by (base_files s d) (map (read_edit s) (lines_of (d ∷ ds))))
-    ended_right = ended other s end d ds sound_s right
+    ended_right : Ended s end other (edited_by (base_files s d) (map (read_line read) (lines_of (d ∷ ds))))
+    ended_right = ended read other s end d ds sound_s right
 
     kind : new.kind ≡ end.kind
     kind = ended_left.kind ∙ kinds ∙ sym ended_right.kind
@@ -170,6 +170,5 @@ edits_cut_any_way name other r s new end c d cs ds sound_r sound_s kinds base ed
     files : files_of_name new name ≡ files_of_name end other
     files =
         ended_left.files_there
-        ∙ (λ i. edited_by (base i) (map (read_edit r) (edits i)))
-        ∙ ap (edited_by (base_files s d)) (reads_alike r s (lines_of (d ∷ ds)))
+        ∙ (λ i. edited_by (base i) (map (read_line read) (edits i)))
         ∙ sym ended_right.files_there

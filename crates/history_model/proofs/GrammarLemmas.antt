@@ -3,7 +3,7 @@ use Rattle.std.proofs.Common.{◌≡◌, Bool, true, false, List, [], ◌∷◌,
 use Rattle.std.specs.List.{flat_map, list_all}
 use Rattle.std.proofs.lemmas.Slice.Eq.{bytes_eq-Decides}
 use Rattle.history_model.specs.Bytes.{Bytes}
-use Rattle.history_model.specs.Commands.{Command, Commit, Tag, Move, Rename, Delete, Switch, Pack, Index, Names, Files, Past, Log, Show, Expect, Any, New, At, ActorLine, EditLine, PutLine, RemoveLine, RemoveFileLine, To, Order, Breadth, Newest, Oldest, NewestSince, OldestSince, Date, Topological, LogItem, Tip, Hidden}
+use Rattle.history_model.specs.Commands.{Command, Commit, Tag, Move, Rename, Delete, Switch, Pack, Index, Names, Files, Past, Log, Show, Expect, Any, New, At, ActorLine, EditLine, PutLine, RemoveLine, RemoveFileLine, GraftLine, To, Order, Breadth, Newest, Oldest, NewestSince, OldestSince, Date, Topological, LogItem, Tip, Hidden}
 use Rattle.history_model.specs.Spelling.{Part, Line, Field, has_spelling, parents_word, expect_words, at_words, option_list, path_words, order_words, item_word, kind_word, edit_parts, to_part, parent_part, actor_parts, message_parts, end_part, parts_of, has_enough, is_part}
 use Rattle.history_model.specs.Grammar.{is_command, IsPrefixFree}
 use Rattle.history_model.specs.Stage.{is_spoken}
@@ -137,9 +137,11 @@ module _ (C : Type 0) (ws vs : List Bytes) (t u : List Part) where
   agree_edits [] (PutLine kind path bytes ∷ fs) k = λ e. heads_differ _ _ _ _ refl e
   agree_edits [] (RemoveLine path ∷ fs) k = λ e. heads_differ _ _ _ _ refl e
   agree_edits [] (RemoveFileLine path ∷ fs) k = λ e. heads_differ _ _ _ _ refl e
+  agree_edits [] (GraftLine path word source ∷ fs) k = λ e. heads_differ _ _ _ _ refl e
   agree_edits (PutLine kind path bytes ∷ es) [] k = λ e. heads_differ _ _ _ _ refl e
   agree_edits (RemoveLine path ∷ es) [] k = λ e. heads_differ _ _ _ _ refl e
   agree_edits (RemoveFileLine path ∷ es) [] k = λ e. heads_differ _ _ _ _ refl e
+  agree_edits (GraftLine path word source ∷ es) [] k = λ e. heads_differ _ _ _ _ refl e
   agree_edits (PutLine kind path bytes ∷ es) (PutLine sort place text ∷ fs) k = λ e. (
     head_same (tail_same (tail_same e)),
     λ p. (
@@ -156,18 +158,34 @@ module _ (C : Type 0) (ws vs : List Bytes) (t u : List Part) where
   agree_edits (RemoveLine path ∷ es) (RemoveFileLine place ∷ fs) k = λ e. heads_differ _ _ _ _ refl e
   agree_edits (RemoveFileLine path ∷ es) (PutLine sort place text ∷ fs) k = λ e. heads_differ _ _ _ _ refl e
   agree_edits (RemoveFileLine path ∷ es) (RemoveLine place ∷ fs) k = λ e. heads_differ _ _ _ _ refl e
+  agree_edits (GraftLine path word source ∷ es) (GraftLine place name part ∷ fs) k = λ e. (
+    head_same (tail_same e),
+    λ p. (
+      head_same (tail_same (tail_same (tail_same e))),
+      λ s.
+          agree_edits es fs (λ same. k (λ i. GraftLine (p i) (head_same (tail_same (tail_same e)) i) (s i) ∷ same i)),
+    ),
+  )
+  agree_edits (PutLine kind path bytes ∷ es) (GraftLine place name part ∷ fs) k = λ e. heads_differ _ _ _ _ refl e
+  agree_edits (RemoveLine path ∷ es) (GraftLine place name part ∷ fs) k = λ e. heads_differ _ _ _ _ refl e
+  agree_edits (RemoveFileLine path ∷ es) (GraftLine place name part ∷ fs) k = λ e. heads_differ _ _ _ _ refl e
+  agree_edits (GraftLine path word source ∷ es) (PutLine sort place text ∷ fs) k = λ e. heads_differ _ _ _ _ refl e
+  agree_edits (GraftLine path word source ∷ es) (RemoveLine place ∷ fs) k = λ e. heads_differ _ _ _ _ refl e
+  agree_edits (GraftLine path word source ∷ es) (RemoveFileLine place ∷ fs) k = λ e. heads_differ _ _ _ _ refl e
 
   no_parent_left : (es : List EditLine) (q : Bytes) (rest : List Part) → Agree C (flat_map edit_parts es ++ left) (parent_part q ∷ rest)
   no_parent_left [] q rest = λ e. heads_differ _ _ _ _ refl e
   no_parent_left (PutLine kind path bytes ∷ es) q rest = λ e. heads_differ _ _ _ _ refl e
   no_parent_left (RemoveLine path ∷ es) q rest = λ e. heads_differ _ _ _ _ refl e
   no_parent_left (RemoveFileLine path ∷ es) q rest = λ e. heads_differ _ _ _ _ refl e
+  no_parent_left (GraftLine path word source ∷ es) q rest = λ e. heads_differ _ _ _ _ refl e
 
   no_parent_right : (fs : List EditLine) (p : Bytes) (rest : List Part) → Agree C (parent_part p ∷ rest) (flat_map edit_parts fs ++ right)
   no_parent_right [] p rest = λ e. heads_differ _ _ _ _ refl e
   no_parent_right (PutLine kind path bytes ∷ fs) p rest = λ e. heads_differ _ _ _ _ refl e
   no_parent_right (RemoveLine path ∷ fs) p rest = λ e. heads_differ _ _ _ _ refl e
   no_parent_right (RemoveFileLine path ∷ fs) p rest = λ e. heads_differ _ _ _ _ refl e
+  no_parent_right (GraftLine path word source ∷ fs) p rest = λ e. heads_differ _ _ _ _ refl e
 
   agree_parents : (ps qs : List Bytes) (es fs : List EditLine) → (ps ≡ qs → es ≡ fs → Agree C left right)
       → Agree C (map parent_part ps ++ (flat_map edit_parts es ++ left)) (map parent_part qs ++ (flat_map edit_parts fs ++ right))

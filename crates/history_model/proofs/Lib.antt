@@ -4,6 +4,7 @@ mod Offered
 mod GrammarLemmas
 mod RestLemmas
 mod EditLemmas
+pub mod GraftLemmas
 pub mod NameTests
 pub mod NameLemmas
 mod RestRowLemmas
@@ -21,6 +22,7 @@ pub mod FormatLemmas
 pub mod AfterFirstLemmas
 mod OneFileLemmas
 mod StreamRowLemmas
+mod GraftRowLemmas
 pub mod EntryLemmas
 mod FirstLines
 mod AlikeLemmas

@@ -1,22 +1,23 @@
 -- The store after a command of which no cause holds is whole.
-use Rattle.std.proofs.Common.{◌≡◌, false, List, [], ◌∷◌, ◌++◌, map, refl, sym, ap, subst, inl, inr, Option, Some, None, is_none, unwrap_or}
+use Rattle.std.proofs.Common.{◌≡◌, false, List, [], ◌∷◌, ◌++◌, map, refl, sym, ap, subst, inl, inr, Option, Some, None, is_none, option_to_list, unwrap_or}
 use Rattle.std.specs.List.{flat_map}
 use Rattle.std.specs.FinMap.{entries, keys}
 use Rattle.history_model.specs.Bytes.{Bytes}
-use Rattle.history_model.specs.FileMap.{FileMap, Content, inside, beginnings, folders_of, Edit, Put, Remove, RemoveFile}
+use Rattle.history_model.specs.FileMap.{FileMap, Content, inside, beginnings, folders_of, Edit, Put, Remove, RemoveFile, Graft, ComesFromFiles, grafted}
 use Rattle.history_model.specs.Objects.{Value, StoredCommit, StoredBytes, StoredFolder}
 use Rattle.gix_hash_id.specs.Id.{Id, null_id}
-use Rattle.history_model.specs.Repository.{Repository, HoldsCommit, peeled, IsWholeStore}
+use Rattle.history_model.specs.Repository.{Repository, HoldsCommit, IsStored, peeled, IsWholeStore}
 use Rattle.history_model.specs.Forms.{IsWrittenFiles, IsWritten}
 use Rattle.history_model.specs.Words.{WordMeaning, ReadsAs, Unborn, Unknown, Ambiguous, commit_read, commit_of, word_meaning}
-use Rattle.history_model.specs.Commands.{Command, Commit, Tag, Move, Rename, Delete, Switch, Pack, Index, Names, Files, Past, Log, Show, CommitCommand, TagCommand}
-use Rattle.history_model.specs.Meaning.{parents_of, first_files, edits_of, new_commit, put_bytes, stored_by, takes_id, names_after, branch_after, after}
-use Rattle.history_model.specs.CommandParts.{words_in, at_word}
+use Rattle.history_model.specs.Commands.{Command, Commit, Tag, Move, Rename, Delete, Switch, Pack, Index, Names, Files, Past, Log, Show, CommitCommand, TagCommand, EditLine, PutLine, RemoveLine, RemoveFileLine, GraftLine}
+use Rattle.history_model.specs.Meaning.{parents_of, first_files, word_files, read_edit, edits_of, new_commit, put_bytes, stored_by, takes_id, names_after, branch_after, after}
+use Rattle.history_model.specs.CommandParts.{words_in, at_word, edit_words}
 use Rattle.history_model.specs.Causes.{first_cause, is_unknown, is_ambiguous, is_unborn, is_no_commit}
 use Rattle.history_model.specs.declared.Cause.TheVariants.{UnknownWord, AmbiguousWord, UnbornHead, NotACommit}
-use Rattle.history_model.proofs.WholeLists.{In, in_left, in_right, in_either, in_map, of_flat, in_flat, none_passes}
+use Rattle.history_model.proofs.WholeLists.{In, in_left, in_right, in_either, in_map, of_map, of_flat, in_flat, none_passes}
 use Rattle.history_model.proofs.WholeRoots.{HasAll, ArePlain, of_folders, inside_has, plain_inside}
 use Rattle.history_model.proofs.WholeStores.{in_get, near_stored}
+use Rattle.history_model.proofs.GraftLemmas.{of_carried}
 use Rattle.history_model.proofs.WholeGrowth.{Coming, Fits, grown_whole}
 use Rattle.history_model.proofs.WholeReads.{no_cause, tests_ambiguous_word, tests_not_a_commit, tests_unborn_head, tests_unknown_word, read_holds, parents_hold, plain_written, Fine, first_fine, edits_from, new_written}
 
@@ -53,8 +54,39 @@ module _ (r : Repository) (whole : IsWholeStore r) (written : IsWritten r) where
     pub old_fine : Fine r (first_files r (parents_of r c))
     old_fine = first_fine r whole written (parents_of r c) (λ id i. parents_hold r whole c id i)
 
+    -- the files of a graft's word
+    word_fine : (line : EditLine) → In line c.edits → (word : Bytes) → In word (edit_words line) → Fine r (word_files r word)
+    word_fine line i word j =
+        let held = word_commit r (Commit c) none word
+        (in_right word (at_word c.expect) (c.parents ++ flat_map edit_words c.edits) (in_right word c.parents (flat_map edit_words c.edits) (in_flat edit_words word line c.edits i j))) in
+        subst (λ o. Fine r (first_files r (option_to_list o))) (sym held.1)
+        (first_fine r whole written (held.0 ∷ []) (λ id k. elim k [ inl e ↦ subst (HoldsCommit r) (sym e) (read_holds r whole (word_meaning r word) held.0 held.1) | inr none ↦ absurd none ]))
+
+    line_comes : (line : EditLine) → In line c.edits → ComesFromFiles (read_edit r line)
+    line_comes (PutLine kind path bytes) i = tt
+    line_comes (RemoveLine path) i = tt
+    line_comes (RemoveFileLine path) i = tt
+    line_comes (GraftLine path word source) i = (word_fine (GraftLine path word source) i word (inl refl)).1.map
+
+    pub edits_come : (e : Edit) → In e (edits_of r c) → ComesFromFiles e
+    edits_come e i = let from = of_map (read_edit r) e c.edits i in subst ComesFromFiles (sym from.2) (line_comes from.0 from.1)
+
+    -- what is grafted is stored
+    line_stored : (line : EditLine) → In line c.edits → (path : Bytes) (content : Content) → In (path, content) (grafted (read_edit r line)) → IsStored r (StoredBytes content.bytes)
+    line_stored (PutLine kind at bytes) i path content j = absurd j
+    line_stored (RemoveLine at) i path content j = absurd j
+    line_stored (RemoveFileLine at) i path content j = absurd j
+    line_stored (GraftLine at word source) i path content j =
+        let one = of_carried at source (word_files r word) path content j in
+        (word_fine (GraftLine at word source) i word (inl refl)).0 one.from content (in_get (word_files r word) one.from content one.stands)
+
+    pub graft_stored : (e : Edit) → In e (edits_of r c) → (path : Bytes) (content : Content) → In (path, content) (grafted e) → IsStored r (StoredBytes content.bytes)
+    graft_stored e i path content j =
+        let from = of_map (read_edit r) e c.edits i in
+        line_stored from.0 from.1 path content (subst (λ f. In (path, content) (grafted f)) from.2 j)
+
     pub files_written : IsWrittenFiles files
-    files_written = new_written r c none old_fine.1
+    files_written = new_written r c none old_fine.1 edits_come
 
     plain : ArePlain (entries files)
     plain = plain_written files files_written
@@ -73,8 +105,9 @@ module _ (r : Repository) (whole : IsWholeStore r) (written : IsWritten r) where
           (in_flat beginnings folder path (keys files) (in_map (λ (e : Bytes × Content). e.0) (path, content) (entries files) i) j)))));
       bytes = λ path content i. elim (edits_from (first_files r (parents_of r c)) (edits_of r c) path content (in_get files path content i)) [
         | inl a ↦ inr (near_stored r.kind r.objects (StoredBytes content.bytes) (old_fine.0 path content a))
-        | inr b ↦ inl (in_left (StoredBytes content.bytes) (flat_map put_bytes (edits_of r c) ++ map StoredFolder (folders_of files)) (StoredCommit (new_commit r c) ∷ [])
-            (in_left (StoredBytes content.bytes) (flat_map put_bytes (edits_of r c)) (map StoredFolder (folders_of files)) (in_flat put_bytes (StoredBytes content.bytes) b.0 (edits_of r c) b.1 b.3)))
+        | inr (e, j, inl b) ↦ inl (in_left (StoredBytes content.bytes) (flat_map put_bytes (edits_of r c) ++ map StoredFolder (folders_of files)) (StoredCommit (new_commit r c) ∷ [])
+            (in_left (StoredBytes content.bytes) (flat_map put_bytes (edits_of r c)) (map StoredFolder (folders_of files)) (in_flat put_bytes (StoredBytes content.bytes) e (edits_of r c) j b.1)))
+        | inr (e, j, inr b) ↦ inr (near_stored r.kind r.objects (StoredBytes content.bytes) (graft_stored e j path content b))
       ];
     }
 
@@ -90,6 +123,7 @@ module _ (r : Repository) (whole : IsWholeStore r) (written : IsWritten r) where
     put_fits v (Put kind path bytes) (inr i) = absurd i
     put_fits v (Remove path) i = absurd i
     put_fits v (RemoveFile path) i = absurd i
+    put_fits v (Graft path source from) i = absurd i
 
     commit_fits : (v : Value) → In v stored → Fits r stored v
     commit_fits v i = elim (in_either v (flat_map put_bytes (edits_of r c) ++ map StoredFolder (folders_of files)) (StoredCommit (new_commit r c) ∷ []) i) [

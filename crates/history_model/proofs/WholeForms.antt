@@ -3,7 +3,7 @@ use Rattle.std.proofs.Common.{◌≡◌, ℕ, suc, ◌+◌, ◌≤◌, Bool, tru
 use Rattle.std.specs.List.{list_any, list_all, flat_map, slice_split, onto_first, prefix_len}
 use Rattle.std.specs.FinMap.{get, remove, contains_key}
 use Rattle.history_model.specs.Bytes.{Bytes, begins, has_byte, has_twice, is_empty, digits_value, is_decimal}
-use Rattle.history_model.specs.FileMap.{FileMap, is_path, components, inside, folders_of, Edit, Put, Remove, RemoveFile}
+use Rattle.history_model.specs.FileMap.{FileMap, is_path, components, inside, folders_of, Edit, Put, Remove, RemoveFile, Graft}
 use Rattle.history_model.specs.Objects.{Actor, Value, StoredCommit, StoredTag, StoredFolder, content_of, value_text, id_of}
 use Rattle.gix_hash_id.specs.Id.{Id, null_id}
 use Rattle.gix_hash_id.specs.Order.{id_eq}
@@ -228,6 +228,7 @@ module _ (r : Repository) (whole : IsWhole r) (written : IsWritten r) where
   put_formed v (Put kind path bytes) (inr i) = absurd i
   put_formed v (Remove path) i = absurd i
   put_formed v (RemoveFile path) i = absurd i
+  put_formed v (Graft path source from) i = absurd i
 
   commit_values : (c : CommitCommand) → first_cause r (Commit c) ≡ None → (v : Value) → In v (stored_by r (Commit c)) → HasForm r.kind v
   commit_values c none v i = elim (in_either v (flat_map put_bytes (edits_of r c) ++ map StoredFolder (folders_of files)) (StoredCommit (new_commit r c) ∷ []) i) [

@@ -12,7 +12,7 @@ use Rattle.std.proofs.lemmas.Bool.{and_left, and_from, and_parts, or_from}
 pub eq_same : (a b : ℕ) → nat_eq a b ≡ true → a ≡ b
 eq_same a b h = grind (arith, tests)
 
-same_eq : (a : ℕ) → nat_eq a a ≡ true
+pub same_eq : (a : ℕ) → nat_eq a a ≡ true
 same_eq a = grind (arith, tests)
 
 -- ---- below

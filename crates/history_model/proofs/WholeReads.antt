@@ -1,22 +1,23 @@
 -- What a command reads of a whole repository, and the files of its commit.
-use Rattle.std.proofs.Common.{◌≡◌, ◌≤◌, ◌⊎◌, Bool, true, false, cond, not, ◌||◌, List, [], ◌∷◌, length, refl, sym, ◌∙◌, ap, subst, arith, tests, inl, inr, Option, Some, None, is_some, bytes_eq, nat_lt, option_map, option_to_list, unwrap_or, option_and_then, find}
+use Rattle.std.proofs.Common.{◌≡◌, ◌≤◌, ◌⊎◌, Bool, true, false, cond, not, ◌||◌, List, [], ◌∷◌, ◌++◌, length, refl, sym, ◌∙◌, ap, subst, arith, tests, inl, inr, Option, Some, None, is_some, bytes_eq, nat_lt, option_map, option_to_list, unwrap_or, option_and_then, find}
 use Rattle.std.specs.List.{list_any, filter_map, cons_option}
 use Rattle.std.specs.FinMap.{entries, get, get-empty, empty, contains_key, retain_keys}
 use Rattle.history_model.specs.Bytes.{Bytes, by_bytes, has_byte}
-use Rattle.history_model.specs.FileMap.{FileMap, Content, is_path, components, is_within, Edit, Put, Remove, RemoveFile, edited, edited_by, edit_path}
+use Rattle.history_model.specs.FileMap.{FileMap, Content, is_path, components, is_within, Edit, Put, Remove, RemoveFile, Graft, ComesFromFiles, edited, edited_by, edit_path, cleared, carried, grafted, grafted_paths}
 use Rattle.history_model.specs.Objects.{Value, CommitValue, StoredCommit, StoredTag, StoredBytes, StoredFolder, id_of}
 use Rattle.gix_hash_id.specs.Id.{Id}
 use Rattle.history_model.specs.Repository.{Repository, IsStored, HoldsCommit, as_commit, peeled, peeled_value, id_at, IsWholeStore}
 use Rattle.history_model.specs.Forms.{IsWrittenFiles, IsWritten, max_path}
 use Rattle.history_model.specs.Words.{WordMeaning, ReadsAs, Unborn, Unknown, Ambiguous, commit_read, commit_of, word_meaning}
-use Rattle.history_model.specs.Commands.{Command, Commit, CommitCommand, EditLine, PutLine, RemoveLine, RemoveFileLine}
+use Rattle.history_model.specs.Commands.{Command, Commit, CommitCommand, EditLine, PutLine, RemoveLine, RemoveFileLine, GraftLine}
 use Rattle.history_model.specs.Meaning.{parents_of, name_commit, branch_or_name, first_files, read_edit, edits_of, new_commit, put_bytes}
 use Rattle.history_model.specs.CommandParts.{edit_paths, paths_in}
-use Rattle.history_model.specs.Causes.{first_cause, holds, in_order, is_bad_path}
+use Rattle.history_model.specs.Causes.{first_cause, holds, in_order, is_bad_path, grafted_in}
 use Rattle.history_model.specs.declared.Cause.{Cause}
 use Rattle.history_model.specs.declared.Cause.TheVariants.{BadName, PrivateName, UnknownWord, AmbiguousWord, UnbornHead, NotACommit, NoSuchName, Collides, TooManyParents, DuplicateParent, BadPath, BadActor, BadTime, BadMessage, TooLarge}
 use Rattle.history_model.proofs.EditLemmas.{edits_keep}
-use Rattle.history_model.proofs.WholeLists.{In, in_either, of_map, in_flat, same_text, none_is_some, none_passes, pass_all}
+use Rattle.history_model.proofs.GraftLemmas.{of_filter, had_all}
+use Rattle.history_model.proofs.WholeLists.{In, in_all, in_left, in_right, in_map, in_either, of_map, in_flat, same_text, none_is_some, none_passes, pass_all}
 use Rattle.history_model.proofs.WholeRoots.{ArePlain}
 use Rattle.history_model.proofs.WholeStores.{get_in, in_get, get_retained}
 use Rattle.history_model.proofs.WholeGrowth.{holds_value, has_stored}
@@ -111,15 +112,6 @@ module _ (r : Repository) (whole : IsWholeStore r) where
       go None k = none_is_some t k
       go (Some id) k = peeled_holds id t k
 
-  of_filter : {X Y : Type 0} (f : X → Option Y) (y : Y) (xs : List X) → In y (filter_map f xs) → (x : X) × In x xs × (f x ≡ Some y)
-  of_filter f y [] i = absurd i
-  of_filter {X = X} {Y = Y} f y (x ∷ xs) i = go (f x) refl i (of_filter f y xs)
-    where
-      go : (o : Option Y) → f x ≡ o → In y (cons_option o (filter_map f xs)) → (In y (filter_map f xs) → (z : X) × In z xs × (f z ≡ Some y)) → (z : X) × ((z ≡ x) ⊎ In z xs) × (f z ≡ Some y)
-      go None e j rest = let more = rest j in (more.0, inr more.1, more.2)
-      go (Some z) e (inl g) rest = (x, inl refl, e ∙ ap Some (sym g))
-      go (Some z) e (inr j) rest = let more = rest j in (more.0, inr more.1, more.2)
-
   of_option : {X : Type 0} (x : X) (o : Option X) → In x (option_to_list o) → o ≡ Some x
   of_option x None i = absurd i
   of_option x (Some y) (inl e) = ap Some (sym e)
@@ -176,53 +168,66 @@ kept_there m test path content h = go (test path) (sym (get_retained m test path
     go true k = k
     go false k = none_is_some content k
 
-edit_from : (m : FileMap) (e : Edit) (path : Bytes) (content : Content) → get (edited m e) path ≡ Some content → (get m path ≡ Some content) ⊎ ((path ≡ edit_path e) × In (StoredBytes content.bytes) (put_bytes e))
+-- an edit puts this content at the path, or grafts it there
+abbrev pub Gives : Edit → Bytes → Content → Type 0
+Gives e path content = ((path ≡ edit_path e) × In (StoredBytes content.bytes) (put_bytes e)) ⊎ In (path, content) (grafted e)
+
+edit_from : (m : FileMap) (e : Edit) (path : Bytes) (content : Content) → get (edited m e) path ≡ Some content → (get m path ≡ Some content) ⊎ Gives e path content
 edit_from m (Put kind p bytes) path content h = go (bytes_eq path p) refl (sym (get-with (retain_keys m test) p (record { kind = kind; bytes = bytes }) path) ∙ h)
   where
     test : Bytes → Bool
     test q = not (is_within p q || is_within q p)
 
     go : (b : Bool) → bytes_eq path p ≡ b → cond b (Some (record { kind = kind; bytes = bytes })) (get (retain_keys m test) path) ≡ Some content
-        → (get m path ≡ Some content) ⊎ ((path ≡ p) × ((StoredBytes content.bytes ≡ StoredBytes bytes) ⊎ ⊥))
-    go true e k = inr (same_text path p e, inl (ap (λ (c : Content). StoredBytes c.bytes) (sym (same_Some (record { kind = kind; bytes = bytes }) content k))))
+        → (get m path ≡ Some content) ⊎ Gives (Put kind p bytes) path content
+    go true e k = inr (inl (same_text path p e, inl (ap (λ (c : Content). StoredBytes c.bytes) (sym (same_Some (record { kind = kind; bytes = bytes }) content k)))))
     go false e k = inl (kept_there m test path content k)
 edit_from m (Remove p) path content h = inl (kept_there m (λ q. not (is_within p q)) path content h)
 edit_from m (RemoveFile p) path content h = inl (kept_there m (λ q. not (is_within p q)) path content h)
+edit_from m (Graft p source from) path content h = elim (had_all (carried p source from) (cleared p m) path content h) [
+  | inl i ↦ inr (inr i)
+  | inr g ↦ inl (kept_there m (λ q. not (is_within p q || is_within q p)) path content g)
+]
 
 pub edits_from : (m : FileMap) (edits : List Edit) (path : Bytes) (content : Content) → get (edited_by m edits) path ≡ Some content
-    → (get m path ≡ Some content) ⊎ ((e : Edit) × In e edits × (path ≡ edit_path e) × In (StoredBytes content.bytes) (put_bytes e))
+    → (get m path ≡ Some content) ⊎ ((e : Edit) × In e edits × Gives e path content)
 edits_from m [] path content h = inl h
 edits_from m (e ∷ edits) path content h = elim (edits_from (edited m e) edits path content h) [
-  | inl a ↦ elim (edit_from m e path content a) [ inl b ↦ inl b | inr b ↦ inr (e, inl refl, b.0, b.1) ]
-  | inr a ↦ inr (a.0, inr a.1, a.2, a.3)
+  | inl a ↦ elim (edit_from m e path content a) [ inl b ↦ inl b | inr b ↦ inr (e, inl refl, b) ]
+  | inr a ↦ inr (a.0, inr a.1, a.2)
 ]
 
 -- ---- a commit's files
 
 module _ (r : Repository) (c : CommitCommand) (none : first_cause r (Commit c) ≡ None) where
-  good_path : (path : Bytes) → In path (paths_in (Commit c)) → (is_path path ≡ true) × (nat_lt max_path (length path) ≡ false)
+  good_path : (path : Bytes) → In path (paths_in (Commit c) ++ grafted_in r (Commit c)) → (is_path path ≡ true) × (nat_lt max_path (length path) ≡ false)
   good_path path i =
-      let good = none_passes is_bad_path (paths_in (Commit c)) (no_cause r (Commit c) none BadPath tests_bad_path) path i in
+      let good = none_passes is_bad_path (paths_in (Commit c) ++ grafted_in r (Commit c)) (no_cause r (Commit c) none BadPath tests_bad_path) path i in
       let parts = or_parts (not (is_path path)) (nat_lt max_path (length path)) good in
       (not-false (is_path path) parts.0, parts.1)
 
-  edit_in : (e : Edit) → In e (edits_of r c) → In (edit_path e) (paths_in (Commit c))
+  edit_in : (e : Edit) → In e (edits_of r c) → In (edit_path e) (paths_in (Commit c) ++ grafted_in r (Commit c))
   edit_in e i =
       let from = of_map (read_edit r) e c.edits i in
-      in_flat edit_paths (edit_path e) from.0 c.edits from.1 (subst (λ f. In (edit_path f) (edit_paths from.0)) (sym from.2) (go from.0))
+      in_left (edit_path e) (paths_in (Commit c)) (grafted_in r (Commit c)) (in_flat edit_paths (edit_path e) from.0 c.edits from.1 (subst (λ f. In (edit_path f) (edit_paths from.0)) (sym from.2) (go from.0)))
     where
       go : (line : EditLine) → In (edit_path (read_edit r line)) (edit_paths line)
       go (PutLine kind path bytes) = inl refl
       go (RemoveLine path) = inl refl
       go (RemoveFileLine path) = inl refl
+      go (GraftLine path word source) = inl refl
+
+  graft_in : (e : Edit) (path : Bytes) (content : Content) → In e (edits_of r c) → In (path, content) (grafted e) → In path (paths_in (Commit c) ++ grafted_in r (Commit c))
+  graft_in e path content i j =
+      in_right path (paths_in (Commit c)) (grafted_in r (Commit c)) (in_flat grafted_paths path e (edits_of r c) i (in_map (λ (x : Bytes × Content). x.0) (path, content) (grafted e) j))
 
   short_path : (path : Bytes) → nat_lt max_path (length path) ≡ false → length path ≤ max_path
   short_path path h = grind (arith, tests)
 
   -- the files of the commit keep their form
-  pub new_written : IsWrittenFiles (first_files r (parents_of r c)) → IsWrittenFiles (new_commit r c).files
-  new_written old = record {
-    map = edits_keep (first_files r (parents_of r c)) (edits_of r c) old.map (pass_all (λ edit. is_path (edit_path edit)) (edits_of r c) (λ e i. (good_path (edit_path e) (edit_in e i)).0));
+  pub new_written : IsWrittenFiles (first_files r (parents_of r c)) → ((e : Edit) → In e (edits_of r c) → ComesFromFiles e) → IsWrittenFiles (new_commit r c).files
+  new_written old from = record {
+    map = edits_keep (first_files r (parents_of r c)) (edits_of r c) old.map (pass_all (λ edit. is_path (edit_path edit)) (edits_of r c) (λ e i. (good_path (edit_path e) (edit_in e i)).0)) (in_all ComesFromFiles (edits_of r c) from);
     limit = λ path h. at path (get (edited_by (first_files r (parents_of r c)) (edits_of r c)) path) refl h;
   }
     where
@@ -230,5 +235,6 @@ module _ (r : Repository) (c : CommitCommand) (none : first_cause r (Commit c) �
       at path None e h = cc
       at path (Some content) e h = elim (edits_from (first_files r (parents_of r c)) (edits_of r c) path content e) [
         | inl a ↦ old.limit path (ap is_some a)
-        | inr b ↦ subst (λ p. length p ≤ max_path) (sym b.2) (short_path (edit_path b.0) (good_path (edit_path b.0) (edit_in b.0 b.1)).1)
+        | inr (e, i, inl b) ↦ subst (λ p. length p ≤ max_path) (sym b.0) (short_path (edit_path e) (good_path (edit_path e) (edit_in e i)).1)
+        | inr (e, i, inr b) ↦ short_path path (good_path path (graft_in e path content i b)).1
       ]

@@ -1,13 +1,13 @@
 -- What the laws on commands that come to the same say.
 use Rattle.std.specs.Prelude.{◌≡◌, List, [], ◌∷◌, None, option_to_list, IsFalse, ◌↔◌, Contains}
-use Rattle.std.specs.List.{flat_map}
+use Rattle.std.specs.List.{flat_map, AllByRecursion}
 use Rattle.history_model.specs.Bytes.{Bytes}
 use Rattle.history_model.specs.FileMap.{FileMap}
 use Rattle.history_model.specs.Objects.{folder_id}
 use Rattle.gix_hash_id.specs.Id.{Id}
 use Rattle.history_model.specs.Repository.{Repository}
-use Rattle.history_model.specs.Commands.{Commit, CommitCommand, Log, LogCommand}
-use Rattle.history_model.specs.Meaning.{branch_or_name, name_commit, parents_of, first_files}
+use Rattle.history_model.specs.Commands.{Commit, CommitCommand, EditLine, Log, LogCommand}
+use Rattle.history_model.specs.Meaning.{branch_or_name, name_commit, parents_of, first_files, read_line, read_edit}
 use Rattle.history_model.specs.Replies.{Committed, LogIs}
 use Rattle.history_model.specs.Answers.{since_of}
 use Rattle.history_model.specs.Steps.{Step}
@@ -23,26 +23,33 @@ base_files r c = first_files r (parents_of r c)
 abbrev pub files_of_name : Repository → Bytes → FileMap
 files_of_name r name = first_files r (option_to_list (name_commit r name))
 
--- commits on one name in a row, each accepted
-abbrev pub Commits : Bytes → Repository → List CommitCommand → Repository → Type 0
-Commits name r [] new = new ≡ r
-Commits name r (c ∷ cs) new =
+-- each graft's word reads as a commit of these files
+abbrev pub GraftsRead : (Bytes → FileMap) → Repository → List EditLine → Type 0
+GraftsRead files r lines = AllByRecursion (λ line. read_edit r line ≡ read_line files line) lines
+
+-- commits on one name in a row, each accepted, whose grafts' words read as commits of these files
+abbrev pub Commits : (Bytes → FileMap) → Bytes → Repository → List CommitCommand → Repository
+    → Type 0
+Commits files name r [] new = new ≡ r
+Commits files name r (c ∷ cs) new =
     (mid : Repository) × (id : Id) × (branch_or_name r c.name ≡ name)
-    × Step r (Commit c) (Committed id) mid × Commits name mid cs new
+    × GraftsRead files r c.edits
+    × Step r (Commit c) (Committed id) mid × Commits files name mid cs new
 
 -- One list of edits, cut in two ways into accepted commits from equal files in repositories of one kind, gives equal files
--- and one id of the root tree.
+-- and one id of the root tree, where each graft's word reads as a commit of the same files however the list is cut.
 pub record EndsAlike (r s : Repository) (name other : Bytes) : Type 0 where
   pub files : files_of_name r name ≡ files_of_name s other
   pub tree : folder_id r.kind (files_of_name r name) ≡ folder_id s.kind (files_of_name s other)
 
 abbrev pub EditsCutAnyWay : Type 0
 EditsCutAnyWay =
-    (name other : Bytes) (r s new end : Repository) (c d : CommitCommand)
+    (read : Bytes → FileMap) (name other : Bytes) (r s new end : Repository) (c d : CommitCommand)
     (cs ds : List CommitCommand)
     → IsSound r → IsSound s → r.kind ≡ s.kind → base_files r c ≡ base_files s d
     → flat_map (λ c. c.edits) (c ∷ cs) ≡ flat_map (λ d. d.edits) (d ∷ ds)
-    → Commits name r (c ∷ cs) new → Commits other s (d ∷ ds) end → EndsAlike new end name other
+    → Commits read name r (c ∷ cs) new → Commits read other s (d ∷ ds) end
+    → EndsAlike new end name other
 
 -- ---- orders
 

@@ -1,9 +1,9 @@
 -- When a command is refused. Each test may take for granted that no earlier cause holds.
 use Rattle.std.specs.Prelude.{Bool, true, false, not, ◌&&◌, ◌||◌, List, [], ◌∷◌, ◌++◌, length, map, find, filter, nat_lt, Option, Some, None, option_map, option_to_list, unwrap_or, is_none, bytes_eq}
-use Rattle.std.specs.List.{list_any}
+use Rattle.std.specs.List.{list_any, flat_map}
 use Rattle.std.specs.FinMap.{keys, get}
 use Rattle.history_model.specs.Bytes.{Bytes, begins, has_byte, has_twice, is_empty}
-use Rattle.history_model.specs.FileMap.{FileMap, some_refused, has_below, is_below, is_path}
+use Rattle.history_model.specs.FileMap.{some_refused, has_below, is_below, is_path, grafted_paths, grafts_nothing}
 use Rattle.history_model.specs.Objects.{content_of, id_of, StoredTag}
 use Rattle.gix_hash_id.specs.Id.{Id}
 use Rattle.gix_hash_id.specs.Order.{id_eq}
@@ -12,7 +12,7 @@ use Rattle.history_model.specs.Forms.{heads_front, tags_front, is_name, is_priva
 use Rattle.history_model.specs.Words.{WordMeaning, ReadsAs, Unborn, Unknown, Ambiguous, word_meaning, commit_of}
 use Rattle.history_model.specs.Commands.{Command, Commit, Tag, Move, Rename, Delete, Switch, Past, Log, Show, Expect, New, At, ActorLine, Order, Breadth, Date, Topological, LogItem, Tip, Hidden}
 use Rattle.history_model.specs.CommandParts.{names_in, words_in, expected, targets, paths_in, actors_in, since_words, contents_in}
-use Rattle.history_model.specs.Meaning.{branch_or_name, past_name, name_commit, parents_of, first_files, edits_of, stored_by, new_tag, tag_rest}
+use Rattle.history_model.specs.Meaning.{branch_or_name, past_name, name_commit, parents_of, first_files, word_files, edits_of, stored_by, new_tag, tag_rest}
 use Rattle.history_model.specs.declared.Cause.{Cause}
 use Rattle.history_model.specs.declared.Cause.TheVariants.{Syntax, Truncated, LineTooLong, BadName, PrivateName, NameTwice, UnknownWord, AmbiguousWord, UnbornHead, NotACommit, NoSuchName, Taken, NotExpected, Collides, HoldsTag, TooManyParents, DuplicateParent, BadPath, IsFolder, NoSuchPath, BadActor, BadTime, BadMessage, TooLarge, NothingMoves, OrderWithParents}
 
@@ -97,8 +97,10 @@ parents_in r _ = []
 abbrev pub is_bad_path : Bytes → Bool
 is_bad_path path = not (is_path path) || nat_lt max_path (length path)
 
-abbrev pub word_files : Repository → Bytes → FileMap
-word_files r word = first_files r (option_to_list (commit_of r word))
+-- the paths at which grafts would put something
+abbrev pub grafted_in : Repository → Command → List Bytes
+grafted_in r (Commit c) = flat_map grafted_paths (edits_of r c)
+grafted_in r _ = []
 
 -- a `remove-file` or a `show` where something stands below the path
 abbrev pub meets_folder : Repository → Command → Bool
@@ -109,6 +111,7 @@ meets_folder r _ = false
 abbrev pub finds_no_path : Repository → Command → Bool
 finds_no_path r (Show word path) =
     list_any (λ p. is_none (get (word_files r word) p)) (option_to_list path)
+finds_no_path r (Commit c) = list_any grafts_nothing (edits_of r c)
 finds_no_path r _ = false
 
 abbrev pub is_bad_actor : ActorLine → Bool
@@ -173,7 +176,7 @@ holds Collides r c = some_collide r c
 holds HoldsTag r c = holds_tag r c
 holds TooManyParents r c = nat_lt max_parents (length (parents_in r c))
 holds DuplicateParent r c = has_twice id_eq (parents_in r c)
-holds BadPath r c = list_any is_bad_path (paths_in c)
+holds BadPath r c = list_any is_bad_path (paths_in c ++ grafted_in r c)
 holds IsFolder r c = meets_folder r c
 holds NoSuchPath r c = finds_no_path r c
 holds BadActor r c = list_any is_bad_actor (actors_in c)

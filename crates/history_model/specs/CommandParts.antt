@@ -1,10 +1,10 @@
 -- What a command holds: names, words, paths, actors, times and contents.
 use Rattle.std.specs.Prelude.{List, [], ◌∷◌, ◌++◌, map, Option, Some, None, option_to_list, bytes_eq, codes, if◌then◌else◌}
 use Rattle.std.specs.List.{flat_map}
-use Rattle.history_model.specs.Bytes.{Bytes}
+use Rattle.history_model.specs.Bytes.{Bytes, is_empty}
 use Rattle.history_model.specs.Repository.{Repository}
 use Rattle.history_model.specs.Words.{head_word}
-use Rattle.history_model.specs.Commands.{Command, Commit, Tag, Move, Rename, Delete, Switch, Names, Files, Past, Log, Show, Expect, Any, At, ActorLine, EditLine, PutLine, RemoveLine, RemoveFileLine, Order, NewestSince, OldestSince}
+use Rattle.history_model.specs.Commands.{Command, Commit, Tag, Move, Rename, Delete, Switch, Names, Files, Past, Log, Show, Expect, Any, At, ActorLine, EditLine, PutLine, RemoveLine, RemoveFileLine, GraftLine, Order, NewestSince, OldestSince}
 use Rattle.history_model.specs.Spelling.{item_target}
 use Rattle.history_model.specs.Meaning.{branch_or_name, past_name}
 
@@ -56,9 +56,13 @@ abbrev pub at_word : Expect → List Bytes
 at_word (At word) = word ∷ []
 at_word _ = []
 
+abbrev pub edit_words : EditLine → List Bytes
+edit_words (GraftLine path word source) = word ∷ []
+edit_words _ = []
+
 -- the words that mean a commit
 abbrev pub words_in : Command → List Bytes
-words_in (Commit c) = at_word c.expect ++ c.parents
+words_in (Commit c) = at_word c.expect ++ (c.parents ++ flat_map edit_words c.edits)
 words_in (Tag c) = at_word c.expect ++ c.word ∷ []
 words_in (Move c) = flat_map (λ to. at_word to.expect ++ to.word ∷ []) c.to
 words_in (Delete name at) = option_to_list at
@@ -69,10 +73,15 @@ words_in _ = []
 
 -- ---- paths, actors, times and contents
 
+-- an empty source is all of the other commit's files
+abbrev pub source_paths : Bytes → List Bytes
+source_paths source = if is_empty source then [] else source ∷ []
+
 abbrev pub edit_paths : EditLine → List Bytes
 edit_paths (PutLine kind path bytes) = path ∷ []
 edit_paths (RemoveLine path) = path ∷ []
 edit_paths (RemoveFileLine path) = path ∷ []
+edit_paths (GraftLine path word source) = path ∷ source_paths source
 
 abbrev pub paths_in : Command → List Bytes
 paths_in (Commit c) = flat_map edit_paths c.edits

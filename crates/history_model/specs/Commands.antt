@@ -15,11 +15,13 @@ pub record ActorLine : Type 0 where
   pub seconds : Bytes
   pub offset : Bytes
 
--- an edit as it was sent: a file's kind, path and content, or a path
+-- an edit as it was sent: a file's kind, path and content; a path; or, of a graft, a path, the word of another commit, and a source
+-- in its files, which is empty for all of them
 pub data EditLine : Type 0 where
   PutLine : FileKind → Bytes → Bytes → EditLine
   RemoveLine : Bytes → EditLine
   RemoveFileLine : Bytes → EditLine
+  GraftLine : Bytes → Bytes → Bytes → EditLine
 
 -- the parents are words
 pub record CommitCommand : Type 0 where

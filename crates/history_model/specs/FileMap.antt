@@ -1,5 +1,5 @@
 -- Paths, file maps and edits. A file map is what Git's trees say of a commit's files, without the trees.
-use Rattle.std.specs.Prelude.{◌+◌, Bool, false, not, ◌&&◌, ◌||◌, List, [], ◌∷◌, ◌++◌, length, drop, map, ◌==◌, if◌then◌else◌, Some, None, bytes_eq, IsTrue, IsFalse}
+use Rattle.std.specs.Prelude.{◌+◌, Bool, false, not, ◌&&◌, ◌||◌, List, [], ◌∷◌, ◌++◌, length, drop, map, ◌==◌, if◌then◌else◌, Option, Some, None, option_map, bytes_eq, ⊤, IsTrue, IsFalse}
 use Rattle.std.specs.List.{list_any, slice_split, flat_map, filter_map}
 use Rattle.std.specs.FinMap.{FinMap, entries, keys, contains_key, insert, retain_keys, from_entries}
 use Rattle.history_model.specs.Bytes.{Bytes, by_bytes, begins, has_byte, is_empty}
@@ -68,24 +68,52 @@ folders_of files = files ∷ map (λ folder. inside folder files) (flat_map begi
 
 -- ---- edits
 
+-- a put, two removals, and a graft: at a path what other files have at or below a source
 pub data Edit : Type 0 where
   Put : FileKind → Bytes → Bytes → Edit
   Remove : Bytes → Edit
   RemoveFile : Bytes → Edit
+  Graft : Bytes → Bytes → FileMap → Edit
 
 -- without all at or below the path
 abbrev pub removed : Bytes → FileMap → FileMap
 removed path files = retain_keys files (λ q. not (is_within path q))
 
--- also without a file at a beginning of the path, and then with this content at it
+-- also without a file at a beginning of the path
+abbrev pub cleared : Bytes → FileMap → FileMap
+cleared path files = retain_keys files (λ q. not (is_within path q || is_within q path))
+
+-- and then with this content at it
 abbrev pub put_at : Bytes → Content → FileMap → FileMap
-put_at path content files =
-    insert (retain_keys files (λ q. not (is_within path q || is_within q path))) path content
+put_at path content files = insert (cleared path files) path content
+
+-- what follows the source in a path at or below it: nothing at it. Each path is below the empty source, and follows it whole
+abbrev pub rest_behind : Bytes → Bytes → Option Bytes
+rest_behind [] path = Some path
+rest_behind (b ∷ source) path =
+    if bytes_eq (b ∷ source) path then Some []
+    else if is_below (b ∷ source) path then Some (drop (length (b ∷ source) + 1) path) else None
+
+-- the path with that behind it
+abbrev pub with_rest : Bytes → Bytes → Bytes
+with_rest path [] = path
+with_rest path (b ∷ rest) = path ++ 47 ∷ b ∷ rest
+
+-- what stands at or below the source, at the path and below it instead
+abbrev pub carried : Bytes → Bytes → FileMap → List (Bytes × Content)
+carried path source files =
+    filter_map (λ e. option_map (λ rest. (with_rest path rest, e.1)) (rest_behind source e.0))
+    (entries files)
+
+abbrev pub with_all : List (Bytes × Content) → FileMap → FileMap
+with_all [] files = files
+with_all (e ∷ more) files = with_all more (insert files e.0 e.1)
 
 abbrev pub edited : FileMap → Edit → FileMap
 edited files (Put kind path bytes) = put_at path (record { kind = kind; bytes = bytes }) files
 edited files (Remove path) = removed path files
 edited files (RemoveFile path) = removed path files
+edited files (Graft path source from) = with_all (carried path source from) (cleared path files)
 
 -- by these edits in their order
 abbrev pub edited_by : FileMap → List Edit → FileMap
@@ -97,6 +125,7 @@ abbrev pub is_refused : FileMap → Edit → Bool
 is_refused files (Put kind path bytes) = false
 is_refused files (Remove path) = false
 is_refused files (RemoveFile path) = has_below files path
+is_refused files (Graft path source from) = false
 
 -- whether one of the edits is refused where its turn comes
 abbrev pub some_refused : FileMap → List Edit → Bool
@@ -107,3 +136,22 @@ abbrev pub edit_path : Edit → Bytes
 edit_path (Put kind path bytes) = path
 edit_path (Remove path) = path
 edit_path (RemoveFile path) = path
+edit_path (Graft path source from) = path
+
+-- what a graft puts, at which paths
+abbrev pub grafted : Edit → List (Bytes × Content)
+grafted (Graft path source from) = carried path source from
+grafted _ = []
+
+abbrev pub grafted_paths : Edit → List Bytes
+grafted_paths edit = map (λ e. e.0) (grafted edit)
+
+-- whether a graft finds nothing at or below its source
+abbrev pub grafts_nothing : Edit → Bool
+grafts_nothing (Graft path source from) = is_empty (carried path source from)
+grafts_nothing _ = false
+
+-- what is grafted comes from a file map
+abbrev pub ComesFromFiles : Edit → Type 0
+ComesFromFiles (Graft path source from) = IsFileMap from
+ComesFromFiles _ = ⊤

@@ -1,12 +1,12 @@
 -- What the laws say.
 use Rattle.std.specs.Prelude.{ℕ, ⊤, take, true, not, MatchBool, ◌≡◌, ◌≢◌, ◌⊎◌, Bool, false, List, [], ◌∷◌, ◌++◌, map, Some, None, option_map, IsSome, IsTrue, IsFalse, ◌↔◌, Contains, bytes_eq, if◌then◌else◌}
-use Rattle.std.specs.List.{list_all, flat_map}
+use Rattle.std.specs.List.{list_all, flat_map, AllByRecursion}
 use Rattle.std.specs.List.Sorted.{IsStrictlySortedBy}
 use Rattle.std.specs.FinMap.{get, empty, insert}
 use Rattle.gix_ref_file.specs.History.{History}
 use Rattle.gix_ref_file.specs.Tree.{Tree, file, folder}
 use Rattle.history_model.specs.Bytes.{Bytes, by_bytes}
-use Rattle.history_model.specs.FileMap.{FileMap, Edit, cut_to, IsFileMap, edited_by, edit_path, is_path}
+use Rattle.history_model.specs.FileMap.{FileMap, Edit, cut_to, IsFileMap, edited_by, edit_path, is_path, ComesFromFiles}
 use Rattle.history_model.specs.Objects.{StoredFolder, entry_at}
 use Rattle.gix_hash_id.specs.Id.{Id}
 use Rattle.history_model.specs.Repository.{Repository, IsWhole, id_at, moves_at, peeled, first_branch, fresh}
@@ -31,10 +31,12 @@ use Rattle.history_model.specs.declared.End.TheVariants.{Input, Fault as ByFault
 
 -- ---- trees and files
 
--- Edits at paths leave a file map.
+-- Edits at paths leave a file map, where what they graft comes from file maps.
 abbrev pub EditsKeep : Type 0
 EditsKeep = (files : FileMap) (edits : List Edit) → IsFileMap files
-    → IsTrue (list_all (λ edit. is_path (edit_path edit)) edits) → IsFileMap (edited_by files edits)
+    → IsTrue (list_all (λ edit. is_path (edit_path edit)) edits)
+    → AllByRecursion ComesFromFiles edits
+    → IsFileMap (edited_by files edits)
 
 -- In a whole repository two stored trees have one id exactly if the files below them are one map.
 abbrev pub TreesAreCanonical : Type 0

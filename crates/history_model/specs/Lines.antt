@@ -20,6 +20,7 @@ pub data Heading : Type 0 where
   PutHeading : (kind : FileKind) → (path : ℕ) → (content : ℕ) → Heading
   RemoveHeading : (path : ℕ) → Heading
   RemoveFileHeading : (path : ℕ) → Heading
+  GraftHeading : (path : ℕ) → (word : Bytes) → (source : ℕ) → Heading
   ActorHeading : (role : Role) → (name : ℕ) → (email : ℕ) → (seconds : Bytes) → (offset : Bytes)
       → Heading
   MessageHeading : (message : ℕ) → Heading
@@ -55,6 +56,8 @@ words_of (PutHeading kind path content) =
     codes "put" ∷ kind_word kind ∷ decimal path ∷ decimal content ∷ []
 words_of (RemoveHeading path) = codes "remove" ∷ decimal path ∷ []
 words_of (RemoveFileHeading path) = codes "remove-file" ∷ decimal path ∷ []
+words_of (GraftHeading path word source) =
+    codes "graft" ∷ decimal path ∷ word ∷ decimal source ∷ []
 words_of (ActorHeading role name email seconds offset) =
     role_word role ∷ decimal name ∷ decimal email ∷ seconds ∷ offset ∷ []
 words_of (MessageHeading message) = codes "message" ∷ decimal message ∷ []
@@ -80,6 +83,7 @@ abbrev pub sizes : Heading → List ℕ
 sizes (PutHeading kind path content) = path ∷ content ∷ []
 sizes (RemoveHeading path) = path ∷ []
 sizes (RemoveFileHeading path) = path ∷ []
+sizes (GraftHeading path word source) = path ∷ source ∷ []
 sizes (ActorHeading role name email seconds offset) = name ∷ email ∷ []
 sizes (MessageHeading message) = message ∷ []
 sizes (LogHeading order first_parents items paths) = paths

@@ -3,14 +3,14 @@ use Rattle.std.specs.Prelude.{Bool, false, not, ◌&&◌, ◌||◌, List, [], �
 use Rattle.std.specs.List.{flat_map, filter_map}
 use Rattle.std.specs.FinMap.{FinMap, get, insert, remove, contains_key, empty}
 use Rattle.history_model.specs.Bytes.{Bytes, by_bytes, digits_value}
-use Rattle.history_model.specs.FileMap.{FileMap, Edit, Put, Remove, RemoveFile, edited_by, folders_of}
+use Rattle.history_model.specs.FileMap.{FileMap, Edit, Put, Remove, RemoveFile, Graft, edited_by, folders_of}
 use Rattle.history_model.specs.Objects.{by_id, Actor, CommitValue, TagValue, Value, StoredCommit, StoredTag, StoredBytes, StoredFolder, value_text, id_of, empty_tree_id}
 use Rattle.gix_hash_id.specs.Order.{id_eq}
 use Rattle.gix_hash_id.specs.Id.{Id, null_id}
 use Rattle.history_model.specs.Repository.{Reference, Repository, id_at, moves_at, stands, commit_at, peeled}
 use Rattle.history_model.specs.Forms.{title, is_name}
 use Rattle.history_model.specs.Words.{head_word, candidates, commit_of}
-use Rattle.history_model.specs.Commands.{Command, Commit, Tag, Move, Rename, Delete, Switch, ActorLine, EditLine, PutLine, RemoveLine, RemoveFileLine, CommitCommand, TagCommand, To}
+use Rattle.history_model.specs.Commands.{Command, Commit, Tag, Move, Rename, Delete, Switch, ActorLine, EditLine, PutLine, RemoveLine, RemoveFileLine, GraftLine, CommitCommand, TagCommand, To}
 use Rattle.gix_hash_id.specs.declared.kind.Kind.{Kind}
 
 -- ---- what is read before anything is stored
@@ -53,11 +53,20 @@ abbrev pub first_files : Repository → List Id → FileMap
 first_files r [] = empty
 first_files r (id ∷ ids) = files_at r id
 
--- what an edit's line does to the files
+-- the files of the commit that a word stands for
+abbrev pub word_files : Repository → Bytes → FileMap
+word_files r word = first_files r (option_to_list (commit_of r word))
+
+-- what an edit's line does to the files, where the words of grafts have these files
+abbrev pub read_line : (Bytes → FileMap) → EditLine → Edit
+read_line files (PutLine kind path bytes) = Put kind path bytes
+read_line files (RemoveLine path) = Remove path
+read_line files (RemoveFileLine path) = RemoveFile path
+read_line files (GraftLine path word source) = Graft path source (files word)
+
+-- they read as before the command
 abbrev pub read_edit : Repository → EditLine → Edit
-read_edit r (PutLine kind path bytes) = Put kind path bytes
-read_edit r (RemoveLine path) = Remove path
-read_edit r (RemoveFileLine path) = RemoveFile path
+read_edit r = read_line (word_files r)
 
 abbrev pub edits_of : Repository → CommitCommand → List Edit
 edits_of r c = map (read_edit r) c.edits
@@ -89,8 +98,10 @@ abbrev pub put_bytes : Edit → List Value
 put_bytes (Put kind path bytes) = StoredBytes bytes ∷ []
 put_bytes (Remove path) = []
 put_bytes (RemoveFile path) = []
+put_bytes (Graft path source from) = []
 
--- The bytes of each `put`, also those that a later edit takes out, the folders of the commit's files, and the commit; a tag.
+-- The bytes of each `put`, also those that a later edit takes out, the folders of the commit's files, and the commit; a tag. What
+-- is grafted is stored already.
 abbrev pub stored_by : Repository → Command → List Value
 stored_by r (Commit c) =
     flat_map put_bytes (edits_of r c) ++ map StoredFolder (folders_of (new_commit r c).files)

@@ -1,9 +1,9 @@
 -- Worked examples: streams, and what a run over them writes on a fresh repository.
-use Rattle.std.specs.Prelude.{ℕ, ◌++◌, false, List, [], ◌∷◌, codes, replicate, IsTrue}
+use Rattle.std.specs.Prelude.{ℕ, ◌≡◌, ◌++◌, false, List, [], ◌∷◌, codes, replicate, IsTrue}
 use Rattle.std.specs.List.{flat_map, list_all}
-use Rattle.std.specs.FinMap.{empty}
+use Rattle.std.specs.FinMap.{empty, entries, from_entries}
 use Rattle.history_model.specs.Bytes.{Bytes, line}
-use Rattle.history_model.specs.FileMap.{Content}
+use Rattle.history_model.specs.FileMap.{FileMap, Content, Graft, edited}
 use Rattle.history_model.specs.Objects.{Actor, CommitValue}
 use Rattle.history_model.specs.Repository.{Repository, first_branch, fresh}
 use Rattle.history_model.specs.Commands.{ActorLine, Command, CommitCommand, New}
@@ -116,6 +116,19 @@ abbrev pub three_files : List (Bytes × Content)
 three_files =
     (codes "a.b", content (codes "1")) ∷ (codes "a/c", content (codes "2"))
     ∷ (codes "a0", record { kind = Exec; bytes = codes "3" }) ∷ []
+
+-- ---- grafts
+
+abbrev pub lib_list : List (Bytes × Content)
+lib_list = (codes "lib/x", content (codes "1")) ∷ (codes "lib/y/z", content (codes "2")) ∷ []
+
+-- the other commit's files
+abbrev pub lib_files : FileMap
+lib_files = from_entries lib_list
+
+-- a graft into no files gives these
+abbrev pub GraftMakes : Bytes → Bytes → List (Bytes × Content) → Type 0
+GraftMakes path source made = entries (edited empty (Graft path source lib_files)) ≡ made
 
 -- a byte `x` so many times
 abbrev pub xs : ℕ → Bytes

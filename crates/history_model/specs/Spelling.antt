@@ -2,7 +2,7 @@
 use Rattle.std.specs.Prelude.{ℕ, ◌^◌, Bool, true, false, not, ◌&&◌, List, [], ◌∷◌, ◌++◌, length, map, nat_le, nat_lt, Option, Some, None, codes, decimal, if◌then◌else◌}
 use Rattle.std.specs.List.{flat_map, join_with_byte, list_all, list_any}
 use Rattle.history_model.specs.Bytes.{Bytes, line, has_byte, is_empty}
-use Rattle.history_model.specs.Commands.{Command, Commit, Tag, Move, Rename, Delete, Switch, Pack, Index, Names, Files, Past, Log, Show, Expect, Any, New, At, ActorLine, EditLine, PutLine, RemoveLine, RemoveFileLine, CommitCommand, To, Order, Breadth, Newest, Oldest, NewestSince, OldestSince, Date, Topological, LogItem, Tip, Hidden}
+use Rattle.history_model.specs.Commands.{Command, Commit, Tag, Move, Rename, Delete, Switch, Pack, Index, Names, Files, Past, Log, Show, Expect, Any, New, At, ActorLine, EditLine, PutLine, RemoveLine, RemoveFileLine, GraftLine, CommitCommand, To, Order, Breadth, Newest, Oldest, NewestSince, OldestSince, Date, Topological, LogItem, Tip, Hidden}
 use Rattle.history_model.specs.declared.FileKind.{FileKind}
 use Rattle.history_model.specs.declared.FileKind.TheVariants.{File, Exec, Link}
 
@@ -63,6 +63,9 @@ edit_parts (PutLine kind path content) =
     ∷ Field content ∷ []
 edit_parts (RemoveLine path) = Line (codes "remove" ∷ len_word path ∷ []) ∷ Field path ∷ []
 edit_parts (RemoveFileLine path) = Line (codes "remove-file" ∷ len_word path ∷ []) ∷ Field path ∷ []
+edit_parts (GraftLine path word source) =
+    Line (codes "graft" ∷ len_word path ∷ word ∷ len_word source ∷ []) ∷ Field path
+    ∷ Field source ∷ []
 
 -- what stands behind the edits of a commit
 abbrev pub signed_parts : CommitCommand → List Part

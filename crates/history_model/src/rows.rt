@@ -1,11 +1,13 @@
 //! Worked examples, computed on the definitions: each is the contract of a function that does nothing.
 
-ghost use Rattle.std.specs.Prelude.{◌≡◌, ◌+◌, ◌++◌, ◌∷◌, [], length, codes};
+ghost use Rattle.std.specs.Prelude.{◌≡◌, ◌+◌, ◌++◌, ◌∷◌, [], length, codes, IsTrue};
 ghost use Rattle.history_model.specs.Bytes.{line};
 ghost use Rattle.history_model.specs.Objects.{hex, blob_id, blob_text, digest, tree_text, root_within, empty_tree_id, commit_content, id_of, StoredCommit};
-ghost use Rattle.history_model.specs.Spelling.{max_line};
+ghost use Rattle.history_model.specs.Spelling.{edit_parts, max_line, parts_text};
 ghost use Rattle.history_model.specs.Rows.{Gives, Refuses, first_commit, first_stream, first_output, empty_file_stream, empty_file_output};
-ghost use Rattle.history_model.specs.Rows.{hello_stream, hello_output, three_files, xs};
+ghost use Rattle.history_model.specs.Rows.{hello_stream, hello_output, three_files, content, lines, lib_files, GraftMakes, xs};
+ghost use Rattle.history_model.specs.FileMap.{Graft, edited, grafts_nothing};
+ghost use Rattle.history_model.specs.Commands.{GraftLine};
 ghost use Rattle.gix_hash_id.specs.declared.kind.Kind.TheVariants.{Sha1, Sha256};
 
 /// Ids of blobs and of the empty tree in both kinds, the first commit's 99 bytes and id, three files in their order and their tree.
@@ -42,6 +44,20 @@ pub fn empty_file()
 /// A commit of the file `hello`, its files and the file's content shown.
 pub fn hello_file()
     ensures { Gives hello_stream hello_output }
+{}
+
+/// Grafts into no files: a folder, a file, and all files of a commit; one that finds nothing, and one that puts back what stands.
+pub fn grafts()
+    ensures folder { GraftMakes (codes "dep") (codes "lib")
+        ((codes "dep/x", content (codes "1")) ∷ (codes "dep/y/z", content (codes "2")) ∷ []) }
+    ensures file { GraftMakes (codes "a") (codes "lib/x")
+        ((codes "a", content (codes "1")) ∷ []) }
+    ensures whole { GraftMakes (codes "a") []
+        ((codes "a/lib/x", content (codes "1")) ∷ (codes "a/lib/y/z", content (codes "2")) ∷ []) }
+    ensures nothing { IsTrue (grafts_nothing (Graft (codes "a") (codes "nope") lib_files)) }
+    ensures same { edited lib_files (Graft (codes "lib") (codes "lib") lib_files) ≡ lib_files }
+    ensures line { parts_text (edit_parts (GraftLine (codes "dep") (codes "main") (codes "lib")))
+        ≡ lines (codes "graft 3 main 3" ∷ codes "dep" ∷ codes "lib" ∷ []) }
 {}
 
 /// What begins with no command: a word that is none, the longest line, a line that is longer, and a command that is cut short.

@@ -27,6 +27,10 @@ def is_path(path):
 
 def word_of(edit):
     what, path, *file = edit
+    if what == "graft":
+        mode, oid = file[0] or (None, None)
+        found = f"folder:{oid}" if mode == "040000" else f"{KINDS[mode]}:{oid}" if mode else "none"
+        return f"graft:{path.hex() or '-'}:{found}"
     return ":".join([what, *([KINDS[file[0]]] if file else []), path.hex() or "-", *file[1:]])
 
 
@@ -58,11 +62,12 @@ class Row:
         self.say("edit", self.root, "written", str(1 + made.written()), "lookups", str(made.asked), "asked", str(made.asked), "known+")
 
     def ask_files(self):
-        """All files, with as many askings as there are folders, the root one of them."""
+        """All files, with as many askings as there are folders, the root one of them; and with as many as there are different trees."""
         listed = list(self.git.listed(self.root))
         files = sorted((path, KINDS[mode], oid) for mode, oid, path in listed if mode in KINDS)
-        folders = 1 + sum(mode == "040000" for mode, _, _ in listed)
-        self.say("files", "files", str(len(files)), *[f"{kind}:{oid}:{path.hex()}" for path, kind, oid in files], "asked", str(folders))
+        folders = [self.root] + [oid for mode, oid, _ in listed if mode == "040000"]
+        for word, asked in (("files", len(folders)), ("by-trees", len(set(folders)))):
+            self.say(word, "files", str(len(files)), *[f"{kind}:{oid}:{path.hex()}" for path, kind, oid in files], "asked", str(asked))
 
     def told(self, path):
         """What stands at a path."""
@@ -106,9 +111,11 @@ class Made:
             refusal = self.one(*edit)
             if refusal:
                 return refusal
-        return "NullId" if any(edit[2:] and edit[3] == self.git.null for edit in edits) else None
+        return "NullId" if any(edit[0] == "put" and edit[3] == self.git.null for edit in edits) else None
 
     def one(self, what, path, *file):
+        if what == "graft" and file[0] and file[0][1] == self.git.tree({}):
+            return "EmptyTree"
         for folder in fronts(path) + ([path] if what == "remove-file" else []):
             self.asked += folder in self.stored
             self.stored.discard(folder)
@@ -120,10 +127,25 @@ class Made:
         if what == "put":
             self.files = {other: one for other, one in self.files.items() if not within(path, other)}
             self.files[path] = tuple(file)
+        if what == "graft":
+            self.files = {other: one for other, one in self.files.items() if not within(path, other)}
+            self.files.update(self.grafted(path, *file))
         self.stored = {folder for folder in self.stored if folder != path and not within(folder, path)}
+        if what == "graft":
+            self.changed = {folder for folder in self.changed if folder != path and not within(folder, path)}
+            self.stored |= {front for other in self.files if within(other, path) for front in fronts(other) if front == path or within(front, path)}
         if self.files != before:
             self.changed |= set(fronts(path))
         return None
+
+    def grafted(self, path, found):
+        """What a graft puts: a file, or the files of a folder, as git lists them; none where nothing was found."""
+        if not found:
+            return {}
+        mode, oid = found
+        if mode != "040000":
+            return {path: found}
+        return {path + b"/" + rest: (one, blob) for one, blob, rest in self.git.listed(oid) if one in KINDS}
 
     def written(self):
         """How many folders are written: those in which an edit changed something, and that have files."""
@@ -283,6 +305,66 @@ def chosen_rows(git):
     row.end()
 
 
+def graft_rows(git):
+    """Grafts of folders and files of another root, whose trees stand."""
+    x, y, link = ("100644", git.blobs[0]), ("100755", git.blobs[1]), ("120000", git.blobs[2])
+    library = [("put", b"lib/x", *x), ("put", b"lib/y/z", *y), ("put", b"lib/y/w", *link), ("put", b"q", *y)]
+    nested = [("put", b"a/b/e", *x), ("put", b"a/f", *y), ("put", b"g", *link), ("put", b"h/i", *y)]
+    given = {path: tuple(file) for _, path, *file in library}
+    other = git.tree(given)
+
+    def at(path):
+        return git.entry(other, path) if path else ("040000", other)
+
+    def graft(path, source):
+        return ("graft", path, at(source))
+
+    lists = [[graft(b"dep", b"lib")], [graft(b"a", b"lib/x")], [graft(b"a", b"")], [graft(b"a/b", b"lib/y"), ("put", b"a/b/n", *x)],
+             [graft(b"g/n", b"lib"), ("remove", b"g/n/y/z")], [graft(b"a/f/n", b"q")], [graft(b"n/m", b"lib"), ("remove-file", b"n/m/x")],
+             [graft(b"n", b"lib"), ("remove", b"n")], [graft(b"n", b"lib"), graft(b"n/y", b"lib/x"), graft(b"n/y/y", b"lib/y")],
+             [graft(b"n", b"lib"), ("remove-file", b"n")], [graft(b"a", b"lib"), ("remove-file", b"a/y")], [graft(b"a", b"lib/x"), ("remove-file", b"a")],
+             [("graft", b"a", None)], [("graft", b"g/x", None), ("remove-file", b"h")], [("graft", b"n/m", None), ("put", b"n/o", *x)],
+             [("graft", b"n", ("040000", git.tree({})))], [("put", b"n/m", *x), ("graft", b"a/b/c", ("040000", git.tree({}))), ("remove-file", b"a")],
+             [graft(b"n", b"lib"), ("put", b"m", "100644", git.null)], [graft(b"", b"lib")], [graft(b"a//b", b"lib")], [graft(b"a", b"lib"), ("remove", b"b/")]]
+    for edits in lists:
+        row = Row(git)
+        row.edit(library)
+        row.files, row.root = {}, None
+        row.say("root:-")
+        row.edit(nested)
+        row.edit(edits)
+        row.ask_files()
+        row.end()
+    # What stands is grafted to where it stands.
+    row = Row(git)
+    row.edit(library)
+    row.edit([graft(b"lib", b"lib")])
+    assert row.root == other
+    row.ask_files()
+    row.end()
+
+
+def graft_row(git, chance):
+    """Other edits among grafts of what a root before had."""
+    names = chance.sample(NAMES, chance.choice([2, 3, 5]))
+    row = begun(git, chance, names)
+    there, root = sorted(row.files), row.root
+    row.files, row.root = {}, None
+    row.say("root:-")
+    row.edit([("put", b"own/" + some_path(chance, names), *some_file(git, chance)) for _ in range(chance.randrange(6))])
+    edits = []
+    for _ in range(chance.randrange(1, 6)):
+        if there and chance.random() < 0.6:
+            path = chance.choice(there)
+            source = chance.choice([path, *fronts(path)])
+            edits.append(("graft", some_path(chance, names), git.entry(root, source)))
+        else:
+            edits.append(some_edit(git, chance, names, row.files))
+    row.edit(edits)
+    row.ask_files()
+    row.end()
+
+
 def stored_rows(git):
     """Roots over stores that lack a tree, or have one that git wouldn't write, or one with other entries."""
     x, y = git.blobs[0], git.blobs[1]
@@ -304,11 +386,14 @@ def stored_rows(git):
     row.say(f"root:{root}")
     for word in ["files", f"at:{b'a'.hex()}", "edit"]:
         row.say(word, f"Broken({root})", "asked", "1")
+    # What isn't there is asked for once more, to be told.
+    row.say("by-trees", f"Broken({root})", "asked", "2")
     row.end()
     # The root stands alone: what leads into none of its folders is answered.
     row = Row(git)
     given(row, [root], root)
     row.say("files", f"Broken({a})", "asked", "2")
+    row.say("by-trees", f"Broken({a})", "asked", "4")
     row.say(f"at:{b'a'.hex()}", f"folder:{a}", "asked", "1")
     row.say(f"at:{b'g'.hex()}", f"file:{y}", "asked", "1")
     row.say(f"at:{b'a/d'.hex()}", f"Broken({a})", "asked", "2")
@@ -327,6 +412,7 @@ def stored_rows(git):
     row = Row(git)
     given(row, [root, a, e], root)
     row.say("files", f"Broken({b})", "asked", "3")
+    row.say("by-trees", f"Broken({b})", "asked", "5")
     row.words += [put.format(b"a/b/c".hex())]
     row.say("edit", f"Broken({b})", "asked", "3")
     row.words += ["remove:" + b"a/b/c".hex(), "remove:" + b"z".hex()]
@@ -376,6 +462,7 @@ for kind in LENGTH:
     git, chance = Git(kind), random.Random("files " + kind)
     chosen_rows(git)
     stored_rows(git)
+    graft_rows(git)
     for _ in range(160):
         random_row(git, chance)
     for _ in range(60):
@@ -384,5 +471,8 @@ for kind in LENGTH:
         failing_row(git, chance)
     for _ in range(40):
         several_row(git, chance)
+    chance = random.Random("grafts " + kind)
+    for _ in range(100):
+        graft_row(git, chance)
 
 write(__file__, rows)

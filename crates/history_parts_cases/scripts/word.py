@@ -54,7 +54,10 @@ class Commit:
     def text(self):
         lines = [b"commit %s %s" % (self.name, expect_text(self.expect))] + [b"parent " + parent for parent in self.parents]
         for kind, path, *content in self.edits:
-            if content:
+            if kind == "graft":
+                target, source = content
+                lines += [b"graft %d %s %d" % (len(path), target, len(source)), path, source]
+            elif content:
                 lines += [b"put %s %d %d" % (kind.encode(), len(path), len(content[0])), path, content[0]]
             else:
                 lines += [b"%s %d" % (kind.encode(), len(path)), path]
@@ -64,7 +67,11 @@ class Commit:
     def words(self):
         found = ["commit:" + word(self.name), expect_words(self.expect)] + ["parent:" + word(parent) for parent in self.parents]
         for kind, path, *content in self.edits:
-            found += [field(kind, path, 4096)] + ([field("content", content[0], 2 ** 24)] if content else [])
+            found.append(field(kind, path, 4096))
+            if kind == "graft":
+                found += ["word:" + word(content[0]), field("source", content[1], 4096)]
+            elif content:
+                found.append(field("content", content[0], 2 ** 24))
         found += actor_words("author", self.author) + actor_words("committer", self.committer)
         return " ".join(found + [field("message", self.message, 2 ** 24)])
 
@@ -123,6 +130,10 @@ COMMIT = Commit(b"refs/heads/s", ("new",), [b"m", b"refs/heads/t"], [("file", b"
 COMMIT_TEXT = (b"commit refs/heads/s new\nparent m\nparent refs/heads/t\nput file 1 5\na\nhello\nremove 1\nd\nremove-file 3\nd/x\n"
                b"author 1 3 1 +0000\nA\na@b\ncommitter 1 3 1 +0000\nA\na@b\nmessage 3\none\nend\n")
 
+GRAFTS = Commit(b"HEAD", ("any",), [], [("graft", b"dep", b"main", b"lib"), ("graft", b"a", b"graft", b""), ("file", b"b", b"")], A, A, b"one")
+GRAFTS_TEXT = (b"commit HEAD any\ngraft 3 main 3\ndep\nlib\ngraft 1 graft 0\na\n\nput file 1 0\nb\n\n"
+               b"author 1 3 1 +0000\nA\na@b\ncommitter 1 3 1 +0000\nA\na@b\nmessage 3\none\nend\n")
+
 MOVE = Move([(b"refs/heads/s", ("new",), b"main"), (b"refs/heads/t", ("at", b"s"), b"s"), (b"refs/heads/u", ("any",), b"HEAD")], A,
             b"one")
 MOVE_TEXT = (b"move\nto refs/heads/s new main\nto refs/heads/t at s s\nto refs/heads/u any HEAD\nactor 1 3 1 +0000\nA\na@b\n"
@@ -146,6 +157,8 @@ def cut(text, words):
 def commands():
     assert COMMIT.text() == COMMIT_TEXT
     cut(COMMIT_TEXT, COMMIT.words())
+    assert GRAFTS.text() == GRAFTS_TEXT
+    cut(GRAFTS_TEXT, GRAFTS.words())
     moves()
     tags()
     renames()
@@ -255,6 +268,7 @@ def limits():
     row("read", "show%20a%20path%204097%0a+x*4096+%0a", "more Truncated")
     row("read", "show%20a%20path%204097%0a+x*4096+%0a%0a", "more show:a path:" + "x" * 1025 + "... end")
     move_limits()
+    graft_limits()
     log, words = "log%20breadth%20all%20%2ba%20path%20", "more log breadth all tip:a path:"
     row("read", log + "4096%0a+x*4096+%0a", words + "x" * 4096 + " end")
     row("read", log + "4097%0a+x*4096+%0a", "more Truncated")
@@ -270,6 +284,17 @@ def limits():
     for sizes in [(4096, 4097), (4097, 4096), (4097, 1), (1, 4097, 1), (4097, 5000)]:
         log = Log(b"oldest", True, [b"+a"], [b"x" * size for size in sizes])
         row("read", log.text(), f"more {log.words()} end")
+
+
+def graft_limits():
+    for path, source in [(4096, 4096), (4097, 0), (0, 4097), (5000, 5000)]:
+        commit = Commit(b"a", ("new",), [], [("graft", b"p" * path, b"w", b"s" * source)], (b"", b"", b"s", b"o"), (b"", b"", b"s", b"o"), b"")
+        row("read", commit.text(), f"more {commit.words()} end")
+    front = "commit%20a%20new%0agraft%200%20+x*"
+    row("read", front + "4086+%200%0a", "more Truncated")
+    row("read", front + "4087+%200%0a", "more LineTooLong")
+    row("read", b"commit a new\ngraft 0 b 4097\n\n" + b"s" * 4097, "more Truncated")
+    row("read", b"commit a new\ngraft 0 b 4097\n\n" + b"s" * 4098, "more Syntax")
 
 
 def move_limits():
@@ -295,6 +320,10 @@ LINES = [
     b"commit HEAD new main\n", b"parent a\n", b"commit HEAD new\nparent\n", b"commit HEAD new\nparent a b\n",
     b"commit HEAD new\nremove 0\n\nparent a\n", b"commit HEAD new\nremove\n", b"commit HEAD new\nremove 01\n",
     b"commit HEAD new\nremove 1 1\n", b"commit HEAD new\nremove-files 1\n", b"commit HEAD new\nremove-file 1\nab\n",
+    b"commit HEAD new\ngraft\n", b"commit HEAD new\ngraft 0\n", b"commit HEAD new\ngraft 0 a\n", b"commit HEAD new\ngraft 0 a 0 0\n",
+    b"commit HEAD new\ngraft a 0 0\n", b"commit HEAD new\ngraft 01 a 0\n", b"commit HEAD new\ngraft 0 a 01\n", b"commit HEAD new\ngraft 0 a +1\n",
+    b"commit HEAD new\ngraft 0 a 18446744073709551616\n", b"commit HEAD new\ngraft 0  0\n", b"commit HEAD new\nGraft 0 a 0\n",
+    b"commit HEAD new\ngraft 1 a 0\nab\n", b"commit HEAD new\ngraft 0 a 1\n\nab\n", b"commit HEAD new\ngraft 0 a 0\n\n\nparent a\n", b"graft 0 a 0\n",
     b"commit HEAD new\nput text 1 1\n", b"commit HEAD new\ncommitter 1 1 1 1\n",
     b"commit HEAD new\nauthor 0 0 s o\n\n\nput file 1 1\n",
     b"names a b\n", b"names \n", b"past\n", b"past a b\n", b"log\n", b"log breadth\n", b"log breadth all\n",
@@ -344,11 +373,12 @@ WRONG = [
     (SIGNED, [TO, ACTOR, b"end\n", b"message\n", b"message 01\n", b"message 0 0\n", b"message 0\na\n", b"committer 0 0 s o\n"]),
     (TOLD, [TO, ACTOR, MESSAGE, b"end end\n", b"move\n"]),
     (b"commit HEAD new\n", [TO, ACTOR, b"move\n", TAGGED, b"tagger 0 0 s o\n"]), (b"commit HEAD new\nremove 0\n\n", [TO, ACTOR]),
-    (b"commit HEAD new\nauthor 0 0 s o\n\n\n", [ACTOR, TO, b"tagger 0 0 s o\n"]),
+    (b"commit HEAD new\nauthor 0 0 s o\n\n\n", [ACTOR, TO, b"tagger 0 0 s o\n", b"graft 0 a 0\n"]),
 ]
 # Where a line may stand, and the input ends behind it.
 BEGINNINGS = [b"commit nowhere new\n", b"commit at any\nparent parent\n",
               b"commit HEAD new\nparent end\nremove 0\n\nremove-file 1\n\n\n", b"commit HEAD new\nremove 18446744073709551615\n",
+              b"commit HEAD new\ngraft 18446744073709551615 a 0\n", b"commit HEAD new\ngraft 0 a 18446744073709551615\n\n", b"commit HEAD new\ngraft 0 a 0\n\n\n",
               TAGGED, BY_TAGGER, BY_TAGGER + MESSAGE, TAGGED + b"tagger 0 18446744073709551615 s o\n\n",
               FIRST, MORE, SIGNED, TOLD, MORE + b"actor 18446744073709551615 0 s o\n", SIGNED + b"message 18446744073709551615\n",
               b"show a path 18446744073709551615\n", b"log breadth all +a path 18446744073709551615\n",
@@ -392,6 +422,13 @@ def commit_by_chance(chance):
     actors = [actor(chance) for _ in range(2)]
     return Commit(name(chance), expect, [name(chance) for _ in range(chance.randrange(4))], [edit() for _ in range(chance.randrange(5))],
                   *actors, data(chance, 40))
+
+
+def grafts_by_chance(chance):
+    commit = commit_by_chance(chance)
+    for _ in range(chance.randrange(1, 4)):
+        commit.edits.insert(chance.randrange(len(commit.edits) + 1), ("graft", data(chance, 9), name(chance), data(chance, 9)))
+    return commit
 
 
 def move_by_chance(chance):
@@ -439,4 +476,7 @@ if __name__ == "__main__":
     chance = random.Random(37)
     for _ in range(100):
         by_chance(chance, log_by_chance)
+    chance = random.Random(41)
+    for _ in range(100):
+        by_chance(chance, grafts_by_chance)
     write(__file__, ROWS)

@@ -1,16 +1,17 @@
 -- What a commit stands on, and the causes that its words, its name and its parents tell.
 use Rattle.std.specs.declared.alloc.Global.{Global}
-use Rattle.std.specs.Prelude.{Vec, Result, IsErrOf}
+use Rattle.std.specs.Prelude.{Vec, Result, IsErrOf, option_and_then}
+use Rattle.std.proofs.lemmas.Option.{same_Some}
 use Rattle.std.proofs.Common.{◌≡◌, ℕ, ◌+◌, ◌<◌, length, take, drop, get_or, Bool, true, false, cond, not, ◌||◌, ◌==◌, List, [], ◌∷◌, ◌++◌, map, filter, refl, sym, ◌∙◌, ap, subst, Option, Some, None, is_some, option_map, option_to_list, Err}
-use Rattle.std.specs.List.{list_any, filter_map}
+use Rattle.std.specs.List.{cons_option, list_any, filter_map, flat_map}
 use Rattle.std.proofs.lemmas.List.{map-append, take_more}
 use Rattle.history_model.specs.Bytes.{Bytes, has_twice}
 use Rattle.gix_hash_id.specs.Id.{Id, id_of}
 use Rattle.gix_hash_id.specs.Order.{id_eq}
 use Rattle.history_model.specs.Repository.{Repository, stands}
 use Rattle.history_model.specs.Words.{commit_of}
-use Rattle.history_model.specs.Commands.{Commit, CommitCommand, Expect, Any, New, At}
-use Rattle.history_model.specs.CommandParts.{at_word}
+use Rattle.history_model.specs.Commands.{Commit, CommitCommand, EditLine, PutLine, RemoveLine, RemoveFileLine, GraftLine, Expect, Any, New, At}
+use Rattle.history_model.specs.CommandParts.{at_word, edit_words}
 use Rattle.history_model.specs.Meaning.{branch_or_name, name_commit, parents_of}
 use Rattle.history_model.specs.Causes.{is_new, is_at, is_elsewhere, same_id}
 use Rattle.history_model.specs.declared.Cause.{Cause}
@@ -18,12 +19,16 @@ use Rattle.history_model.specs.declared.Cause.TheVariants.{NoSuchName, Taken, No
 use Rattle.history_word.specs.Commands.{IsExpect}
 use Rattle.gix_hash_id.specs.declared.object_id.ObjectId.{ObjectId}
 use Rattle.history_repository.specs.Reads.{IsReadingFault, GivesMeant}
-use Rattle.history_plans.specs.Bases.{IsExpected, expected_meanings, held_cause, parents_cause}
-use Rattle.history_repository.specs.Meanings.{words_cause, reads_as, commit_in, commit_or_cause, meaning_of}
+use Rattle.history_plans.specs.Bases.{IsExpected, expected_meanings, line_word, source_id, held_cause, parents_cause}
+use Rattle.history_repository.specs.Meanings.{words_cause, reads_as}
 use Rattle.history_plans.specs.CommitCauses.{first_among, word_causes, held_causes, parent_causes, IsToldBy, Tests}
+use Rattle.history_repository.specs.Meanings.{commit_in, commit_or_cause, meaning_of}
+use Rattle.history_repository.specs.declared.words.WordMeaning as own
+use Rattle.history_repository.specs.declared.words.WordMeaning.TheVariants as read
 use Rattle.history_repository.specs.Held.{IsHeld, held_commit}
 use Rattle.history_repository.specs.declared.held.Held.{Held}
 use Rattle.history_plans.specs.declared.base.Expected.{Expected}
+use Rattle.history_plans.specs.declared.base.Expected.TheVariants as expected
 use Rattle.history_repository.specs.declared.stopped.Stopped.{Stopped}
 use Rattle.history_repository.specs.declared.stopped.Stopped.TheVariants.{Refused, Fault}
 use Rattle.history_repository.proofs.WordCauses.{any_map, commit_told, commits_told, words_told}
@@ -34,9 +39,6 @@ use Rattle.history_repository.specs.Faults.{file_fault}
 use Rattle.history_repository.proofs.NameReads.{held}
 use Rattle.history_files.proofs.Lines.{map_twice}
 use Rattle.history_word.specs.declared.command.Expect.TheVariants as sent
-use Rattle.history_repository.specs.declared.words.WordMeaning as own
-use Rattle.history_repository.specs.declared.words.WordMeaning.TheVariants as read
-use Rattle.history_plans.specs.declared.base.Expected.TheVariants as expected
 
 -- ---- what is expected
 
@@ -65,10 +67,61 @@ gives_told {A} MayFail P causes r order result stopped was gives = fault_told Ma
 
 -- ---- words
 
+module _ (r : Repository) where
+  first_option : {X : Type 0} {a b : Option X} {xs ys : List (Option X)} → a ∷ xs ≡ b ∷ ys → a ≡ b
+  first_option e = cc
+
+  rest_options : {X : Type 0} {a b : Option X} {xs ys : List (Option X)} → a ∷ xs ≡ b ∷ ys → xs ≡ ys
+  rest_options e = cc
+
+  -- what an edit's word reads as
+  one_meant : (line : EditLine) (source : Option own.WordMeaning) (rest : List own.WordMeaning) → option_map meaning_of source ≡ option_map (commit_or_cause r) (line_word line)
+      → map meaning_of (cons_option source rest) ≡ map (commit_or_cause r) (edit_words line) ++ map meaning_of rest
+  one_meant (PutLine kind path bytes) None rest e = refl
+  one_meant (PutLine kind path bytes) (Some m) rest e = cc
+  one_meant (RemoveLine path) None rest e = refl
+  one_meant (RemoveLine path) (Some m) rest e = cc
+  one_meant (RemoveFileLine path) None rest e = refl
+  one_meant (RemoveFileLine path) (Some m) rest e = cc
+  one_meant (GraftLine path word source) None rest e = cc
+  one_meant (GraftLine path word source) (Some m) rest e = ap (λ x. x ∷ map meaning_of rest) (same_Some (meaning_of m) (commit_or_cause r word) e)
+
+  pub sources_meant : (lines : List EditLine) (sources : List (Option own.WordMeaning)) → map (option_map meaning_of) sources ≡ map (λ line. option_map (commit_or_cause r) (line_word line)) lines
+      → map meaning_of (filter_map (λ source. source) sources) ≡ map (commit_or_cause r) (flat_map edit_words lines)
+  sources_meant [] [] e = refl
+  sources_meant [] (source ∷ sources) e = cc
+  sources_meant (line ∷ lines) [] e = cc
+  sources_meant (line ∷ lines) (source ∷ sources) e =
+      one_meant line source (filter_map (λ source. source) sources) (first_option e)
+      ∙ ap (λ xs. map (commit_or_cause r) (edit_words line) ++ xs) (sources_meant lines sources (rest_options e))
+      ∙ sym (map-append (commit_or_cause r) (edit_words line) (flat_map edit_words lines))
+
+  one_id : (line : EditLine) (source : Option own.WordMeaning) → option_map meaning_of source ≡ option_map (commit_or_cause r) (line_word line) → option_map id_of (option_and_then commit_in source) ≡ source_id r line
+  one_id (PutLine kind path bytes) None e = refl
+  one_id (PutLine kind path bytes) (Some m) e = cc
+  one_id (RemoveLine path) None e = refl
+  one_id (RemoveLine path) (Some m) e = cc
+  one_id (RemoveFileLine path) None e = refl
+  one_id (RemoveFileLine path) (Some m) e = cc
+  one_id (GraftLine path word source) None e = cc
+  one_id (GraftLine path word source) (Some m) e = sym (commit_told r word m (same_Some (meaning_of m) (commit_or_cause r word) e))
+
+  -- and the commits that are meant
+  pub source_ids_told : (lines : List EditLine) (sources : List (Option own.WordMeaning)) → map (option_map meaning_of) sources ≡ map (λ line. option_map (commit_or_cause r) (line_word line)) lines
+      → map (option_map id_of) (map (option_and_then commit_in) sources) ≡ map (source_id r) lines
+  source_ids_told [] [] e = refl
+  source_ids_told [] (source ∷ sources) e = cc
+  source_ids_told (line ∷ lines) [] e = cc
+  source_ids_told (line ∷ lines) (source ∷ sources) e = λ i. one_id line source (first_option e) i ∷ source_ids_told lines sources (rest_options e) i
+
 module _ (r : Repository) (order : CommitCommand) where
-  all_told : first_among word_causes r (Commit order) ≡ words_cause (map (commit_or_cause r) (at_word order.expect ++ order.parents))
+  -- the words of the parents, and then those of the edits
+  abbrev pub others : List Bytes
+  others = order.parents ++ flat_map edit_words order.edits
+
+  all_told : first_among word_causes r (Commit order) ≡ words_cause (map (commit_or_cause r) (at_word order.expect ++ others))
   all_told =
-      let words = at_word order.expect ++ order.parents in
+      let words = at_word order.expect ++ others in
       words_told r words (map (commit_or_cause r) words) (λ test. any_map test (commit_or_cause r) words) None
 
   at_meanings : (expect : Expect) (what : Expected) → IsExpected r expect what → expected_meanings what ≡ map (commit_or_cause r) (at_word expect)
@@ -87,11 +140,18 @@ module _ (r : Repository) (order : CommitCommand) where
       → map meaning_of meanings ≡ map (λ (word : Vec ℕ Global). commit_or_cause r word.items) words → map meaning_of meanings ≡ map (commit_or_cause r) order.parents
   parent_meanings words meanings are is = is ∙ sym (map_twice (commit_or_cause r) (λ (word : Vec ℕ Global). word.items) words) ∙ ap (map (commit_or_cause r)) are
 
-  pub words_so : (what : Expected) (meanings : List own.WordMeaning) → IsExpected r order.expect what → map meaning_of meanings ≡ map (commit_or_cause r) order.parents
+  pub words_so : (what : Expected) (meanings : List own.WordMeaning) → IsExpected r order.expect what → map meaning_of meanings ≡ map (commit_or_cause r) others
       → first_among word_causes r (Commit order) ≡ words_cause (expected_meanings what ++ map meaning_of meanings)
   words_so what meanings is are =
       all_told
-      ∙ ap words_cause (map-append (commit_or_cause r) (at_word order.expect) order.parents ∙ (λ i. sym (at_meanings order.expect what is) i ++ sym are i))
+      ∙ ap words_cause (map-append (commit_or_cause r) (at_word order.expect) others ∙ (λ i. sym (at_meanings order.expect what is) i ++ sym are i))
+
+  -- those of the edits, of which each has one at most
+  pub others_meant : (parents : List own.WordMeaning) (sources : List (Option own.WordMeaning)) (all : List own.WordMeaning) → map meaning_of parents ≡ map (commit_or_cause r) order.parents
+      → map (option_map meaning_of) sources ≡ map (λ line. option_map (commit_or_cause r) (line_word line)) order.edits → all ≡ parents ++ filter_map (λ source. source) sources → map meaning_of all ≡ map (commit_or_cause r) others
+  others_meant parents sources all are told is =
+      ap (map meaning_of) is ∙ map-append meaning_of parents (filter_map (λ source. source) sources) ∙ (λ i. are i ++ sources_meant r order.edits sources told i)
+      ∙ sym (map-append (commit_or_cause r) order.parents (flat_map edit_words order.edits))
 
 -- ---- what the name holds
 

@@ -2,7 +2,7 @@
 use Rattle.std.proofs.Common.{◌≡◌, refl, ap, List, [], ◌∷◌, map}
 use Rattle.std.specs.List.{flat_map}
 use Rattle.history_model.specs.Objects.{StoredBytes}
-use Rattle.history_model.specs.Commands.{EditLine, PutLine, RemoveLine, RemoveFileLine}
+use Rattle.history_model.specs.Commands.{EditLine, PutLine, RemoveLine, RemoveFileLine, GraftLine}
 use Rattle.history_model.specs.CommandParts.{put_contents}
 use Rattle.history_model.specs.Meaning.{read_edit, put_bytes}
 use Rattle.history_model.specs.Repository as plain
@@ -12,3 +12,4 @@ bytes_put r [] = refl
 bytes_put r (PutLine kind path bytes ∷ edits) = ap (λ values. StoredBytes bytes ∷ values) (bytes_put r edits)
 bytes_put r (RemoveLine path ∷ edits) = bytes_put r edits
 bytes_put r (RemoveFileLine path ∷ edits) = bytes_put r edits
+bytes_put r (GraftLine path word source ∷ edits) = bytes_put r edits

@@ -4,6 +4,7 @@ use Rattle.std.specs.Prelude.{Option, Some, None, Result, Ok, Err, IfOk, IfErr, 
 use Rattle.gix_hash_id.specs.Id.{Id, id_of}
 use Rattle.gix_hash_id.specs.declared.kind.Kind.{Kind}
 use Rattle.gix_hash_id.specs.declared.object_id.ObjectId.{ObjectId}
+use Rattle.gix_object_find.specs.Table.{Table}
 use Rattle.gix_ref_file.specs.History.{History}
 use Rattle.history_model.specs.FileMap.{FileMap}
 use Rattle.history_model.specs.Meaning.{files_at, first_files}
@@ -15,11 +16,12 @@ use Rattle.history_plans.specs.Files.{TellsEdited, unmade}
 use Rattle.history_repository.specs.TreesBefore.{IsTreeBefore}
 use Rattle.history_repository.specs.Stands.{Stands}
 use Rattle.history_repository.specs.declared.repository.Repository.{Repository}
-use Rattle.history_repository.proofs.Tables.{root_of, holds_known}
+use Rattle.history_repository.proofs.Tables.{root_of, holds_known, tables_same}
 use Rattle.history_model.specs.FileMap as model
 use Rattle.history_model.specs.Repository as plain
 use Rattle.history_files.specs.declared.edits.Edit as editing
 use Rattle.history_files.specs.declared.edits.EditError.TheVariants as refused
+use Rattle.history_files.specs.Laws as laws
 
 -- ---- the files before a commit
 
@@ -32,7 +34,7 @@ module _ {F : Type 0} (IsHonest : F → Type 0) (history : F → History) (repos
 
 -- What edits of these files come to, by the contract of the call that makes them.
 module _ {F : Type 0} (IsHonest : F → Type 0) (history : F → History) (repository : Repository F) (r : plain.Repository) (stands : Stands IsHonest history repository r) (MayFail : Type 0)
-    (ids : List Id) (tree : Option ObjectId) (before : IsTreeBefore r ids tree) (edits : List editing.Edit) (made : List model.Edit) (named : NameEdits r.kind edits made) (kind : Kind) (same : kind ≡ r.kind)
+    (ids : List Id) (tree : Option ObjectId) (before : IsTreeBefore r ids tree) (edits : List editing.Edit) (made : List model.Edit) (named : NameEdits (laws.table_of r) r.kind edits made) (kind : Kind) (same : kind ≡ r.kind)
     (root : Option Id) (is_root : root ≡ option_map id_of tree) (result : Result EditedFiles EditError) where
   abbrev Of : (Kind → Option Id → FileMap → List model.Edit → Type 0) → Kind → Option Id → Type 0
   Of P k o = OfEdits (HoldsKnown IsHonest history repository.objects) (table_of history repository.objects) k o edits (P k o)
@@ -41,7 +43,8 @@ module _ {F : Type 0} (IsHonest : F → Type 0) (history : F → History) (repos
   at_files P told =
       let at_kind : Of P r.kind root = subst (λ (k : Kind). Of P k root) same told in
       let at_root : Of P r.kind (option_map id_of tree) = subst (λ (o : Option Id). Of P r.kind o) is_root at_kind in
-      at_root (holds_known IsHonest history repository r stands) (first_files r ids) made (base_told IsHonest history repository r stands ids tree before) named
+      at_root (holds_known IsHonest history repository r stands) (first_files r ids) made (base_told IsHonest history repository r stands ids tree before)
+      (subst (λ (table : Table). NameEdits table r.kind edits made) (sym (tables_same IsHonest history repository r stands)) named)
 
   pub edited_told : Of (λ k o files made. IfOk result (AreEdited k files made)) kind root → (edited : EditedFiles) → result ≡ Ok edited → AreEdited r.kind (first_files r ids) made edited
   edited_told told edited is =
@@ -59,6 +62,7 @@ pub unmade_told : (r : plain.Repository) (MayFail : Type 0) (ids : List Id) (mad
 unmade_told r MayFail ids made paths refused.BadPath h = absurd (cc (sym paths ∙ h))
 unmade_told r MayFail ids made paths refused.IsFolder h = (refl, h.1)
 unmade_told r MayFail ids made paths refused.NullId h = h
+unmade_told r MayFail ids made paths refused.EmptyTree h = absurd h
 unmade_told r MayFail ids made paths refused.Failed h = h
 unmade_told r MayFail ids made paths (refused.Broken oid) h = absurd h
 unmade_told r MayFail ids made paths refused.Memory h = tt

@@ -5,8 +5,11 @@ pub mod BytesPut
 pub mod Collisions
 pub mod DeleteCauses
 pub mod Edits
+pub mod EditsRead
 pub mod EditsTold
 pub mod FirstCauses
+pub mod GraftFound
+pub mod GraftPaths
 pub mod LineLemmas
 pub mod NameWays
 pub mod NamesTold
@@ -18,8 +21,11 @@ pub mod Planned
 pub mod RenameCauses
 pub mod Shapes
 pub mod SideBySide
+pub mod SourceLemmas
+pub mod SourcesStand
 pub mod SwitchCauses
 pub mod TagLemmas
 pub mod Tested
 pub mod TimesLemmas
 pub mod TitleLemmas
+pub mod Zipped

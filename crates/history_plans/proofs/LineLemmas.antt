@@ -352,7 +352,7 @@ tests_fault {B} MayFail causes r order P ends stopped is_end told = subst (λ (x
 abbrev pub swapped : plain.Repository → Line → To → Type 0
 swapped r line to = IsLine r to line
 
-zip_split : {A B : Type 0} (R : A → B → Type 0) (xs : List A) (x : A) (ys : List B) → AllZip R (xs ++ x ∷ []) ys → (front : List B) × (y : B) × (ys ≡ front ++ y ∷ []) × AllZip R xs front × R x y
+pub zip_split : {A B : Type 0} (R : A → B → Type 0) (xs : List A) (x : A) (ys : List B) → AllZip R (xs ++ x ∷ []) ys → (front : List B) × (y : B) × (ys ≡ front ++ y ∷ []) × AllZip R xs front × R x y
 zip_split R [] x [] all = absurd all
 zip_split R [] x (y ∷ []) all = ([], y, refl, tt, all.0)
 zip_split R [] x (y ∷ z ∷ ys) all = absurd all.1

@@ -1,28 +1,32 @@
 -- The folders whose trees edits give, as those that a commit is still to store.
-use Rattle.std.proofs.Common.{◌≡◌, ◌⊎◌, inl, inr, refl, sym, ◌∙◌, ap, subst, Bool, true, false, ◌||◌, List, [], ◌∷◌, ◌++◌, map, length}
+use Rattle.std.proofs.Common.{◌≡◌, ◌⊎◌, inl, inr, refl, sym, ◌∙◌, ap, subst, Bool, true, false, cond, ◌||◌, List, [], ◌∷◌, ◌++◌, map, length, Option, Some, None, option_to_list}
 use Rattle.std.specs.Prelude.{Contains}
 use Rattle.std.specs.List.{AllByRecursion, list_any, flat_map}
-use Rattle.std.specs.FinMap.{empty, get, values}
+use Rattle.std.specs.FinMap.{empty, get, keys, values}
+use Rattle.gix_hash_id.specs.Id as object_id
 use Rattle.gix_hash_id.specs.Id.{Id, null_id}
 use Rattle.gix_hash_id.specs.Order.{id_eq}
 use Rattle.gix_hash_id.specs.declared.kind.Kind.{Kind}
-use Rattle.history_model.specs.Bytes.{Bytes, by_bytes}
-use Rattle.history_model.specs.FileMap.{FileMap, Content, beginnings, folders_of, inside}
+use Rattle.gix_object_lines.specs.declared.kind.Kind.TheVariants as kinds
+use Rattle.history_model.specs.Bytes.{Bytes, by_bytes, is_empty}
+use Rattle.history_model.specs.FileMap.{FileMap, Content, Edit, Graft, beginnings, folders_of, inside}
 use Rattle.history_model.specs.Forms.{max_content}
 use Rattle.history_model.specs.Objects.{Value, StoredCommit, StoredBytes, StoredFolder, content_of, digest, id_of, object_text, root, value_text}
 use Rattle.history_model.specs.Repository.{Repository, HoldsCommit, IsStored, IsWholeStore, file_values}
-use Rattle.history_model.specs.Commands.{Commit, CommitCommand}
-use Rattle.history_model.specs.Meaning.{edits_of, first_files, new_commit, parents_of, some_taken, stored_by, takes_id}
+use Rattle.history_model.specs.Commands.{Commit, CommitCommand, EditLine, PutLine, RemoveLine, RemoveFileLine, GraftLine}
+use Rattle.history_model.specs.Words.{commit_of, word_meaning}
+use Rattle.history_model.specs.Meaning.{edits_of, files_at, first_files, new_commit, parents_of, read_edit, some_taken, stored_by, takes_id}
 use Rattle.history_steps.specs.Passing.{AreNewFolders}
 use Rattle.history_steps.specs.TreeSteps.{HasText}
 use Rattle.history_model.specs.Wholeness.{IsSound}
 use Rattle.history_model.proofs.IdLemmas.{digest_is_id, has_kind}
-use Rattle.history_model.proofs.WholeLists.{In, all_in, in_left, in_either, in_map, of_map, none_passes, one_passes, passes_one, clash}
+use Rattle.history_model.proofs.WholeLists.{In, all_in, in_left, in_either, in_map, of_flat, of_map, none_passes, one_passes, passes_one, clash}
+use Rattle.history_model.proofs.WholeReads.{read_holds}
 use Rattle.history_model.proofs.WholeSteps.{contains_in, in_contains}
 use Rattle.history_model.proofs.WholeStores.{none_reserved}
 use Rattle.history_model.proofs.WholeTexts.{text_same}
-use Rattle.history_files.specs.Entries.{own_folders}
-use Rattle.history_files.specs.Editing.{AreGiven, AreTreesOf, HasTreeOf, HaveNull, values_of}
+use Rattle.history_files.specs.Entries.{other_folders, own_folders}
+use Rattle.history_files.specs.Editing.{AreGiven, AreTreesOf, HasTreeOf, HaveNull, standing, values_of}
 use Rattle.history_files.specs.declared.trees.EditedTree.{EditedTree}
 use Rattle.history_objects.specs.Stores.{AreObjectsOf}
 use Rattle.history_texts.specs.declared.object.NewObject.{NewObject}
@@ -32,8 +36,6 @@ use Rattle.history_repository.proofs.Befores.{entries-empty, held_commit, held_f
 use Rattle.history_repository.proofs.FieldLemmas.{within}
 use Rattle.history_model.proofs.PartLemmas.{head_same, tail_same}
 use Rattle.std.proofs.lemmas.Bool.{or_from}
-use Rattle.gix_hash_id.specs.Id as object_id
-use Rattle.gix_object_lines.specs.declared.kind.Kind.TheVariants as kinds
 
 -- ---- lists
 
@@ -44,28 +46,61 @@ none_pass p (x ∷ xs) h = or_from (p x) (list_any p xs) (h x (inl refl)) (none_
 -- ---- the folders that stood
 
 module _ (r : Repository) (whole : IsWholeStore r) where
-  -- each folder in the first commit's files is stored
-  pub stood : (ids : List Id) → AllByRecursion (HoldsCommit r) ids → (g : FileMap) → In g (own_folders (first_files r ids)) → IsStored r (StoredFolder g)
-  stood [] hold g there = absurd (subst (λ (es : List (Bytes × Content)). In g (map (λ folder. inside folder (empty {R = by_bytes})) (flat_map beginnings (map (λ (e : Bytes × Content). e.0) es)))) entries-empty there)
-  stood (id ∷ ids) hold g there =
-      let held = held_commit r whole id hold.0 in
+  -- each folder of a stored commit's files is stored
+  folder_stood : (id : Id) → HoldsCommit r id → (g : FileMap) → In g (folders_of (files_at r id)) → IsStored r (StoredFolder g)
+  folder_stood id holds g there =
+      let held = held_commit r whole id holds in
       let files = held.0.files in
-      let inner : In g (folders_of files) = inr (subst (λ (m : FileMap). In g (own_folders m)) (held_files r whole id hold.0) there) in
+      let inner : In g (folders_of files) = subst (λ (m : FileMap). In g (folders_of m)) (held_files r whole id holds) there in
       let stored = (whole.closed id (StoredCommit held.0) held.1).1 in
       all_in (IsStored r) (file_values files) (whole.closed (id_of r.kind (StoredFolder files)) (StoredFolder files) stored) (StoredFolder g)
       (in_left (StoredFolder g) (map StoredFolder (folders_of files)) (map (λ (content : Content). StoredBytes content.bytes) (values files)) (in_map StoredFolder g (folders_of files) inner))
 
-  module _ (ids : List Id) (hold : AllByRecursion (HoldsCommit r) ids) where
-    has_text : (folder : FileMap) → HasTreeOf r.kind (own_folders (first_files r ids)) folder → HasText r.kind r.objects (StoredFolder folder)
+  -- so is each in the first commit's files
+  stood : (ids : List Id) → AllByRecursion (HoldsCommit r) ids → (g : FileMap) → In g (own_folders (first_files r ids)) → IsStored r (StoredFolder g)
+  stood [] hold g there = absurd (subst (λ (es : List (Bytes × Content)). In g (map (λ folder. inside folder (empty {R = by_bytes})) (flat_map beginnings (map (λ (e : Bytes × Content). e.0) es)))) entries-empty there)
+  stood (id ∷ ids) hold g there = folder_stood id hold.0 g (inr there)
+
+  -- and each of what is grafted
+  line_stood : (line : EditLine) (g : FileMap) → In g (other_folders (read_edit r line)) → IsStored r (StoredFolder g)
+  line_stood (PutLine kind path bytes) g there = absurd there
+  line_stood (RemoveLine path) g there = absurd there
+  line_stood (RemoveFileLine path) g there = absurd there
+  line_stood (GraftLine path word source) g there = by_word (commit_of r word) refl there
+    where
+      by_keys : (id : Id) → commit_of r word ≡ Some id → (b : Bool) → In g (cond b [] (folders_of (files_at r id))) → IsStored r (StoredFolder g)
+      by_keys id e true i = absurd i
+      by_keys id e false i = folder_stood id (read_holds r whole (word_meaning r word) id e) g i
+
+      by_word : (found : Option Id) → commit_of r word ≡ found → In g (other_folders (Graft path source (first_files r (option_to_list found)))) → IsStored r (StoredFolder g)
+      by_word None e i =
+          absurd (subst (λ (es : List (Bytes × Content)). In g (cond (is_empty (map (λ (e : Bytes × Content). e.0) es)) [] (folders_of (empty {R = by_bytes})))) entries-empty i)
+      by_word (Some id) e i = by_keys id e (is_empty (keys (files_at r id))) i
+
+  module _ (ids : List Id) (hold : AllByRecursion (HoldsCommit r) ids) (lines : List EditLine) where
+    -- the folders that stand before the edits
+    abbrev stands : List FileMap
+    stands = standing (first_files r ids) (map (read_edit r) lines)
+
+    each_stood : (g : FileMap) → In g stands → IsStored r (StoredFolder g)
+    each_stood g there = elim (in_either g (own_folders (first_files r ids)) (flat_map other_folders (map (read_edit r) lines)) there) [
+      | inl a ↦ stood ids hold g a
+      | inr b ↦
+          let from = of_flat other_folders g (map (read_edit r) lines) b in
+          let line = of_map (read_edit r) from.0 lines from.1 in
+          line_stood line.0 g (subst (λ (edit : Edit). In g (other_folders edit)) line.2 from.2)
+    ]
+
+    has_text : (folder : FileMap) → HasTreeOf r.kind stands folder → HasText r.kind r.objects (StoredFolder folder)
     has_text folder h =
         let same : value_text r.kind (StoredFolder h.0) ≡ value_text r.kind (StoredFolder folder) = ap (object_text kinds.Tree) h.2 in
-        (StoredFolder h.0, ap (λ text. get r.objects (digest r.kind text)) (sym same) ∙ stood ids hold h.0 (contains_in (own_folders (first_files r ids)) h.0 h.1), same)
+        (StoredFolder h.0, ap (λ text. get r.objects (digest r.kind text)) (sym same) ∙ each_stood h.0 (contains_in stands h.0 h.1), same)
 
-    comes : (given : List FileMap) (folder : FileMap) → Contains given folder ⊎ HasTreeOf r.kind (own_folders (first_files r ids)) folder → Contains given folder ⊎ HasText r.kind r.objects (StoredFolder folder)
+    comes : (given : List FileMap) (folder : FileMap) → Contains given folder ⊎ HasTreeOf r.kind stands folder → Contains given folder ⊎ HasText r.kind r.objects (StoredFolder folder)
     comes given folder (inl a) = inl a
     comes given folder (inr b) = inr (has_text folder b)
 
-    pub new_folders : (files : FileMap) (trees : List EditedTree) (given : AreGiven r.kind (own_folders (first_files r ids)) files trees) → AreNewFolders r files (given.below ++ files ∷ [])
+    pub new_folders : (files : FileMap) (trees : List EditedTree) (given : AreGiven r.kind stands files trees) → AreNewFolders r files (given.below ++ files ∷ [])
     new_folders files trees given = record {
       among = λ folder there. elim (in_either folder given.below (files ∷ []) (contains_in (given.below ++ files ∷ []) folder there)) [
         | inl a ↦ all_in (Contains (folders_of files)) given.below given.own folder a
@@ -73,10 +108,10 @@ module _ (r : Repository) (whole : IsWholeStore r) where
         | inr (inr e) ↦ absurd e
       ];
       all = λ folder there. comes (given.below ++ files ∷ []) folder
-          (all_in (λ folder. Contains (given.below ++ files ∷ []) folder ⊎ HasTreeOf r.kind (own_folders (first_files r ids)) folder) (folders_of files)
+          (all_in (λ folder. Contains (given.below ++ files ∷ []) folder ⊎ HasTreeOf r.kind stands folder) (folders_of files)
           (given.in_order given.below [] files refl) folder (contains_in (folders_of files) folder there));
       in_order = λ before after folder inner split there. comes (before ++ folder ∷ []) inner
-          (all_in (λ folder'. Contains (before ++ folder ∷ []) folder' ⊎ HasTreeOf r.kind (own_folders (first_files r ids)) folder') (folders_of folder)
+          (all_in (λ folder'. Contains (before ++ folder ∷ []) folder' ⊎ HasTreeOf r.kind stands folder') (folders_of folder)
           (given.in_order before after folder split) inner (contains_in (folders_of folder) inner there));
     }
 

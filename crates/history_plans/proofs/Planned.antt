@@ -1,12 +1,13 @@
 -- What a commit is to store, and how its name is to move, read from its command.
 use Rattle.std.proofs.Common.{◌≡◌, ◌⊎◌, inl, inr, ◌<◌, ◌≤◌, refl, sym, ◌∙◌, ap, subst, Bool, true, false, cond, ◌||◌, List, [], ◌∷◌, ◌++◌, map, length}
 use Rattle.std.specs.Prelude.{Contains, MatchOption, IsSome, IsTrue, option_and_then, Option, Some, None, option_map, unwrap_or, Result, Ok, Err}
-use Rattle.std.specs.List.{AllByRecursion, list_all, list_any, flat_map}
+use Rattle.std.specs.List.{AllByRecursion, AllZip, list_all, list_any, flat_map}
 use Rattle.std.proofs.lemmas.List.{map-append}
 use Rattle.std.proofs.lemmas.List.Folds.{list_any-append}
 use Rattle.history_model.specs.Bytes.{Bytes}
-use Rattle.history_model.specs.FileMap.{FileMap, folders_of, some_refused}
-use Rattle.history_model.specs.Objects.{CommitValue, Value, StoredBytes, StoredFolder, StoredCommit, folder_id, content_of, commit_content, root, tree_text, id_of as value_id}
+use Rattle.history_model.specs.FileMap.{FileMap, folders_of, grafts_nothing, some_refused}
+use Rattle.history_model.specs.Objects.{CommitValue, Value, StoredBytes, StoredFolder, StoredCommit, folder_id, content_of, commit_content, root, tree_text}
+use Rattle.history_model.specs.Objects.{id_of as value_id}
 use Rattle.gix_hash_id.specs.Id.{Id, null_id, id_of}
 use Rattle.std.specs.FinMap.{get}
 use Rattle.history_model.specs.Repository.{HoldsCommit, IsWholeStore, as_commit, id_at}
@@ -14,13 +15,13 @@ use Rattle.history_model.specs.Forms.{is_id, title, max_content}
 use Rattle.history_model.specs.Commands.{CommitCommand, Commit}
 use Rattle.history_model.specs.CommandParts.{paths_in, contents_in}
 use Rattle.history_model.specs.Meaning.{branch_or_name, first_files, parents_of, edits_of, new_commit, put_bytes, read_actor, stored_by, takes_id}
-use Rattle.history_model.specs.Causes.{first_cause, is_bad_path, is_too_large}
+use Rattle.history_model.specs.Causes.{first_cause, grafted_in, is_bad_path, is_too_large}
 use Rattle.history_steps.specs.Passing.{AreNewFolders, commit_puts}
 use Rattle.history_model.specs.Steps.{MayTake}
 use Rattle.history_steps.specs.TreeSteps.{HasText, move_entry}
 use Rattle.history_model.specs.Wholeness.{IsSound}
 use Rattle.history_model.specs.declared.Cause.{Cause}
-use Rattle.history_model.specs.declared.Cause.TheVariants.{BadPath, IsFolder, TooLarge}
+use Rattle.history_model.specs.declared.Cause.TheVariants.{BadPath, IsFolder, NoSuchPath, TooLarge}
 use Rattle.history_model.specs.declared.Fault.{Fault}
 use Rattle.history_model.specs.declared.Fault.TheVariants.{Memory, File, IdTaken}
 use Rattle.gix_hash_id.specs.declared.kind.Kind.{Kind}
@@ -46,7 +47,7 @@ use Rattle.history_repository.specs.Reads.{IsReadingFault}
 use Rattle.history_steps.specs.OneNameSteps.{commit_move}
 use Rattle.history_plans.specs.CommitCauses.{first_among, form_causes, name_causes, path_causes, is_long, IsToldBy, Tests}
 use Rattle.history_plans.specs.Bases.{IsCommitBase}
-use Rattle.history_plans.specs.Files.{TellsEdited, kept_edit}
+use Rattle.history_plans.specs.Files.{TellsEdited, TellsRead, grafts_badly, kept_edit}
 use Rattle.history_plans.specs.declared.base.Base.{Base}
 use Rattle.history_plans.specs.Plans.{GivesCommitted, GivesObjects, HasActors, IfItFits, IsMadeOf, IsMove, IsNotAdded, IsPlan, IsUnplanned, MakesCommit, Plans, Says}
 use Rattle.history_plans.specs.declared.planning.Actors.{Actors}
@@ -54,15 +55,15 @@ use Rattle.history_plans.specs.declared.planning.Below.{Below}
 use Rattle.history_plans.specs.declared.planning.Plan.{Plan}
 use Rattle.history_repository.specs.declared.stopped.Stopped.{Stopped}
 use Rattle.history_repository.specs.declared.stopped.Stopped.TheVariants.{Refused}
+use Rattle.history_model.specs.Repository as plain
+use Rattle.history_repository.specs.declared.stopped.Stopped.TheVariants as why
 use Rattle.history_plans.proofs.Edits.{edits_alike, edits_same, objects_joined}
 use Rattle.history_repository.proofs.FieldLemmas.{within, beyond}
 use Rattle.history_plans.proofs.FirstCauses.{passed, here, refused_by_form, refused_by_name, refused_by_size}
 use Rattle.history_plans.proofs.NewFolders.{contents, new_folders, none_long, null_taken, some_long, trees_put}
-use Rattle.history_plans.proofs.Shapes.{refused_alike}
+use Rattle.history_plans.proofs.Shapes.{IsAlike, all_nothing_alike, all_paths_alike, refused_alike}
 use Rattle.history_plans.proofs.BytesPut.{bytes_put}
 use Rattle.history_texts.proofs.Spelled.{and_from}
-use Rattle.history_model.specs.Repository as plain
-use Rattle.history_repository.specs.declared.stopped.Stopped.TheVariants as why
 
 -- ---- sizes
 
@@ -171,34 +172,59 @@ module _ (r : plain.Repository) (order : CommitCommand) where
   -- ---- paths
 
   module _ (none : first_among name_causes r (Commit order) ≡ None) where
+    -- the paths of the lines, and those at which something is grafted
+    paths_so : (a b : Bool) → list_any is_bad_path (paths_in (Commit order)) ≡ a → grafts_badly (edits_of r order) ≡ b → list_any is_bad_path (paths_in (Commit order) ++ grafted_in r (Commit order)) ≡ (a || b)
+    paths_so a b e f = list_any-append is_bad_path (paths_in (Commit order)) (grafted_in r (Commit order)) ∙ (λ i. e i || f i)
+
     pub path_refused : list_any is_bad_path (paths_in (Commit order)) ≡ true → first_cause r (Commit order) ≡ Some BadPath
-    path_refused bad = refused_by_form r order BadPath none (here _ _ _ bad)
+    path_refused bad = refused_by_form r order BadPath none (here _ _ _ (paths_so true (grafts_badly (edits_of r order)) bad refl))
 
-    pub folder_refused : list_any is_bad_path (paths_in (Commit order)) ≡ false → some_refused (first_files r (parents_of r order)) (edits_of r order) ≡ true → first_cause r (Commit order) ≡ Some IsFolder
-    folder_refused good refused = refused_by_form r order IsFolder none (passed _ _ _ _ good (here _ _ _ refused))
+    module _ (good : list_any is_bad_path (paths_in (Commit order)) ≡ false) where
+      pub graft_refused : grafts_badly (edits_of r order) ≡ true → first_cause r (Commit order) ≡ Some BadPath
+      graft_refused bad = refused_by_form r order BadPath none (here _ _ _ (paths_so false true good bad))
 
-    pub no_paths_refused : list_any is_bad_path (paths_in (Commit order)) ≡ false → some_refused (first_files r (parents_of r order)) (edits_of r order) ≡ false → first_among path_causes r (Commit order) ≡ None
-    no_paths_refused good accepted = passed _ _ _ _ good (passed _ _ _ _ accepted refl)
+      -- where the edits that are read are those of the lines, but for long contents
+      module _ (edits : List Edit) (are : AreEdits edits order.edits) where
+        alike : AllZip IsAlike (map (kept_edit r) edits) (edits_of r order)
+        alike = edits_alike r edits order.edits are good
 
-    -- what the edits come to, or a folder or a fault that they met
-    pub edits_planned : (MayFail : Type 0) (edits : List Edit) → AreEdits edits order.edits → list_any is_bad_path (paths_in (Commit order)) ≡ false
-        → (ids : List Id) → ids ≡ parents_of r order → (stopped : Stopped) → TellsEdited MayFail r ids (map kept_edit edits) (Err stopped) → Plans MayFail r order (Err stopped)
-    edits_planned MayFail edits are good ids same (Refused reason) h =
-        subst (λ (cause : Cause). first_cause r (Commit order) ≡ Some cause) (sym h.0)
-        (folder_refused good (sym (refused_alike (first_files r (parents_of r order)) (map kept_edit edits) (edits_of r order) (edits_alike r edits order.edits are good))
-        ∙ ap (λ ids. some_refused (first_files r ids) (map kept_edit edits)) (sym same) ∙ h.1))
-    edits_planned MayFail edits are good ids same (why.Fault fault) h = reading_planned MayFail r order fault h
+        badly_same : grafts_badly (map (kept_edit r) edits) ≡ grafts_badly (edits_of r order)
+        badly_same = ap (list_any is_bad_path) (all_paths_alike (map (kept_edit r) edits) (edits_of r order) alike)
 
-    -- none is refused
-    pub edits_pass : (MayFail : Type 0) (edits : List Edit) → AreEdits edits order.edits → list_any is_bad_path (paths_in (Commit order)) ≡ false
-        → (ids : List Id) → ids ≡ parents_of r order → (edited : Option EditedFiles) → TellsEdited MayFail r ids (map kept_edit edits) (Ok edited) → first_among path_causes r (Commit order) ≡ None
-    edits_pass MayFail edits are good ids same edited h =
-        no_paths_refused good (sym (refused_alike (first_files r (parents_of r order)) (map kept_edit edits) (edits_of r order) (edits_alike r edits order.edits are good))
-        ∙ ap (λ ids. some_refused (first_files r ids) (map kept_edit edits)) (sym same) ∙ accepted edited h)
-      where
-        accepted : (edited : Option EditedFiles) → TellsEdited MayFail r ids (map kept_edit edits) (Ok edited) → some_refused (first_files r ids) (map kept_edit edits) ≡ false
-        accepted (Some edited) h = h.accepted
-        accepted None h = h.accepted
+        -- one grafts to a bad path, or a fault was met
+        pub reading_refused : {T : Type 0} (MayFail : Type 0) (IsRead : T → Type 0) (stopped : Stopped) → TellsRead MayFail (map (kept_edit r) edits) IsRead (Err stopped) → Plans MayFail r order (Err stopped)
+        reading_refused MayFail IsRead (Refused reason) h = subst (λ (cause : Cause). first_cause r (Commit order) ≡ Some cause) (sym h.0) (graft_refused (sym badly_same ∙ h.1))
+        reading_refused MayFail IsRead (why.Fault fault) h = reading_planned MayFail r order fault h
+
+        module _ (grafts : grafts_badly (map (kept_edit r) edits) ≡ false) (ids : List Id) (same : ids ≡ parents_of r order) where
+          all_good : list_any is_bad_path (paths_in (Commit order) ++ grafted_in r (Commit order)) ≡ false
+          all_good = paths_so false false good (sym badly_same ∙ grafts)
+
+          refused_same : some_refused (first_files r ids) (map (kept_edit r) edits) ≡ some_refused (first_files r (parents_of r order)) (edits_of r order)
+          refused_same = ap (λ ids. some_refused (first_files r ids) (map (kept_edit r) edits)) same ∙ refused_alike (first_files r (parents_of r order)) (map (kept_edit r) edits) (edits_of r order) alike
+
+          nothing_same : list_any grafts_nothing (map (kept_edit r) edits) ≡ list_any grafts_nothing (edits_of r order)
+          nothing_same = all_nothing_alike (map (kept_edit r) edits) (edits_of r order) alike
+
+          -- a folder or a fault that the edits met
+          pub edits_planned : (MayFail : Type 0) (stopped : Stopped) → TellsEdited MayFail r ids (map (kept_edit r) edits) (Err stopped) → Plans MayFail r order (Err stopped)
+          edits_planned MayFail (Refused reason) h =
+              subst (λ (cause : Cause). first_cause r (Commit order) ≡ Some cause) (sym h.0)
+              (refused_by_form r order IsFolder none (passed _ _ _ _ all_good (here _ _ _ (sym refused_same ∙ h.1))))
+          edits_planned MayFail (why.Fault fault) h = reading_planned MayFail r order fault h
+
+          accepted : (MayFail : Type 0) (edited : Option EditedFiles) → TellsEdited MayFail r ids (map (kept_edit r) edits) (Ok edited) → some_refused (first_files r (parents_of r order)) (edits_of r order) ≡ false
+          accepted MayFail (Some edited) h = sym refused_same ∙ h.accepted
+          accepted MayFail None h = sym refused_same ∙ h.accepted
+
+          -- one finds nothing to graft
+          pub nothing_refused : (MayFail : Type 0) (edited : Option EditedFiles) → TellsEdited MayFail r ids (map (kept_edit r) edits) (Ok edited) → list_any grafts_nothing (map (kept_edit r) edits) ≡ true → first_cause r (Commit order) ≡ Some NoSuchPath
+          nothing_refused MayFail edited h nothing =
+              refused_by_form r order NoSuchPath none (passed _ _ _ _ all_good (passed _ _ _ _ (accepted MayFail edited h) (here _ _ _ (sym nothing_same ∙ nothing))))
+
+          -- none is refused
+          pub edits_pass : (MayFail : Type 0) (edited : Option EditedFiles) → TellsEdited MayFail r ids (map (kept_edit r) edits) (Ok edited) → list_any grafts_nothing (map (kept_edit r) edits) ≡ false → first_among path_causes r (Commit order) ≡ None
+          edits_pass MayFail edited h nothing = passed _ _ _ _ all_good (passed _ _ _ _ (accepted MayFail edited h) (passed _ _ _ _ (sym nothing_same ∙ nothing) refl))
 
   module _ (formed : first_among form_causes r (Commit order) ≡ None) (short : list_any is_long (contents_in (Commit order)) ≡ false)
       (none : first_among name_causes r (Commit order) ≡ None) where
@@ -254,7 +280,7 @@ module _ (r : plain.Repository) (order : CommitCommand) where
     folders_new : IsSound r → (edited : EditedFiles) (so : AreEdited r.kind (first_files r (parents_of r order)) (edits_of r order) edited)
         → AreNewFolders r (new_commit r order).files (so.trees.below ++ (new_commit r order).files ∷ [])
     folders_new sound edited so =
-        new_folders r sound.whole.store (parents_of r order) (parents_are_commits r order sound.whole.store) (new_commit r order).files edited.trees.items so.trees
+        new_folders r sound.whole.store (parents_of r order) (parents_are_commits r order sound.whole.store) order.edits (new_commit r order).files edited.trees.items so.trees
 
     pub below_planned : (MayFail : Type 0) → IsSound r → (edited : Option EditedFiles) → AreMeant edited → (blobs : List NewObject) (stopped : Stopped)
         → MatchOption edited (◌≡◌ {A = Result Below Stopped} (Err stopped) (Err (why.Fault IdTaken))) (λ edited. GivesObjects blobs edited (Err stopped)) → IsUnplanned MayFail r order stopped
@@ -298,11 +324,11 @@ module _ (r : plain.Repository) (order : CommitCommand) where
   -- what the edits come to, where no content is over its limit
   pub edits_meant : (MayFail : Type 0) (edits : List Edit) → AreEdits edits order.edits → list_any is_bad_path (paths_in (Commit order)) ≡ false
       → list_any is_long (contents_in (Commit order)) ≡ false → (ids : List Id) → ids ≡ parents_of r order
-      → (edited : Option EditedFiles) → TellsEdited MayFail r ids (map kept_edit edits) (Ok edited)
+      → (edited : Option EditedFiles) → TellsEdited MayFail r ids (map (kept_edit r) edits) (Ok edited)
       → MatchOption edited (HaveNull r.kind (first_files r (parents_of r order)) (edits_of r order)) (AreEdited r.kind (first_files r (parents_of r order)) (edits_of r order))
   edits_meant MayFail edits are good short ids same edited h =
       by_case edited (subst (λ made. TellsEdited MayFail r (parents_of r order) made (Ok edited)) (edits_same r edits order.edits are good short)
-      (subst (λ (ids : List Id). TellsEdited MayFail r ids (map kept_edit edits) (Ok edited)) same h))
+      (subst (λ (ids : List Id). TellsEdited MayFail r ids (map (kept_edit r) edits) (Ok edited)) same h))
     where
       by_case : (edited : Option EditedFiles) → TellsEdited MayFail r (parents_of r order) (edits_of r order) (Ok edited)
           → MatchOption edited (HaveNull r.kind (first_files r (parents_of r order)) (edits_of r order)) (AreEdited r.kind (first_files r (parents_of r order)) (edits_of r order))

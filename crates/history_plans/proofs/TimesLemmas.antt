@@ -9,7 +9,7 @@ use Rattle.history_model.specs.Forms.{is_seconds, is_offset}
 use Rattle.history_model.specs.Commands.{Commit, CommitCommand, ActorLine, EditLine}
 use Rattle.history_model.specs.Causes.{holds}
 use Rattle.history_model.specs.declared.Cause.{Cause}
-use Rattle.history_model.specs.declared.Cause.TheVariants.{BadPath, IsFolder, BadActor, BadTime, BadMessage, TooLarge}
+use Rattle.history_model.specs.declared.Cause.TheVariants.{BadPath, IsFolder, NoSuchPath, BadActor, BadTime, BadMessage, TooLarge}
 use Rattle.history_word.specs.Commands.{IsEdit, AreEdits}
 use Rattle.history_word.specs.declared.command.Edit.{Edit}
 use Rattle.history_plans.specs.CommitCauses.{first_among, form_causes, path_causes, IsTime, AreTimes}
@@ -66,20 +66,23 @@ module _ (r : Repository) (order : CommitCommand) where
     folder : Holds IsFolder ≡ false
     folder = (none_of _ _ _ (none_of _ _ _ none).1).0
 
+    found : Holds NoSuchPath ≡ false
+    found = (none_of (Holds NoSuchPath) NoSuchPath None (none_of (Holds IsFolder) IsFolder _ (none_of (Holds BadPath) BadPath _ none).1).1).0
+
     pub actor_refused : Holds BadActor ≡ true → AreTimes r order (Err BadActor)
-    actor_refused actor = passed _ _ _ _ path (passed _ _ _ _ folder (here _ _ _ actor))
+    actor_refused actor = passed _ _ _ _ path (passed _ _ _ _ folder (passed _ _ _ _ found (here _ _ _ actor)))
 
     pub time_refused : Holds BadActor ≡ false → Holds BadTime ≡ true → AreTimes r order (Err BadTime)
-    time_refused actor time = passed _ _ _ _ path (passed _ _ _ _ folder (passed _ _ _ _ actor (here _ _ _ time)))
+    time_refused actor time = passed _ _ _ _ path (passed _ _ _ _ folder (passed _ _ _ _ found (passed _ _ _ _ actor (here _ _ _ time))))
 
     pub title_refused : Holds BadActor ≡ false → Holds BadTime ≡ false → Holds BadMessage ≡ true → AreTimes r order (Err BadMessage)
-    title_refused actor time title = passed _ _ _ _ path (passed _ _ _ _ folder (passed _ _ _ _ actor (passed _ _ _ _ time (here _ _ _ title))))
+    title_refused actor time title = passed _ _ _ _ path (passed _ _ _ _ folder (passed _ _ _ _ found (passed _ _ _ _ actor (passed _ _ _ _ time (here _ _ _ title)))))
 
     pub size_refused : Holds BadActor ≡ false → Holds BadTime ≡ false → Holds BadMessage ≡ false → Holds TooLarge ≡ true → AreTimes r order (Err TooLarge)
-    size_refused actor time title size = passed _ _ _ _ path (passed _ _ _ _ folder (passed _ _ _ _ actor (passed _ _ _ _ time (passed _ _ _ _ title (here _ _ _ size)))))
+    size_refused actor time title size = passed _ _ _ _ path (passed _ _ _ _ folder (passed _ _ _ _ found (passed _ _ _ _ actor (passed _ _ _ _ time (passed _ _ _ _ title (here _ _ _ size))))))
 
     pub all_formed : Holds BadActor ≡ false → Holds BadTime ≡ false → Holds BadMessage ≡ false → first_among form_causes r (Commit order) ≡ None
-    all_formed actor time title = passed _ _ _ _ path (passed _ _ _ _ folder (passed _ _ _ _ actor (passed _ _ _ _ time (passed _ _ _ _ title refl))))
+    all_formed actor time title = passed _ _ _ _ path (passed _ _ _ _ folder (passed _ _ _ _ found (passed _ _ _ _ actor (passed _ _ _ _ time (passed _ _ _ _ title refl)))))
 
 -- ---- actors and times
 

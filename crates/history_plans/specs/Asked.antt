@@ -1,5 +1,5 @@
 -- What the clauses on the plan of a commit take for granted.
-use Rattle.std.specs.Prelude.{◌≡◌, List, None, map}
+use Rattle.std.specs.Prelude.{◌≡◌, List, Option, None, map, option_map}
 use Rattle.gix_hash_id.specs.Id.{id_of}
 use Rattle.gix_hash_id.specs.declared.object_id.ObjectId.{ObjectId}
 use Rattle.gix_ref_file.specs.History.{History}
@@ -7,6 +7,7 @@ use Rattle.history_model.specs.Meaning.{parents_of}
 use Rattle.history_word.specs.Commands.{AreEdits, IsCommit}
 use Rattle.history_word.specs.declared.command.CommitCommand.{CommitCommand}
 use Rattle.history_word.specs.declared.command.Edit.{Edit}
+use Rattle.history_plans.specs.Bases.{source_id}
 use Rattle.history_plans.specs.CommitCauses.{first_among, name_causes}
 use Rattle.history_repository.specs.Stands.{Stands}
 use Rattle.history_repository.specs.declared.repository.Repository.{Repository}
@@ -20,11 +21,14 @@ pub record AskedCommit {F : Type 0} (IsHonest : F → Type 0) (history : F → H
   pub serves : Stands IsHonest history repository r
   pub reads : IsCommit command order
 
--- A repository is asked for the files of a commit with these edits on these parents, where none of the causes of its name holds.
+-- A repository is asked for the files of a commit with these edits on these parents, and with the commits that are those of the edits'
+-- words, where none of the causes of its name holds.
 pub record AskedFiles {F : Type 0} (IsHonest : F → Type 0) (history : F → History)
-    (repository : Repository F) (parents : List ObjectId) (edits : List Edit)
+    (repository : Repository F) (parents : List ObjectId) (sources : List (Option ObjectId))
+    (edits : List Edit)
     (r : plain.Repository) (order : orders.CommitCommand) : Type 0 where
   pub serves : Stands IsHonest history repository r
   pub unrefused : first_among name_causes r (orders.Commit order) ≡ None
   pub parents_are : map id_of parents ≡ parents_of r order
+  pub sources_are : map (option_map id_of) sources ≡ map (source_id r) order.edits
   pub edits_are : AreEdits edits order.edits

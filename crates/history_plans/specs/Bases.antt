@@ -1,8 +1,11 @@
 -- What a commit stands on, and why it can't stand on it.
-use Rattle.std.specs.Prelude.{◌≡◌, ⊤, List, [], ◌∷◌, map, length, nat_lt, Option, Some, None, Result, option_map, if◌then◌else◌}
-use Rattle.history_model.specs.Bytes.{has_twice}
+use Rattle.std.specs.Prelude.{◌≡◌, ⊤, List, [], ◌∷◌, map, length, nat_lt, Option, Some, None, Result, option_map, option_and_then, if◌then◌else◌}
+use Rattle.history_model.specs.Bytes.{Bytes, has_twice}
+use Rattle.history_model.specs.Repository as plain
 use Rattle.history_model.specs.Repository.{id_at}
 use Rattle.history_model.specs.Forms.{max_parents}
+use Rattle.history_model.specs.Words.{commit_of}
+use Rattle.history_model.specs.Commands as orders
 use Rattle.history_model.specs.Meaning.{branch_or_name, parents_of}
 use Rattle.history_model.specs.declared.Cause.{Cause}
 use Rattle.history_model.specs.declared.Cause.TheVariants.{NoSuchName, Taken, TooManyParents, DuplicateParent}
@@ -12,8 +15,6 @@ use Rattle.history_repository.specs.Meanings.{commit_or_cause, meaning_of, reads
 use Rattle.history_plans.specs.declared.base.Base.{Base}
 use Rattle.history_plans.specs.declared.base.Expected.{Expected}
 use Rattle.history_plans.specs.declared.base.Expected.TheVariants.{Any, New, At}
-use Rattle.history_model.specs.Repository as plain
-use Rattle.history_model.specs.Commands as orders
 
 -- the same is expected, its word read
 abbrev pub IsExpected : plain.Repository → orders.Expect → Expected → Type 0
@@ -42,9 +43,18 @@ parents_cause ids =
     if nat_lt max_parents (length ids) then Some TooManyParents else if has_twice id_eq ids
     then Some DuplicateParent else None
 
--- the name that the commit moves, what it holds, and the commit's parents
+-- the word of an edit's line, if it has one, and the commit that it stands for
+abbrev pub line_word : orders.EditLine → Option Bytes
+line_word (orders.GraftLine path word source) = Some word
+line_word _ = None
+
+abbrev pub source_id : plain.Repository → orders.EditLine → Option Id
+source_id r line = option_and_then (commit_of r) (line_word line)
+
+-- the name that the commit moves, what it holds, the commit's parents, and of each edit the commit of its word, if it has one
 pub record IsCommitBase (r : plain.Repository) (order : orders.CommitCommand)
     (base : Base) : Type 0 where
   pub name : base.name.items ≡ branch_or_name r order.name
   pub held : option_map id_of base.held ≡ id_at r (branch_or_name r order.name)
   pub parents : map id_of base.parents.items ≡ parents_of r order
+  pub sources : map (option_map id_of) base.sources.items ≡ map (source_id r) order.edits

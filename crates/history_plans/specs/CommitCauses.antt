@@ -42,12 +42,12 @@ parent_causes = TooManyParents ∷ DuplicateParent ∷ []
 abbrev pub name_causes : List Cause
 name_causes = name_form_causes ++ (word_causes ++ (held_causes ++ (place_causes ++ parent_causes)))
 
--- those that its paths tell, on the files before
+-- those that its paths tell, on the files before and on those that are grafted
 abbrev pub path_causes : List Cause
-path_causes = BadPath ∷ IsFolder ∷ []
+path_causes = BadPath ∷ IsFolder ∷ NoSuchPath ∷ []
 
 abbrev pub form_causes : List Cause
-form_causes = path_causes ++ (NoSuchPath ∷ BadActor ∷ BadTime ∷ BadMessage ∷ [])
+form_causes = path_causes ++ (BadActor ∷ BadTime ∷ BadMessage ∷ [])
 
 -- the first of these causes that holds is told, or a fault was met
 abbrev pub IsToldOf : Type 0 → List Cause → plain.Repository → Command → Stopped → Type 0

@@ -1,50 +1,93 @@
 -- The files of a commit, as its parent's and its edits make them.
-use Rattle.std.specs.Prelude.{◌≡◌, List, Option, Some, None, Result, Ok, Err, IsTrue}
-use Rattle.std.specs.List.{AllZip, flat_map}
-use Rattle.gix_hash_id.specs.Id.{Id}
-use Rattle.gix_hash_id.specs.declared.kind.Kind.{Kind}
+use Rattle.std.specs.Prelude.{◌≡◌, ⊤, Bool, true, false, List, Option, Some, None, Result, Ok, Err, IsTrue, IsFalse}
+use Rattle.std.specs.List.{AllZip, flat_map, list_any}
+use Rattle.std.specs.FinMap.{get}
+use Rattle.gix_hash_id.specs.Id.{Id, id_of}
+use Rattle.gix_hash_id.specs.declared.object_id.ObjectId.{ObjectId}
 use Rattle.history_model.specs.Bytes.{Bytes}
-use Rattle.history_model.specs.FileMap.{some_refused}
-use Rattle.history_model.specs.Meaning.{first_files, put_bytes}
+use Rattle.history_model.specs.FileMap as model
+use Rattle.history_model.specs.FileMap.{FileMap, grafted_paths, some_refused}
+use Rattle.history_model.specs.Causes.{is_bad_path}
+use Rattle.history_model.specs.Commands.{EditLine, GraftLine}
+use Rattle.history_model.specs.Words.{commit_of}
+use Rattle.history_model.specs.Meaning.{first_files, put_bytes, word_files}
+use Rattle.history_model.specs.Objects.{StoredFolder, folder_id}
+use Rattle.history_model.specs.Repository as plain
+use Rattle.history_model.specs.declared.Cause.TheVariants as cause
+use Rattle.history_model.specs.declared.Fault.TheVariants as fault
 use Rattle.history_files.specs.Editing.{AreEdited, HaveNull, Names}
+use Rattle.history_files.specs.Edits.{IsSource}
+use Rattle.history_files.specs.Laws.{table_of}
+use Rattle.history_files.specs.declared.found.Found.{Found}
 use Rattle.history_files.specs.declared.edits.Change.{Change}
+use Rattle.history_files.specs.declared.edits.Change.TheVariants as change
+use Rattle.history_files.specs.declared.edits.Edit as files
 use Rattle.history_files.specs.declared.edits.EditError.{EditError}
+use Rattle.history_files.specs.declared.edits.EditError.TheVariants as refused
 use Rattle.history_files.specs.declared.trees.EditedFiles.{EditedFiles}
 use Rattle.history_objects.specs.Stores.{AreObjectsOf}
 use Rattle.history_word.specs.declared.command.Edit.{Edit}
-use Rattle.history_word.specs.declared.command.Edit.TheVariants.{Put, Remove, RemoveFile}
+use Rattle.history_word.specs.declared.command.Edit.TheVariants.{Put, Remove, RemoveFile, Graft}
 use Rattle.history_repository.specs.Reads.{IsReadingFault}
 use Rattle.history_repository.specs.Fields.{kept_bytes}
 use Rattle.history_plans.specs.declared.editing.Changes.{Changes}
 use Rattle.history_plans.specs.declared.editing.PathChange.{PathChange}
 use Rattle.history_repository.specs.declared.stopped.Stopped.{Stopped}
 use Rattle.history_repository.specs.declared.stopped.Stopped.TheVariants.{Refused, Fault}
-use Rattle.history_model.specs.FileMap as model
-use Rattle.history_model.specs.Repository as plain
-use Rattle.history_model.specs.declared.Cause.TheVariants as cause
-use Rattle.history_model.specs.declared.Fault.TheVariants as fault
-use Rattle.history_files.specs.declared.edits.Edit as files
-use Rattle.history_files.specs.declared.edits.EditError.TheVariants as refused
 
 -- ---- what is read of edits
 
--- the edit of the bytes that are kept
-abbrev pub kept_edit : Edit → model.Edit
-kept_edit (Put put) = model.Put put.kind (kept_bytes put.path) (kept_bytes put.content)
-kept_edit (Remove path) = model.Remove (kept_bytes path)
-kept_edit (RemoveFile path) = model.RemoveFile (kept_bytes path)
+-- the edit of the bytes that are kept; of a graft with the files of its word's commit
+abbrev pub kept_edit : plain.Repository → Edit → model.Edit
+kept_edit r (Put put) = model.Put put.kind (kept_bytes put.path) (kept_bytes put.content)
+kept_edit r (Remove path) = model.Remove (kept_bytes path)
+kept_edit r (RemoveFile path) = model.RemoveFile (kept_bytes path)
+kept_edit r (Graft graft) =
+    model.Graft (kept_bytes graft.path) (kept_bytes graft.source) (word_files r graft.word.items)
 
--- the change at its path is this edit, with the id of the bytes that it puts
-abbrev pub IsChangeOf : Kind → PathChange → model.Edit → Type 0
-IsChangeOf kind change made = Names kind change.path.items change.change made
+-- what is found for an edit is what a graft has at its source
+abbrev pub IsFoundFor : plain.Repository → Edit → Option Found → Type 0
+IsFoundFor r (Graft graft) found =
+    IsSource (table_of r) r.kind (kept_bytes graft.source) (word_files r graft.word.items) found
+IsFoundFor r _ found = ⊤
 
-abbrev pub AreChangesOf : Kind → List PathChange → List model.Edit → Type 0
-AreChangesOf kind = AllZip (IsChangeOf kind)
+-- the commit of the line's word, where it has one
+abbrev pub HasSource : plain.Repository → EditLine → Option ObjectId → Type 0
+HasSource r (GraftLine path word source) (Some id) = commit_of r word ≡ Some (id_of id)
+HasSource r (GraftLine path word source) None = ⊥
+HasSource r _ source = ⊤
+
+-- the change at its path is this edit, with the id of the bytes that it puts, or with what it grafts
+abbrev pub IsChangeOf : plain.Repository → PathChange → model.Edit → Type 0
+IsChangeOf r change made = Names (table_of r) r.kind change.path.items change.change made
+
+abbrev pub AreChangesOf : plain.Repository → List PathChange → List model.Edit → Type 0
+AreChangesOf r = AllZip (IsChangeOf r)
 
 -- the changes are these edits, and the objects those of the bytes that they put
-pub record AreReadAs (kind : Kind) (changes : Changes) (made : List model.Edit) : Type 0 where
-  pub changes_are : AreChangesOf kind changes.made.items made
-  pub blobs_are : AreObjectsOf kind (flat_map put_bytes made) changes.blobs.items
+pub record AreReadAs (r : plain.Repository) (changes : Changes) (made : List model.Edit) : Type 0 where
+  pub changes_are : AreChangesOf r changes.made.items made
+  pub blobs_are : AreObjectsOf r.kind (flat_map put_bytes made) changes.blobs.items
+
+-- the files stand as a folder
+abbrev pub StandsWithFolders : plain.Repository → FileMap → Type 0
+StandsWithFolders r files = get r.objects (folder_id r.kind files) ≡ Some (StoredFolder files)
+
+-- whether the change grafts what isn't there
+abbrev pub grafts_none : Change → Bool
+grafts_none (change.Graft None) = true
+grafts_none _ = false
+
+-- whether a graft would put something at a bad path
+abbrev pub grafts_badly : List model.Edit → Bool
+grafts_badly made = list_any is_bad_path (flat_map grafted_paths made)
+
+-- The edits are read, and no path at which they graft is bad; or one is; or a fault was met.
+abbrev pub TellsRead : {T : Type 0} → Type 0 → List model.Edit → (T → Type 0) → Result T Stopped → Type 0
+TellsRead MayFail made IsRead (Ok value) = IsFalse (grafts_badly made) × IsRead value
+TellsRead MayFail made IsRead (Err (Refused reason)) =
+    (reason ≡ cause.BadPath) × IsTrue (grafts_badly made)
+TellsRead MayFail made IsRead (Err (Fault reason)) = IsReadingFault MayFail (Fault reason)
 
 -- where an edit is made, and what it does
 abbrev pub edit_parts : files.Edit → Bytes × Change
@@ -58,6 +101,7 @@ abbrev pub unmade : EditError → Result (Option EditedFiles) Stopped
 unmade refused.BadPath = Err (Refused cause.BadPath)
 unmade refused.IsFolder = Err (Refused cause.IsFolder)
 unmade refused.NullId = Ok None
+unmade refused.EmptyTree = Err (Fault fault.File)
 unmade refused.Failed = Err (Fault fault.File)
 unmade (refused.Broken oid) = Err (Fault fault.File)
 unmade refused.Memory = Err (Fault fault.Memory)

@@ -1,15 +1,15 @@
 //! What a `commit` stands on: the name that it moves, what that holds, and the commit's parents.
 
-ghost use Rattle.std.specs.Prelude.{◌≡◌, MatchResult, None, Some, ◌++◌, ⊤, IfOk, IsTrue, map, option_map, option_to_list};
+ghost use Rattle.std.specs.Prelude.{◌≡◌, MatchResult, None, Some, ◌++◌, ⊤, IfOk, IsTrue, List, map, option_and_then, option_map, option_to_list};
 ghost use Rattle.history_plans.specs.CommitCauses.{IsNamed, Tests, name_form_causes, name_causes, place_causes};
 ghost use Rattle.history_repository.specs.Stands.{Stands};
 ghost use Rattle.std.specs.List.{filter_map};
 ghost use Rattle.history_model.specs.Forms.{is_name};
 ghost use Rattle.history_model.specs.Meaning.{branch_or_name};
-ghost use Rattle.history_word.specs.Commands.{IsExpect};
+ghost use Rattle.history_word.specs.Commands.{AreEdits, IsEdit, IsExpect};
 ghost use Rattle.history_repository.specs.Reads.{GivesMeant};
 ghost use Rattle.history_plans.specs.Asked.{AskedCommit};
-ghost use Rattle.history_plans.specs.Bases.{IsCommitBase, IsExpected, expected_meanings, held_cause, parents_cause};
+ghost use Rattle.history_plans.specs.Bases.{IsCommitBase, IsExpected, expected_meanings, held_cause, line_word, parents_cause};
 ghost use Rattle.history_repository.specs.Meanings.{words_cause, commit_in, commit_or_cause, meaning_of};
 ghost use Rattle.history_repository.specs.Held.{IsHeld};
 ghost use Rattle.gix_hash_id.specs.Id.{id_of};
@@ -26,7 +26,7 @@ use history_repository::{
     test_name,
 };
 use history_store::has_twice;
-use history_word::{CommitCommand, Expect};
+use history_word::{CommitCommand, Edit, Expect};
 use std::alloc::{AllocError, Global};
 
 /// The name that a `commit` moves: HEAD stands for its branch, and any other is one that a repository may hold.
@@ -46,12 +46,13 @@ pub(crate) fn name_of<F: Files>(
     Ok(Vec::from_slice(alloc, name)?)
 }
 
-/// The name that a commit moves, what it holds, and the commit's parents.
+/// The name that a commit moves, what it holds, the commit's parents, and of each edit the commit of its word, if it has one.
 #[derive(Drop)]
 pub(crate) struct Base {
     pub(crate) name: Vec<u8>,
     pub(crate) held: Option<ObjectId>,
     pub(crate) parents: Vec<ObjectId>,
+    pub(crate) sources: Vec<Option<ObjectId>>,
 }
 
 /// What is expected of a name, its word read.
@@ -79,6 +80,43 @@ impl Expected {
                 None => Err(Cause::NoSuchName),
             },
         }
+    }
+}
+
+/// What the words of the parents read as, and then those of edits.
+fn all_words(
+    alloc: Global,
+    parents: &[WordMeaning],
+    sources: &[Option<WordMeaning>],
+) -> Result<Vec<WordMeaning>, AllocError>
+    ensures { IfOk result
+        (λ all. all.items ≡ parents.now ++ filter_map (λ source. source) sources.now) }
+{
+    let mut all = Vec::new(alloc);
+    all.extend_from_slice(parents)?;
+    all.extend(sources.iter().filter_map(|source| *source))?;
+    Ok(all)
+}
+
+/// The commits of the edits' words.
+fn source_ids(
+    alloc: Global,
+    sources: &[Option<WordMeaning>],
+) -> Result<Vec<Option<ObjectId>>, AllocError>
+    ensures { IfOk result (λ ids. ids.items ≡ map (option_and_then commit_in) sources.now) }
+{
+    sources
+        .iter()
+        .map(|source| source_id(*source))
+        .collect(alloc)
+}
+
+fn source_id(source: Option<WordMeaning>) -> Option<ObjectId>
+    ensures { result ≡ option_and_then commit_in source }
+{
+    match source {
+        Some(meaning) => meaning.id(),
+        None => None,
     }
 }
 
@@ -159,6 +197,43 @@ fn read_words<F: Files>(
     Ok(meanings)
 }
 
+/// What the word of an edit reads as, if it has one.
+fn read_source<F: Files>(
+    repository: &Repository<F>,
+    alloc: Global,
+    edit: &Edit,
+) -> Result<Option<WordMeaning>, Stopped>
+    ensures { (r : plain.Repository) (line : orders.EditLine)
+        → Stands F.is_honest F.history repository.now r → IsEdit edit.now line
+        → GivesMeant F.reading_may_fail (λ source. option_map meaning_of source
+        ≡ option_map (commit_or_cause r) (line_word line)) result }
+{
+    match edit {
+        Edit::Graft(graft) => Ok(Some(read_word(repository, alloc, &graft.word)?)),
+        Edit::Put(_) => Ok(None),
+        Edit::Remove(_) => Ok(None),
+        Edit::RemoveFile(_) => Ok(None),
+    }
+}
+
+/// What the words of edits read as, one of each edit, if it has one.
+fn read_sources<F: Files>(
+    repository: &Repository<F>,
+    alloc: Global,
+    edits: &[Edit],
+) -> Result<Vec<Option<WordMeaning>>, Stopped>
+    ensures { (r : plain.Repository) (lines : List orders.EditLine)
+        → Stands F.is_honest F.history repository.now r → AreEdits edits.now lines
+        → GivesMeant F.reading_may_fail (λ sources. map (option_map meaning_of) sources.items
+        ≡ map (λ line. option_map (commit_or_cause r) (line_word line)) lines) result }
+{
+    let mut sources = Vec::new(alloc);
+    for edit in edits {
+        sources.push(read_source(repository, alloc, edit)?)?;
+    }
+    Ok(sources)
+}
+
 /// Tests that the name holds a commit, or may come to stand beside the others.
 fn test_place<F: Files>(
     repository: &Repository<F>,
@@ -197,15 +272,19 @@ pub(crate) fn read_base<F: Files>(
     let name = name_of(repository, alloc, &command.name)?;
     let expected = read_expected(repository, alloc, &command.expect)?;
     let words = read_words(repository, alloc, &command.parents)?;
-    test_words(expected, &words)?;
+    let sources = read_sources(repository, alloc, &command.edits)?;
+    let all = all_words(alloc, &words, &sources)?;
+    test_words(expected, &all)?;
     let held = read_held(repository, alloc, &name)?;
     expected.test(commit_held(held))?;
     test_place(repository, alloc, &name, held)?;
     let parents = parents_of(alloc, commit_held(held), &words)?;
     test_parents(&parents)?;
+    let sources = source_ids(alloc, &sources)?;
     Ok(Base {
         name,
         held: id_held(held),
         parents,
+        sources,
     })
 }

@@ -2,9 +2,10 @@
 
 ghost use Rattle.std.specs.Prelude.{◌≡◌, IsFalse, IsTrue, List, MatchResult, None};
 ghost use Rattle.std.specs.List.{list_any, flat_map};
-ghost use Rattle.history_model.specs.Forms.{max_content};
+ghost use Rattle.history_model.specs.Forms.{max_content, max_path};
 ghost use Rattle.history_model.specs.Causes.{is_bad_title, is_bad_path};
-ghost use Rattle.history_model.specs.CommandParts.{contents_in, edit_paths, put_contents};
+ghost use Rattle.history_model.specs.Bytes.{Bytes};
+ghost use Rattle.history_model.specs.CommandParts.{contents_in, edit_paths, put_contents, source_paths};
 ghost use Rattle.history_model.specs.declared.Cause.TheVariants.{BadPath};
 ghost use Rattle.history_model.specs.Commands.{Commit, EditLine};
 ghost use Rattle.history_word.specs.Commands.{AreEdits, IsActor, IsEdit};
@@ -47,7 +48,16 @@ fn has_bad_path(edit: &Edit) -> bool
         Edit::Put(put) => is_bad_path(&put.path),
         Edit::Remove(path) => is_bad_path(path),
         Edit::RemoveFile(path) => is_bad_path(path),
+        Edit::Graft(graft) => is_bad_path(&graft.path) || is_bad_source(&graft.source),
     }
+}
+
+/// Whether a graft's source is no path; that of all files isn't tested.
+fn is_bad_source(source: &Field) -> bool
+    ensures { (bytes : Bytes) → Keeps max_path source.now bytes
+        → result ≡ list_any is_bad_path (source_paths bytes) }
+{
+    !kept(source).is_empty() && is_bad_path(source)
 }
 
 fn has_long_content(edit: &Edit) -> bool
@@ -58,6 +68,7 @@ fn has_long_content(edit: &Edit) -> bool
         Edit::Put(put) => is_too_long(&put.content),
         Edit::Remove(_) => false,
         Edit::RemoveFile(_) => false,
+        Edit::Graft(_) => false,
     }
 }
 

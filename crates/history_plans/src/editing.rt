@@ -1,20 +1,25 @@
 //! What a commit's edits put, and what they make of its first parent's files.
 
-ghost use Rattle.std.specs.Prelude.{◌≡◌, IfOk, List, map, option_to_list};
-ghost use Rattle.std.specs.List.{AllByRecursion};
+ghost use Rattle.std.specs.Prelude.{◌≡◌, IfOk, IsFalse, List, map, option_to_list};
+ghost use Rattle.std.specs.List.{AllByRecursion, AllZip, flat_map, list_any};
 ghost use Rattle.gix_hash_id.specs.Id.{id_of};
+ghost use Rattle.history_model.specs.Causes.{is_bad_path};
+ghost use Rattle.history_model.specs.CommandParts.{edit_paths};
+ghost use Rattle.history_model.specs.Commands.{EditLine};
 ghost use Rattle.history_model.specs.Meaning.{put_bytes};
 ghost use Rattle.history_model.specs.Repository.{HoldsCommit};
 ghost use Rattle.history_files.specs.Editing.{HavePaths};
 ghost use Rattle.history_objects.specs.Stores.{AreObjectsOf};
-ghost use Rattle.history_plans.specs.Files.{AreChangesOf, AreReadAs, TellsEdited, IsChangeOf, change_parts, edit_parts, kept_edit, unmade};
+ghost use Rattle.history_word.specs.Commands.{AreEdits};
+ghost use Rattle.history_plans.specs.Files.{AreChangesOf, AreReadAs, HasSource, IsFoundFor, TellsEdited, TellsRead, IsChangeOf, change_parts, edit_parts, grafts_none, kept_edit, unmade};
 ghost use Rattle.history_repository.specs.Stands.{Stands};
 ghost use Rattle.history_model.specs.FileMap as model;
 ghost use Rattle.history_model.specs.Repository as plain;
 
+use crate::grafts::{found_for, source_at};
 use gix_hash::{Kind, ObjectId};
 use gix_ref_file::Files;
-use history_files::{Change, EditError, EditedFiles, edit_files};
+use history_files::{Change, EditError, EditedFiles, Found, edit_files};
 use history_model::{Cause, Fault};
 use history_repository::{Repository, Stopped, into_kept, tree_before};
 use history_store::NewObject;
@@ -35,10 +40,13 @@ pub(crate) struct Changes {
     pub(crate) blobs: Vec<NewObject>,
 }
 
-/// What an edit changes, and the object of its content, if it has one.
-fn read_edit(kind: Kind, edit: Edit) -> (PathChange, Option<NewObject>)
-    ensures change { IsChangeOf kind result.0 (kept_edit edit) }
-    ensures blob { AreObjectsOf kind (put_bytes (kept_edit edit)) (option_to_list result.1) }
+/// What an edit changes, for which this was found, and the object of its content, if it has one. Each content is hashed here, and
+/// nowhere else.
+fn read_edit(kind: Kind, edit: Edit, found: Option<Found>) -> (PathChange, Option<NewObject>)
+    ensures change { (r : plain.Repository) → kind ≡ r.kind → IsFoundFor r edit found
+        → IsChangeOf r result.0 (kept_edit r edit) }
+    ensures blob { (r : plain.Repository) → kind ≡ r.kind
+        → AreObjectsOf r.kind (put_bytes (kept_edit r edit)) (option_to_list result.1) }
 {
     match edit {
         Edit::Put(put) => {
@@ -60,21 +68,52 @@ fn read_edit(kind: Kind, edit: Edit) -> (PathChange, Option<NewObject>)
             let change = Change::RemoveFile;
             (PathChange { path, change }, None)
         }
+        Edit::Graft(graft) => {
+            let path = into_kept(graft.path);
+            let change = Change::Graft(found);
+            (PathChange { path, change }, None)
+        }
     }
 }
 
-/// What edits change. Each content is hashed here, and nowhere else.
-pub(crate) fn read_edits(alloc: Global, kind: Kind, edits: Vec<Edit>) -> Result<Changes, AllocError>
-    ensures { IfOk result (λ changes. AreReadAs kind changes (map kept_edit edits.items)) }
+/// What edits change, of which these are the commits of their words.
+pub(crate) fn read_edits<F: Files>(
+    repository: &Repository<F>,
+    alloc: Global,
+    edits: Vec<Edit>,
+    sources: &[Option<ObjectId>],
+) -> Result<Changes, Stopped>
+    ensures { (r : plain.Repository) (lines : List EditLine)
+        → Stands F.is_honest F.history repository.now r → AreEdits edits.items lines
+        → IsFalse (list_any is_bad_path (flat_map edit_paths lines))
+        → AllZip (HasSource r) lines sources.now
+        → TellsRead F.reading_may_fail (map (kept_edit r) edits.items)
+        (λ changes. AreReadAs r changes (map (kept_edit r) edits.items)) result }
 {
     let mut made = Vec::with_capacity(alloc, edits.len())?;
     let mut blobs = Vec::new(alloc);
     for edit in edits {
-        let (change, blob) = read_edit(kind, edit);
+        let at = made.len();
+        let source = source_at(sources, at);
+        let found = found_for(repository, alloc, &edit, source)?;
+        let (change, blob) = read_edit(repository.objects.kind(), edit, found);
         made.push(change)?;
         blobs.extend(blob)?;
     }
     Ok(Changes { made, blobs })
+}
+
+/// Whether a change grafts what isn't there.
+pub(crate) fn graft_nothing(changes: &[PathChange]) -> bool
+    ensures { result ≡ list_any (λ change. grafts_none change.change) changes.now }
+{
+    changes.iter().any(|change| grafts_none(&change.change))
+}
+
+fn grafts_none(change: &Change) -> bool
+    ensures { result ≡ grafts_none change.now }
+{
+    matches!(change, Change::Graft(None))
 }
 
 /// The changes as edits of files.
@@ -100,6 +139,7 @@ fn unmade(error: EditError) -> Result<Option<EditedFiles>, Stopped>
 {
     match error {
         EditError::NullId => Ok(None),
+        EditError::EmptyTree => Err(Stopped::Fault(Fault::File)),
         EditError::BadPath => Err(Stopped::Refused(Cause::BadPath)),
         EditError::IsFolder => Err(Stopped::Refused(Cause::IsFolder)),
         EditError::Failed | EditError::Broken { .. } => Err(Stopped::Fault(Fault::File)),
@@ -117,7 +157,7 @@ pub(crate) fn edited<F: Files>(
     ensures { (r : plain.Repository) (made : List model.Edit)
         → Stands F.is_honest F.history repository.now r
         → AllByRecursion (HoldsCommit r) (map id_of parents.now)
-        → AreChangesOf r.kind changes.now made → HavePaths made
+        → AreChangesOf r changes.now made → HavePaths made
         → TellsEdited F.reading_may_fail r (map id_of parents.now) made result }
 {
     let tree = tree_before(repository, alloc, parents)?;

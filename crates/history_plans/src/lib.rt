@@ -7,6 +7,7 @@ mod base;
 mod causes;
 mod deleting;
 mod editing;
+mod grafts;
 mod moving;
 mod packing;
 mod planning;

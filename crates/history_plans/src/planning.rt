@@ -25,7 +25,7 @@ ghost use Rattle.history_repository.specs.declared.stopped.Stopped.TheVariants a
 use crate::actors::actor_at;
 use crate::base::{Base, read_base};
 use crate::causes::{have_long_content, read_times, test_paths};
-use crate::editing::{edited, read_edits};
+use crate::editing::{edited, graft_nothing, read_edits};
 use gix_hash::ObjectId;
 use gix_ref_file::Files;
 use history_files::{EditedFiles, EditedTree};
@@ -248,16 +248,20 @@ fn new_files<F: Files>(
     repository: &Repository<F>,
     alloc: Global,
     parents: &[ObjectId],
+    sources: &[Option<ObjectId>],
     edits: Vec<Edit>,
 ) -> Result<NewFiles, Stopped>
     ensures { (r : plain.Repository) (order : orders.CommitCommand)
-        → AskedFiles F.is_honest F.history repository.now parents.now edits.items r order
+        → AskedFiles F.is_honest F.history repository.now parents.now sources.now edits.items r order
         → MatchResult result (AreNewFiles r order) (IsUnplanned F.reading_may_fail r order) }
 {
     test_paths(&edits)?;
     let has_long_content = have_long_content(&edits);
-    let changes = read_edits(alloc, repository.objects.kind(), edits)?;
+    let changes = read_edits(repository, alloc, edits, sources)?;
     let edited = edited(repository, alloc, parents, &changes.made)?;
+    if graft_nothing(&changes.made) {
+        return Err(Stopped::Refused(Cause::NoSuchPath));
+    }
     Ok(NewFiles {
         blobs: changes.blobs,
         edited,
@@ -276,7 +280,13 @@ pub fn plan_commit<F: Files>(
         → Plans F.reading_may_fail r order result }
 {
     let base = read_base(repository, alloc, &command)?;
-    let files = new_files(repository, alloc, &base.parents, command.edits)?;
+    let files = new_files(
+        repository,
+        alloc,
+        &base.parents,
+        &base.sources,
+        command.edits,
+    )?;
     let actors = read_actors(
         command.author,
         command.committer,

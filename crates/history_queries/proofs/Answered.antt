@@ -8,12 +8,12 @@ use Rattle.history_model.specs.FileMap.{FileMap, Content, has_below, inside}
 use Rattle.history_model.specs.Objects.{CommitValue, Value, StoredCommit, StoredTag, StoredBytes, StoredFolder, blob_id, entry_at, folder_id, mode_of}
 use Rattle.gix_hash_id.specs.Id.{Id, id_of}
 use Rattle.history_model.specs.Repository.{Repository, IsWhole, IsWholeStore, as_commit}
-use Rattle.history_model.specs.Meaning.{first_files}
+use Rattle.history_model.specs.Meaning.{first_files, word_files}
 use Rattle.history_model.specs.Words.{word_meaning}
 use Rattle.history_model.specs.Commands.{Command, Files, Show}
 use Rattle.history_model.specs.Replies.{FilesAre, ShowsCommit, ShowsContent, reply_text}
 use Rattle.history_model.specs.Answers.{StandsForCommit, files_shown, commit_shown, content_shown, file_line}
-use Rattle.history_model.specs.Causes.{is_bad_path, word_files, first_cause}
+use Rattle.history_model.specs.Causes.{is_bad_path, first_cause}
 use Rattle.history_model.specs.declared.FileKind.{FileKind}
 use Rattle.history_model.specs.declared.FileKind.TheVariants.{File, Exec, Link}
 use Rattle.history_files.specs.Reading.{entry_of, line_of}

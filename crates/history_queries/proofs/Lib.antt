@@ -11,4 +11,3 @@ pub mod OrderLemmas
 pub mod PastLemmas
 pub mod PastTexts
 pub mod ReplyTexts
-pub mod RowsRead

@@ -1,5 +1,5 @@
 -- What a log's words, its order and its walk tell.
-use Rattle.std.proofs.Common.{◌≡◌, ◌∙◌, ap, refl, sym, subst, ℕ, zero, suc, ℤ, pos, Bool, true, false, cond, not, ◌==◌, ◌||◌, List, [], ◌∷◌, ◌++◌, filter, map, length, ◌<◌, Option, Some, None, option_map, Vec, Ok, Err, arith, tests}
+use Rattle.std.proofs.Common.{◌≡◌, ◌∙◌, ap, refl, sym, subst, ℕ, zero, suc, ℤ, pos, Bool, true, false, cond, not, ◌==◌, ◌||◌, List, [], ◌∷◌, ◌++◌, filter, map, length, ◌<◌, Option, Some, None, option_map, Vec, Ok, Err, arith, tests, append-nil}
 use Rattle.std.specs.declared.alloc.Global.{Global}
 use Rattle.std.specs.Prelude.{Contains, IsErrAnd, Result}
 use Rattle.std.specs.Bool.{MatchBool}
@@ -98,7 +98,7 @@ module _ (r : Repository) (order : LogCommand) where
   Placed = cond (list_any is_bad_path order.paths) (Some BadPath) Ordered
 
   first_told : first_cause r (Log order) ≡ by_words r (map item_target order.items) Placed
-  first_told = refl
+  first_told = ap (λ (paths : List Bytes). by_words r (map item_target order.items) (cond (list_any is_bad_path paths) (Some BadPath) Ordered)) (append-nil order.paths)
 
   -- an accepted log has no bad path
   pub good_paths : first_cause r (Log order) ≡ None → list_any is_bad_path order.paths ≡ false

@@ -1,9 +1,9 @@
 //! Stored commits, files and lists of commits.
 
-ghost use Rattle.std.specs.Prelude.{◌≡◌, IfErr, IfOk, Some, map, option_map};
+ghost use Rattle.std.specs.Prelude.{◌≡◌, IfErr, IfOk, Some, map};
 ghost use Rattle.std.specs.FinMap.{entries, get};
 ghost use Rattle.history_model.specs.Answers.{file_line};
-ghost use Rattle.history_files.specs.Reading.{entry_of, line_of};
+ghost use Rattle.history_files.specs.Reading.{line_of};
 ghost use Rattle.history_model.specs.FileMap.{FileMap};
 ghost use Rattle.history_model.specs.Objects.{CommitValue, StoredCommit, StoredFolder};
 ghost use Rattle.history_texts.specs.Commits.{SaysCommit};
@@ -15,7 +15,6 @@ ghost use Rattle.history_repository.specs.Stands.{Stands};
 ghost use Rattle.history_repository.specs.Reads.{GivesMeant};
 ghost use Rattle.history_repository.specs.Face.{rows_in};
 ghost use Rattle.history_queries.specs.Walked.{AllHold, IsLogged};
-ghost use Rattle.history_model.specs.Objects as model;
 ghost use Rattle.history_repository.specs.declared.stopped.Stopped.TheVariants as why;
 ghost use Rattle.history_model.specs.Repository as plain;
 
@@ -23,7 +22,7 @@ use gix_hash::ObjectId;
 use gix_object::Commit;
 use gix_ref_file::Files;
 use gix_traverse_commit_graph::Graph;
-use history_files::{File, Found, entry_at, files};
+use history_files::{File, files};
 use history_model::Fault;
 use history_repository::{Repository, Stopped, content};
 use history_store::parse_commit;
@@ -91,19 +90,4 @@ pub(crate) fn commits<F: Files>(
 {
     let rows = copied_rows(repository)?;
     Ok(list_commits(alloc, &repository.objects, rows, request)?)
-}
-
-/// What stands at a path below a stored tree. The trees on the path are read, and no other.
-pub(crate) fn found_below<F: Files>(
-    repository: &Repository<F>,
-    alloc: Global,
-    tree: &ObjectId,
-    path: &[u8],
-) -> Result<Option<Found>, Stopped>
-    ensures { (r : plain.Repository) (below : FileMap) → Stands F.is_honest F.history repository.now r
-        → get r.objects (id_of tree.now) ≡ Some (StoredFolder below)
-        → GivesMeant F.reading_may_fail (λ found.
-        option_map entry_of found ≡ model.entry_at r.kind below path.now) result }
-{
-    Ok(entry_at(alloc, &repository.objects, tree, path)?)
 }

@@ -22,14 +22,14 @@ ghost use Rattle.history_model.specs.Repository as plain;
 ghost use Rattle.history_model.specs.Commands as model;
 
 use crate::lines::{field, kind_word, line};
-use crate::reading::{found_below, read_commit};
+use crate::reading::read_commit;
 use gix_hash::{Kind, ObjectId};
 use gix_object::Commit;
 use gix_object::lines::{Actor, write_time};
 use gix_ref_file::Files;
 use history_files::Found;
 use history_model::{Cause, FileKind};
-use history_repository::{Repository, Stopped, commit_of, content, is_bad_path, kept};
+use history_repository::{Repository, Stopped, commit_of, content, found_below, is_bad_path, kept};
 use history_store::hex_digits;
 use history_word::{Field, Show};
 use std::alloc::{AllocError, Global};

@@ -5,6 +5,7 @@ use Rattle.std.proofs.lemmas.Bool.Decides.{nat_tests}
 use Rattle.history_model.specs.Bytes.{Bytes, begins, ends, has_byte, is_empty}
 use Rattle.history_model.specs.FileMap.{components, is_path}
 use Rattle.history_model.specs.Causes.{is_bad_path, is_bad_actor}
+use Rattle.history_model.specs.CommandParts.{source_paths}
 use Rattle.history_model.specs.Forms.{is_actor_part, max_path}
 use Rattle.history_word.specs.Commands.{IsActor}
 use Rattle.history_word.specs.declared.command.ActorLine.{ActorLine}
@@ -66,6 +67,10 @@ pub not_empty : (text : Bytes) → (length text == 0) ≡ false → is_empty tex
 not_empty [] e = cc
 not_empty (b ∷ text) e = refl
 
+pub no_length : (text : Bytes) → (length text == 0) ≡ true → is_empty text ≡ true
+no_length [] e = refl
+no_length (b ∷ text) e = let z : ⊥ = grind (arith, nat_tests, e) in absurd z
+
 -- ---- actors
 
 pub never_both : (a : Bool) → (a && false) ≡ false
@@ -119,3 +124,23 @@ whole_path field path keeps good = kept_whole max_path field path keeps (not_bey
 -- and so is a content within its limit
 pub whole_content : (limit : ℕ) (field : Field) (content : Bytes) → Keeps limit field content → nat_lt limit (length content) ≡ false → kept_bytes field ≡ content
 whole_content limit field content keeps small = kept_whole limit field content keeps (not_beyond limit (length content) small)
+
+-- ---- a graft's source
+
+-- a field is kept as none exactly where it is empty
+pub empty_kept : (limit : ℕ) (field : Field) (bytes : Bytes) → Keeps limit field bytes → is_empty (kept_bytes field) ≡ is_empty bytes
+empty_kept limit (Whole kept) bytes h = ap is_empty h.1
+empty_kept limit (TooLong kept) [] h = absurd (omega (arith, h.0))
+empty_kept limit (TooLong kept) (b ∷ bytes) h = ap is_empty h.1
+
+pub none_tested : (source : Bytes) → is_empty source ≡ true → list_any is_bad_path (source_paths source) ≡ false
+none_tested [] e = refl
+none_tested (b ∷ source) e = cc
+
+pub one_tested : (source : Bytes) → is_empty source ≡ false → is_bad_path source ≡ list_any is_bad_path (source_paths source)
+one_tested [] e = cc
+one_tested (b ∷ source) e = sym (alone (is_bad_path (b ∷ source)))
+  where
+    alone : (a : Bool) → (a || false) ≡ a
+    alone true = refl
+    alone false = refl

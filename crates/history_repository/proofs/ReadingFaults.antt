@@ -1,8 +1,13 @@
 -- A fault of reading, handed on.
 use Rattle.std.proofs.Common.{◌≡◌, sym, subst}
-use Rattle.std.specs.Prelude.{Result, Err}
+use Rattle.std.specs.Prelude.{Result, Ok, Err, IsErrAnd}
+use Rattle.history_files.specs.Reading.{OwnFault}
+use Rattle.history_files.specs.declared.error.ReadError.{ReadError}
+use Rattle.history_files.specs.declared.error.ReadError.TheVariants.{Failed, Broken, Memory}
+use Rattle.history_repository.specs.Faults.{read_fault}
 use Rattle.history_repository.specs.Reads.{GivesMeant, IsReadingFault}
 use Rattle.history_repository.specs.declared.stopped.Stopped.{Stopped}
+use Rattle.history_repository.specs.declared.stopped.Stopped.TheVariants.{Fault}
 
 -- ---- readings
 
@@ -11,3 +16,10 @@ gave_fault {A} MayFail P result stopped was gives = subst (λ (x : Result A Stop
 
 pub gives_fault : {B : Type 0} (MayFail : Type 0) (P : B → Type 0) (ends : Result B Stopped) (stopped : Stopped) → ends ≡ Err stopped → IsReadingFault MayFail stopped → GivesMeant MayFail P ends
 gives_fault {B} MayFail P ends stopped is_end told = subst (λ (x : Result B Stopped). GivesMeant MayFail P x) (sym is_end) told
+
+-- why trees of a whole store aren't read is a fault of reading
+pub read_told : {T : Type 0} (MayFail : Type 0) (IsMeant : T → Type 0) (result : Result T Stopped) (error : ReadError) → IsErrAnd result (λ stopped. stopped ≡ Fault (read_fault error)) → OwnFault MayFail error → GivesMeant MayFail IsMeant result
+read_told MayFail IsMeant (Ok value) error is fails = absurd is
+read_told MayFail IsMeant (Err stopped) Failed is fails = subst (IsReadingFault MayFail) (sym is) fails
+read_told MayFail IsMeant (Err stopped) (Broken oid) is fails = absurd fails
+read_told MayFail IsMeant (Err stopped) Memory is fails = subst (IsReadingFault MayFail) (sym is) tt

@@ -17,5 +17,5 @@ pub use naming::{is_private, test_name};
 pub use repository::Repository;
 pub use shown::{ALL_NAMES, Shown, read_shown};
 pub use stopped::Stopped;
-pub use stored::{content, tree_before};
+pub use stored::{content, found_below, root_of, tree_before};
 pub use words::{Standing, WordMeaning, commit_of, first_standing, read_word, test_all};

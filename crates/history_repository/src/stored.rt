@@ -2,7 +2,9 @@
 
 ghost use Rattle.std.specs.Prelude.{◌≡◌, Some, map, option_map};
 ghost use Rattle.std.specs.FinMap.{get};
-ghost use Rattle.history_model.specs.Objects.{CommitValue, Value, StoredCommit, content_of, folder_id, object_kind};
+ghost use Rattle.history_model.specs.FileMap.{FileMap};
+ghost use Rattle.history_model.specs.Objects.{CommitValue, StoredCommit, StoredFolder, Value, content_of, entry_at, folder_id, object_kind};
+ghost use Rattle.history_files.specs.Reading.{entry_of};
 ghost use Rattle.gix_hash_id.specs.Id.{id_of};
 ghost use Rattle.history_repository.specs.Stands.{Stands};
 ghost use Rattle.history_repository.specs.Reads.{GivesMeant};
@@ -15,6 +17,7 @@ use crate::repository::Repository;
 use crate::stopped::Stopped;
 use gix_hash::ObjectId;
 use gix_ref_file::Files;
+use history_files::{Found, entry_at};
 use history_model::Fault;
 use history_store::{commit_tree, tag_target};
 use std::alloc::Global;
@@ -62,8 +65,8 @@ pub(crate) fn peeled<F: Files>(
     }
 }
 
-/// The root of a stored commit, which its first line names. Nothing behind that line is taken apart.
-pub(crate) fn root_of<F: Files>(
+/// The root of a stored commit: the id of its tree, which its first line names. Nothing behind that line is taken apart.
+pub fn root_of<F: Files>(
     repository: &Repository<F>,
     alloc: Global,
     id: &ObjectId,
@@ -92,4 +95,20 @@ pub fn tree_before<F: Files>(
         Some(id) => Ok(Some(root_of(repository, alloc, id)?)),
         None => Ok(None),
     }
+}
+
+/// What stands at a path below a stored tree: a file's kind and id, or a folder's id, or nothing. The trees on the path are read, and
+/// no other; it is a fault where a call of the files failed, or where no memory is left.
+pub fn found_below<F: Files>(
+    repository: &Repository<F>,
+    alloc: Global,
+    tree: &ObjectId,
+    path: &[u8],
+) -> Result<Option<Found>, Stopped>
+    ensures { (r : plain.Repository) (below : FileMap) → Stands F.is_honest F.history repository.now r
+        → get r.objects (id_of tree.now) ≡ Some (StoredFolder below)
+        → GivesMeant F.reading_may_fail (λ found.
+        option_map entry_of found ≡ entry_at r.kind below path.now) result }
+{
+    Ok(entry_at(alloc, &repository.objects, tree, path)?)
 }

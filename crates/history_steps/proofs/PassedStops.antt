@@ -4,7 +4,7 @@ use Rattle.std.specs.Prelude.{MatchOption, IfSome, IsTrue}
 use Rattle.std.specs.List.{AllByRecursion, flat_map}
 use Rattle.std.specs.FinMap.{get, entries, keys}
 use Rattle.history_model.specs.Bytes.{Bytes}
-use Rattle.history_model.specs.FileMap.{FileMap, Content, folders_of, inside, beginnings, Edit, Put, Remove, RemoveFile}
+use Rattle.history_model.specs.FileMap.{FileMap, Content, folders_of, inside, beginnings, Edit, Put, Remove, RemoveFile, Graft}
 use Rattle.history_model.specs.Objects.{Value, StoredCommit, StoredTag, StoredBytes, StoredFolder}
 use Rattle.gix_hash_id.specs.Id.{Id}
 use Rattle.history_model.specs.Repository.{Repository, IsWhole, peeled, peeled_value, is_tag, is_tag_value}
@@ -26,7 +26,7 @@ use Rattle.history_steps.proofs.TreePuts.{halves_stand}
 use Rattle.history_model.proofs.WholeLists.{In, in_left, in_right, in_either, in_map, of_map, of_flat, in_flat}
 use Rattle.history_model.proofs.WholeRoots.{HasAll, ArePlain, of_folders, of_inside, plain_inside}
 use Rattle.history_model.proofs.WholeStores.{all_keep, all_from, in_get, near_stored}
-use Rattle.history_model.proofs.WholeCommands.{all_fits}
+use Rattle.history_model.proofs.WholeCommands.{all_fits, edits_come, graft_stored}
 use Rattle.history_model.proofs.WholeGrowth.{Coming, Fits, grown_whole}
 use Rattle.history_model.proofs.WholeReads.{plain_written, parents_hold, Fine, first_fine, edits_from, new_written}
 use Rattle.history_model.proofs.WholeSteps.{contains_in, in_contains, stops_keep_sound}
@@ -74,6 +74,7 @@ module _ (r : Repository) (c : CommitCommand) (folders : List FileMap) (sound : 
   put_fits vs v (Put kind path bytes) (inr i) = absurd i
   put_fits vs v (Remove path) i = absurd i
   put_fits vs v (RemoveFile path) i = absurd i
+  put_fits vs v (Graft path source from) i = absurd i
 
   blob_fits : (vs : List Value) (v : Value) → In v blobs → Fits r vs v
   blob_fits vs v i = let from = of_flat put_bytes v (edits_of r c) i in put_fits vs v from.0 from.2
@@ -83,7 +84,8 @@ module _ (r : Repository) (c : CommitCommand) (folders : List FileMap) (sound : 
     bytes_come : (path : Bytes) (content : Content) → In (path, content) (entries files) → Coming r vs (StoredBytes content.bytes)
     bytes_come path content i = elim (edits_from (first_files r (parents_of r c)) (edits_of r c) path content (in_get files path content i)) [
       | inl a ↦ inr (near_stored r.kind r.objects (StoredBytes content.bytes) (old_fine.0 path content a))
-      | inr b ↦ inl (puts (StoredBytes content.bytes) (in_flat put_bytes (StoredBytes content.bytes) b.0 (edits_of r c) b.1 b.3))
+      | inr (e, j, inl b) ↦ inl (puts (StoredBytes content.bytes) (in_flat put_bytes (StoredBytes content.bytes) e (edits_of r c) j b.1))
+      | inr (e, j, inr b) ↦ inr (near_stored r.kind r.objects (StoredBytes content.bytes) (graft_stored r (sound.whole).store sound.written c none e j path content b))
     ]
 
     -- a folder whose files' bytes come, in its form
@@ -94,7 +96,7 @@ module _ (r : Repository) (c : CommitCommand) (folders : List FileMap) (sound : 
     HasFiles (StoredBytes b) = Unit {0}
 
     plain : ArePlain (entries files)
-    plain = plain_written files (new_written r c none old_fine.1)
+    plain = plain_written files (new_written r c none old_fine.1 (edits_come r (sound.whole).store sound.written c none))
 
     all_have : HasAll HasFiles files
     unfolding HasFiles

@@ -13,9 +13,9 @@ use Rattle.history_model.specs.Spelling as spelling
 use Rattle.history_model.specs.Lines as lines
 use Rattle.history_word.specs.LineTable as table
 use Rattle.history_word.specs.TableRuns.{at, run_from, next_offered}
-use Rattle.history_word.specs.Commands.{IsExpect, IsTo}
+use Rattle.history_word.specs.Commands.{IsExpect, IsTo, IsEdit}
 use Rattle.history_word.specs.Drafts.{role_of, place_of, target_of, to_of, log_of, IsEditHeading, IsOpening, IsHeading, IsDraft, with_parent, with_to, with_edit, with_actor, with_message, with_paths}
-use Rattle.history_word.specs.Come.{to_parents, to_committer, to_tagger, to_targets, to_mover, before_message, to_message, HasEnough, HasCome, edit_heading, edit_fields, parts_with, TakesLine, TakesEdit, TakesLog, TakesActor, TakesOpening, TakesFields, TakesParts}
+use Rattle.history_word.specs.Come.{to_parents, to_committer, to_tagger, to_targets, to_mover, before_message, to_message, HasEnough, HasCome, edit_sizes, edit_heading, edit_fields, parts_with, TakesLine, TakesEdit, TakesLog, TakesActor, TakesOpening, TakesFields, TakesParts}
 use Rattle.history_word.specs.declared.command.Expect.{Expect}
 use Rattle.history_word.specs.declared.command.To.{To}
 use Rattle.history_word.specs.declared.command.Edit.{Edit}
@@ -36,7 +36,7 @@ use Rattle.history_word.specs.declared.place.Place.TheVariants as place
 use Rattle.history_word.specs.declared.draft.Draft.{Draft}
 use Rattle.history_word.specs.declared.draft.Draft.TheVariants as draft
 use Rattle.history_word.proofs.ProgressLemmas.{leads_line, leads_field}
-use Rattle.history_word.proofs.LineEndLemmas.{fields_text, heading_sizes_are, one_text}
+use Rattle.history_word.proofs.LineEndLemmas.{fields_text, heading_sizes_are, one_text, first_number, second_number}
 
 abbrev Word : Type 0
 Word = Option (Vec ℕ Global)
@@ -303,28 +303,41 @@ edit_place l place.Edits place.Edits e = (inr refl, refl)
 edit_place (model.PutLine kind path content) p q e = cc
 edit_place (model.RemoveLine path) p q e = cc
 edit_place (model.RemoveFileLine path) p q e = cc
+edit_place (model.GraftLine path word source) p q e = cc
 
 edit_spelled : (l : model.EditLine) → parts_with (edit_heading l) (edit_fields l) ≡ spelling.edit_parts l
 edit_spelled (model.PutLine kind path content) = refl
 edit_spelled (model.RemoveLine path) = refl
 edit_spelled (model.RemoveFileLine path) = refl
+edit_spelled (model.GraftLine path word source) = refl
 
-edit_lengths : (l : model.EditLine) → lines.sizes (edit_heading l) ≡ map length (edit_fields l)
-edit_lengths (model.PutLine kind path content) = refl
-edit_lengths (model.RemoveLine path) = refl
-edit_lengths (model.RemoveFileLine path) = refl
+-- the line of an edit and the fields behind it are those of an edit
+record OfEdit (h : lines.Heading) (fields : List Bytes) : Type 0 where
+  line_is : model.EditLine
+  heads : edit_heading line_is ≡ h
+  holds : edit_fields line_is ≡ fields
 
-table_line : EditHeading → lines.Heading
-table_line (edit.Put kind m n) = lines.PutHeading kind m n
-table_line (edit.Remove n) = lines.RemoveHeading n
-table_line (edit.RemoveFile n) = lines.RemoveFileHeading n
+of_one : (n : ℕ) (make : Bytes → model.EditLine) → ((x : Bytes) → edit_fields (make x) ≡ x ∷ []) → (k : ℕ → lines.Heading) → ((x : Bytes) → edit_heading (make x) ≡ k (length x))
+    → (fields : List Bytes) → n ∷ [] ≡ map length fields → OfEdit (k n) fields
+of_one n make holds k heads [] s = cc
+of_one n make holds k heads (x ∷ []) s = record { line_is = make x; heads = heads x ∙ ap k (sym (first_number s)); holds = holds x }
+of_one n make holds k heads (x ∷ y ∷ more) s = cc
 
-edit_line : (said : EditHeading) (h : lines.Heading) → IsEditHeading said h → h ≡ table_line said
-unfolding table_line
-edit_line (edit.Put kind m n) (lines.PutHeading k a b) e = λ i. lines.PutHeading (sym e.0 i) (sym e.1 i) (sym e.2 i)
-edit_line (edit.Remove n) (lines.RemoveHeading a) e = λ i. lines.RemoveHeading (sym e i)
-edit_line (edit.RemoveFile n) (lines.RemoveFileHeading a) e = λ i. lines.RemoveFileHeading (sym e i)
-edit_line said h e = absurd e
+of_two : (m n : ℕ) (make : Bytes → Bytes → model.EditLine) → ((x y : Bytes) → edit_fields (make x y) ≡ x ∷ y ∷ []) → (k : ℕ → ℕ → lines.Heading) → ((x y : Bytes) → edit_heading (make x y) ≡ k (length x) (length y))
+    → (fields : List Bytes) → m ∷ n ∷ [] ≡ map length fields → OfEdit (k m n) fields
+of_two m n make holds k heads [] s = cc
+of_two m n make holds k heads (x ∷ []) s = cc
+of_two m n make holds k heads (x ∷ y ∷ []) s = record { line_is = make x y; heads = heads x y ∙ (λ i. k (sym (first_number s) i) (sym (second_number s) i)); holds = holds x y }
+of_two m n make holds k heads (x ∷ y ∷ z ∷ more) s = cc
+
+of_edit : (said : EditHeading) (h : lines.Heading) (fields : List Bytes) → IsEditHeading said h → edit_sizes said ≡ map length fields → OfEdit h fields
+of_edit (edit.Put kind m n) (lines.PutHeading k a b) fields e s =
+    of_two a b (λ x y. model.PutLine k x y) (λ x y. refl) (λ m n. lines.PutHeading k m n) (λ x y. refl) fields ((λ i. sym e.1 i ∷ sym e.2 i ∷ []) ∙ s)
+of_edit (edit.Remove n) (lines.RemoveHeading a) fields e s = of_one a (λ x. model.RemoveLine x) (λ x. refl) (λ n. lines.RemoveHeading n) (λ x. refl) fields ((λ i. sym e i ∷ []) ∙ s)
+of_edit (edit.RemoveFile n) (lines.RemoveFileHeading a) fields e s = of_one a (λ x. model.RemoveFileLine x) (λ x. refl) (λ n. lines.RemoveFileHeading n) (λ x. refl) fields ((λ i. sym e i ∷ []) ∙ s)
+of_edit (edit.Graft m word n) (lines.GraftHeading a w b) fields e s =
+    of_two a b (λ x y. model.GraftLine x w y) (λ x y. refl) (λ m n. lines.GraftHeading m w n) (λ x y. refl) fields ((λ i. sym e.0 i ∷ sym e.2 i ∷ []) ∙ s)
+of_edit said h fields e s = absurd e
 
 edit_at : (l : model.EditLine) (old new : Draft) → ((order : model.CommitCommand) → IsDraft old (model.Commit order) → IsDraft new (model.Commit (with_edit order l)))
     → (p q : Place) → next_offered (place_of p) (edit_heading l) ≡ Some (place_of q) → (before : List spelling.Part) → HasCome p old before → HasCome q new (before ++ parts_with (edit_heading l) (edit_fields l))
@@ -341,19 +354,24 @@ edit_at l old new f p q e before here =
       f c come.2,
     )
 
-pub edit_takes : (said : EditHeading) (edit : Option Edit) (ys : Bytes) (old new : Draft) → (t : TakesEdit said edit ys) → ((order : model.CommitCommand) → IsDraft old (model.Commit order) → IsDraft new (model.Commit (with_edit order t.line_is)))
+-- the line and these fields behind it go on from one place to the other
+abbrev Goes : Draft → Draft → Place → Place → lines.Heading → List Bytes → Type 0
+Goes old new p q h fields = next_offered (place_of p) h ≡ Some (place_of q) → (before : List spelling.Part) → HasCome p old before → HasCome q new (before ++ parts_with h fields)
+
+pub edit_takes : (said : EditHeading) (edit : Option Edit) (ys : Bytes) (old new : Draft) → TakesEdit said edit ys
+    → ((order : model.CommitCommand) (l : model.EditLine) → IsDraft old (model.Commit order) → IfSome edit (λ x. IsEdit x l) → IsDraft new (model.Commit (with_edit order l)))
     → TakesFields (heading.Edit said) old new ys
-edit_takes said edit ys old new t f =
-    let l = t.line_is in
-    let line_said = edit_line said (edit_heading l) t.heads in
-    record {
-      fields = edit_fields l;
-      heads = sym (heading_sizes_are (heading.Edit said) (edit_heading l) t.heads) ∙ edit_lengths l;
-      spelled = t.spelled;
-      come = λ h i p q.
-          subst (λ h. next_offered (place_of p) h ≡ Some (place_of q) → (before : List spelling.Part) → HasCome p old before → HasCome q new (before ++ parts_with h (edit_fields l)))
-          (line_said ∙ sym (edit_line said h i)) (edit_at l old new f p q);
-    }
+edit_takes said edit ys old new t f = record {
+  fields = t.fields;
+  heads = t.heads;
+  spelled = t.spelled;
+  come = λ h i p q. goes h i p q (of_edit said h t.fields i t.heads);
+}
+  where
+    goes : (h : lines.Heading) → IsEditHeading said h → (p q : Place) → OfEdit h t.fields → Goes old new p q h t.fields
+    goes h i p q of =
+        let is = t.is of.line_is (subst (IsEditHeading said) (sym of.heads) i) of.holds in
+        subst (λ fs. Goes old new p q h fs) of.holds (subst (λ h. Goes old new p q h (edit_fields of.line_is)) of.heads (edit_at of.line_is old new (λ order d. f order of.line_is d is) p q))
 
 -- ---- the lines of a move
 

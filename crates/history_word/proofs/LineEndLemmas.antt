@@ -25,6 +25,7 @@ edit_sizes_are : (said : EditHeading) (h : lines.Heading) → IsEditHeading said
 edit_sizes_are (edit.Put kind m n) (lines.PutHeading k a b) e = λ i. sym e.1 i ∷ sym e.2 i ∷ []
 edit_sizes_are (edit.Remove n) (lines.RemoveHeading a) e = λ i. sym e i ∷ []
 edit_sizes_are (edit.RemoveFile n) (lines.RemoveFileHeading a) e = λ i. sym e i ∷ []
+edit_sizes_are (edit.Graft m word n) (lines.GraftHeading a w b) e = λ i. sym e.0 i ∷ sym e.2 i ∷ []
 edit_sizes_are said h e = absurd e
 
 opening_sizes_are : (said : Opening) (h : lines.Heading) → IsOpening said h → lines.sizes h ≡ opening_sizes said
@@ -54,6 +55,20 @@ heading_sizes_are (heading.Actor said) (lines.ActorHeading r m n s o) e = λ i. 
 heading_sizes_are (heading.Message n) (lines.MessageHeading m) e = λ i. sym e i ∷ []
 heading_sizes_are heading.End lines.EndHeading e = refl
 heading_sizes_are said h e = absurd e
+
+-- ---- the first of a list
+
+pub first_number : {a b : ℕ} {xs ys : List ℕ} → a ∷ xs ≡ b ∷ ys → a ≡ b
+first_number e = cc
+
+pub second_number : {a b c d : ℕ} {xs ys : List ℕ} → a ∷ c ∷ xs ≡ b ∷ d ∷ ys → c ≡ d
+second_number e = cc
+
+pub first_text : {a b : Bytes} {xs ys : List Bytes} → a ∷ xs ≡ b ∷ ys → a ≡ b
+first_text e = cc
+
+pub second_text : {a b c d : Bytes} {xs ys : List Bytes} → a ∷ c ∷ xs ≡ b ∷ d ∷ ys → c ≡ d
+second_text e = cc
 
 -- ---- a field that stops
 

@@ -9,8 +9,8 @@ use Rattle.history_model.specs.Commands.{Expect, Any, New, At, Order, Breadth, N
 use Rattle.history_model.specs.Spelling.{expect_words, kind_word, option_list, order_words, parents_word, item_word}
 use Rattle.history_model.specs.declared.FileKind.{FileKind}
 use Rattle.history_model.specs.declared.FileKind.TheVariants.{File, Exec, Link}
-use Rattle.history_model.specs.Lines.{Role, Author, Committer, Tagger, Mover, Heading, CommitHeading, ParentHeading, PutHeading, RemoveHeading, RemoveFileHeading, ActorHeading, MessageHeading, EndHeading, TagHeading, MoveHeading, ToHeading, RenameHeading, DeleteHeading, SwitchHeading, PackHeading, IndexHeading, NamesHeading, FilesHeading, PastHeading, LogHeading, ShowHeading, role_word, size_words, words_of, sizes, are_sizes}
-use Rattle.history_word.specs.LineTable.{number_of, kind_of, expect_of, end_of_words, word_of_words, size_of_words, commit_of_words, put_of_words, actor_of_words, show_of_words, target_of_words, rename_of_words, delete_of_words, names_of_words, since_of, order_of, first_parents_of, item_of, Items, paths_of, with_item, items_of, walk_of_words, log_of_words, name_heading_of, heading_of, WordsAreHeadings}
+use Rattle.history_model.specs.Lines.{Role, Author, Committer, Tagger, Mover, Heading, CommitHeading, ParentHeading, PutHeading, RemoveHeading, RemoveFileHeading, GraftHeading, ActorHeading, MessageHeading, EndHeading, TagHeading, MoveHeading, ToHeading, RenameHeading, DeleteHeading, SwitchHeading, PackHeading, IndexHeading, NamesHeading, FilesHeading, PastHeading, LogHeading, ShowHeading, role_word, size_words, words_of, sizes, are_sizes}
+use Rattle.history_word.specs.LineTable.{number_of, kind_of, expect_of, end_of_words, word_of_words, size_of_words, commit_of_words, put_of_words, graft_of_words, actor_of_words, show_of_words, target_of_words, rename_of_words, delete_of_words, names_of_words, since_of, order_of, first_parents_of, item_of, Items, paths_of, with_item, items_of, walk_of_words, log_of_words, name_heading_of, heading_of, WordsAreHeadings}
 use Rattle.history_model.proofs.PartLemmas.{below}
 use Rattle.std.proofs.lemmas.Bool.{and_from, eqb-true, and_parts}
 use Rattle.history_model.proofs.PlaceLemmas.{one_text}
@@ -143,6 +143,17 @@ put_told (kind ∷ path ∷ content ∷ []) h e =
     (λ i. codes "put" ∷ kind_is i ∷ path_is.0 i ∷ content_is.0 i ∷ [])
     (and_from (nat_lt m.0 (2 ^ 64)) (nat_lt n.0 (2 ^ 64) && true) path_is.1 (and_from (nat_lt n.0 (2 ^ 64)) true content_is.1 refl))
 put_told words h e = cc
+
+graft_told : (words : List Bytes) (h : Heading) → graft_of_words words ≡ Some h → Tells (codes "graft" ∷ words) h
+graft_told (path ∷ word ∷ source ∷ []) h e =
+    let m = then_some _ (number_of path) h e in
+    let n = map_some (GraftHeading m.0 word) (number_of source) h m.2 in
+    let path_is = decimal_number path m.0 m.1 in
+    let source_is = decimal_number source n.0 n.1 in
+    told_as (codes "graft" ∷ path ∷ word ∷ source ∷ []) (GraftHeading m.0 word n.0) h n.2
+    (λ i. codes "graft" ∷ path_is.0 i ∷ word ∷ source_is.0 i ∷ [])
+    (and_from (nat_lt m.0 (2 ^ 64)) (nat_lt n.0 (2 ^ 64) && true) path_is.1 (and_from (nat_lt n.0 (2 ^ 64)) true source_is.1 refl))
+graft_told words h e = cc
 
 actor_told : (role : Role) (words : List Bytes) (h : Heading) → actor_of_words role words ≡ Some h → Tells (role_word role ∷ words) h
 actor_told role (name ∷ email ∷ seconds ∷ offset ∷ []) h e =
@@ -306,12 +317,13 @@ heading_told (first ∷ words) h e =
     either_way (bytes_eq first (codes "put")) (put_of_words words) _ h e (λ b f. named first (codes "put") words h b (put_told words h f)) (λ e.
     either_way (bytes_eq first (codes "remove")) (size_of_words RemoveHeading words) _ h e (λ b f. named first (codes "remove") words h b (size_told (codes "remove") RemoveHeading (λ n. refl) (λ n. refl) words h f)) (λ e.
     either_way (bytes_eq first (codes "remove-file")) (size_of_words RemoveFileHeading words) _ h e (λ b f. named first (codes "remove-file") words h b (size_told (codes "remove-file") RemoveFileHeading (λ n. refl) (λ n. refl) words h f)) (λ e.
+    either_way (bytes_eq first (codes "graft")) (graft_of_words words) _ h e (λ b f. named first (codes "graft") words h b (graft_told words h f)) (λ e.
     either_way (bytes_eq first (codes "author")) (actor_of_words Author words) _ h e (λ b f. named first (codes "author") words h b (actor_told Author words h f)) (λ e.
     either_way (bytes_eq first (codes "committer")) (actor_of_words Committer words) _ h e (λ b f. named first (codes "committer") words h b (actor_told Committer words h f)) (λ e.
     either_way (bytes_eq first (codes "message")) (size_of_words MessageHeading words) _ h e (λ b f. named first (codes "message") words h b (size_told (codes "message") MessageHeading (λ n. refl) (λ n. refl) words h f)) (λ e.
     either_way (bytes_eq first (codes "end")) (end_of_words EndHeading words) _ h e (λ b f. named first (codes "end") words h b (end_told (codes "end") EndHeading refl refl words h f)) (λ e.
     either_way (bytes_eq first (codes "files")) (word_of_words FilesHeading words) _ h e (λ b f. named first (codes "files") words h b (word_told (codes "files") FilesHeading (λ w. refl) (λ w. refl) words h f)) (λ e.
-    either_way (bytes_eq first (codes "show")) (show_of_words words) (name_heading_of first words) h e (λ b f. named first (codes "show") words h b (show_told words h f)) (λ e. name_heading_told first words h e)))))))))))
+    either_way (bytes_eq first (codes "show")) (show_of_words words) (name_heading_of first words) h e (λ b f. named first (codes "show") words h b (show_told words h f)) (λ e. name_heading_told first words h e))))))))))))
 
 -- ---- a line's words say it
 
@@ -384,6 +396,10 @@ heading_reads (PutHeading kind path content) s =
     ∙ ap (option_map (PutHeading kind path)) (number_decimal content (and_parts (nat_lt content (2 ^ 64)) true both.1).0)
 heading_reads (RemoveHeading path) s = size_reads RemoveHeading path s
 heading_reads (RemoveFileHeading path) s = size_reads RemoveFileHeading path s
+heading_reads (GraftHeading path word source) s =
+    let both = and_parts (nat_lt path (2 ^ 64)) (nat_lt source (2 ^ 64) && true) s in
+    ap (option_and_then (λ m. option_map (GraftHeading m word) (number_of (decimal source)))) (number_decimal path both.0)
+    ∙ ap (option_map (GraftHeading path word)) (number_decimal source (and_parts (nat_lt source (2 ^ 64)) true both.1).0)
 heading_reads (ActorHeading Author name email seconds offset) s = actor_reads Author name email seconds offset s
 heading_reads (ActorHeading Committer name email seconds offset) s = actor_reads Committer name email seconds offset s
 heading_reads (ActorHeading Tagger name email seconds offset) s = actor_reads Tagger name email seconds offset s

@@ -3,12 +3,12 @@ use Rattle.std.proofs.Common.{◌≡◌, ◌≢◌, ◌↔◌, ℕ, Bool, true, 
 use Rattle.std.specs.List.{list_all, join_with_byte}
 use Rattle.std.specs.Fmt.{digits}
 use Rattle.history_model.specs.Bytes.{Bytes, line, is_empty}
-use Rattle.history_model.specs.Commands.{Command, Commit, Tag, Move, Rename, Delete, Switch, Pack, Index, Names, Files, Past, Log, Show, CommitCommand, Expect, EditLine, PutLine, RemoveLine, RemoveFileLine, To, Order, LogItem}
+use Rattle.history_model.specs.Commands.{Command, Commit, Tag, Move, Rename, Delete, Switch, Pack, Index, Names, Files, Past, Log, Show, CommitCommand, Expect, EditLine, PutLine, RemoveLine, RemoveFileLine, GraftLine, To, Order, LogItem}
 use Rattle.history_model.specs.Spelling.{Part, Line, Field, parts_of, edit_parts, to_part, actor_parts, message_parts, end_part, signed_parts, parent_part, is_part, are_items, has_spelling, has_enough, order_words, parents_word, item_word, path_words}
 use Rattle.history_model.specs.Commands as commands
 use Rattle.history_model.specs.Grammar.{GoesOnOf, LineStandsOf, FieldStandsOf, LineFitsOf}
 use Rattle.history_word.specs.LineTable as whole
-use Rattle.history_model.specs.Lines.{Role, Author, Committer, Tagger, Mover, Heading, CommitHeading, ParentHeading, PutHeading, RemoveHeading, RemoveFileHeading, ActorHeading, MessageHeading, EndHeading, TagHeading, MoveHeading, ToHeading, RenameHeading, DeleteHeading, SwitchHeading, PackHeading, IndexHeading, NamesHeading, FilesHeading, PastHeading, LogHeading, ShowHeading, role_word, words_of, size_words, sizes, are_sizes, first_line}
+use Rattle.history_model.specs.Lines.{Role, Author, Committer, Tagger, Mover, Heading, CommitHeading, ParentHeading, PutHeading, RemoveHeading, RemoveFileHeading, GraftHeading, ActorHeading, MessageHeading, EndHeading, TagHeading, MoveHeading, ToHeading, RenameHeading, DeleteHeading, SwitchHeading, PackHeading, IndexHeading, NamesHeading, FilesHeading, PastHeading, LogHeading, ShowHeading, role_word, words_of, size_words, sizes, are_sizes, first_line}
 use Rattle.history_word.specs.LineTable.{Place, Start, Parents, Edits, ToCommitter, ToTagger, ToFirst, ToMore, ToMessage, ToEnd, Done, next_edit}
 use Rattle.history_word.specs.TableRuns.{Progress, at, begin, done, is_told, next_of, part_step_of, run_from_of, reached_of, IsLineAtOf}
 use Rattle.std.proofs.lemmas.List.{length-replicate}
@@ -151,6 +151,12 @@ module _ (offers : Heading → Bool) (some_offered : offers (FilesHeading (codes
       let behind = flat_map edit_parts edits ++ (actor_parts (codes "author") a ++ rest) in
       let h : Heading = RemoveFileHeading (length path) in
       let first = one_field place Edits h path behind refl (here h Edits refl) parts in
+      let more = edits_reach Edits edits a rest at_edits first.1 in
+      (first.0 ∙ more.0, more.1)
+  edits_reach place (GraftLine path word source ∷ edits) a rest here parts =
+      let behind = flat_map edit_parts edits ++ (actor_parts (codes "author") a ++ rest) in
+      let h : Heading = GraftHeading (length path) word (length source) in
+      let first = two_fields place Edits h path source behind refl (here h Edits refl) parts in
       let more = edits_reach Edits edits a rest at_edits first.1 in
       (first.0 ∙ more.0, more.1)
 

@@ -8,7 +8,7 @@ use Rattle.history_model.specs.Spelling.{Part, Line, Field, parts_text, part_tex
 use Rattle.history_model.specs.Grammar.{LineFitsOf, FieldStandsOf, StopsByOf, HasRestCauseOf, RestBeginsOrHasCause}
 use Rattle.history_model.specs.declared.Cause.{Cause}
 use Rattle.history_model.specs.declared.Cause.TheVariants.{Syntax, Truncated, LineTooLong}
-use Rattle.history_model.specs.Lines.{Heading, CommitHeading, ParentHeading, PutHeading, RemoveHeading, RemoveFileHeading, ActorHeading, MessageHeading, EndHeading, TagHeading, MoveHeading, ToHeading, RenameHeading, DeleteHeading, SwitchHeading, PackHeading, IndexHeading, NamesHeading, FilesHeading, PastHeading, LogHeading, ShowHeading, words_of}
+use Rattle.history_model.specs.Lines.{Heading, CommitHeading, ParentHeading, PutHeading, RemoveHeading, RemoveFileHeading, GraftHeading, ActorHeading, MessageHeading, EndHeading, TagHeading, MoveHeading, ToHeading, RenameHeading, DeleteHeading, SwitchHeading, PackHeading, IndexHeading, NamesHeading, FilesHeading, PastHeading, LogHeading, ShowHeading, words_of}
 use Rattle.history_word.specs.LineTable.{Place, Start, Done}
 use Rattle.history_word.specs.TableRuns.{Progress, at, is_told, part_step_of, reached_of}
 use Rattle.history_word.proofs.TableRunLemmas.{line_goes, commands_run}
@@ -56,6 +56,7 @@ some_words (ParentHeading word) e = cc
 some_words (PutHeading kind path content) e = cc
 some_words (RemoveHeading path) e = cc
 some_words (RemoveFileHeading path) e = cc
+some_words (GraftHeading path word source) e = cc
 some_words (ActorHeading role name email seconds offset) e = cc
 some_words (MessageHeading message) e = cc
 some_words EndHeading e = cc

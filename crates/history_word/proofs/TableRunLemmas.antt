@@ -2,10 +2,10 @@
 use Rattle.std.proofs.Common.{◌≡◌, ◌≢◌, ℕ, zero, suc, ◌^◌, ◌<◌, ◌≤◌, Bool, true, false, ◌==◌, List, [], ◌∷◌, ◌++◌, length, map, refl, sym, ap, ◌∙◌, subst, Option, Some, None, option_map, option_and_then, codes, decimal, nat_lt, if◌then◌else◌, flat_map, arith, tests}
 use Rattle.std.specs.List.{list_all}
 use Rattle.history_model.specs.Bytes.{Bytes}
-use Rattle.history_model.specs.Commands.{Command, Commit, Tag, Move, Rename, Delete, Switch, Pack, Index, Names, Files, Past, Log, Show, CommitCommand, Expect, EditLine, PutLine, RemoveLine, RemoveFileLine, To, Order, LogItem}
+use Rattle.history_model.specs.Commands.{Command, Commit, Tag, Move, Rename, Delete, Switch, Pack, Index, Names, Files, Past, Log, Show, CommitCommand, Expect, EditLine, PutLine, RemoveLine, RemoveFileLine, GraftLine, To, Order, LogItem}
 use Rattle.history_model.specs.Spelling.{Part, Line, Field, parts_of, expect_words, order_words, parents_word, item_word, kind_word, parent_part, edit_parts, to_part, actor_parts, message_parts, end_part, is_part, are_items, has_spelling, has_enough, path_words}
 use Rattle.history_model.specs.Commands as commands
-use Rattle.history_model.specs.Lines.{Role, Author, Committer, Tagger, Mover, Heading, CommitHeading, ParentHeading, PutHeading, RemoveHeading, RemoveFileHeading, ActorHeading, MessageHeading, EndHeading, TagHeading, MoveHeading, ToHeading, RenameHeading, DeleteHeading, SwitchHeading, PackHeading, IndexHeading, NamesHeading, FilesHeading, PastHeading, LogHeading, ShowHeading, role_word, words_of, sizes, are_sizes, first_line, size_words}
+use Rattle.history_model.specs.Lines.{Role, Author, Committer, Tagger, Mover, Heading, CommitHeading, ParentHeading, PutHeading, RemoveHeading, RemoveFileHeading, GraftHeading, ActorHeading, MessageHeading, EndHeading, TagHeading, MoveHeading, ToHeading, RenameHeading, DeleteHeading, SwitchHeading, PackHeading, IndexHeading, NamesHeading, FilesHeading, PastHeading, LogHeading, ShowHeading, role_word, words_of, sizes, are_sizes, first_line, size_words}
 use Rattle.history_word.specs.LineTable.{heading_of, Place, Start, Parents, Edits, ToCommitter, ToTagger, ToFirst, ToMore, ToMessage, ToEnd, Done, next_edit, next}
 use Rattle.history_word.specs.TableRuns.{Progress, at, done, is_told, next_of, after_line_of, part_step_of, run_from_of, reached_of}
 use Rattle.history_word.proofs.TableLines.{if_some, map_some, then_some, heading_told, heading_reads, some_same}
@@ -375,6 +375,20 @@ module _ (offers : Heading → Bool) where
         committer = run.committer;
         message = run.message;
         is = λ i. Line (codes "remove-file" ∷ decimal (sym f.long i) ∷ []) ∷ all i;
+      }
+  edits_line (GraftHeading m word n) following rest more s e =
+      let f = field_run m (n ∷ []) following rest e in
+      let g = field_run n [] following f.rest f.goes in
+      let tail = f.is ∙ ap (λ ps. Field f.bytes ∷ ps) g.is in
+      let len : length rest ≡ suc (suc (length g.rest)) = ap length tail in
+      let run = more g.rest (omega arith) (placed Edits following [] g.rest s g.goes) in
+      let all = tail ∙ ap (λ ps. Field f.bytes ∷ Field g.bytes ∷ ps) run.is in
+      record {
+        edits = GraftLine f.bytes word g.bytes ∷ run.edits;
+        author = run.author;
+        committer = run.committer;
+        message = run.message;
+        is = λ i. Line (codes "graft" ∷ decimal (sym f.long i) ∷ word ∷ decimal (sym g.long i) ∷ []) ∷ all i;
       }
   edits_line (ActorHeading Author m n seconds offset) following rest more s e =
       let a = actor_run Author following m n seconds offset rest e in

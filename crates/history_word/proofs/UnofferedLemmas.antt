@@ -44,20 +44,21 @@ passed said false x y e f = f
 
 -- a line whose first word is none of those that are told apart first
 pub said_behind : (said : Option Heading) (first : Bytes) (words : List Bytes) → bytes_eq first (codes "commit") ≡ false → bytes_eq first (codes "parent") ≡ false → bytes_eq first (codes "put") ≡ false → bytes_eq first (codes "remove") ≡ false
-    → bytes_eq first (codes "remove-file") ≡ false → bytes_eq first (codes "author") ≡ false → bytes_eq first (codes "committer") ≡ false → bytes_eq first (codes "message") ≡ false → bytes_eq first (codes "end") ≡ false
+    → bytes_eq first (codes "remove-file") ≡ false → bytes_eq first (codes "graft") ≡ false → bytes_eq first (codes "author") ≡ false → bytes_eq first (codes "committer") ≡ false → bytes_eq first (codes "message") ≡ false → bytes_eq first (codes "end") ≡ false
     → bytes_eq first (codes "files") ≡ false → bytes_eq first (codes "show") ≡ false → Says said (name_heading_of first words) → Says said (heading_of (first ∷ words))
-said_behind said first words commit parent put remove remove_file author committer message end files show names =
+said_behind said first words commit parent put remove remove_file graft author committer message end files show names =
     passed said (bytes_eq first (codes "commit")) _ _ commit (
     passed said (bytes_eq first (codes "parent")) _ _ parent (
     passed said (bytes_eq first (codes "put")) _ _ put (
     passed said (bytes_eq first (codes "remove")) _ _ remove (
     passed said (bytes_eq first (codes "remove-file")) _ _ remove_file (
+    passed said (bytes_eq first (codes "graft")) _ _ graft (
     passed said (bytes_eq first (codes "author")) _ _ author (
     passed said (bytes_eq first (codes "committer")) _ _ committer (
     passed said (bytes_eq first (codes "message")) _ _ message (
     passed said (bytes_eq first (codes "end")) _ _ end (
     passed said (bytes_eq first (codes "files")) _ _ files (
-    passed said (bytes_eq first (codes "show")) _ _ show names))))))))))
+    passed said (bytes_eq first (codes "show")) _ _ show names)))))))))))
 
 -- a line whose first word is none of those that are read
 pub no_line_of : (first : Bytes) (words : List Bytes) → bytes_eq first (codes "tag") ≡ false → bytes_eq first (codes "tagger") ≡ false → bytes_eq first (codes "move") ≡ false → bytes_eq first (codes "to") ≡ false → bytes_eq first (codes "actor") ≡ false

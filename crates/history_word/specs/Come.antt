@@ -122,6 +122,7 @@ abbrev pub edit_sizes : EditHeading → List ℕ
 edit_sizes (edit.Put kind path content) = path ∷ content ∷ []
 edit_sizes (edit.Remove path) = path ∷ []
 edit_sizes (edit.RemoveFile path) = path ∷ []
+edit_sizes (edit.Graft path word source) = path ∷ source ∷ []
 
 abbrev pub opening_sizes : Opening → List ℕ
 opening_sizes (opening.ShowPath word path) = path ∷ []
@@ -146,18 +147,22 @@ edit_heading (model.PutLine kind path content) =
     lines.PutHeading kind (length path) (length content)
 edit_heading (model.RemoveLine path) = lines.RemoveHeading (length path)
 edit_heading (model.RemoveFileLine path) = lines.RemoveFileHeading (length path)
+edit_heading (model.GraftLine path word source) =
+    lines.GraftHeading (length path) word (length source)
 
 abbrev pub edit_fields : model.EditLine → List Bytes
 edit_fields (model.PutLine kind path content) = path ∷ content ∷ []
 edit_fields (model.RemoveLine path) = path ∷ []
 edit_fields (model.RemoveFileLine path) = path ∷ []
+edit_fields (model.GraftLine path word source) = path ∷ source ∷ []
 
--- the fields of an edit were taken
+-- the fields of an edit were taken: it is each one of this line with these fields
 pub record TakesEdit (heading : EditHeading) (edit : Option Edit) (taken : Bytes) : Type 0 where
-  pub line_is : model.EditLine
-  pub heads : IsEditHeading heading (edit_heading line_is)
-  pub spelled : taken ≡ flat_map line (edit_fields line_is)
-  pub is : IfSome edit (λ x. IsEdit x line_is)
+  pub fields : List Bytes
+  pub heads : edit_sizes heading ≡ map length fields
+  pub spelled : taken ≡ flat_map line fields
+  pub is : (line : model.EditLine) → IsEditHeading heading (edit_heading line)
+      → edit_fields line ≡ fields → IfSome edit (λ x. IsEdit x line)
 
 -- paths of these sizes were taken
 pub record TakesPaths (sizes : List ℕ) (fields : Option (Vec Field Global))

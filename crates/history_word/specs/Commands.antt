@@ -11,7 +11,7 @@ use Rattle.history_word.specs.declared.command.Field.{Field}
 use Rattle.history_word.specs.declared.command.Expect.{Expect}
 use Rattle.history_word.specs.declared.command.Expect.TheVariants.{Any, New, At}
 use Rattle.history_word.specs.declared.command.Edit.{Edit}
-use Rattle.history_word.specs.declared.command.Edit.TheVariants.{Put, Remove, RemoveFile}
+use Rattle.history_word.specs.declared.command.Edit.TheVariants.{Put, Remove, RemoveFile, Graft}
 use Rattle.history_word.specs.declared.command.ActorLine.{ActorLine}
 use Rattle.history_word.specs.declared.command.CommitCommand.{CommitCommand}
 use Rattle.history_word.specs.declared.command.TagCommand.{TagCommand}
@@ -40,6 +40,8 @@ IsEdit (Put put) (model.PutLine kind path content) =
     (put.kind ≡ kind) × Keeps max_path put.path path × Keeps max_content put.content content
 IsEdit (Remove path) (model.RemoveLine bytes) = Keeps max_path path bytes
 IsEdit (RemoveFile path) (model.RemoveFileLine bytes) = Keeps max_path path bytes
+IsEdit (Graft graft) (model.GraftLine path word source) = Keeps max_path graft.path path
+    × (graft.word.items ≡ word) × Keeps max_path graft.source source
 IsEdit _ _ = ⊥
 
 abbrev pub AreEdits : List Edit → List model.EditLine → Type 0

@@ -54,12 +54,14 @@ place_of place.Message = table.ToMessage
 place_of place.End = table.ToEnd
 place_of place.Done = table.Done
 
--- the line of an edit is this one
+-- The line of an edit is this one. A word that found no memory may be any.
 abbrev pub IsEditHeading : EditHeading → lines.Heading → Type 0
 IsEditHeading (edit.Put kind path content) (lines.PutHeading k m n) =
     (kind ≡ k) × (path ≡ m) × (content ≡ n)
 IsEditHeading (edit.Remove path) (lines.RemoveHeading n) = path ≡ n
 IsEditHeading (edit.RemoveFile path) (lines.RemoveFileHeading n) = path ≡ n
+IsEditHeading (edit.Graft path word source) (lines.GraftHeading m w n) =
+    (path ≡ m) × IfSome word (λ x. x.items ≡ w) × (source ≡ n)
 IsEditHeading _ _ = ⊥
 
 -- The line is that of this log, whatever its paths are. A word that found no memory may be any.

@@ -4,7 +4,7 @@ use Rattle.std.specs.Option.{option_and_then}
 use Rattle.history_model.specs.Bytes.{Bytes, is_decimal, digits_value}
 use Rattle.history_model.specs.Commands.{Expect, Any, New, At, Order, Breadth, Newest, Oldest, NewestSince, OldestSince, Date, Topological, LogItem, Tip, Hidden}
 use Rattle.history_model.specs.Spelling.{are_items}
-use Rattle.history_model.specs.Lines.{Role, Author, Committer, Tagger, Mover, Heading, CommitHeading, ParentHeading, PutHeading, RemoveHeading, RemoveFileHeading, ActorHeading, MessageHeading, EndHeading, TagHeading, MoveHeading, ToHeading, RenameHeading, DeleteHeading, SwitchHeading, PackHeading, IndexHeading, NamesHeading, FilesHeading, PastHeading, LogHeading, ShowHeading, words_of, sizes, are_sizes}
+use Rattle.history_model.specs.Lines.{Role, Author, Committer, Tagger, Mover, Heading, CommitHeading, ParentHeading, PutHeading, RemoveHeading, RemoveFileHeading, GraftHeading, ActorHeading, MessageHeading, EndHeading, TagHeading, MoveHeading, ToHeading, RenameHeading, DeleteHeading, SwitchHeading, PackHeading, IndexHeading, NamesHeading, FilesHeading, PastHeading, LogHeading, ShowHeading, words_of, sizes, are_sizes}
 use Rattle.history_model.specs.declared.FileKind.{FileKind}
 use Rattle.history_model.specs.declared.FileKind.TheVariants.{File, Exec, Link}
 
@@ -27,6 +27,7 @@ abbrev pub next_edit : Heading → Option Place
 next_edit (PutHeading kind path content) = Some Edits
 next_edit (RemoveHeading path) = Some Edits
 next_edit (RemoveFileHeading path) = Some Edits
+next_edit (GraftHeading path word source) = Some Edits
 next_edit (ActorHeading Author name email seconds offset) = Some ToCommitter
 next_edit _ = None
 
@@ -103,6 +104,11 @@ put_of_words (kind ∷ path ∷ content ∷ []) =
     option_and_then (λ m. option_map (PutHeading k m) (number_of content)) (number_of path))
     (kind_of kind)
 put_of_words _ = None
+
+abbrev pub graft_of_words : List Bytes → Option Heading
+graft_of_words (path ∷ word ∷ source ∷ []) =
+    option_and_then (λ m. option_map (GraftHeading m word) (number_of source)) (number_of path)
+graft_of_words _ = None
 
 abbrev pub actor_of_words : Role → List Bytes → Option Heading
 actor_of_words role (name ∷ email ∷ seconds ∷ offset ∷ []) =
@@ -231,6 +237,7 @@ heading_of (first ∷ words) =
     else if bytes_eq first (codes "put") then put_of_words words
     else if bytes_eq first (codes "remove") then size_of_words RemoveHeading words
     else if bytes_eq first (codes "remove-file") then size_of_words RemoveFileHeading words
+    else if bytes_eq first (codes "graft") then graft_of_words words
     else if bytes_eq first (codes "author") then actor_of_words Author words
     else if bytes_eq first (codes "committer") then actor_of_words Committer words
     else if bytes_eq first (codes "message") then size_of_words MessageHeading words

@@ -35,6 +35,15 @@ pub struct Put {
     pub content: Field,
 }
 
+/// What another commit's files have at or below a source, to be put at a path; an empty source is all of them. The commit is a
+/// word's. The path and the source have at most 4,096 bytes each.
+#[derive(Debug, Drop)]
+pub struct Graft {
+    pub path: Field,
+    pub word: Vec<u8>,
+    pub source: Field,
+}
+
 /// One change of a commit's files. The path of a removal has at most 4,096 bytes.
 #[derive(Debug, Drop)]
 pub enum Edit {
@@ -43,6 +52,7 @@ pub enum Edit {
     Remove(Field),
     /// Takes out the file at the path; nothing may stand below it.
     RemoveFile(Field),
+    Graft(Graft),
 }
 
 /// Who acts, and when: the words for the seconds and the offset are as they were sent. The name and the email have at

@@ -11,8 +11,8 @@ ghost use Rattle.history_word.specs.Commands.{IsExpect, IsEdit, IsActor, IsCommi
 ghost use Rattle.history_word.specs.Drafts.{IsCommitDraft, IsTagDraft, IsMoveDraft, IsDraft, target_of, with_parent, with_edit, with_to, with_actor, with_message};
 
 use crate::command::{
-    ActorLine, Command, CommitCommand, Delete, Edit, Expect, Field, LogCommand, MoveCommand, Put,
-    Rename, Show, TagCommand, To,
+    ActorLine, Command, CommitCommand, Delete, Edit, Expect, Field, Graft, LogCommand, MoveCommand,
+    Put, Rename, Show, TagCommand, To,
 };
 use crate::heading::Role;
 use history_model::FileKind;
@@ -369,6 +369,23 @@ pub(crate) fn put(kind: FileKind, path: Option<Field>, content: Option<Field>) -
         kind,
         path: path?,
         content: content?,
+    }))
+}
+
+/// The graft of a line and its two fields, if each of its parts found memory.
+pub(crate) fn graft(
+    path: Option<Field>,
+    word: Option<Vec<u8>>,
+    source: Option<Field>,
+) -> Option<Edit>
+    ensures { (p w s : Bytes) → IfSome path (λ x. Keeps max_path x p)
+        → IfSome word (λ x. x.items ≡ w) → IfSome source (λ x. Keeps max_path x s)
+        → IfSome result (λ edit. IsEdit edit (model.GraftLine p w s)) }
+{
+    Some(Edit::Graft(Graft {
+        path: path?,
+        word: word?,
+        source: source?,
     }))
 }
 

@@ -2,7 +2,7 @@
 
 ghost use Rattle.std.specs.Prelude.{◌≡◌, ◌∷◌, ◌≤◌, length, IfSome, IfNone, OnSome, IsTrue};
 ghost use Rattle.history_model.specs.Lines.{ParentHeading, RemoveHeading, RemoveFileHeading, MessageHeading, EndHeading, MoveHeading, FilesHeading, PastHeading, SwitchHeading, PackHeading, IndexHeading};
-ghost use Rattle.history_word.specs.LineTable.{heading_of, end_of_words, word_of_words, size_of_words, commit_of_words, put_of_words, actor_of_words, show_of_words, names_of_words, log_of_words, name_heading_of, rename_of_words, delete_of_words};
+ghost use Rattle.history_word.specs.LineTable.{heading_of, end_of_words, word_of_words, size_of_words, commit_of_words, put_of_words, graft_of_words, actor_of_words, show_of_words, names_of_words, log_of_words, name_heading_of, rename_of_words, delete_of_words};
 ghost use Rattle.history_model.specs.Spelling.{max_line};
 ghost use Rattle.history_word.specs.TableRuns.{IsLineAt};
 ghost use Rattle.history_word.specs.Held.{IsUnbroken};
@@ -29,8 +29,8 @@ pub(crate) enum Role {
     Mover,
 }
 
-/// What an edit's line says. A number is the size of a field that follows the line.
-#[derive(Clone, Copy, Debug, PartialEq, Eq)]
+/// What an edit's line says. A number is the size of a field that follows the line; a word is `None` where it found no memory.
+#[derive(Debug, Drop)]
 pub(crate) enum EditHeading {
     Put {
         kind: FileKind,
@@ -42,6 +42,11 @@ pub(crate) enum EditHeading {
     },
     RemoveFile {
         path: u64,
+    },
+    Graft {
+        path: u64,
+        word: Option<Vec<u8>>,
+        source: u64,
     },
 }
 
@@ -172,6 +177,20 @@ fn remove_file(words: &mut Words) -> Option<Heading>
 {
     let path = number(words.last()?)?;
     Some(Heading::Edit(EditHeading::RemoveFile { path }))
+}
+
+/// What follows `graft`: `<path size> <word> <source size>`.
+fn graft(alloc: Global, words: &mut Words) -> Option<Heading>
+    ensures { Says result (graft_of_words (left words.old)) }
+{
+    let path = number(words.next()?)?;
+    let word = words.next()?;
+    let source = number(words.last()?)?;
+    Some(Heading::Edit(EditHeading::Graft {
+        path,
+        word: kept(alloc, word),
+        source,
+    }))
 }
 
 /// What follows a role: `<name size> <email size> <seconds> <offset>`.
@@ -403,6 +422,8 @@ fn said(alloc: Global, line: &[u8]) -> Option<Heading>
         remove(&mut words)
     } else if first == b"remove-file".as_slice() {
         remove_file(&mut words)
+    } else if first == b"graft".as_slice() {
+        graft(alloc, &mut words)
     } else if first == b"author".as_slice() {
         actor(alloc, Role::Author, &mut words)
     } else if first == b"committer".as_slice() {

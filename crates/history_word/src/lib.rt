@@ -18,7 +18,7 @@ mod words;
 
 pub use buffer::Buffer;
 pub use command::{
-    ActorLine, Command, CommitCommand, Delete, Edit, Expect, Field, LogCommand, LogItem,
+    ActorLine, Command, CommitCommand, Delete, Edit, Expect, Field, Graft, LogCommand, LogItem,
     MoveCommand, Order, Put, Rename, Show, TagCommand, To,
 };
 pub use memory::{Bytes, Collected};

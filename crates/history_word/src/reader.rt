@@ -21,7 +21,7 @@ ghost use Rattle.history_word.specs.declared.reader.Stop.TheVariants.{Broken as 
 
 use crate::buffer::Buffer;
 use crate::command::{ActorLine, Command, Edit, Field, LogCommand};
-use crate::draft::{Draft, actor_line, pushed, put};
+use crate::draft::{Draft, actor_line, graft, pushed, put};
 use crate::heading::{ActorHeading, EditHeading, Heading, Opening, parse};
 use crate::logs::LogLine;
 use crate::place::Place;
@@ -173,6 +173,15 @@ fn read_edit<R: Source>(
         EditHeading::RemoveFile { path } => {
             let path = read_field(alloc, buffer, source, path, MAX_PATH)?;
             Ok(path.map(Edit::RemoveFile))
+        }
+        EditHeading::Graft {
+            path,
+            word,
+            source: from,
+        } => {
+            let path = read_field(alloc, buffer, source, path, MAX_PATH)?;
+            let from = read_field(alloc, buffer, source, from, MAX_PATH)?;
+            Ok(graft(path, word, from))
         }
     }
 }

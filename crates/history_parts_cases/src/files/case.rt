@@ -2,7 +2,7 @@
 
 use case_ids::read_id;
 use case_page::read_digits;
-use history_files::{Change, Edit};
+use history_files::{Change, Edit, Found};
 use history_model::FileKind;
 use std::alloc::Global;
 
@@ -31,6 +31,19 @@ pub fn kind_word(kind: FileKind) -> &'static str {
     }
 }
 
+// What is grafted: `none`, or a folder or a file of a kind with its id.
+fn read_found(what: &str, id: Option<&str>) -> Option<Option<Found>> {
+    if what == "none" {
+        return Some(None);
+    }
+    let id = read_id(id?)?;
+    if what == "folder" {
+        return Some(Some(Found::Folder { id }));
+    }
+    let kind = read_file_kind(what)?;
+    Some(Some(Found::File { kind, id }))
+}
+
 /// The edit that a word spells.
 pub fn read_edit(alloc: Global, word: &str) -> Option<PathEdit> {
     let mut parts = word.split(':');
@@ -43,6 +56,11 @@ pub fn read_edit(alloc: Global, word: &str) -> Option<PathEdit> {
         }
         "remove" => (parts.next()?, Change::Remove),
         "remove-file" => (parts.next()?, Change::RemoveFile),
+        "graft" => {
+            let path = parts.next()?;
+            let found = read_found(parts.next()?, parts.next())?;
+            (path, Change::Graft(found))
+        }
         _ => return None,
     };
     let path = read_digits(alloc, path)?;

@@ -7,8 +7,8 @@ use case_page::{Page, read_digits};
 use case_store::{Row, Trees, row_of_content};
 use gix_hash::{Kind, ObjectId};
 use history_files::{
-    EditError, EditedFiles, EditedTree, EntriesState, Found, ReadError, edit_files, entries_at,
-    entry_at, files,
+    EditError, EditedFiles, EditedTree, EntriesState, File, Found, ReadError, edit_files,
+    entries_at, entry_at, files, files_by_trees,
 };
 use std::alloc::{AllocError, Global};
 
@@ -54,7 +54,8 @@ impl Session {
         let mut parts = word.split(':');
         match parts.next()? {
             "edit" => self.edit(alloc, page),
-            "files" => self.list(alloc, page),
+            "files" => self.list_files(alloc, page),
+            "by-trees" => self.list_by_trees(alloc, page),
             "at" => self.find(alloc, parts.next()?, page),
             "each" => self.find_each(alloc, word, page),
             "tree" => self.add(alloc, parts.next()?, page),
@@ -131,9 +132,21 @@ impl Session {
         self.trees.add(row).ok()
     }
 
-    // All files of the root.
-    fn list(&self, alloc: Global, page: &mut Page) -> Option<()> {
-        match files(alloc, &self.trees, self.root.as_ref()?) {
+    // All files of the root, each folder read.
+    fn list_files(&self, alloc: Global, page: &mut Page) -> Option<()> {
+        let found = files(alloc, &self.trees, self.root.as_ref()?);
+        self.list(found, page)
+    }
+
+    // All files of the root, each different tree read once.
+    fn list_by_trees(&self, alloc: Global, page: &mut Page) -> Option<()> {
+        let found = files_by_trees(alloc, &self.trees, self.root.as_ref()?);
+        self.list(found, page)
+    }
+
+    // The files that were found.
+    fn list(&self, found: Result<Vec<File>, ReadError>, page: &mut Page) -> Option<()> {
+        match found {
             Ok(found) => {
                 page.word("files");
                 page.value(found.len());
@@ -222,6 +235,7 @@ fn show_edit_error(error: EditError, page: &mut Page) {
         EditError::BadPath => page.word("BadPath"),
         EditError::IsFolder => page.word("IsFolder"),
         EditError::NullId => page.word("NullId"),
+        EditError::EmptyTree => page.word("EmptyTree"),
         EditError::Failed => page.word("Failed"),
         EditError::Broken { oid } => show_broken(oid, page),
         EditError::Memory => page.word("Memory"),

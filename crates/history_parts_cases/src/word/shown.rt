@@ -3,7 +3,7 @@
 use case_words::Page;
 use history_model::{Cause, FileKind};
 use history_word::{
-    ActorLine, Command, CommitCommand, Delete, Edit, Expect, Field, LogCommand, LogItem,
+    ActorLine, Command, CommitCommand, Delete, Edit, Expect, Field, Graft, LogCommand, LogItem,
     MoveCommand, Order, Put, Received, Rename, Show, Stop, TagCommand,
 };
 
@@ -144,6 +144,7 @@ fn show_edit(edit: &Edit, page: &mut Page) {
         Edit::Put(put) => show_put(put, page),
         Edit::Remove(path) => show_field("remove", path, page),
         Edit::RemoveFile(path) => show_field("remove-file", path, page),
+        Edit::Graft(graft) => show_graft(graft, page),
     }
 }
 
@@ -155,6 +156,12 @@ fn show_put(put: &Put, page: &mut Page) {
     };
     show_field(kind, &put.path, page);
     show_field("content", &put.content, page);
+}
+
+fn show_graft(graft: &Graft, page: &mut Page) {
+    show_field("graft", &graft.path, page);
+    page.named("word", &graft.word);
+    show_field("source", &graft.source, page);
 }
 
 fn show_actor(who: &str, actor: &ActorLine, page: &mut Page) {

@@ -13,6 +13,7 @@ use Rattle.history_files.specs.Entries.{names_only, own_folders}
 use Rattle.history_files.specs.Opening.{EditsFiles}
 use Rattle.history_files.proofs.EmptyFiles.{empty_map, empty_trees, empty_unfolds}
 use Rattle.history_files.proofs.Named.{own_trees}
+use Rattle.history_files.proofs.Standing.{base_standing}
 use Rattle.history_files.proofs.Breaks.{root_broken}
 use Rattle.history_files.proofs.editing.editor_of.Goals as goal
 use Rattle.gix_object_nodes.proofs.WrittenFiles.{no_files}
@@ -22,8 +23,7 @@ returns-in_ok-open_editor-in-Some-clause-base g c = λ honest kind files base.
     let table = g.S.Lookup.table c.args.store.now in
     let is = subst (λ root. IsBase table kind (root_id root) files) c.in-Some.is base in
     record {
-      map = is.map;
-      trees = own_trees kind table files is.map is.trees;
+      standing = base_standing table kind files is.map (own_trees kind table files is.map is.trees);
       unfolds = c.in_ok-open_editor-in-Some.ensures.files honest kind files is;
       each = c.in_ok-open_editor-in-Some.ensures.each honest kind files is;
     }
@@ -33,9 +33,8 @@ returns-in_ok-new-in-None-clause-base g c = λ honest kind files base.
     let table = g.S.Lookup.table c.args.store.now in
     let is = subst (λ root. IsBase table kind (root_id root) files) c.in-None.is base in
     let none = c.new-entries.ensures.items in
-    subst (λ m. EditsFiles table kind m m c.in_ok-new-in-None.field-0) (sym is) (record {
-      map = empty_map;
-      trees = empty_trees kind table;
+    subst (λ m. EditsFiles table kind (own_folders m) m c.in_ok-new-in-None.field-0) (sym is) (record {
+      standing = base_standing table kind empty empty_map (empty_trees kind table);
       unfolds = λ trees stored. empty_unfolds kind _ (λ q. c.in_ok-new-in-None.ensures.files trees q ∙ ap (λ es. files_of_tree trees (map own_item es) q) none ∙ no_files trees q);
       each = c.in_ok-new-in-None.ensures.each (names_only kind (own_folders empty)) (subst (λ es. ItemsHave (names_only kind (own_folders empty)) (map own_item es)) (sym none) (λ k d within. absurd (omega arith)));
     })

@@ -3,7 +3,6 @@ use Rattle.std.specs.List.{AllByRecursion, list_any, flat_map}
 use Rattle.std.specs.Prelude.{MatchResult, Ok, Result}
 use Rattle.std.proofs.lemmas.Result.{err_from_is_err_and}
 use Rattle.gix_hash_id.specs.Id.{id_of}
-use Rattle.gix_hash_id.specs.declared.kind.Kind.{Kind}
 use Rattle.history_model.specs.Causes.{is_bad_path}
 use Rattle.history_model.specs.CommandParts.{paths_in}
 use Rattle.history_model.specs.Commands as commands
@@ -17,12 +16,15 @@ use Rattle.history_word.specs.Commands.{AreEdits}
 use Rattle.history_word.specs.declared.command.Edit.{Edit}
 use Rattle.history_plans.specs.Files.{AreChangesOf, AreReadAs, TellsEdited, kept_edit}
 use Rattle.history_plans.specs.Plans.{AreNewFiles, IsUnplanned}
+use Rattle.history_plans.specs.declared.editing.Changes.{Changes}
 use Rattle.history_plans.specs.declared.editing.PathChange.{PathChange}
 use Rattle.history_plans.specs.declared.planning.NewFiles.{NewFiles}
 use Rattle.history_repository.specs.declared.stopped.Stopped.{Stopped}
 use Rattle.history_repository.specs.declared.stopped.Stopped.TheVariants.{Refused}
 use Rattle.history_plans.proofs.Edits.{edits_same, have_paths}
-use Rattle.history_plans.proofs.Planned.{path_refused, edits_planned, edits_pass, edits_meant}
+use Rattle.history_plans.proofs.Planned.{path_refused, reading_refused, edits_planned, nothing_refused, edits_pass, edits_meant}
+use Rattle.history_plans.proofs.GraftPaths.{nothing_in}
+use Rattle.history_plans.proofs.SourceLemmas.{sources_told}
 use Rattle.history_plans.proofs.planning.new_files.Goals as goal
 
 abbrev Gives : Type 0 → plain.Repository → commands.CommitCommand → Result NewFiles Stopped → Type 0
@@ -39,8 +41,14 @@ returns-in_err-test_paths g c = λ r order asked.
 
 pub returns-in_err-changes : goal.returns-in_err-changes
 returns-in_err-changes g c = λ r order asked.
+    let edits = c.args.edits.items in
+    let paths_of : AreEdits c.deref.result.now order.edits = subst (λ (es : List Edit). AreEdits es order.edits) (sym c.deref.ensures.value) asked.edits_are in
+    let good : list_any is_bad_path (paths_in (commands.Commit order)) ≡ false = c.in_ok-test_paths.ensures order.edits paths_of in
+    let made = map (kept_edit r) edits in
+    let told = c.in_err-changes.ensures r order.edits asked.serves asked.edits_are good (sources_told r order asked.unrefused c.args.sources.now asked.sources_are) in
     let stopped = err_from_is_err_and c.from_residual-in_err-changes.result c.from_residual-in_err-changes.ensures.1 in
-    subst (Gives g.F.Files.reading_may_fail r order) (sym (stopped.1 ∙ ap Err stopped.2)) tt
+    subst (Gives g.F.Files.reading_may_fail r order) (sym (stopped.1 ∙ ap Err stopped.2))
+    (reading_refused r order asked.unrefused good edits asked.edits_are g.F.Files.reading_may_fail (λ (changes : Changes). AreReadAs r changes made) c.in_err-changes.field-0.0 told)
 
 pub returns-in_err-edited : goal.returns-in_err-edited
 returns-in_err-edited g c = λ r order asked.
@@ -48,31 +56,51 @@ returns-in_err-edited g c = λ r order asked.
     let edits = c.args.edits.items in
     let paths_of : AreEdits c.deref.result.now order.edits = subst (λ (es : List Edit). AreEdits es order.edits) (sym c.deref.ensures.value) asked.edits_are in
     let good : list_any is_bad_path (paths_in (commands.Commit order)) ≡ false = c.in_ok-test_paths.ensures order.edits paths_of in
-    let made = map kept_edit edits in
-    let changes : AreReadAs r.kind c.in_ok-changes.changes made = subst (λ (k : Kind). AreReadAs k c.in_ok-changes.changes made) (c.kind.ensures ∙ h.objects_kind) c.in_ok-changes.ensures in
+    let made = map (kept_edit r) edits in
+    let read = c.in_ok-changes.ensures r order.edits h asked.edits_are good (sources_told r order asked.unrefused c.args.sources.now asked.sources_are) in
+    let changes : AreReadAs r c.in_ok-changes.changes made = read.1 in
     let ids = map id_of c.args.parents.now in
     let hold : AllByRecursion (HoldsCommit r) ids = subst (AllByRecursion (HoldsCommit r)) (sym asked.parents_are) (parents_are_commits r order h.whole.whole.store) in
-    let are : AreChangesOf r.kind c.deref-3.result.now made = subst (λ (cs : List PathChange). AreChangesOf r.kind cs made) (sym c.deref-3.ensures.value) changes.changes_are in
-    let told : TellsEdited g.F.Files.reading_may_fail r ids made (Err c.in_err-edited.field-0.0) = c.in_err-edited.ensures r made h hold are (have_paths edits order.edits asked.edits_are good) in
+    let are : AreChangesOf r c.deref-3.result.now made = subst (λ (cs : List PathChange). AreChangesOf r cs made) (sym c.deref-3.ensures.value) changes.changes_are in
+    let told : TellsEdited g.F.Files.reading_may_fail r ids made (Err c.in_err-edited.field-0.0) = c.in_err-edited.ensures r made h hold are (have_paths r edits order.edits asked.edits_are good) in
     let stopped = err_from_is_err_and c.from_residual-in_err-edited.result c.from_residual-in_err-edited.ensures.1 in
     subst (Gives g.F.Files.reading_may_fail r order) (sym (stopped.1 ∙ ap Err stopped.2))
-    (edits_planned r order asked.unrefused g.F.Files.reading_may_fail edits asked.edits_are good ids asked.parents_are c.in_err-edited.field-0.0 told)
+    (edits_planned r order asked.unrefused good edits asked.edits_are read.0 ids asked.parents_are g.F.Files.reading_may_fail c.in_err-edited.field-0.0 told)
+
+pub returns-then-graft_nothing : goal.returns-then-graft_nothing
+returns-then-graft_nothing g c = λ r order asked.
+    let h = asked.serves in
+    let edits = c.args.edits.items in
+    let paths_of : AreEdits c.deref.result.now order.edits = subst (λ (es : List Edit). AreEdits es order.edits) (sym c.deref.ensures.value) asked.edits_are in
+    let good : list_any is_bad_path (paths_in (commands.Commit order)) ≡ false = c.in_ok-test_paths.ensures order.edits paths_of in
+    let made = map (kept_edit r) edits in
+    let read = c.in_ok-changes.ensures r order.edits h asked.edits_are good (sources_told r order asked.unrefused c.args.sources.now asked.sources_are) in
+    let changes : AreReadAs r c.in_ok-changes.changes made = read.1 in
+    let ids = map id_of c.args.parents.now in
+    let hold : AllByRecursion (HoldsCommit r) ids = subst (AllByRecursion (HoldsCommit r)) (sym asked.parents_are) (parents_are_commits r order h.whole.whole.store) in
+    let are : AreChangesOf r c.deref-3.result.now made = subst (λ (cs : List PathChange). AreChangesOf r cs made) (sym c.deref-3.ensures.value) changes.changes_are in
+    let given : TellsEdited g.F.Files.reading_may_fail r ids made (Ok c.in_ok-edited.edited) = c.in_ok-edited.ensures r made h hold are (have_paths r edits order.edits asked.edits_are good) in
+    let there : AreChangesOf r c.deref-4.result.now made = subst (λ (cs : List PathChange). AreChangesOf r cs made) (sym c.deref-4.ensures.value) changes.changes_are in
+    let nothing = sym (nothing_in r c.deref-4.result.now made there) ∙ sym c.graft_nothing.ensures in
+    nothing_refused r order asked.unrefused good edits asked.edits_are read.0 ids asked.parents_are g.F.Files.reading_may_fail c.in_ok-edited.edited given (nothing ∙ c.if-graft_nothing.true)
 
 pub returns : goal.returns
 returns g c = λ r order asked.
     let h = asked.serves in
-    let w = h.whole.whole.names in
     let edits = c.args.edits.items in
     let paths_of : AreEdits c.deref.result.now order.edits = subst (λ (es : List Edit). AreEdits es order.edits) (sym c.deref.ensures.value) asked.edits_are in
     let good : list_any is_bad_path (paths_in (commands.Commit order)) ≡ false = c.in_ok-test_paths.ensures order.edits paths_of in
-    let made = map kept_edit edits in
-    let changes : AreReadAs r.kind c.in_ok-changes.changes made = subst (λ (k : Kind). AreReadAs k c.in_ok-changes.changes made) (c.kind.ensures ∙ h.objects_kind) c.in_ok-changes.ensures in
+    let made = map (kept_edit r) edits in
+    let read = c.in_ok-changes.ensures r order.edits h asked.edits_are good (sources_told r order asked.unrefused c.args.sources.now asked.sources_are) in
+    let changes : AreReadAs r c.in_ok-changes.changes made = read.1 in
     let ids = map id_of c.args.parents.now in
     let hold : AllByRecursion (HoldsCommit r) ids = subst (AllByRecursion (HoldsCommit r)) (sym asked.parents_are) (parents_are_commits r order h.whole.whole.store) in
-    let are : AreChangesOf r.kind c.deref-3.result.now made = subst (λ (cs : List PathChange). AreChangesOf r.kind cs made) (sym c.deref-3.ensures.value) changes.changes_are in
-    let given : TellsEdited g.F.Files.reading_may_fail r ids made (Ok c.in_ok-edited.edited) = c.in_ok-edited.ensures r made h hold are (have_paths edits order.edits asked.edits_are good) in
+    let are : AreChangesOf r c.deref-3.result.now made = subst (λ (cs : List PathChange). AreChangesOf r cs made) (sym c.deref-3.ensures.value) changes.changes_are in
+    let given : TellsEdited g.F.Files.reading_may_fail r ids made (Ok c.in_ok-edited.edited) = c.in_ok-edited.ensures r made h hold are (have_paths r edits order.edits asked.edits_are good) in
+    let there : AreChangesOf r c.deref-4.result.now made = subst (λ (cs : List PathChange). AreChangesOf r cs made) (sym c.deref-4.ensures.value) changes.changes_are in
+    let nothing = sym (nothing_in r c.deref-4.result.now made there) ∙ sym c.graft_nothing.ensures in
     record {
-      paths = edits_pass r order asked.unrefused g.F.Files.reading_may_fail edits asked.edits_are good ids asked.parents_are c.in_ok-edited.edited given;
+      paths = edits_pass r order asked.unrefused good edits asked.edits_are read.0 ids asked.parents_are g.F.Files.reading_may_fail c.in_ok-edited.edited given (nothing ∙ c.if-graft_nothing.false);
       long = c.have_long_content-has_long_content.ensures order.edits (subst (λ (es : List Edit). AreEdits es order.edits) (sym c.deref-2.ensures.value) asked.edits_are);
       blobs = λ short. subst (λ (es : List model.Edit). AreObjectsOf r.kind (flat_map put_bytes es) c.in_ok-changes.changes.blobs.items) (edits_same r edits order.edits asked.edits_are good short) changes.blobs_are;
       edited = λ short. edits_meant r order g.F.Files.reading_may_fail edits asked.edits_are good short ids asked.parents_are c.in_ok-edited.edited given;

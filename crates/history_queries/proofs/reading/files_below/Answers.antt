@@ -1,5 +1,5 @@
 use Rattle.history_repository.proofs.Tables.{holds_known, root_of}
-use Rattle.history_queries.proofs.RowsRead.{read_told}
+use Rattle.history_repository.proofs.ReadingFaults.{read_told}
 use Rattle.history_queries.proofs.reading.files_below.Goals as goal
 use Rattle.gix_hash_id.specs.Id.{id_of}
 

@@ -54,7 +54,7 @@ returns-in_ok-draft-in-Opening g c =
 pub returns-in_ok-read_edit-in-Edit : goal.returns-in_ok-read_edit-in-Edit
 returns-in_ok-read_edit-in-Edit g c =
     let a = c.in_ok-read_edit-in-Edit.ensures in
-    rw (c.in-Edit.is) (a.0, a.1, (edit_takes c.in-Edit.line _ a.0 _ _ a.2.0 (λ order d. c.add_edit.ensures order a.2.0.line_is d a.2.0.is), a.2.1))
+    rw (c.in-Edit.is) (a.0, a.1, (edit_takes c.in-Edit.line _ a.0 _ _ a.2.0 c.add_edit.ensures, a.2.1))
 
 pub returns-in_ok-read_actor-in-Actor : goal.returns-in_ok-read_actor-in-Actor
 returns-in_ok-read_actor-in-Actor g c =

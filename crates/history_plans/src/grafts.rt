@@ -1,0 +1,156 @@
+//! What grafts find in other commits, and at which paths they would put it.
+
+ghost use Rattle.std.specs.Prelude.{◌≡◌, ◌∷◌, [], ◌+◌, ⊤, IsFalse, None, Some, get_or, length, map, nat_lt};
+ghost use Rattle.std.specs.FinMap.{entries, get};
+ghost use Rattle.std.specs.List.{list_any};
+ghost use Rattle.gix_hash_id.specs.Id.{id_of};
+ghost use Rattle.history_model.specs.Answers.{file_line};
+ghost use Rattle.history_model.specs.Bytes.{Bytes};
+ghost use Rattle.history_model.specs.Causes.{is_bad_path};
+ghost use Rattle.history_model.specs.CommandParts.{edit_paths};
+ghost use Rattle.history_model.specs.Commands.{EditLine};
+ghost use Rattle.history_model.specs.FileMap.{FileMap, Graft};
+ghost use Rattle.history_model.specs.Forms.{max_path};
+ghost use Rattle.history_model.specs.Meaning.{files_at};
+ghost use Rattle.history_model.specs.Objects.{StoredFolder};
+ghost use Rattle.history_model.specs.Repository.{HoldsCommit};
+ghost use Rattle.history_model.specs.Repository as plain;
+ghost use Rattle.history_files.specs.Edits.{IsSource};
+ghost use Rattle.history_files.specs.Laws.{table_of};
+ghost use Rattle.history_files.specs.Reading.{line_of};
+ghost use Rattle.history_files.specs.declared.found.Found.TheVariants.{Folder};
+ghost use Rattle.history_word.specs.Commands.{IsEdit};
+ghost use Rattle.history_repository.specs.Reads.{GivesMeant};
+ghost use Rattle.history_repository.specs.Stands.{Stands};
+ghost use Rattle.history_plans.specs.Files.{HasSource, IsFoundFor, StandsWithFolders, TellsRead, kept_edit};
+
+use gix_hash::ObjectId;
+use gix_ref_file::Files;
+use history_files::{File, Found, files_by_trees};
+use history_model::limits::MAX_PATH;
+use history_model::{Cause, Fault};
+use history_repository::{Repository, Stopped, found_below, kept, root_of};
+use history_word::Edit;
+use std::alloc::Global;
+
+/// The commit of the word of the edit at a place, if it has one.
+pub(crate) fn source_at(sources: &[Option<ObjectId>], at: usize) -> Option<ObjectId>
+    ensures { result ≡ get_or sources.now at None }
+{
+    match sources.get(at) {
+        Some(source) => *source,
+        None => None,
+    }
+}
+
+/// What is found for an edit: of a graft, what its source has in the commit of its word.
+pub(crate) fn found_for<F: Files>(
+    repository: &Repository<F>,
+    alloc: Global,
+    edit: &Edit,
+    source: Option<ObjectId>,
+) -> Result<Option<Found>, Stopped>
+    ensures { (r : plain.Repository) (line : EditLine)
+        → Stands F.is_honest F.history repository.now r → IsEdit edit.now line
+        → IsFalse (list_any is_bad_path (edit_paths line)) → HasSource r line source
+        → TellsRead F.reading_may_fail (kept_edit r edit.now ∷ []) (IsFoundFor r edit.now) result }
+{
+    let Edit::Graft(graft) = edit else {
+        return Ok(None);
+    };
+    let commit = source.ok_or(Fault::File)?;
+    let found = found_in(repository, alloc, &commit, kept(&graft.source))?;
+    test_graft(repository, alloc, kept(&graft.path), found)?;
+    Ok(found)
+}
+
+/// What a stored commit's files have at or below a source; all of them at an empty one.
+fn found_in<F: Files>(
+    repository: &Repository<F>,
+    alloc: Global,
+    commit: &ObjectId,
+    source: &[u8],
+) -> Result<Option<Found>, Stopped>
+    ensures { (r : plain.Repository) → Stands F.is_honest F.history repository.now r
+        → HoldsCommit r (id_of commit.now)
+        → GivesMeant F.reading_may_fail
+        (IsSource (table_of r) r.kind source.now (files_at r (id_of commit.now))) result }
+{
+    let root = root_of(repository, alloc, commit)?;
+    if !source.is_empty() {
+        return found_below(repository, alloc, &root, source);
+    }
+    if root.is_empty_tree() {
+        return Ok(None);
+    }
+    Ok(Some(Found::Folder { id: root }))
+}
+
+/// Tests that a graft at a path would put each file at one within the limit: one file comes at the path itself.
+fn test_graft<F: Files>(
+    repository: &Repository<F>,
+    alloc: Global,
+    path: &[u8],
+    found: Option<Found>,
+) -> Result<(), Stopped>
+    ensures { (r : plain.Repository) (source : Bytes) (other : FileMap)
+        → Stands F.is_honest F.history repository.now r → IsFalse (is_bad_path path.now)
+        → IsSource (table_of r) r.kind source other found
+        → StandsWithFolders r other
+        → TellsRead F.reading_may_fail (Graft path.now source other ∷ []) (λ _. ⊤) result }
+{
+    match found {
+        None => Ok(()),
+        Some(Found::File { .. }) => Ok(()),
+        Some(Found::Folder { id }) => test_folder(repository, alloc, path, id),
+    }
+}
+
+/// The same of a folder. Each different tree below it is read once.
+fn test_folder<F: Files>(
+    repository: &Repository<F>,
+    alloc: Global,
+    path: &[u8],
+    tree: ObjectId,
+) -> Result<(), Stopped>
+    ensures { (r : plain.Repository) (source : Bytes) (other : FileMap)
+        → Stands F.is_honest F.history repository.now r → IsFalse (is_bad_path path.now)
+        → IsSource (table_of r) r.kind source other (Some (Folder tree))
+        → StandsWithFolders r other
+        → TellsRead F.reading_may_fail (Graft path.now source other ∷ []) (λ _. ⊤) result }
+{
+    let files = files_in(repository, alloc, &tree)?;
+    if have_long_below(path.len(), &files) {
+        return Err(Stopped::Refused(Cause::BadPath));
+    }
+    Ok(())
+}
+
+/// The files below a stored tree, of which each different one is read once, however often it stands: all are kept in memory meanwhile.
+fn files_in<F: Files>(
+    repository: &Repository<F>,
+    alloc: Global,
+    tree: &ObjectId,
+) -> Result<Vec<File>, Stopped>
+    ensures { (r : plain.Repository) (below : FileMap) → Stands F.is_honest F.history repository.now r
+        → get r.objects (id_of tree.now) ≡ Some (StoredFolder below)
+        → GivesMeant F.reading_may_fail (λ found. map line_of found.items
+        ≡ map (file_line r.kind) (entries below)) result }
+{
+    Ok(files_by_trees(alloc, &repository.objects, tree)?)
+}
+
+fn have_long_below(path: usize, files: &[File]) -> bool
+    ensures { result ≡ list_any (λ file. nat_lt max_path (path + 1 + length file.path.items)) files.now }
+{
+    files
+        .iter()
+        .any(|file| is_long_below(path, file.path.len()))
+}
+
+/// Whether a file would come at a path over the limit, as many bytes below a path of as many bytes.
+fn is_long_below(path: usize, rest: usize) -> bool
+    ensures { result ≡ nat_lt max_path (path + 1 + rest) }
+{
+    path.saturating_add(1).saturating_add(rest) > MAX_PATH
+}
