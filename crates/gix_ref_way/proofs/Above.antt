@@ -1,13 +1,13 @@
 -- What changes leave of the folders.
 use Rattle.std.proofs.Common.{◌≡◌, ◌⊎◌, inl, inr, refl, sym, ◌∙◌, ap, subst, ℕ, zero, suc, ◌<◌, Bool, true, false, cond, [], ◌∷◌, ◌++◌, take, drop, length, get_or, arith}
-use Rattle.std.specs.Prelude.{Some, None}
-use Rattle.std.specs.FinMap.{get, insert, remove}
-use Rattle.gix_ref_file.specs.Tree.{Tree, file, folder, same_path}
+use Rattle.std.specs.Prelude.{Some}
+use Rattle.std.specs.FinMap.{get, insert}
+use Rattle.gix_ref_file.specs.Tree.{Tree, folder, same_path}
 use Rattle.gix_ref_file.specs.Changes.{to_make_folder, MayLeave}
 use Rattle.gix_ref_file.specs.History.{History, Adds}
 use Rattle.gix_ref_file.proofs.Histories.{adds_weaker, adds_joined}
 use Rattle.gix_ref_file.proofs.Rooted.{adds_now}
-use Rattle.gix_ref_file.proofs.Trees.{get-inserted, get-removed, one_path}
+use Rattle.gix_ref_file.proofs.Trees.{get-inserted, one_path}
 use Rattle.gix_ref_way.specs.Ways.{Bytes}
 use Rattle.gix_ref_way.specs.Ways.{IsAbove, OneFolderMore, FoldersAbove}
 
@@ -22,21 +22,6 @@ inserted_folder t k q is = by_test (same_path q k) refl
 pub while_one_made : (k : Bytes) (t x : Tree) → MayLeave (to_make_folder k) t x → OneFolderMore k t x
 while_one_made k t x (inl same) = λ q is. inl (ap (λ y. get y q) (sym same) ∙ is)
 while_one_made k t x (inr (n, may, made)) = λ q is. inserted_folder t k q (ap (λ y. get y q) (sym made) ∙ is)
-
--- a file where it is put is no folder
-pub file_put : (t : Tree) (k bytes q : Bytes) → get (insert t k (file bytes)) q ≡ Some folder → get t q ≡ Some folder
-file_put t k bytes q is = by_test (same_path q k) refl
-  where
-    by_test : (same : Bool) → same_path q k ≡ same → get t q ≡ Some folder
-    by_test true same = let found : Some (file bytes) ≡ Some folder = sym (get-inserted t k (file bytes) q ∙ ap (λ b. cond b (Some (file bytes)) (get t q)) same) ∙ is in cc
-    by_test false other = sym (get-inserted t k (file bytes) q ∙ ap (λ b. cond b (Some (file bytes)) (get t q)) other) ∙ is
-
-removed : (t : Tree) (k q : Bytes) → get (remove t k) q ≡ Some folder → get t q ≡ Some folder
-removed t k q is = by_test (same_path q k) refl
-  where
-    by_test : (same : Bool) → same_path q k ≡ same → get t q ≡ Some folder
-    by_test true same = let found : None ≡ Some folder = sym (get-removed t k q ∙ ap (λ b. cond b None (get t q)) same) ∙ is in cc
-    by_test false other = sym (get-removed t k q ∙ ap (λ b. cond b None (get t q)) other) ∙ is
 
 -- ---- one after another
 pub now_above : (path : Bytes) (old new : History) → Adds (FoldersAbove path old.tree) old new → FoldersAbove path old.tree new.tree

@@ -15,7 +15,7 @@ use Rattle.gix_ref_way.specs.Ways.{SameFiles}
 pub same_then_same : (old mid new : Tree) → SameFiles old mid → SameFiles mid new → SameFiles old new
 same_then_same old mid new first second = λ path. second path ∙ first path
 
-other_path : (p q : Bytes) → p ≢ q → same_path p q ≡ false
+pub other_path : (p q : Bytes) → p ≢ q → same_path p q ≡ false
 other_path p q apart = by_test (same_path p q) refl
   where
     by_test : (b : Bool) → same_path p q ≡ b → b ≡ false

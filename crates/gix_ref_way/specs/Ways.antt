@@ -1,5 +1,5 @@
 -- The way of a file: the folders that it stands in, and what stands in its place.
-use Rattle.std.specs.Prelude.{ℕ, ◌≡◌, ◌⊎◌, List, ◌∷◌, ◌++◌, Option, Some, None, IsTrue}
+use Rattle.std.specs.Prelude.{ℕ, ◌≡◌, ◌⊎◌, List, ◌∷◌, ◌++◌, Option, Some, None, Contains, IsTrue}
 use Rattle.std.specs.FinMap.{get}
 use Rattle.gix_ref_file.specs.Tree.{Tree, folder, node_at, bytes_of, is_folder}
 
@@ -13,6 +13,10 @@ file_at tree path = bytes_of (node_at tree path)
 -- each file stands as before: at most folders differ
 abbrev pub SameFiles : Tree → Tree → Type 0
 SameFiles old new = (path : Bytes) → file_at new path ≡ file_at old path
+
+-- folders stand where they stood before
+abbrev pub SameFolders : Tree → Tree → Type 0
+SameFolders old new = (path : Bytes) → is_folder (get new path) ≡ is_folder (get old path)
 
 -- the path stands below this one: a slash follows it there
 abbrev pub IsAbove : Bytes → Bytes → Type 0
@@ -59,3 +63,24 @@ pub record ClearsWay (path : Bytes) (old new : Tree) : Type 0 where
   pub folders : (place : Bytes) → get new place ≡ Some folder → get old place ≡ Some folder
   pub others : (place : Bytes) → get old place ≡ Some folder
       → (get new place ≡ Some folder) ⊎ (place ≡ path) ⊎ IsAbove path place
+
+-- the place is this path, or stands below it
+abbrev pub IsAtOrBelow : Bytes → Bytes → Type 0
+IsAtOrBelow path place = (place ≡ path) ⊎ IsAbove path place
+
+-- each folder that stood stands, but perhaps the one at this path and those below it
+abbrev pub KeepsOtherFolders : Bytes → Tree → Tree → Type 0
+KeepsOtherFolders path old new =
+    (place : Bytes) → IsTrue (is_folder (node_at old place))
+    → IsTrue (is_folder (node_at new place)) ⊎ IsAtOrBelow path place
+
+-- a folder stands here
+abbrev pub IsFolderAt : Bytes → Tree → Type 0
+IsFolderAt place tree = IsTrue (is_folder (node_at tree place))
+
+-- A folder came only where one of these paths stands in it, and went only at one of them or below.
+pub record FoldersOnlyOf (paths : List Bytes) (old new : Tree) : Type 0 where
+  pub came : (place : Bytes) → IsFolderAt place new
+      → IsFolderAt place old ⊎ ((path : Bytes) × Contains paths path × IsAbove place path)
+  pub went : (place : Bytes) → IsFolderAt place old
+      → IsFolderAt place new ⊎ ((path : Bytes) × Contains paths path × IsAtOrBelow path place)

@@ -14,6 +14,7 @@ pub fn make_folders<F: Files>(alloc: Global, files: &mut F, path: &[u8]) -> Resu
     ensures honest { F.is_honest files.old → F.is_honest files.new }
     ensures moments { Passes F.is_honest F.history files.old files.new SameFiles }
     ensures folders { Passes F.is_honest F.history files.old files.new (FoldersAbove path.now) }
+    ensures stay { Passes F.is_honest F.history files.old files.new KeepsFolders }
     ensures later { F.failures files.old ≤ F.failures files.new }
     ensures unfailed { OnOk result (F.failures files.new ≡ F.failures files.old) }
     ensures made { F.is_honest files.old → NoFileAbove path.now (F.history files.old).tree
@@ -37,6 +38,7 @@ fn make_folder<F: Files>(alloc: Global, files: &mut F, folder: &[u8]) -> Result<
     ensures folders { Passes F.is_honest F.history files.old files.new (OneFolderMore folder.now) }
     ensures later { F.failures files.old ≤ F.failures files.new }
     ensures unfailed { OnOk result (F.failures files.new ≡ F.failures files.old) }
+    ensures stay { Passes F.is_honest F.history files.old files.new KeepsFolders }
     ensures kept { Achieves F.is_honest F.history files.old files.new result KeepsFolders }
     ensures made { F.is_honest files.old → file_at (F.history files.old).tree folder.now ≡ None
         → OnOk result (IsTrue (is_folder (node_at (F.history files.new).tree folder.now))) }

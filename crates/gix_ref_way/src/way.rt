@@ -5,7 +5,7 @@ ghost use Rattle.gix_ref_file.specs.Tree.{folder, is_path};
 ghost use Rattle.gix_ref_file.specs.Changes.{may_hold_file};
 ghost use Rattle.gix_ref_file.specs.Calls.{Achieves, HasFault, Passes};
 ghost use Rattle.gix_ref_file.specs.declared.files.FileError.TheVariants.{Failed};
-ghost use Rattle.gix_ref_way.specs.Ways.{SameFiles, FoldersAbove, ClearsWay, HasWay, NoFileBelow};
+ghost use Rattle.gix_ref_way.specs.Ways.{SameFiles, FoldersAbove, KeepsOtherFolders, ClearsWay, HasWay, NoFileBelow};
 
 use crate::folders::make_folders;
 use gix_ref_file::paths::{is_deeper, joined};
@@ -18,6 +18,30 @@ pub fn make_way<F: Files>(alloc: Global, files: &mut F, path: &[u8]) -> Result<(
     ensures honest { F.is_honest files.old → F.is_honest files.new }
     ensures moments { Passes F.is_honest F.history files.old files.new SameFiles }
     ensures folders { Passes F.is_honest F.history files.old files.new (FoldersAbove path.now) }
+    ensures stay { Passes F.is_honest F.history files.old files.new (KeepsOtherFolders path.now) }
+    ensures later { F.failures files.old ≤ F.failures files.new }
+    ensures unfailed { OnOk result (F.failures files.new ≡ F.failures files.old) }
+    ensures room { F.is_honest files.old → IsTrue (is_path path.now)
+        → HasWay path.now (F.history files.old).tree
+        → OnOk result (IsTrue (may_hold_file (F.history files.new).tree path.now)) }
+    ensures failed { F.is_honest files.old → IsTrue (is_path path.now)
+        → HasWay path.now (F.history files.old).tree
+        → IsErrOf result Failed → HasFault F.failures F.reading_may_fail files.old files.new }
+{
+    match files.kind_of(path)? {
+        // Its folders are there.
+        Place::File(_) => Ok(()),
+        Place::Absent => make_folders(alloc, files, path),
+        Place::Folder => make_room(alloc, files, path),
+    }
+}
+
+// Makes room where a folder may be.
+fn make_room<F: Files>(alloc: Global, files: &mut F, path: &[u8]) -> Result<(), FileError>
+    ensures honest { F.is_honest files.old → F.is_honest files.new }
+    ensures moments { Passes F.is_honest F.history files.old files.new SameFiles }
+    ensures folders { Passes F.is_honest F.history files.old files.new (FoldersAbove path.now) }
+    ensures stay { Passes F.is_honest F.history files.old files.new (KeepsOtherFolders path.now) }
     ensures later { F.failures files.old ≤ F.failures files.new }
     ensures unfailed { OnOk result (F.failures files.new ≡ F.failures files.old) }
     ensures room { F.is_honest files.old → IsTrue (is_path path.now)

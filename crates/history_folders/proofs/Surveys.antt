@@ -1,29 +1,22 @@
 -- Listings from the root reach each path that stands.
-use Rattle.std.proofs.Common.{◌≡◌, ℕ, zero, suc, Vec, ◌+◌, ◌-◌, ◌<◌, ◌≤◌, Bool, true, false, cond, ◌&&◌, List, [], ◌∷◌, length, map, Option, Some, None, refl, sym, ◌∙◌, ap, subst, arith, length-append}
-use Rattle.std.specs.Prelude.{IsTrue, IsSome, is_some, nat_le, nat_lt, MatchOption, Result, Ok, Err, IfOk}
+use Rattle.std.proofs.Common.{◌≡◌, ℕ, zero, suc, ◌-◌, ◌<◌, ◌≤◌, true, false, cond, List, [], ◌∷◌, length, Option, Some, None, refl, sym, ◌∙◌, ap, subst, arith}
+use Rattle.std.specs.Prelude.{IsTrue, IsSome, is_some, MatchOption, Result, Ok, Err, IfOk}
 use Rattle.gix_ref_file.specs.declared.files.FileError.{FileError}
 use Rattle.history_folders.specs.declared.parts.Stray.{Stray}
-use Rattle.std.specs.List.{suffix_len, list_all, slice_split}
-use Rattle.std.specs.declared.alloc.Global.{Global}
-use borrow.Author.Tests.{ltb-true, ltb-false}
+use Rattle.std.specs.List.{suffix_len}
 use Rattle.std.specs.FinMap.{keys, get, contains_key-keys}
 use Rattle.std.proofs.Math.ListN.{get_or}
 use Rattle.std.proofs.lemmas.List.{length-take-le}
 use Rattle.gix_ref_file.specs.declared.files.Place.TheVariants as places
-use Rattle.gix_ref_file.specs.Tree.{Tree, Node, file, folder, is_slash, is_component, is_path, parent, names_at, node_at, place_of, is_folder, bytes_of, IsRooted, under}
+use Rattle.gix_ref_file.specs.Tree.{Tree, Node, file, folder, is_path, parent, names_at, node_at, place_of, is_folder, bytes_of, IsRooted, under}
 use Rattle.gix_ref_file.specs.Changes.{is_file_at}
 use Rattle.gix_ref_file.proofs.Below.{inside}
-use Rattle.gix_ref_file.proofs.Listings.{in_folder, root_is_no_path, node_is, names_in, found, listed_stands, item_is, map_length}
+use Rattle.gix_ref_file.proofs.Listings.{in_folder, node_is, names_in, found}
 use Rattle.history_model.specs.Bytes.{Bytes}
 use Rattle.history_folders.specs.Parts.{may_hold_folder, IsClearAt, IsClear, IsStray, above, IsClearBelow}
 use Rattle.history_folders.specs.declared.parts.Part.{Part}
 use Rattle.gix_ref_file.proofs.Moved.{some_of_folder}
-
--- a folder's path is shorter than those in it
-pub deeper : (place name : Bytes) → IsTrue (is_path (under place name)) → length place < length (under place name)
-deeper [] [] is = absurd (root_is_no_path is)
-deeper [] (b ∷ name) is = omega arith
-deeper (b ∷ place) name is = omega (arith, length-append (b ∷ place) (47 ∷ name))
+pub use Rattle.gix_ref_way.proofs.Surveys.{is_listed, one_more, is_deep}
 
 -- ---- what stands above
 
@@ -128,54 +121,9 @@ not_absent tree path is there absent = by_case (get tree path) there (ap place_o
     by_case (Some (file bytes)) there h = cc
     by_case (Some folder) there h = cc
 
--- ---- one name of a listing
--- the path of a name that is listed
-pub record IsListed (tree : Tree) (place path : Bytes) (xs : List (Vec ℕ Global)) (i : ℕ) : Type 0 where
-  pub there : IsSome (get tree path)
-  pub is_path : IsTrue (is_path path)
-  pub deeper : length place < length path
-  pub at : path ≡ under place (get_or (map (λ (name : Vec ℕ Global). name.items) xs) i [])
-
-pub is_listed : (tree : Tree) (place : Bytes) (xs : List (Vec ℕ Global)) (i : ℕ) (v : Vec ℕ Global) (path name : Bytes) → IsRooted tree
-    → map (λ (name : Vec ℕ Global). name.items) xs ≡ names_at tree place → i < length xs → v ≡ get_or xs i v → name ≡ v.items → path ≡ under place name → IsListed tree place path xs i
-is_listed tree place xs i v path name rooted names below is name_is path_is =
-    let at : path ≡ under place (get_or (map (λ (name : Vec ℕ Global). name.items) xs) i []) = path_is ∙ ap (under place) (name_is ∙ sym (item_is xs i v below is)) in
-    let r = listed_stands tree place (map (λ (name : Vec ℕ Global). name.items) xs) i rooted names (omega (arith, below, map_length xs)) in
-    record {
-      there = subst (λ p. IsSome (get tree p)) (sym at) r.0;
-      is_path = subst (λ p. IsTrue (is_path p)) (sym at) r.1;
-      deeper = subst (λ p. length place < length p) (sym at) (deeper place (get_or (map (λ (name : Vec ℕ Global). name.items) xs) i []) r.1);
-      at = at;
-    }
-
--- one more name is clear
-pub one_more : (P : Bytes → Type 0) (place path : Bytes) (names : List Bytes) (k : ℕ) → ((i : ℕ) → i < k → P (under place (get_or names i []))) → path ≡ under place (get_or names k []) → P path
-    → (i : ℕ) → i < k + 1 → P (under place (get_or names i []))
-one_more P place path names k before at here i below = by_test (nat_lt i k) refl
-  where
-    by_test : (b : Bool) → nat_lt i k ≡ b → P (under place (get_or names i []))
-    by_test true less = before i (ltb-true _ _ less)
-    by_test false more =
-        let same : k ≡ i = omega (arith, below, ltb-false _ _ more) in
-        subst (λ j. P (under place (get_or names j []))) same (subst P at here)
-
-pub path_short : (path : Bytes) → IsTrue (is_path path) → nat_le (length path) 4096 ≡ true
-path_short path is = by_case (nat_le (length path) 4096) is
-  where
-    by_case : (b : Bool) → IsTrue (b && list_all is_component (slice_split is_slash path)) → b ≡ true
-    by_case true h = refl
-    by_case false h = cc
-
 pub none_stray : {X : Type 0} (o : Option X) (A : Type 0) (B : X → Type 0) → is_some o ≡ false → MatchOption o A B → A
 none_stray None A B none h = h
 none_stray (Some x) A B none h = cc
-
-pub is_deep : (place path : Bytes) → length place < length path → IsTrue (is_path path) → (nat_lt (length place) (length path) && nat_le (length path) 4096) ≡ true
-is_deep place path longer is = ap (λ b. b && nat_le (length path) 4096) (by_test (nat_lt (length place) (length path)) refl) ∙ path_short path is
-  where
-    by_test : (b : Bool) → nat_lt (length place) (length path) ≡ b → b ≡ true
-    by_test true less = refl
-    by_test false more = absurd (omega (arith, longer, ltb-false _ _ more))
 
 pub found_root : (part : Part) (permitted : Bytes) (tree : Tree) (r : Result (Option Stray) FileError)
     → IfOk r (λ found. MatchOption found (IsClearBelow part permitted [] tree) (IsStray part permitted tree)) → IfOk r (λ found. MatchOption found (IsClear part permitted tree) (IsStray part permitted tree))

@@ -1,12 +1,11 @@
-//! A part of a repository's folder, whatever it holds: folders made and cleared for a file, files found, and all that stands surveyed.
+//! A part of a repository's folder, whatever it holds: files found, and all that stands surveyed; the ways of files are `gix_ref_way`'s.
 #![tactic(auto)]
 
-mod folders;
 mod parts;
 mod refusal;
 mod way;
 
-pub use folders::make_folders;
+pub use gix_ref_way::{make_folders, make_way};
 pub use parts::{Part, Stray, survey};
 pub use refusal::{OpenError, refuse_stray};
-pub use way::{has_file_above, has_file_below, is_file, make_way};
+pub use way::{has_file_above, has_file_below, is_file};

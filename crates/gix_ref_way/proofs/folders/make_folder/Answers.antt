@@ -6,6 +6,7 @@ use Rattle.gix_ref_file.proofs.Histories.{adds_weaker}
 use Rattle.gix_ref_way.specs.Ways.{KeepsFolders}
 use Rattle.gix_ref_way.proofs.Stored.{while_made}
 use Rattle.gix_ref_way.proofs.Above.{while_one_made}
+use Rattle.gix_ref_way.proofs.FoldersKept.{while_folder_made}
 use Rattle.gix_ref_way.proofs.FoldersMade.{folder_put, folder_there}
 use Rattle.gix_ref_way.proofs.folders.make_folder.Goals as goal
 
@@ -14,6 +15,9 @@ returns-in-Absent-clause-moments g c = λ honest. adds_weaker _ _ (c.make_folder
 
 pub returns-in-Absent-clause-folders : goal.returns-in-Absent-clause-folders
 returns-in-Absent-clause-folders g c = λ honest. adds_weaker _ _ (c.make_folder.ensures.change honest).moments (λ x left. while_one_made c.args.folder.now _ x left)
+
+pub returns-in-Absent-clause-stay : goal.returns-in-Absent-clause-stay
+returns-in-Absent-clause-stay g c = λ honest. adds_weaker _ _ (c.make_folder.ensures.change honest).moments (λ x left. while_folder_made c.args.folder.now _ x left)
 
 pub returns-in-Absent-clause-kept : goal.returns-in-Absent-clause-kept
 returns-in-Absent-clause-kept g c = λ honest.

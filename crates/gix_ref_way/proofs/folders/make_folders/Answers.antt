@@ -3,6 +3,7 @@ use Rattle.std.proofs.lemmas.Result.{err_from_is_err_and}
 use Rattle.gix_ref_file.specs.declared.files.FileError.TheVariants.{Failed}
 use Rattle.gix_ref_way.proofs.Stored.{now_same, same_joined}
 use Rattle.gix_ref_way.proofs.Above.{above_slash, above_joined}
+use Rattle.gix_ref_way.proofs.FoldersKept.{keeps_joined}
 use Rattle.gix_ref_way.proofs.FoldersMade.{none_made, one_made, path_above, risen_later, stands_in_made}
 use Rattle.gix_ref_way.proofs.folders.make_folders.Goals as goal
 use Rattle.gix_ref_way.proofs.folders.make_folders.Goals.{then-byte-eq47+in_ok-make_folder, else-byte-eq47}
@@ -18,6 +19,10 @@ pub returns-in_err-make_folder-clause-folders : goal.returns-in_err-make_folder-
 returns-in_err-make_folder-clause-folders g c = λ honest.
     above_joined c.args.path.now _ _ _ _ (above_slash c.args.path.now c.loop-end.end c.loop-end-test.true c.if-byte-eq47.true)
     (c.loop-end.invariant.folders honest) (c.make_folder.ensures.folders (c.loop-end.invariant.honest honest))
+
+pub returns-in_err-make_folder-clause-stay : goal.returns-in_err-make_folder-clause-stay
+returns-in_err-make_folder-clause-stay g c = λ honest.
+    keeps_joined _ _ _ (c.loop-end.invariant.stay honest) (c.make_folder.ensures.stay (c.loop-end.invariant.honest honest))
 
 pub returns-in_err-make_folder-clause-failed : goal.returns-in_err-make_folder-clause-failed
 returns-in_err-make_folder-clause-failed g c = λ honest none whole failed.
@@ -42,6 +47,7 @@ loop-end-preserved g c =
         moments = λ honest. same_joined _ _ _ (so_far.moments honest) (w.make_folder.ensures.moments (so_far.honest honest));
         folders = λ honest. above_joined path _ _ _ _ (above_slash path end c.loop-end-test.true w.if-byte-eq47.true)
             (so_far.folders honest) (w.make_folder.ensures.folders (so_far.honest honest));
+        stay = λ honest. keeps_joined _ _ _ (so_far.stay honest) (w.make_folder.ensures.stay (so_far.honest honest));
         later = omega (arith, so_far.later, w.make_folder.ensures.later);
         unfailed = w.in_ok-make_folder.ensures.unfailed ∙ so_far.unfailed;
         made = λ honest none.
@@ -52,6 +58,7 @@ loop-end-preserved g c =
         honest = so_far.honest;
         moments = so_far.moments;
         folders = so_far.folders;
+        stay = so_far.stay;
         later = so_far.later;
         unfailed = so_far.unfailed;
         made = λ honest none. none_made end path _ (so_far.made honest none) w.if-byte-eq47.false;

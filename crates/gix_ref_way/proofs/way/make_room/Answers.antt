@@ -1,11 +1,11 @@
 use Rattle.std.proofs.Common.{◌∙◌}
 use Rattle.std.proofs.lemmas.Result.{on_ok_weaker}
 use Rattle.gix_ref_file.proofs.Histories.{adds_weaker}
-use Rattle.history_folders.proofs.FilesKept.{same_joined}
-use Rattle.history_folders.proofs.Above.{now_above}
-use Rattle.history_folders.proofs.FoldersKept.{clear_stay, way_stay}
-use Rattle.history_folders.proofs.Clearings.{way_now, cleared_above, room_made, later_risen}
-use Rattle.history_folders.proofs.way.make_way.Goals as goal
+use Rattle.gix_ref_way.proofs.Stored.{same_joined}
+use Rattle.gix_ref_way.proofs.Above.{now_above}
+use Rattle.gix_ref_way.proofs.FoldersKept.{clear_stay, way_stay}
+use Rattle.gix_ref_way.proofs.Clearings.{way_now, cleared_above, room_made, later_risen}
+use Rattle.gix_ref_way.proofs.way.make_room.Goals as goal
 
 pub returns-clause-moments : goal.returns-clause-moments
 returns-clause-moments g c = λ honest.
