@@ -5,9 +5,9 @@ ghost use Rattle.case_store.specs.Store.{ids_of, table_of};
 
 use crate::stored::{Stored, stored_at};
 use gix_hash::{ObjectId, oid};
-use gix_object_find::find::Error;
-use gix_object_find::{Find, Lookup};
 use gix_object_lines::Kind;
+use gix_object_lookup::find::Error;
+use gix_object_lookup::{FindInto, Lookup};
 use std::alloc::{AllocError, Global};
 
 /// Objects, the first of an id before others, and ids of which each lookup fails.
@@ -55,7 +55,7 @@ impl Lookup for Store {
     ghost may_fail = { λ store. ⊤ };
 }
 
-impl Find for Store {
+impl FindInto for Store {
     fn find_into(&self, id: oid<'_>, buffer: &mut Vec<u8>) -> Result<Option<Kind>, Error> {
         buffer.clear();
         if self.is_failing(id) {

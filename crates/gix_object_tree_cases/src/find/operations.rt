@@ -5,7 +5,7 @@ use crate::find::keeping;
 use crate::find::store::Store;
 use case_ids::{Case, Operations};
 use case_page::Page;
-use gix_object_find::find::Never;
+use gix_object_lookup::find::Never;
 use std::alloc::Global;
 use std::rc::Rc;
 

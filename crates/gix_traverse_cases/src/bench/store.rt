@@ -5,9 +5,9 @@ ghost use Rattle.gix_hash_id.specs.Views.{viewed_id};
 ghost use Rattle.gix_traverse_cases.specs.Store.{ids_of};
 
 use gix_hash::{ObjectId, oid};
-use gix_object_find::find::Error;
-use gix_object_find::{Find, Lookup};
 use gix_object_lines::Kind;
+use gix_object_lookup::find::Error;
+use gix_object_lookup::{FindInto, Lookup};
 use std::alloc::{AllocError, Global};
 use std::collections::HashMap;
 
@@ -69,7 +69,7 @@ impl Lookup for Store {
     ghost may_fail = { λ _. ⊥ };
 }
 
-impl Find for Store {
+impl FindInto for Store {
     fn find_into(&self, id: oid<'_>, buffer: &mut Vec<u8>) -> Result<Option<Kind>, Error> {
         buffer.clear();
         let Some(stored) = self.at(id) else {

@@ -2,7 +2,7 @@
 
 use crate::rows::parents_of;
 use case_commits::ids;
-use gix_object_find::find::Never;
+use gix_object_lookup::find::Never;
 use gix_traverse_commit::simple::{Error, Sorting};
 use gix_traverse_commit::{All, Graph, Info, Simple};
 use std::alloc::Global;

@@ -3,7 +3,7 @@
 use crate::rows::parents_of;
 use case_commits::{ids, number};
 use case_page::Page;
-use gix_object_find::find::Never;
+use gix_object_lookup::find::Never;
 use gix_traverse_commit::{All, Graph, Info};
 use gix_traverse_topo::{Builder, Error, Sorting, Topo};
 use std::alloc::Global;

@@ -3,7 +3,7 @@
 use case_commits::number;
 use case_page::Page;
 use gix_hash::ObjectId;
-use gix_object_find::find::existing_iter;
+use gix_object_lookup::find::existing_iter;
 use gix_traverse::commit::simple::{CommitTimeOrder, Sorting};
 use gix_traverse::commit::topo;
 
