@@ -5,9 +5,9 @@ ghost use Rattle.case_store.specs.Store.{ids_of, table_of};
 
 use crate::stored::{Stored, stored_at};
 use gix_hash::oid;
-use gix_object_find::find::Error;
-use gix_object_find::{Find, Lookup};
 use gix_object_lines::Kind;
+use gix_object_lookup::find::Error;
+use gix_object_lookup::{FindInto, Lookup};
 use std::alloc::{AllocError, Global};
 
 /// Objects, the first of an id before others.
@@ -41,7 +41,7 @@ impl Lookup for Store {
     ghost may_fail = { λ store. ⊤ };
 }
 
-impl Find for Store {
+impl FindInto for Store {
     fn find_into(&self, id: oid<'_>, buffer: &mut Vec<u8>) -> Result<Option<Kind>, Error> {
         buffer.clear();
         let Some(stored) = stored_at(&self.objects, id) else {

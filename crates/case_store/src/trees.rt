@@ -4,9 +4,9 @@ ghost use Rattle.std.specs.Prelude.{map, None, ⊤};
 ghost use Rattle.gix_hash_id.specs.Id.{id_of};
 
 use gix_hash::{Kind, ObjectId, oid};
-use gix_object_find::find::Error;
-use gix_object_find::{Find, Lookup};
 use gix_object_lines::encode::loose_header;
+use gix_object_lookup::find::Error;
+use gix_object_lookup::{FindInto, Lookup};
 use std::alloc::{AllocError, Global};
 use std::cell::Cell;
 
@@ -87,7 +87,7 @@ impl Lookup for Trees {
     ghost may_fail = { λ _. ⊤ };
 }
 
-impl Find for Trees {
+impl FindInto for Trees {
     fn find_into(
         &self,
         id: oid<'_>,

@@ -56,25 +56,25 @@ pub mod kind {
 pub mod find {
     /// Why an object that must stand isn't found.
     pub mod existing {
-        pub use gix_object_find::find::existing::Error;
+        pub use gix_object_lookup::find::existing::Error;
     }
 
     /// Why an object that must stand can't be read part by part.
     pub mod existing_iter {
-        pub use gix_object_find::find::existing_iter::Error;
+        pub use gix_object_lookup::find::existing_iter::Error;
     }
 
     /// Why an object that must stand can't be read.
     pub mod existing_object {
-        pub use gix_object_find::find::existing_object::Error;
+        pub use gix_object_lookup::find::existing_object::Error;
     }
 
-    pub use gix_object_find::find::{Error, Never};
+    pub use gix_object_lookup::find::{Error, Never};
 }
 
 /// Looking entries of trees up by their paths.
 pub mod lookup {
-    pub use gix_object_find::lookup::{Error, lookup_entry, lookup_entry_by_path};
+    pub use gix_object_lookup::lookup::{Error, lookup_entry, lookup_entry_by_path};
 }
 
 /// Actors, times and the names of references.
@@ -152,12 +152,11 @@ pub mod write {
 pub use gix_object_commit::{Commit, CommitRef};
 pub use gix_object_commit_tokens::CommitRefIter;
 pub use gix_object_entries::{Tree, TreeRef, TreeRefIter};
-pub use gix_object_find::{
-    Exists, Find, FindExt, FindHeader, FindObjectOrHeader, HeaderExt, Lookup,
-};
+pub use gix_object_find::{Find, FindExt, FindObjectOrHeader, HeaderExt};
 pub use gix_object_hash::{Blob, BlobRef, compute_hash, compute_stream_hash};
 pub use gix_object_lines::write::Error as WriteToError;
 pub use gix_object_lines::{ByteString, Header, Kind, WriteTo};
+pub use gix_object_lookup::{Exists, FindHeader, FindInto, Lookup};
 pub use gix_object_tag::{Tag, TagRef, TagRefIter};
 pub use gix_object_tree::{Data, Object, ObjectRef};
 pub use gix_object_write::Write;

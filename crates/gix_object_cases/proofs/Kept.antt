@@ -4,7 +4,7 @@ use Rattle.std.specs.Prelude.{◌≢◌, find}
 use Rattle.gix_hash_id.specs.Id.{Id, id_of}
 use Rattle.gix_hash_id.specs.Order.{id_eq}
 use Rattle.gix_hash_id.specs.OrderLaws.{id_eq-same, id_eq-itself}
-use Rattle.gix_object_find.specs.Table.{Object}
+use Rattle.gix_object_lookup.specs.Table.{Object}
 use Rattle.gix_object_write.specs.Keeping.{Puts}
 use Rattle.case_store.specs.Store.{table_of}
 use Rattle.case_store.specs.declared.stored.Stored.{Stored}

@@ -7,7 +7,7 @@ use Rattle.gix_hash_id.specs.OrderLaws.{id_equivalence}
 use Rattle.gix_hash_id.specs.declared.kind.Kind.{Kind}
 use Rattle.std.specs.Prelude.{is_some}
 use Rattle.std.specs.Borrow.{Bor}
-use Rattle.gix_object_find.specs.Table.{Table}
+use Rattle.gix_object_lookup.specs.Table.{Table}
 use Rattle.gix_object_nodes.specs.declared.node.Slot.{Slot}
 use Rattle.gix_object_nodes.specs.Files.{Bytes, Path, Leaf, Trees, is_null, through, behind, put, put_at, cleared}
 use Rattle.gix_object_editor.specs.Stored.{HasStored, IsOpened}

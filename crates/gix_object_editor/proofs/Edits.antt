@@ -8,7 +8,7 @@ use Rattle.gix_object_entries.specs.Entry.{Item}
 use Rattle.gix_object_nodes.specs.declared.node.NodeId.{NodeId}
 use Rattle.gix_hash_id.specs.Id.{Id, id_of}
 use Rattle.gix_object_nodes.specs.declared.node.Slot.{Slot}
-use Rattle.gix_object_find.specs.Table.{Table}
+use Rattle.gix_object_lookup.specs.Table.{Table}
 use Rattle.gix_object_editor.specs.declared.tree.editor.error.Error.{Error}
 use Rattle.gix_object_editor.specs.declared.tree.editor.error.Error.TheVariants.{EmptyPathComponent, FindExistingObject, CannotRemoveNonLeaf, MalformedTree, EmptyTree, Memory}
 use Rattle.gix_object_editor.specs.Editor.{EditFault, LeafFault, IsFolder, IsTreeNamed, LeadsThrough, LeadsInto}

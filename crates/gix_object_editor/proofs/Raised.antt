@@ -3,7 +3,7 @@ use Rattle.std.proofs.Common.{ℕ, ◌≡◌, ◌⊎◌, ◌++◌, inl, inr, fal
 use Rattle.std.specs.Prelude.{bytes_eq, is_some}
 use Rattle.std.specs.Borrow.{Bor}
 use Rattle.gix_hash_id.specs.declared.kind.Kind.{Kind}
-use Rattle.gix_object_find.specs.Table.{Table}
+use Rattle.gix_object_lookup.specs.Table.{Table}
 use Rattle.gix_object_nodes.specs.declared.node.Slot.{Slot}
 use Rattle.gix_object_nodes.specs.Files.{Bytes, Path, Leaf, Trees, behind, removed, through, entry_into}
 use Rattle.gix_object_editor.specs.Stored.{HasStored, IsOpened}

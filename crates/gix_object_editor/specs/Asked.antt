@@ -5,8 +5,8 @@ use Rattle.gix_hash_id.specs.Id.{Id}
 use Rattle.gix_object_lines.specs.declared.kind.Kind.TheVariants as kinds
 use Rattle.gix_object_entries.specs.Entry.{Item, SpellsTree}
 use Rattle.gix_object_entries.specs.WellFormed.{IsWellFormed}
-use Rattle.gix_object_find.specs.Table.{Table}
-use Rattle.gix_object_find.specs.Existing.{Stands}
+use Rattle.gix_object_lookup.specs.Table.{Table}
+use Rattle.gix_object_lookup.specs.Existing.{Stands}
 use Rattle.gix_object_editor.specs.declared.tree.editor.error.Error.{Error}
 use Rattle.gix_object_editor.specs.declared.tree.editor.error.Error.TheVariants.{EmptyPathComponent, FindExistingObject, CannotRemoveNonLeaf, MalformedTree, EmptyTree, Memory}
 use Rattle.gix_object_nodes.specs.declared.node.NodeId.{NodeId}

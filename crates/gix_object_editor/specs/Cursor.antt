@@ -4,7 +4,7 @@ use Rattle.std.specs.Borrow.{RestsIfErr, MutBor, Fml, RattleType}
 use Rattle.gix_object_editor.specs.declared.tree.editor.state.Cursor.{Cursor}
 use Rattle.gix_object_editor.specs.declared.tree.editor.state.Editor.{Editor}
 use Rattle.gix_object_editor.specs.contracts.tree.editor.state.Editor.{the_row}
-use Rattle.gix_object_find.specs.Table.{Table}
+use Rattle.gix_object_lookup.specs.Table.{Table}
 use Rattle.gix_object_editor.specs.declared.tree.editor.error.Error.{Error}
 use Rattle.gix_object_editor.specs.declared.tree.editor.error.Error.TheVariants.{EmptyPathComponent}
 use Rattle.gix_object_editor.specs.Asked.{StopsAt}

@@ -2,8 +2,8 @@
 use Rattle.std.specs.Prelude.{ℕ, ◌≡◌, ◌<◌, ◌≤◌, ◌⊎◌, List, Option, Some, true}
 use Rattle.gix_hash_id.specs.Id.{Id}
 use Rattle.gix_object_lines.specs.declared.kind.Kind.TheVariants as kinds
-use Rattle.gix_object_find.specs.Table.{Table}
-use Rattle.gix_object_find.specs.Existing.{Stands}
+use Rattle.gix_object_lookup.specs.Table.{Table}
+use Rattle.gix_object_lookup.specs.Existing.{Stands}
 use Rattle.gix_object_entries.specs.Entry.{Item, SpellsTree}
 use Rattle.gix_object_nodes.specs.declared.node.Node.{Node}
 use Rattle.gix_object_nodes.specs.declared.node.Slot.{Slot}

@@ -1,4 +1,1 @@
-pub mod Table
-pub mod Cases
-pub mod Existing
-pub mod Path
+pub mod Values

@@ -4,17 +4,19 @@ ghost use Rattle.std.specs.Prelude.{◌≡◌, Some, IfOk, IfErr};
 ghost use Rattle.gix_hash_id.specs.Views.{viewed_id};
 ghost use Rattle.gix_object_lines.specs.declared.kind.Kind.TheVariants as kinds;
 ghost use Rattle.gix_object_tree.specs.Readers.{ReadsCommit, ReadsTag, ReadsTree};
-ghost use Rattle.gix_object_find.specs.Table.{object_of, header_at};
-ghost use Rattle.gix_object_find.specs.Existing.{Stands, StandsAs, tree_value, commit_value, tag_value, ReadsStanding, ExistingFault, KindFault, ObjectFault};
+ghost use Rattle.gix_object_find.specs.Values.{object_of, StandsAs, tree_value, commit_value, tag_value, ReadsStanding, ObjectFault};
+ghost use Rattle.gix_object_lookup.specs.Existing.{Stands, ExistingFault, KindFault};
+ghost use Rattle.gix_object_lookup.specs.Table.{header_at};
 
-use crate::find::{existing, existing_iter, existing_object};
-use crate::{Find, FindHeader};
+use crate::Find;
 use gix_hash::{ObjectId, oid};
 use gix_object_commit::CommitRef;
 use gix_object_commit_tokens::CommitRefIter;
 use gix_object_entries::{TreeRef, TreeRefIter};
 use gix_object_hash::BlobRef;
 use gix_object_lines::{Header, Kind};
+use gix_object_lookup::find::{existing, existing_iter, existing_object};
+use gix_object_lookup::{FindHeader, content_of, entries_of};
 use gix_object_tag::{TagRef, TagRefIter};
 use gix_object_tree::Data;
 use std::alloc::Global;
@@ -156,8 +158,7 @@ pub trait FindExt: Find {
         ensures refused { IfErr result (KindFault (Self.is_honest self.now) (Self.may_fail self.now)
             (Self.table self.now) (viewed_id id.entry) kinds.Tree) }
     {
-        let content = content_of(self, id, Kind::Tree, buffer)?;
-        Ok(TreeRefIter::from_bytes(content, id.kind()))
+        entries_of(self, id, buffer)
     }
 
     /// A reader of the parts of the commit of this id, which stand in the buffer.
@@ -193,30 +194,3 @@ pub trait FindExt: Find {
 }
 
 impl<T: Find> FindExt for T {}
-
-// The content of the object of this id and kind.
-fn content_of<'a, T: Find>(
-    objects: &T,
-    id: oid<'_>,
-    kind: Kind,
-    buffer: &'a mut Vec<u8>,
-) -> Result<&'a [u8], existing_iter::Error>
-    ensures found { T.is_honest objects.now → IfOk result (λ content.
-        Stands (T.table objects.now) (viewed_id id.entry) kind content.now) }
-    ensures refused { IfErr result (KindFault (T.is_honest objects.now) (T.may_fail objects.now)
-        (T.table objects.now) (viewed_id id.entry) kind) }
-{
-    let Some(found) = objects.try_find(id, buffer)? else {
-        return Err(existing_iter::Error::NotFound {
-            oid: ObjectId::from(id),
-        });
-    };
-    if found.kind != kind {
-        return Err(existing_iter::Error::ObjectKind {
-            oid: ObjectId::from(id),
-            actual: found.kind,
-            expected: kind,
-        });
-    }
-    Ok(found.content)
-}

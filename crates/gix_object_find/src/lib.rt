@@ -1,11 +1,11 @@
-//! Looking objects up by their ids, after the crate `gix-object` 0.64.
+//! Objects of each kind by their ids, after the crate `gix-object` 0.64.
 #![tactic(auto)]
 
 mod ext;
-pub mod find;
-pub mod lookup;
-mod traits;
+mod find_object;
 
 pub use crate::ext::{FindExt, FindObjectOrHeader, HeaderExt};
-pub use crate::lookup::{lookup_entry, lookup_entry_by_path};
-pub use crate::traits::{Exists, Find, FindHeader, Lookup};
+pub use crate::find_object::Find;
+pub use gix_object_lookup::{
+    Exists, FindHeader, FindInto, Lookup, find, lookup, lookup_entry, lookup_entry_by_path,
+};

@@ -3,7 +3,7 @@ use Rattle.std.proofs.Common.{◌≡◌, refl, subst, sym, ℕ, List, Option, So
 use Rattle.std.specs.Prelude.{IsSome}
 use Rattle.gix_hash_id.specs.Id.{Id}
 use Rattle.gix_hash_id.specs.declared.object_id.ObjectId.{ObjectId}
-use Rattle.gix_object_find.specs.Table.{Object, Table}
+use Rattle.gix_object_lookup.specs.Table.{Object, Table}
 use Rattle.gix_object_lines.specs.Writes.{Refusal, Writes, cause_of}
 use Rattle.gix_object_lines.specs.declared.write.Error as write
 use Rattle.gix_object_lines.specs.declared.write.Error.TheVariants.{Writer, Header, TagName, Filename}

@@ -4,7 +4,7 @@ use Rattle.std.specs.Io.KnownBytes.{Consumes}
 use Rattle.gix_hash_id.specs.Id.{Id}
 use Rattle.gix_hash_hasher.specs.Pieces.{GivesFewer}
 use Rattle.gix_hash_id.specs.declared.object_id.ObjectId.{ObjectId}
-use Rattle.gix_object_find.specs.Table.{Table}
+use Rattle.gix_object_lookup.specs.Table.{Table}
 use Rattle.gix_object_lines.specs.declared.kind.Kind.{Kind}
 use Rattle.gix_object_write.specs.Keeping.{Keeps, IsAsBefore}
 use Rattle.gix_object_write.specs.declared.write.Error.{Error}

@@ -13,11 +13,11 @@ ghost use Rattle.gix_object_write.specs.Streams.{KeepsNext};
 use crate::stream::read_content;
 use crate::write::Error;
 use gix_hash::ObjectId;
-use gix_object_find::Lookup;
-use gix_object_find::find::Never;
 use gix_object_hash::compute_hash;
 use gix_object_lines::write::Error as WriteToError;
 use gix_object_lines::{Kind, WriteTo};
+use gix_object_lookup::Lookup;
+use gix_object_lookup::find::Never;
 use std::alloc::Global;
 use std::io;
 

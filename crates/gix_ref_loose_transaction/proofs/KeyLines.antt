@@ -3,7 +3,7 @@ use Rattle.std.proofs.Common.{◌≡◌, ◌≢◌, ◌⊎◌, inl, inr, refl, s
 use Rattle.std.specs.Option.{option_to_list}
 use Rattle.std.specs.List.{AllByRecursion}
 use Rattle.std.proofs.lemmas.Slice.Eq.{bytes_eq-Decides}
-use Rattle.gix_object_find.specs.Table.{Table}
+use Rattle.gix_object_lookup.specs.Table.{Table}
 use Rattle.gix_ref_name.specs.Targets.{Points, ToObject, ToName, target_view}
 use Rattle.gix_ref_edit.specs.declared.change.Change.{Change}
 use Rattle.gix_ref_edit.specs.declared.change.Change.TheVariants.{Update, Delete}

@@ -1,6 +1,6 @@
 -- The lock of packed records, while other locks are made.
 use Rattle.std.proofs.Common.{refl, List, Option, Some, None}
-use Rattle.gix_object_find.specs.Table.{Table}
+use Rattle.gix_object_lookup.specs.Table.{Table}
 use Rattle.gix_ref_file.specs.History.{History, Adds}
 use Rattle.gix_ref_file.specs.Tree.{Tree}
 use Rattle.gix_ref_file.proofs.Histories.{adds_weaker}

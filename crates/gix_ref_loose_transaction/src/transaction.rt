@@ -1,7 +1,7 @@
 //! Transactions: prepared, and then committed or rolled back.
 
 ghost use Rattle.std.specs.Prelude.{◌≡◌, ◌⊎◌, [], Bool, true, false, is_some, Option, option_map, Ok, IfErr, IfOk, IfSome, OnOk};
-ghost use Rattle.gix_object_find.specs.Table.{Table};
+ghost use Rattle.gix_object_lookup.specs.Table.{Table};
 ghost use Rattle.gix_ref_file.specs.History.{Adds};
 ghost use Rattle.gix_ref_file.specs.Tree.{Tree};
 ghost use Rattle.gix_ref_file.specs.Calls.{Achieves, Passes};
@@ -27,8 +27,8 @@ use crate::finder::Names;
 use crate::once::{share_place, stand_twice};
 use crate::plan::plan;
 use crate::targets::targets_are_read;
-use gix_object_find::Find;
 use gix_object_lines::lines::ActorRef;
+use gix_object_lookup::FindInto;
 use gix_ref_edit::{RefEdit, RefEditsExt};
 use gix_ref_file::{FileError, Files};
 use gix_ref_format::packed::Buffer;
@@ -59,7 +59,7 @@ pub struct Transaction {
 /// `PackedTransactionAcquire` and `PackedTransactionPrepare` where packed references can't be opened, locked or written, `Resolve` where of
 /// an object that is to be packed isn't found what it leads to, and `Io` where a lock can't be written. At each moment each file but locks
 /// is as before, and after an error the locks have gone, as far as that succeeds.
-pub fn prepare<F: Files, O: Find>(
+pub fn prepare<F: Files, O: FindInto>(
     alloc: Global,
     store: &mut Store<F>,
     edits: Vec<RefEdit>,
@@ -103,7 +103,7 @@ pub fn prepare<F: Files, O: Find>(
 }
 
 // The same, told by the files alone.
-fn prepared<F: Files, O: Find>(
+fn prepared<F: Files, O: FindInto>(
     alloc: Global,
     store: &mut Store<F>,
     edits: Vec<RefEdit>,
@@ -175,7 +175,7 @@ fn ready<F: Files>(
 }
 
 // Locks all that the edits concern, first the packed records.
-fn locked<F: Files, O: Find>(
+fn locked<F: Files, O: FindInto>(
     alloc: Global,
     store: &mut Store<F>,
     edits: Vec<RefEdit>,

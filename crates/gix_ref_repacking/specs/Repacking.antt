@@ -5,7 +5,7 @@ use Rattle.std.specs.List.{list_any}
 use Rattle.std.specs.Option.{option_to_list}
 use Rattle.gix_hash_id.specs.Id.{Id}
 use Rattle.gix_hash_id.specs.declared.kind.Kind.{Kind}
-use Rattle.gix_object_find.specs.Table.{Table}
+use Rattle.gix_object_lookup.specs.Table.{Table}
 use Rattle.gix_ref_file.specs.Tree.{Tree, node_at}
 use Rattle.gix_ref_name.specs.Targets.{Points, ToObject, ToName, target_view}
 use Rattle.gix_ref_edit.specs.declared.change.Change.{Change}

@@ -19,7 +19,7 @@ ghost use Rattle.gix_ref_repacking.specs.Rollback.{IsEarly, IsRolledBack};
 use crate::error::RepackError;
 use crate::packed_refs::PackedRefs;
 use gix_hash::{Kind, ObjectId};
-use gix_object_find::Find;
+use gix_object_lookup::FindInto;
 use gix_ref_edit::{Change, LogChange, RefEdit, RefLog};
 use gix_ref_file::Files;
 use gix_ref_format::lookup::key_of;
@@ -37,7 +37,7 @@ use std::alloc::Global;
 ///
 /// A lock that stands already isn't touched: it is an error. At each moment each file and folder but the lock is as before. Where no
 /// record changes nothing is done, and after an error the lock has gone, as far as that succeeds.
-pub fn repack<F: Files, O: Find>(
+pub fn repack<F: Files, O: FindInto>(
     alloc: Global,
     store: &mut Store<F>,
     packed: Option<&Buffer>,
@@ -112,7 +112,7 @@ fn changes_records(stands: bool, line: &RecordEdit) -> bool
 }
 
 // What the edits make of packed records.
-fn record_edits<F: Files, O: Find>(
+fn record_edits<F: Files, O: FindInto>(
     alloc: Global,
     store: &Store<F>,
     edits: &[RefEdit],
@@ -132,7 +132,7 @@ fn record_edits<F: Files, O: Find>(
 }
 
 // Adds what an edit makes of the record that may stand for its name.
-fn add_record_edit<F: Files, O: Find>(
+fn add_record_edit<F: Files, O: FindInto>(
     alloc: Global,
     store: &Store<F>,
     edit: &RefEdit,
@@ -162,7 +162,7 @@ fn push_some(lines: &mut Vec<RecordEdit>, own: Option<RecordEdit>) -> Result<(),
 }
 
 // What an edit makes of the record that may stand for its name.
-fn record_edit<F: Files, O: Find>(
+fn record_edit<F: Files, O: FindInto>(
     alloc: Global,
     store: &Store<F>,
     edit: &RefEdit,
@@ -194,7 +194,7 @@ fn removal_of(alloc: Global, key: &[u8], log: RefLog) -> Result<Option<RecordEdi
 }
 
 // An update to an object is packed where updates are.
-fn update_of<F: Files, O: Find>(
+fn update_of<F: Files, O: FindInto>(
     alloc: Global,
     store: &Store<F>,
     key: &[u8],
@@ -223,7 +223,7 @@ fn update_of<F: Files, O: Find>(
 }
 
 // The record of an id under this name, with the id of the object that it stands for, where that is another.
-fn record_of<F: Files, O: Find>(
+fn record_of<F: Files, O: FindInto>(
     alloc: Global,
     store: &Store<F>,
     key: &[u8],
@@ -244,7 +244,7 @@ fn record_of<F: Files, O: Find>(
 }
 
 // The id of the object that an id stands for, where that is another.
-fn peeled<F: Files, O: Find>(
+fn peeled<F: Files, O: FindInto>(
     alloc: Global,
     store: &Store<F>,
     name: FullName,

@@ -10,8 +10,8 @@ use Rattle.gix_object_lines.specs.HexLine.{HexLineFault}
 use Rattle.gix_object_lines.specs.declared.decode.Error as decode
 use Rattle.gix_object_lines.specs.declared.kind.Kind.TheVariants as kinds
 use Rattle.gix_object_tag.specs.Tag.{SpellsTarget}
-use Rattle.gix_object_find.specs.Table.{Table, Object}
-use Rattle.gix_object_find.specs.Existing.{Stands, LookupFault}
+use Rattle.gix_object_lookup.specs.Table.{Table, Object}
+use Rattle.gix_object_lookup.specs.Existing.{Stands, LookupFault}
 use Rattle.gix_ref_format.specs.declared.packed.buffer.Error.{Error as OpenError}
 use Rattle.gix_ref_store.specs.Follows as follows
 use Rattle.gix_ref_store.specs.Follows.{Followed, Ends, EndsAt, FollowFault, follow_from}

@@ -5,7 +5,7 @@ use bstr::BStr;
 use case_store::Trees;
 use case_words::Page;
 use gix_hash::ObjectId;
-use gix_object_find::FindExt;
+use gix_object_lookup::entries_of;
 use gix_traverse_tree::recorder::Recorder;
 use gix_traverse_tree::{Visit, breadthfirst, depthfirst};
 use std::alloc::Global;
@@ -49,7 +49,7 @@ fn by_depth(
 fn by_levels(alloc: Global, root: &ObjectId, trees: &Trees, recorder: &mut Recorder) -> Option<()> {
     let mut state = breadthfirst::State::new(alloc).try_clone().ok()?;
     let mut content = Vec::new(alloc);
-    let entries = trees.find_tree_iter(root.as_oid(), &mut content).ok()?;
+    let entries = entries_of(trees, root.as_oid(), &mut content).ok()?;
     breadthfirst::breadthfirst(entries, &mut state, trees, recorder).ok()
 }
 

@@ -5,7 +5,7 @@ use case_store::{Case, Row, Trees};
 use case_words::Page;
 use gix_hash::ObjectId;
 use gix_object_entries::tree::EntryMode;
-use gix_object_find::FindExt;
+use gix_object_lookup::entries_of;
 use gix_traverse_tree::recorder::{Entry, Location, Recorder};
 use gix_traverse_tree::{EntriesState, breadthfirst, depthfirst, entries_at};
 use std::alloc::Global;
@@ -93,7 +93,7 @@ fn by_levels(
     page: &mut Page,
 ) {
     let mut content = Vec::new(alloc);
-    let entries = match trees.find_tree_iter(root.as_oid(), &mut content) {
+    let entries = match entries_of(trees, root.as_oid(), &mut content) {
         Ok(entries) => entries,
         Err(error) => return page.refused(error),
     };

@@ -3,7 +3,7 @@ use Rattle.std.proofs.Common.{Option, Bool, ◌≡◌, ℕ, zero, suc, ◌+◌, 
 use Rattle.std.specs.Prelude.{IsTrue}
 use Rattle.gix_hash_id.specs.Id.{Id}
 use Rattle.gix_hash_id.specs.declared.object_id.ObjectId.{ObjectId}
-use Rattle.gix_object_find.specs.Table.{Table}
+use Rattle.gix_object_lookup.specs.Table.{Table}
 use Rattle.gix_traverse_commit_graph.specs.Commits.{Commits, Reached, tip, parent}
 use Rattle.gix_object_lines.specs.Counts.{one_more}
 use Rattle.gix_traverse_commit_known.specs.Fetching.{FetchFault}

@@ -2,8 +2,8 @@
 use Rattle.std.specs.Prelude.{◌≡◌, ◌⊎◌, ◌<◌, ◌≤◌, ◌+◌, ℕ, IfOk, IfErr, IfSome, IfNone, IsNone, OnErr, Bool, true, false, List, [], ◌∷◌, ◌++◌, length, Option, None, IsSome, Result, Contains, take, OnOk}
 use Rattle.gix_hash_id.specs.Id.{Id, id_of}
 use Rattle.gix_hash_id.specs.declared.object_id.ObjectId.{ObjectId}
-use Rattle.gix_object_find.specs.Existing as object
-use Rattle.gix_object_find.specs.Table.{Table}
+use Rattle.gix_object_lookup.specs.Existing as object
+use Rattle.gix_object_lookup.specs.Table.{Table}
 use Rattle.gix_object_lines.specs.declared.kind.Kind.TheVariants as kinds
 use Rattle.gix_traverse_commit_graph.specs.Commits.{Commit, Commits, asked_parents}
 use Rattle.gix_object_lines.specs.Counts.{one_more}

@@ -16,7 +16,7 @@ ghost use Rattle.gix_traverse_commit_known.specs.Told.{OverTold, rows_of};
 ghost use Rattle.gix_traverse_commit_graph.specs.declared.rows.Row.{Row};
 
 use gix_hash::ObjectId;
-use gix_object_find::Find;
+use gix_object_lookup::FindInto;
 use gix_traverse_commit_graph::Parents;
 use gix_traverse_commit_known::fetch::{FetchError, Source};
 use gix_traverse_commit_known::known::Known;
@@ -104,7 +104,7 @@ fn paint_parents(
 }
 
 /// Marks as hidden all that these commits reach, until nothing is left to paint.
-pub fn paint<F: Find>(
+pub fn paint<F: FindInto>(
     source: &mut Source<F>,
     known: &mut Known,
     hidden: &[ObjectId],

@@ -36,7 +36,7 @@ pub mod waiting {
 
 use gix_hash::{Kind, ObjectId};
 use gix_object_commit_tokens::CommitRefIter;
-use gix_object_find::Find;
+use gix_object_lookup::FindInto;
 pub use gix_traverse_commit_graph::sorting::{CommitTimeOrder, Sorting};
 use gix_traverse_commit_graph::{Graph, Info, Parents};
 pub use gix_traverse_commit_known::faults::{Error, HiddenGraphError};
@@ -66,7 +66,7 @@ pub struct Simple<F, P> {
     kind: Kind,
 }
 
-impl<F: Find + Drop> Simple<F, All> {
+impl<F: FindInto + Drop> Simple<F, All> {
     /// A walk from these tips along all parents, which reads commits from these objects. It is `Memory` where there is no
     /// memory for the walk.
     pub fn new(tips: Vec<ObjectId>, find: F) -> Result<Simple<F, All>, Error>
@@ -87,7 +87,7 @@ impl<F: Find + Drop> Simple<F, All> {
     }
 }
 
-impl<F: Find + Drop, P: Accept + Drop> Simple<F, P> {
+impl<F: FindInto + Drop, P: Accept + Drop> Simple<F, P> {
     /// A walk that gives the commits alone that the predicate accepts, and doesn't go on to the parents of one that it refuses.
     /// The predicate is asked of each tip here, and of each other commit when the walk first meets it as a parent of one that
     /// comes, unless it is hidden. It is `Memory` where there is no memory for the walk.
@@ -247,7 +247,7 @@ impl<F: Find + Drop, P: Accept + Drop> Simple<F, P> {
     }
 }
 
-impl<F: Find + Drop, P: Accept + Drop> Iterator for Simple<F, P> {
+impl<F: FindInto + Drop, P: Accept + Drop> Iterator for Simple<F, P> {
     type Item = Result<Info, Error>;
 
     ghost next_gives = { λ before item after. GivesNext P.accepts P.goes

@@ -16,7 +16,7 @@ use Rattle.gix_traverse_commit_graph.specs.Numbered.{same_id}
 use Rattle.gix_traverse_commit_graph.specs.Order.{At}
 use Rattle.gix_traverse_commit_known.specs.Painting.{IsPainted, PaintFault, Paints, ReachedFrom, every}
 use Rattle.gix_traverse_commit_graph.specs.Rows.{AllHeld, Holds}
-use Rattle.gix_object_find.specs.Table.{Table}
+use Rattle.gix_object_lookup.specs.Table.{Table}
 use Rattle.gix_traverse_commit_known.specs.Fetching.{FetchFault}
 use Rattle.gix_traverse_commit_known.specs.Asked.{IsKnown}
 use Rattle.gix_traverse_commit_known.specs.Told.{AreTold}

@@ -11,7 +11,7 @@ use Rattle.gix_traverse_commit_graph.specs.Order.{At}
 use Rattle.gix_traverse_commit_known.specs.Painting.{ReachedFrom}
 use Rattle.gix_traverse_commit_graph.specs.Rows.{AllHeld, Holds}
 use Rattle.gix_traverse_commit_known.specs.Asked.{AcceptsAs, Answers, Asked, AreAsked, IsKnown, keep_of, request_in, timing, IsTurn}
-use Rattle.gix_object_find.specs.Table.{Table}
+use Rattle.gix_object_lookup.specs.Table.{Table}
 use Rattle.gix_traverse_commit_known.specs.Faults.{SimpleFault, StopsFetch}
 use Rattle.gix_traverse_commit_graph.specs.declared.parents.Parents.{Parents}
 use Rattle.gix_traverse_commit_known.specs.declared.faults.Error.{Error}

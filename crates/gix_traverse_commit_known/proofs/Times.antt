@@ -6,11 +6,11 @@ use Rattle.gix_hash_id.specs.Id.{Id, id_of}
 use Rattle.gix_hash_id.specs.declared.object_id.ObjectId.{ObjectId}
 use Rattle.gix_object_commit_tokens.specs.ReadingOn.{TellsNone, committer_told}
 use Rattle.gix_object_commit_tokens.specs.Tokens.{Place, start}
-use Rattle.gix_object_find.specs.Existing.{Stands, KindFault}
-use Rattle.gix_object_find.specs.Table.{Table, kind_at}
-use Rattle.gix_object_find.specs.declared.find.Error.TheVariants as lookup
-use Rattle.gix_object_find.specs.declared.find.existing_iter.Error as existing_iter
-use Rattle.gix_object_find.specs.declared.find.existing_iter.Error.TheVariants as iter_case
+use Rattle.gix_object_lookup.specs.Existing.{Stands, KindFault}
+use Rattle.gix_object_lookup.specs.Table.{Table, kind_at}
+use Rattle.gix_object_lookup.specs.declared.find.Error.TheVariants as lookup
+use Rattle.gix_object_lookup.specs.declared.find.existing_iter.Error as existing_iter
+use Rattle.gix_object_lookup.specs.declared.find.existing_iter.Error.TheVariants as iter_case
 use Rattle.gix_object_lines.specs.declared.decode.Error as decode
 use Rattle.gix_object_lines.specs.declared.kind.Kind as object
 use Rattle.gix_object_lines.specs.declared.kind.Kind.TheVariants as kinds

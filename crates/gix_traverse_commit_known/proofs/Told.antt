@@ -15,11 +15,11 @@ use Rattle.gix_object_commit_tokens.specs.ReadingOn.{Reads, TellsFirst, committe
 use Rattle.gix_object_commit_tokens.specs.Tokens.{Part, Tree, Parent, Author, Committer, Encoding, Header, Message, Place, IsNext, GivesToken, part_of, start}
 use Rattle.gix_object_commit_tokens.specs.declared.ref_iter.Token.{Token}
 use Rattle.gix_object_commit_tokens.specs.declared.ref_iter.Token.TheVariants as token
-use Rattle.gix_object_find.specs.Existing.{Stands, KindFault}
-use Rattle.gix_object_find.specs.Table.{Table}
-use Rattle.gix_object_find.specs.declared.find.Error.TheVariants as lookup
-use Rattle.gix_object_find.specs.declared.find.existing_iter.Error as existing_iter
-use Rattle.gix_object_find.specs.declared.find.existing_iter.Error.TheVariants as iter_case
+use Rattle.gix_object_lookup.specs.Existing.{Stands, KindFault}
+use Rattle.gix_object_lookup.specs.Table.{Table}
+use Rattle.gix_object_lookup.specs.declared.find.Error.TheVariants as lookup
+use Rattle.gix_object_lookup.specs.declared.find.existing_iter.Error as existing_iter
+use Rattle.gix_object_lookup.specs.declared.find.existing_iter.Error.TheVariants as iter_case
 use Rattle.gix_object_lines.specs.declared.kind.Kind.TheVariants as kinds
 use Rattle.gix_object_lines.specs.Person.{Person}
 use Rattle.gix_traverse_commit_graph.specs.Commits.{Commit, Commits, asked, asked_parents}

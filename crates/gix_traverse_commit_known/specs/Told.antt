@@ -10,8 +10,8 @@ use Rattle.gix_object_lines.specs.declared.lines.time.Time.{Time}
 use Rattle.gix_object_lines.specs.Person.{Person}
 use Rattle.gix_object_commit_tokens.specs.ReadingOn.{Reads, TellsFirst, TellsNone, TakesTree, parent_told, committer_told}
 use Rattle.gix_object_commit_tokens.specs.Tokens.{Part, Tree, Parent, Place, IsNext, place_of, start}
-use Rattle.gix_object_find.specs.Existing.{Stands}
-use Rattle.gix_object_find.specs.Table.{Table}
+use Rattle.gix_object_lookup.specs.Existing.{Stands}
+use Rattle.gix_object_lookup.specs.Table.{Table}
 use Rattle.gix_traverse_commit_graph.specs.Commits.{Commit, Commits}
 use Rattle.gix_traverse_commit_graph.specs.RowCommits.{commit_of}
 use Rattle.gix_traverse_commit_graph.specs.Rows.{Holds}

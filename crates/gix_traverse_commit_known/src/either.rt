@@ -5,17 +5,17 @@ ghost use Rattle.std.specs.Option.{option_copied};
 ghost use Rattle.gix_hash_id.specs.Id.{id_of};
 ghost use Rattle.gix_object_commit_tokens.specs.ReadingOn.{TellsNone, committer_told};
 ghost use Rattle.gix_object_commit_tokens.specs.Tokens.{place_of};
-ghost use Rattle.gix_object_find.specs.Existing.{KindFault};
+ghost use Rattle.gix_object_lookup.specs.Existing.{KindFault};
 ghost use Rattle.gix_object_lines.specs.declared.kind.Kind.TheVariants as kinds;
 ghost use Rattle.gix_traverse_commit_graph.specs.Rows.{Holds, AreRows};
 ghost use Rattle.gix_traverse_commit_known.specs.Told.{IsFound, TakesTreeOf, TellsTime, TellsSeconds, LacksTime, rows_of};
 
 use gix_hash::ObjectId;
 use gix_object_commit_tokens::CommitRefIter;
-use gix_object_find::find::existing_iter;
-use gix_object_find::{Find, FindExt};
-use gix_object_lines::decode;
 use gix_object_lines::lines::read_time;
+use gix_object_lines::{Kind, decode};
+use gix_object_lookup::find::existing_iter;
+use gix_object_lookup::{FindInto, content_of};
 use gix_traverse_commit_graph::{Graph, Row};
 
 /// A commit: its row where it has one, else a reader of its object's parts.
@@ -66,7 +66,7 @@ pub(crate) fn seconds(reader: CommitRefIter<'_>) -> Result<i64, decode::Error>
 /// The commit of this id: by its row where the rows have it, else by its object, whose content stands in the buffer then. It is
 /// `NotFound` where neither stands, `ObjectKind` where the object is no commit, and `Find` where the lookup gave up: each only
 /// where the rows don't have it.
-pub fn find<'buf, 'cache, F: Find>(
+pub fn find<'buf, 'cache, F: FindInto>(
     cache: Option<&'cache Graph>,
     objects: &F,
     id: &ObjectId,
@@ -80,7 +80,10 @@ pub fn find<'buf, 'cache, F: Find>(
 {
     match row_in(cache, id) {
         Some(row) => Ok(Either::CachedCommit(row)),
-        None => Ok(Either::CommitRefIter(objects.find_commit_iter(id.as_oid(), buffer)?)),
+        None => {
+            let content = content_of(objects, id.as_oid(), Kind::Commit, buffer)?;
+            Ok(Either::CommitRefIter(CommitRefIter::from_bytes(content, id.kind())))
+        }
     }
 }
 

@@ -6,8 +6,8 @@ ghost use Rattle.gix_traverse_commit_known.specs.declared.faults.Error.TheVarian
 ghost use Rattle.gix_traverse_commit_known.specs.declared.faults.HiddenGraphError.TheVariants.{Find as HiddenFind, ObjectDecode as HiddenDecode};
 
 use crate::fetch::FetchError;
-use gix_object_find::find::existing_iter;
 use gix_object_lines::decode;
+use gix_object_lookup::find::existing_iter;
 use std::alloc::AllocError;
 
 /// Why hidden commits aren't painted.

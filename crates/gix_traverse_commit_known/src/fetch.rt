@@ -4,7 +4,7 @@ ghost use Rattle.std.specs.Prelude.{◌≡◌, ◌≢◌, ◌⊎◌, ◌≤◌, 
 ghost use Rattle.gix_hash_id.specs.Id.{id_of};
 ghost use Rattle.gix_hash_id.specs.declared.object_id.ObjectId.{ObjectId};
 ghost use Rattle.gix_object_commit_tokens.specs.Tokens.{place_of};
-ghost use Rattle.gix_object_find.specs.Existing.{KindFault, Stands};
+ghost use Rattle.gix_object_lookup.specs.Existing.{KindFault, Stands};
 ghost use Rattle.gix_object_lines.specs.declared.kind.Kind.TheVariants as kinds;
 ghost use Rattle.gix_traverse_commit_graph.specs.Commits.{asked_parents, asked};
 ghost use Rattle.gix_object_lines.specs.Counts.{one_more};
@@ -18,9 +18,9 @@ use crate::either::{row_in, seconds};
 use gix_hash::ObjectId;
 use gix_object_commit_tokens::CommitRefIter;
 use gix_object_commit_tokens::ref_iter::Token;
-use gix_object_find::Find;
-use gix_object_find::find::{self as lookup, existing_iter};
 use gix_object_lines::{Kind, decode};
+use gix_object_lookup::FindInto;
+use gix_object_lookup::find::{self as lookup, existing_iter};
 use gix_traverse_commit_graph::{Graph, ParentIds, Parents};
 use std::alloc::{AllocError, AllocFailed, Global};
 
@@ -125,7 +125,7 @@ fn read_parents(
 }
 
 // Puts the content of the commit of this id into the buffer.
-fn load<F: Find>(
+fn load<F: FindInto>(
     objects: &F,
     id: &ObjectId,
     buffer: &mut Vec<u8>,
@@ -160,7 +160,7 @@ pub struct Source<F> {
     pub lookups: usize,
 }
 
-impl<F: Find> Source<F> {
+impl<F: FindInto> Source<F> {
     /// What the commit of this id is.
     pub fn fetch(&mut self, id: &ObjectId, along: Parents) -> Result<Fetched, FetchError>
         ensures objects { self.new.objects ≡ self.old.objects }

@@ -3,7 +3,7 @@ use Rattle.std.proofs.Common.{◌≡◌, ℕ, ◌<◌, ◌≤◌, inl, inr, List
 use Rattle.std.specs.Prelude.{Contains, ◌↔◌, IfSome}
 use Rattle.std.proofs.lemmas.Option.{slice_get_within}
 use Rattle.gix_hash_id.specs.declared.object_id.ObjectId.{ObjectId}
-use Rattle.gix_object_find.specs.Table.{Table}
+use Rattle.gix_object_lookup.specs.Table.{Table}
 use Rattle.gix_traverse_commit_graph.specs.Commits.{Commits, asked_parents, Reached, tip, parent}
 use Rattle.gix_traverse_commit_graph.specs.Numbered.{same_id}
 use Rattle.gix_traverse_commit_graph.specs.Order.{At}

@@ -11,7 +11,7 @@ use Rattle.std.proofs.lemmas.List.Elements.{Contains-append_cases}
 use Rattle.std.proofs.lemmas.List.Sorted.{sorted_far, ranks_by, Contains-permutation, IsPermutation-sym}
 use Rattle.std.proofs.lemmas.Option.{slice_get_within, get_or_from_slice_get}
 use Rattle.gix_hash_id.specs.declared.object_id.ObjectId.{ObjectId}
-use Rattle.gix_object_find.specs.Table.{Table}
+use Rattle.gix_object_lookup.specs.Table.{Table}
 use Rattle.gix_traverse_commit_graph.specs.Commits.{Commit, Commits, asked_parents, Reached, tip, parent, Passes, Listed}
 use Rattle.gix_traverse_commit_graph.specs.Numbered.{same_id}
 use Rattle.gix_traverse_commit_graph.specs.Order.{At, Outranks}

@@ -1,7 +1,7 @@
 -- What a walk knows before its first commit comes.
 use Rattle.std.specs.Prelude.{◌≡◌, ◌↔◌, ℕ, ◌<◌, List, ◌++◌, length, Contains, None}
 use Rattle.gix_hash_id.specs.declared.object_id.ObjectId.{ObjectId}
-use Rattle.gix_object_find.specs.Table.{Table}
+use Rattle.gix_object_lookup.specs.Table.{Table}
 use Rattle.gix_traverse_commit_graph.specs.Commits.{Commits, asked_parents, Reached}
 use Rattle.gix_traverse_commit_graph.specs.Numbered.{same_id}
 use Rattle.gix_traverse_commit_graph.specs.Order.{At, IsBreadthFirst}

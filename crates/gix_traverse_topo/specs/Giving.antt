@@ -7,7 +7,7 @@ use Rattle.gix_traverse_commit_known.specs.Ending.{is_empty}
 use Rattle.gix_traverse_commit_known.specs.Meeting.{Asks}
 use Rattle.gix_traverse_commit_graph.specs.declared.info.Info.{Info}
 use Rattle.gix_traverse_commit_graph.specs.declared.rows.Row.{Row}
-use Rattle.gix_object_find.specs.Table.{Table}
+use Rattle.gix_object_lookup.specs.Table.{Table}
 use Rattle.gix_traverse_commit_known.specs.Told.{rows_of}
 use Rattle.gix_traverse_topo.specs.Asking.{Asked}
 use Rattle.gix_traverse_topo.specs.Standing.{Answers, Begins, IsInfo, IsTurn, IsTurnOf, NoneReachesItself, Standing, Stands, all_accepted, topo_request, weight}

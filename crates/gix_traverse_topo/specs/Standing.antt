@@ -7,7 +7,7 @@ use Rattle.gix_traverse_commit_graph.specs.Commits.{Commit, Commits, WalkRequest
 use Rattle.gix_traverse_commit_known.specs.Fetching.{HasRowsGeneration}
 use Rattle.gix_traverse_commit_graph.specs.Numbered.{same_id}
 use Rattle.gix_traverse_commit_graph.specs.Order.{At, IsReady, NewestFirst, Outranks}
-use Rattle.gix_object_find.specs.Table.{Table}
+use Rattle.gix_object_lookup.specs.Table.{Table}
 use Rattle.gix_traverse_commit_known.specs.Painting.{ReachedFrom}
 use Rattle.gix_traverse_commit_known.specs.Told.{AreTold}
 use Rattle.gix_traverse_commit_graph.specs.Walks.{InDate, InTopological, unfiltered}

@@ -4,8 +4,8 @@ ghost use Rattle.std.specs.Prelude.{◌≡◌};
 ghost use Rattle.gix_traverse_topo.specs.Faults.{error_of};
 ghost use Rattle.gix_traverse_topo.specs.declared.error.Error.TheVariants.{Find, ObjectDecode, Memory};
 
-use gix_object_find::find::existing_iter;
 use gix_object_lines::decode;
+use gix_object_lookup::find::existing_iter;
 use gix_traverse_commit_known::fetch::FetchError;
 use std::alloc::{AllocError, AllocFailed};
 

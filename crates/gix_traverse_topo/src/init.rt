@@ -17,7 +17,7 @@ use crate::known::Known;
 use crate::ready::Ready;
 use crate::{Error, Topo};
 use gix_hash::ObjectId;
-use gix_object_find::Find;
+use gix_object_lookup::FindInto;
 use gix_traverse_commit_graph::{Graph, Parents};
 use gix_traverse_commit_known::fetch::Source;
 use gix_traverse_commit_known::{Accept, All};
@@ -62,7 +62,7 @@ fn with_more(mut ids: Vec<ObjectId>, more: &[ObjectId]) -> Result<Vec<ObjectId>,
     Ok(ids)
 }
 
-impl<F: Find + Drop> Builder<F, All> {
+impl<F: FindInto + Drop> Builder<F, All> {
     /// A walk over the objects of this store, without tips or ends, by date and along all parents.
     pub fn new(alloc: Global, find: F) -> Builder<F, All>
         ensures objects { (asked_of result).objects ≡ find }
@@ -109,7 +109,7 @@ impl<F: Find + Drop> Builder<F, All> {
     }
 }
 
-impl<F: Find + Drop, P: Accept + Drop> Builder<F, P> {
+impl<F: FindInto + Drop, P: Accept + Drop> Builder<F, P> {
     /// The same walk, which gives the commits alone that the predicate accepts. It goes through the others all the same.
     pub fn with_predicate<Q: Accept + Drop>(self, predicate: Q) -> Builder<F, Q>
         ensures predicate { (asked_of result).predicate ≡ predicate }
@@ -224,7 +224,7 @@ impl<F: Find + Drop, P: Accept + Drop> Builder<F, P> {
 }
 
 // All that the ends reach.
-fn explore_ends<F: Find>(
+fn explore_ends<F: FindInto>(
     alloc: Global,
     source: &mut Source<F>,
     ends: &[ObjectId],
@@ -259,7 +259,7 @@ fn explore_ends<F: Find>(
 }
 
 // All that the ends reach, and behind it all that the tips reach past it, with the counts of names.
-fn explore<F: Find>(
+fn explore<F: FindInto>(
     alloc: Global,
     source: &mut Source<F>,
     tips: &[ObjectId],

@@ -21,7 +21,7 @@ ghost use Rattle.gix_traverse_topo.specs.declared.known.Facts.{Facts};
 use crate::Error;
 use crate::ready::Pending;
 use gix_hash::ObjectId;
-use gix_object_find::Find;
+use gix_object_lookup::FindInto;
 use gix_traverse_commit_graph::{Info, ParentIds, Parents};
 use gix_traverse_commit_known::fetch::{FetchError, Source, asked_of};
 use indexmap::IndexSet;
@@ -94,7 +94,7 @@ fn blank(alloc: Global, fault: FetchError) -> Result<Facts, Error>
 }
 
 // Reads a commit.
-fn read<F: Find>(source: &mut Source<F>, id: &ObjectId) -> Result<Facts, Error>
+fn read<F: FindInto>(source: &mut Source<F>, id: &ObjectId) -> Result<Facts, Error>
     ensures objects { source.new.objects ≡ source.old.objects }
     ensures rows { source.new.rows ≡ source.old.rows }
     ensures read { IfOk result (AreFacts (F.is_honest source.old.objects)
@@ -271,7 +271,7 @@ impl Known {
     }
 
     // Reads the commit of this number, and numbers and counts its parents that the walk goes along.
-    fn visit<F: Find>(
+    fn visit<F: FindInto>(
         &mut self,
         source: &mut Source<F>,
         number: Number,
@@ -305,7 +305,7 @@ impl Known {
 
     /// Numbers and reads all that the tips reach and that isn't known yet, and counts how often these name each as a parent that
     /// the walk goes along.
-    pub fn walk<F: Find>(
+    pub fn walk<F: FindInto>(
         &mut self,
         source: &mut Source<F>,
         tips: &[ObjectId],

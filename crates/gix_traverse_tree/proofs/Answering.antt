@@ -3,9 +3,9 @@ use Rattle.std.proofs.Common.{◌≡◌, ◌∙◌, refl, sym, subst, ℕ, zero,
 use Rattle.gix_hash_id.specs.Id.{Id}
 use Rattle.gix_object_lines.specs.declared.kind.Kind.TheVariants as kinds
 use Rattle.gix_object_entries.specs.Entry.{Item}
-use Rattle.gix_object_find.specs.Existing.{KindFault}
-use Rattle.gix_object_find.specs.Path.{Path, IsNamedBy}
-use Rattle.gix_object_find.specs.Table.{Table}
+use Rattle.gix_object_lookup.specs.Existing.{KindFault}
+use Rattle.gix_object_lookup.specs.Path.{Path, IsNamedBy}
+use Rattle.gix_object_lookup.specs.Table.{Table}
 use Rattle.gix_traverse_tree.specs.AtPaths.{Answer, root_item, TellsEach, AsksFor, AsksForAll, EntriesFault}
 use Rattle.gix_traverse_tree.specs.Folders.{HaveNumbers, NumbersPaths}
 use Rattle.gix_traverse_tree.specs.Known.{known, told_at, IsAskedFor, ReadFault, IsAskedAt, ReadsBelow, StopsReading}

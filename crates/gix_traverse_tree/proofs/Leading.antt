@@ -11,8 +11,8 @@ use Rattle.gix_object_entries.specs.Entry.{Item, SpellsEntries}
 use Rattle.gix_object_entries.specs.Order.{is_tree}
 use Rattle.gix_object_entries.specs.Reading.{Place}
 use Rattle.gix_object_entries.proofs.Spelled.{one_entry}
-use Rattle.gix_object_find.specs.Path.{Path, FindsFirst, IsNamedBy, IsBelow, Follows}
-use Rattle.gix_object_find.specs.Table.{Table, Object}
+use Rattle.gix_object_lookup.specs.Path.{Path, FindsFirst, IsNamedBy, IsBelow, Follows}
+use Rattle.gix_object_lookup.specs.Table.{Table, Object}
 use Rattle.gix_traverse_tree.specs.AtPaths.{Answer, told_of, root_item, LeadsTo, TellsEach, BeginsOne, IsTreeAbove, AreDifferent, AsksFor, AsksForAll}
 use Rattle.gix_traverse_tree.specs.Folders.{Numbers, numbers_of, Way, IsNumbered, HaveNumbers}
 use Rattle.gix_traverse_tree.specs.Known.{known, item_named, told_at, StepsTo, IsAskedAt, Counted, StepsBelow}

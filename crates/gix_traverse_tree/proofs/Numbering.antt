@@ -10,7 +10,7 @@ use Rattle.std.proofs.lemmas.Map.Text.{is_eq-slice_cmp}
 use Rattle.std.proofs.lemmas.Option.{same_Some}
 use Rattle.std.proofs.lemmas.Slice.Eq.{bytes_eq-Decides}
 use Rattle.std.proofs.Math.Seq.{drop-cons}
-use Rattle.gix_object_find.specs.Path.{Path}
+use Rattle.gix_object_lookup.specs.Path.{Path}
 use Rattle.gix_traverse_tree.specs.AtPaths.{Begins, BeginsOne}
 use Rattle.gix_traverse_tree.specs.Folders.{Numbers, number_in, numbers_of, Way, IsNumbered, Grows, NumbersName, NumbersPath, HaveNumbers, NumbersPaths}
 use Rattle.gix_traverse_tree.specs.declared.folders.Folder.{Folder}

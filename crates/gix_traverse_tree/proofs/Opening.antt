@@ -12,7 +12,7 @@ use Rattle.gix_hash_id.specs.Id.{Id, id_of}
 use Rattle.gix_hash_id.specs.Order.{id_eq}
 use Rattle.gix_hash_id.specs.OrderLaws.{id_equivalence}
 use Rattle.gix_object_entries.specs.Entry.{Item, SpellsEntry}
-use Rattle.gix_object_find.specs.Table.{Table}
+use Rattle.gix_object_lookup.specs.Table.{Table}
 use Rattle.gix_traverse_tree.specs.Calls.{Call, Runs, pop_back, pop, shown, descends}
 use Rattle.gix_traverse_tree.specs.Depth as depth
 use Rattle.gix_traverse_tree.specs.Depth.{InDepth, before, inside, entering, behind_last}

@@ -5,8 +5,8 @@ use Rattle.std.specs.Bool.{MatchBool}
 use Rattle.std.proofs.lemmas.Bool.{cases_eq}
 use Rattle.gix_object_entries.specs.Order.{is_tree}
 use Rattle.gix_object_entries.specs.Reading.{Place}
-use Rattle.gix_object_find.specs.Path.{FindsFirst, IsNamedBy, IsBelow}
-use Rattle.gix_object_find.specs.Table.{Table}
+use Rattle.gix_object_lookup.specs.Path.{FindsFirst, IsNamedBy, IsBelow}
+use Rattle.gix_object_lookup.specs.Table.{Table}
 use Rattle.gix_traverse_tree.specs.AtPaths.{Answer}
 use Rattle.gix_traverse_tree.specs.Folders.{number_in, numbers_of, IsNumbered}
 use Rattle.gix_traverse_tree.specs.Known.{known, item_named, told_at, AwaitsNames, KeepsOthers, StepsTo, IsAskedFor, CountsAsked, ReadFault, IsAskedAt, Counted, StepsBelow, ReadsBelow, StopsReading}

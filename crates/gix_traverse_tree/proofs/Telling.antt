@@ -8,7 +8,7 @@ use Rattle.gix_object_entries.specs.Entry.{Item, item_of, SpellsEntry, SpellsNoE
 use Rattle.gix_object_entries.specs.Reading.{Place, start, Steps}
 use Rattle.gix_object_entries.specs.declared.tree.entry.EntryRef.{EntryRef}
 use Rattle.gix_object_entries.proofs.Spelled.{entries_more}
-use Rattle.gix_object_find.specs.Path.{FindsFirst, LackName}
+use Rattle.gix_object_lookup.specs.Path.{FindsFirst, LackName}
 use Rattle.gix_traverse_tree.specs.AtPaths.{Answer, IsUnread}
 use Rattle.gix_traverse_tree.specs.Folders.{number_in}
 use Rattle.gix_traverse_tree.specs.Known.{known, item_named, told_at, named, else_this, AwaitsNames, KeepsOthers}

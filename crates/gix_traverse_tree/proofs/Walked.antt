@@ -5,7 +5,7 @@ use Rattle.std.proofs.lemmas.Map.Made.{IsDistinct-from_count}
 use Rattle.gix_hash_id.specs.Id.{Id, id_of}
 use Rattle.gix_hash_id.specs.OrderLaws.{id_equivalence}
 use Rattle.gix_hash_id.specs.declared.kind.Kind.{Kind}
-use Rattle.gix_object_find.specs.Table.{Table}
+use Rattle.gix_object_lookup.specs.Table.{Table}
 use Rattle.gix_traverse_tree.specs.Breadth as breadth
 use Rattle.gix_traverse_tree.specs.Breadth.{Tree, under_root, Listing, Level, Levels, InBreadth}
 use Rattle.gix_traverse_tree.specs.Calls.{Call, Runs}

@@ -13,9 +13,9 @@ use Rattle.gix_object_entries.specs.Order.{is_tree}
 use Rattle.gix_object_entries.specs.Reading.{Place}
 use Rattle.gix_object_entries.specs.declared.tree.mode.EntryKind.TheVariants as entries
 use Rattle.gix_object_entries.specs.declared.tree.mode.EntryMode.{EntryMode}
-use Rattle.gix_object_find.specs.Existing.{KindFault}
-use Rattle.gix_object_find.specs.Path.{Path, Follows, IsNamedBy}
-use Rattle.gix_object_find.specs.Table.{Table}
+use Rattle.gix_object_lookup.specs.Existing.{KindFault}
+use Rattle.gix_object_lookup.specs.Path.{Path, Follows, IsNamedBy}
+use Rattle.gix_object_lookup.specs.Table.{Table}
 use Rattle.gix_traverse_tree.specs.declared.error.Error.{Error}
 use Rattle.gix_traverse_tree.specs.declared.error.Error.TheVariants as errors
 

@@ -5,7 +5,7 @@ use Rattle.gix_hash_id.specs.Id.{Id}
 use Rattle.gix_object_lines.specs.declared.decode.Error as decode
 use Rattle.gix_object_entries.specs.Entry.{Item, SpellsEntry, SpellsNoEntry, EntryFault}
 use Rattle.gix_object_entries.specs.Order.{is_tree}
-use Rattle.gix_object_find.specs.Table.{Table}
+use Rattle.gix_object_lookup.specs.Table.{Table}
 use Rattle.gix_traverse_tree.specs.Calls.{Call, pop_back, push_back, pop, shown, descends}
 use Rattle.gix_traverse_tree.specs.Trees.{End, whole, broken, failed, IsRead, TreeFault}
 use Rattle.gix_traverse_tree.specs.declared.error.Error.{Error}

@@ -6,7 +6,7 @@ use Rattle.std.specs.BTreeMap.{is_at}
 use Rattle.std.specs.Cmp.Lexicographic.{slice_cmp}
 use Rattle.std.specs.Ordering.{nat_cmp}
 use denote.Ref.{Bor}
-use Rattle.gix_object_find.specs.Path.{Path}
+use Rattle.gix_object_lookup.specs.Path.{Path}
 use Rattle.gix_traverse_tree.specs.AtPaths.{Begins, BeginsOne}
 use Rattle.gix_traverse_tree.specs.declared.folders.Folder.{Folder}
 

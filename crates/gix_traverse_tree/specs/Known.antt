@@ -7,9 +7,9 @@ use Rattle.gix_object_entries.specs.Entry.{Item}
 use Rattle.gix_object_entries.specs.ModeText.{mode_of}
 use Rattle.gix_object_entries.specs.Order.{is_tree}
 use Rattle.gix_object_entries.specs.Reading.{Place}
-use Rattle.gix_object_find.specs.Existing.{KindFault}
-use Rattle.gix_object_find.specs.Path.{IsBelow, IsNamedBy}
-use Rattle.gix_object_find.specs.Table.{Table}
+use Rattle.gix_object_lookup.specs.Existing.{KindFault}
+use Rattle.gix_object_lookup.specs.Path.{IsBelow, IsNamedBy}
+use Rattle.gix_object_lookup.specs.Table.{Table}
 use Rattle.gix_traverse_tree.specs.AtPaths.{Answer, IsUnread}
 use Rattle.gix_traverse_tree.specs.Folders.{number_in, numbers_of}
 use Rattle.gix_traverse_tree.specs.declared.error.Error.{Error}

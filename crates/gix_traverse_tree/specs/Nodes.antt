@@ -5,7 +5,7 @@ use Rattle.gix_hash_id.specs.Id.{Id, id_of}
 use Rattle.gix_hash_id.specs.Order.{id_eq}
 use Rattle.gix_hash_id.specs.declared.kind.Kind.{Kind}
 use Rattle.gix_hash_id.specs.declared.object_id.ObjectId.{ObjectId}
-use Rattle.gix_object_find.specs.Table.{Table}
+use Rattle.gix_object_lookup.specs.Table.{Table}
 use Rattle.gix_traverse_tree.specs.Breadth.{Tree, Listing, Level, InBreadth}
 use Rattle.gix_traverse_tree.specs.Calls.{Call, Runs, pop_front}
 use Rattle.gix_traverse_tree.specs.Trees.{End, whole, failed, IsRead, is_among}

@@ -7,8 +7,8 @@ use Rattle.gix_object_lines.specs.Bytes.{Lacks}
 use Rattle.gix_object_lines.specs.declared.kind.Kind.TheVariants as kinds
 use Rattle.gix_object_entries.specs.Entry.{Item, SpellsEntry}
 use Rattle.gix_object_entries.specs.Order.{is_tree}
-use Rattle.gix_object_find.specs.Table.{Table}
-use Rattle.gix_object_find.specs.Existing.{Stands}
+use Rattle.gix_object_lookup.specs.Table.{Table}
+use Rattle.gix_object_lookup.specs.Existing.{Stands}
 use Rattle.gix_traverse_tree.specs.Calls.{Call, push}
 use Rattle.gix_traverse_tree.specs.Recorder.{Bytes, Recorded, joined, recording_of}
 use Rattle.gix_traverse_tree.specs.declared.recorder.Location.{Location}

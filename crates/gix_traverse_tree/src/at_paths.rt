@@ -5,7 +5,7 @@ ghost use Rattle.std.specs.List.{All};
 ghost use Rattle.gix_hash_id.specs.Id.{id_of};
 ghost use Rattle.gix_object_entries.specs.Entry.{item_of};
 ghost use Rattle.gix_object_entries.specs.Reading.{place_of};
-ghost use Rattle.gix_object_find.specs.Path.{FindsFirst};
+ghost use Rattle.gix_object_lookup.specs.Path.{FindsFirst};
 ghost use Rattle.gix_traverse_tree.specs.AtPaths.{names_of, root_item, IsUnread, TellsEach, AsksFor, AsksForAll, EntriesFault};
 ghost use Rattle.gix_traverse_tree.specs.Folders.{number_in, IsNumbered};
 ghost use Rattle.gix_traverse_tree.specs.Known.{known, told_at, else_this, StepsTo, AwaitsNames, KeepsOthers, CountsAsked, ReadFault, ReadsBelow, StopsReading};
@@ -16,8 +16,8 @@ use crate::lookup::read_tree;
 use gix_hash::ObjectId;
 use gix_object_entries::TreeRefIter;
 use gix_object_entries::tree::{EntryKind, EntryMode, EntryRef};
-use gix_object_find::Find;
 use gix_object_lines::decode;
+use gix_object_lookup::FindInto;
 use std::alloc::{AllocError, Global};
 
 /// What looking at several paths keeps. Several calls may use one after another, which saves memory.
@@ -103,7 +103,7 @@ impl EntriesState {
     }
 
     // Reads the tree that is known behind a number, where a path goes on from there.
-    fn read<F: Find>(
+    fn read<F: FindInto>(
         &mut self,
         folder: &Folder<'_>,
         number: usize,
@@ -137,7 +137,7 @@ impl EntriesState {
     }
 
     // Reads all known trees from which a path goes on, each behind those that it lies in.
-    fn read_all<F: Find>(&mut self, folders: &[Folder<'_>], objects: &F) -> Result<(), Error>
+    fn read_all<F: FindInto>(&mut self, folders: &[Folder<'_>], objects: &F) -> Result<(), Error>
         requires len { length self.old.found.items ≡ length folders.now }
         requires numbered { IsNumbered folders.now }
         requires none { (n : ℕ) → 0 < n → known self.old.found.items n ≡ None }
@@ -178,7 +178,7 @@ impl EntriesState {
 ///
 /// It is `Find` where a tree into which a path leads isn't found, `ObjectDecode` where an entry of one can't be read, and `Memory`
 /// where no memory is left.
-pub fn entries_at<F: Find + Drop>(
+pub fn entries_at<F: FindInto + Drop>(
     root: ObjectId,
     paths: &[&[u8]],
     objects: F,

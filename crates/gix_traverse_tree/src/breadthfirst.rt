@@ -18,7 +18,7 @@ use crate::{Visit, visit};
 use gix_hash::ObjectId;
 use gix_object_entries::TreeRefIter;
 use gix_object_entries::tree::EntryRef;
-use gix_object_find::Find;
+use gix_object_lookup::FindInto;
 use std::alloc::{AllocError, Global};
 use std::ops::ControlFlow;
 
@@ -155,7 +155,7 @@ fn list<V: Visit>(
 
 impl State {
     // Reads a queued tree, and shows its entries.
-    fn read<F: Find, V: Visit>(
+    fn read<F: FindInto, V: Visit>(
         &mut self,
         number: usize,
         objects: &F,
@@ -188,7 +188,7 @@ impl State {
     }
 
     // Reads the trees of a level.
-    fn read_level<F: Find, V: Visit>(
+    fn read_level<F: FindInto, V: Visit>(
         &mut self,
         start: usize,
         end: usize,
@@ -217,7 +217,7 @@ impl State {
     }
 
     // Walks, from a root's entries on.
-    fn walk<F: Find, V: Visit>(
+    fn walk<F: FindInto, V: Visit>(
         &mut self,
         root: TreeRefIter<'_>,
         objects: &F,
@@ -252,7 +252,7 @@ impl State {
 /// `Cycle` where the tree lies under itself, and `Find` where it isn't found; at an entry's turn it is `ObjectDecode` where none
 /// can be read. It is `Memory` where no memory is left, also the delegate's. The root's own id isn't known, so that a root which
 /// lies under itself is met twice.
-pub fn breadthfirst<F: Find + Drop, V: Visit>(
+pub fn breadthfirst<F: FindInto + Drop, V: Visit>(
     root: TreeRefIter<'_>,
     state: &mut State,
     objects: F,

@@ -18,7 +18,7 @@ use bstr::BStr;
 use gix_hash::ObjectId;
 use gix_object_entries::TreeRefIter;
 use gix_object_entries::tree::EntryRef;
-use gix_object_find::Find;
+use gix_object_lookup::FindInto;
 use std::alloc::{AllocError, Global};
 use std::ops::ControlFlow;
 
@@ -146,7 +146,7 @@ fn show_next<V: Visit>(tree: &mut Open, delegate: &mut V) -> Result<Step, Error>
 }
 
 // Reads a tree, and is in it.
-fn enter<F: Find, V: Visit>(
+fn enter<F: FindInto, V: Visit>(
     id: ObjectId,
     trees: &mut Vec<Open>,
     state: &mut State,
@@ -188,7 +188,7 @@ fn resume<V: Visit>(trees: &[Open], delegate: &mut V) -> Result<(), visit::Error
 }
 
 // Goes on by one entry, or out of a tree: whether there is more to do.
-fn go_on<F: Find, V: Visit>(
+fn go_on<F: FindInto, V: Visit>(
     trees: &mut Vec<Open>,
     state: &mut State,
     objects: &F,
@@ -230,7 +230,7 @@ fn go_on<F: Find, V: Visit>(
 }
 
 // Walks, from a root on.
-fn walk<F: Find, V: Visit>(
+fn walk<F: FindInto, V: Visit>(
     root: ObjectId,
     state: &mut State,
     objects: &F,
@@ -259,7 +259,7 @@ fn walk<F: Find, V: Visit>(
 ///
 /// At a tree's turn, after all that comes before, it is `Cycle` where the tree lies under itself, and `Find` where it isn't found;
 /// at an entry's turn it is `ObjectDecode` where none can be read. It is `Memory` where no memory is left, also the delegate's.
-pub fn depthfirst<F: Find + Drop, V: Visit>(
+pub fn depthfirst<F: FindInto + Drop, V: Visit>(
     root: ObjectId,
     state: &mut State,
     objects: F,

@@ -4,8 +4,8 @@ ghost use Rattle.std.specs.Prelude.{◌≡◌};
 ghost use Rattle.gix_traverse_tree.specs.declared.error.Error.TheVariants.{Find, ObjectDecode, Memory};
 
 use crate::visit;
-use gix_object_find::find::existing_iter;
 use gix_object_lines::decode;
+use gix_object_lookup::find::existing_iter;
 use std::alloc::{AllocError, AllocFailed};
 
 /// Why a walk over trees ends early.

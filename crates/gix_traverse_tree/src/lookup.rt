@@ -3,16 +3,16 @@
 ghost use Rattle.std.specs.Prelude.{OnOk, IfErr, Contains};
 ghost use Rattle.gix_hash_id.specs.Id.{id_of};
 ghost use Rattle.gix_object_lines.specs.declared.kind.Kind.TheVariants as kinds;
-ghost use Rattle.gix_object_find.specs.Existing.{Stands, KindFault};
+ghost use Rattle.gix_object_lookup.specs.Existing.{Stands, KindFault};
 
 use gix_hash::ObjectId;
-use gix_object_find::Find;
-use gix_object_find::find::existing_iter::Error;
 use gix_object_lines::Kind;
+use gix_object_lookup::FindInto;
+use gix_object_lookup::find::existing_iter::Error;
 
 /// Puts the content of the tree of this id into the buffer, in place of what it held. It is `Find` where the lookup gave up,
 /// `NotFound` where no object stands, and `ObjectKind` where another kind does.
-pub(crate) fn read_tree<F: Find>(
+pub(crate) fn read_tree<F: FindInto>(
     objects: &F,
     id: &ObjectId,
     buffer: &mut Vec<u8>,

@@ -8,11 +8,12 @@ use Rattle.gix_object_lines.specs.declared.decode.Error as decode
 use Rattle.gix_object_lines.specs.declared.decode.Error.TheVariants as unread
 use Rattle.gix_object_lines.specs.declared.kind.Kind.TheVariants as objects
 use Rattle.gix_object_tree.specs.Object.{Tree}
-use Rattle.gix_object_find.specs.Existing.{Stands, StandsAs}
-use Rattle.gix_object_find.specs.Table.{Object, Table}
-use Rattle.gix_object_find.specs.declared.find.Error.TheVariants as looked_up
-use Rattle.gix_object_find.specs.declared.find.existing_object.Error as existing
-use Rattle.gix_object_find.specs.declared.find.existing_object.Error.TheVariants as not_given
+use Rattle.gix_object_lookup.specs.Existing.{Stands}
+use Rattle.gix_object_find.specs.Values.{StandsAs}
+use Rattle.gix_object_lookup.specs.Table.{Object, Table}
+use Rattle.gix_object_lookup.specs.declared.find.Error.TheVariants as looked_up
+use Rattle.gix_object_lookup.specs.declared.find.existing_object.Error as existing
+use Rattle.gix_object_lookup.specs.declared.find.existing_object.Error.TheVariants as not_given
 use Rattle.gix_object_editor.specs.Editor.{EditFault, GraftFault, LeafFault}
 use Rattle.gix_object_nodes.specs.Files.{Path}
 use Rattle.gix_object_editor.specs.Refusals.{OpeningFault, TreeIsMalformed, TreeIsUnread}
@@ -28,7 +29,7 @@ use Rattle.gix_traverse_tree.specs.Trees.{End, whole, broken, failed, TreeFault 
 use Rattle.gix_traverse_tree.specs.declared.error.Error as walking
 use Rattle.gix_traverse_tree.specs.declared.error.Error.TheVariants as walked
 use Rattle.gix_traverse_tree.specs.declared.recorder.Recorder.{Recorder}
-use Rattle.gix_object_find.specs.declared.find.existing_iter.Error.TheVariants as not_found
+use Rattle.gix_object_lookup.specs.declared.find.existing_iter.Error.TheVariants as not_found
 use Rattle.gix_hash_id.specs.declared.object_id.ObjectId.{ObjectId}
 use Rattle.history_model.proofs.WholeLists.{none_is_some}
 use Rattle.history_files.specs.Edits.{as_edited, as_opened, as_unread, unless_memory}

@@ -11,11 +11,11 @@ use Rattle.gix_object_entries.proofs.TreeLaws.{one_tree}
 use Rattle.gix_object_lines.specs.declared.decode.Error as decode
 use Rattle.gix_object_lines.specs.declared.decode.Error.TheVariants as unread
 use Rattle.gix_object_lines.specs.declared.kind.Kind.TheVariants as objects
-use Rattle.gix_object_find.specs.Existing.{Stands}
-use Rattle.gix_object_find.specs.Table.{Object, Table}
-use Rattle.gix_object_find.specs.declared.find.Error.TheVariants as looked_up
-use Rattle.gix_object_find.specs.declared.find.existing_object.Error as existing
-use Rattle.gix_object_find.specs.declared.find.existing_object.Error.TheVariants as not_given
+use Rattle.gix_object_lookup.specs.Existing.{Stands}
+use Rattle.gix_object_lookup.specs.Table.{Object, Table}
+use Rattle.gix_object_lookup.specs.declared.find.Error.TheVariants as looked_up
+use Rattle.gix_object_lookup.specs.declared.find.existing_object.Error as existing
+use Rattle.gix_object_lookup.specs.declared.find.existing_object.Error.TheVariants as not_given
 use Rattle.gix_object_editor.specs.Refusals.{TreeIsMalformed, TreeIsUnread}
 use Rattle.gix_object_editor.specs.declared.tree.editor.error.Error as editor
 use Rattle.gix_object_editor.specs.declared.tree.editor.error.Error.TheVariants as refused

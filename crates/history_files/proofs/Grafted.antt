@@ -5,7 +5,7 @@ use Rattle.std.specs.FinMap.{entries, keys, get, insert, contains_key}
 use Rattle.gix_hash_id.specs.Id.{Id, id_of, null_id}
 use Rattle.gix_hash_id.specs.declared.kind.Kind.{Kind}
 use Rattle.gix_hash_id.specs.declared.object_id.ObjectId.{ObjectId}
-use Rattle.gix_object_find.specs.Table.{Table}
+use Rattle.gix_object_lookup.specs.Table.{Table}
 use Rattle.gix_object_nodes.specs.Files as unfolded
 use Rattle.gix_object_nodes.specs.Files.{Path, Leaf, Trees, behind, files_of_entry, is_null}
 use Rattle.gix_object_editor.specs.Stored.{HasStored}

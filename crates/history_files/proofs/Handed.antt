@@ -10,7 +10,7 @@ use Rattle.gix_object_entries.specs.Mode.{is_tree_value}
 use Rattle.gix_object_entries.specs.ModeText.{Mode}
 use Rattle.gix_object_entries.specs.WellFormed.{IsFilename, IsWellFormed}
 use Rattle.gix_object_entries.specs.Writing as writing
-use Rattle.gix_object_find.specs.Table.{Table}
+use Rattle.gix_object_lookup.specs.Table.{Table}
 use Rattle.gix_object_nodes.specs.declared.node.Slot.{Slot}
 use Rattle.gix_object_editor.specs.Entries.{EachHas}
 use Rattle.gix_object_nodes.specs.Files.{Path, Leaf, Trees, SameFiles, named, through, tree_under, unless_tree, files_of_entry, files_of_tree, leaf_of, is_null}

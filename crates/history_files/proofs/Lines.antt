@@ -9,7 +9,7 @@ use Rattle.gix_object_entries.specs.Entry.{Item, SpellsEntry, SpellsEntries, Spe
 use Rattle.gix_object_entries.specs.Mode.{kind_value, kind_of}
 use Rattle.gix_object_entries.specs.Order.{is_tree}
 use Rattle.gix_object_entries.proofs.Spelled.{none_left}
-use Rattle.gix_object_find.specs.Table.{Table, Object}
+use Rattle.gix_object_lookup.specs.Table.{Table, Object}
 use Rattle.gix_traverse_tree.specs.Depth.{InDepth, before}
 use Rattle.gix_traverse_tree.specs.Opened.{WalksIn, IsGood}
 use Rattle.gix_traverse_tree.specs.Nodes.{MemoryOr}
@@ -24,8 +24,8 @@ use Rattle.gix_traverse_tree.specs.declared.recorder.Entry.{Entry as RecorderEnt
 use Rattle.gix_traverse_tree.specs.declared.recorder.Recorder.{Recorder}
 use Rattle.gix_traverse_tree.proofs.Recording.{is_after}
 use Rattle.gix_traverse_tree.proofs.RecordingInDepth.{records_in_depth}
-use Rattle.gix_object_find.specs.declared.find.Error.TheVariants as looked_up
-use Rattle.gix_object_find.specs.declared.find.existing_iter.Error.TheVariants as not_given
+use Rattle.gix_object_lookup.specs.declared.find.Error.TheVariants as looked_up
+use Rattle.gix_object_lookup.specs.declared.find.existing_iter.Error.TheVariants as not_given
 use Rattle.history_model.specs.Bytes.{Bytes}
 use Rattle.history_model.specs.FileMap.{FileMap, Content, IsFileMap, is_path, inside}
 use Rattle.history_model.specs.Objects.{TreeEntry, FileEntry, FolderEntry, tree_entries, blob_id}

@@ -11,7 +11,7 @@ use Rattle.gix_hash_id.specs.declared.object_id.ObjectId.{ObjectId}
 use Rattle.gix_object_entries.specs.Entry.{Item, SpellsTree}
 use Rattle.gix_object_entries.specs.Mode.{kind_value}
 use Rattle.gix_object_entries.proofs.TreeLaws.{one_tree}
-use Rattle.gix_object_find.specs.Table.{Table, Object}
+use Rattle.gix_object_lookup.specs.Table.{Table, Object}
 use Rattle.gix_object_editor.specs.Editor.{leaf_of_kind}
 use Rattle.gix_object_editor.specs.Entries.{ItemsHave, PassesDown, made_leaf}
 use Rattle.gix_object_nodes.specs.Files.{Leaf, is_null, leaf_of}

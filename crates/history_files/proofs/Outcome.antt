@@ -5,7 +5,7 @@ use Rattle.gix_hash_id.specs.Hasher.{empty_blob_text, id_of_message}
 use Rattle.gix_hash_id.specs.Id.{id_of}
 use Rattle.gix_hash_id.specs.declared.kind.Kind.{Kind}
 use Rattle.gix_hash_id.specs.declared.object_id.ObjectId.{ObjectId}
-use Rattle.gix_object_find.specs.Table.{Table}
+use Rattle.gix_object_lookup.specs.Table.{Table}
 use Rattle.gix_object_editor.specs.Editor.{EachEntryHas, IsAsRead, files_of}
 use Rattle.gix_object_editor.specs.Entries.{PassesDown, Property}
 use Rattle.gix_object_editor.specs.Stored.{HasStored}

@@ -10,7 +10,7 @@ use Rattle.gix_object_entries.specs.Entry.{Item, SpellsEntry, SpellsTree}
 use Rattle.gix_object_entries.specs.ModeText.{Mode, text_before}
 use Rattle.gix_object_entries.proofs.Octals.{before_cut}
 use Rattle.gix_object_entries.proofs.Spelled.{lacks_space}
-use Rattle.gix_object_find.specs.Table.{Object, Table}
+use Rattle.gix_object_lookup.specs.Table.{Object, Table}
 use Rattle.gix_object_editor.specs.Stored.{HasStored}
 use Rattle.gix_object_nodes.specs.Files.{Trees}
 use Rattle.history_model.specs.Bytes.{is_empty}

@@ -5,8 +5,8 @@ use Rattle.gix_object_lines.specs.declared.kind.Kind.TheVariants as objects
 use Rattle.gix_object_entries.specs.Entry.{Item, SpellsTree}
 use Rattle.gix_object_entries.proofs.TreeLaws.{one_tree}
 use Rattle.gix_object_tree.specs.Object.{Tree}
-use Rattle.gix_object_find.specs.Table.{Table, Object}
-use Rattle.gix_object_find.specs.Existing.{StandsAs}
+use Rattle.gix_object_lookup.specs.Table.{Table, Object}
+use Rattle.gix_object_find.specs.Values.{StandsAs}
 use Rattle.history_files.specs.Reading.{TreeFault, RootFault}
 use Rattle.history_files.specs.declared.error.ReadError.{ReadError}
 use Rattle.history_files.specs.declared.error.ReadError.TheVariants.{Failed, Broken, Memory}

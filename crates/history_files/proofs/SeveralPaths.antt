@@ -18,11 +18,12 @@ use Rattle.gix_object_entries.specs.declared.tree.mode.EntryKind.{EntryKind}
 use Rattle.gix_object_entries.specs.declared.tree.mode.EntryKind.TheVariants as entries
 use Rattle.gix_object_entries.proofs.Spelled.{must_be, read_first}
 use Rattle.gix_object_entries.proofs.TreeLaws.{one_tree}
-use Rattle.gix_object_find.specs.Existing.{Stands, StandsAs, KindFault}
-use Rattle.gix_object_find.specs.Path.{FindsFirst, LackName, IsNamedBy, IsBelow, Follows}
-use Rattle.gix_object_find.specs.Table.{Table, Object}
-use Rattle.gix_object_find.specs.declared.find.Error.TheVariants as looked_up
-use Rattle.gix_object_find.specs.declared.find.existing_iter.Error.TheVariants as not_given
+use Rattle.gix_object_lookup.specs.Existing.{Stands, KindFault}
+use Rattle.gix_object_find.specs.Values.{StandsAs}
+use Rattle.gix_object_lookup.specs.Path.{FindsFirst, LackName, IsNamedBy, IsBelow, Follows}
+use Rattle.gix_object_lookup.specs.Table.{Table, Object}
+use Rattle.gix_object_lookup.specs.declared.find.Error.TheVariants as looked_up
+use Rattle.gix_object_lookup.specs.declared.find.existing_iter.Error.TheVariants as not_given
 use Rattle.gix_object_tree.specs.Object.{Tree}
 use Rattle.gix_object_nodes.specs.Files.{named}
 use Rattle.gix_traverse_tree.specs.AtPaths.{Answer, root_item, told_of, TellsAt, BeginsOne, IsTreeAbove, IsUnread, EntriesFault}

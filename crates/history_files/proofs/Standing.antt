@@ -10,7 +10,7 @@ use Rattle.gix_hash_id.specs.declared.kind.Kind.{Kind}
 use Rattle.gix_hash_id.specs.declared.kind.Kind.TheVariants.{Sha1}
 use Rattle.gix_hash_id.proofs.EmptyObjects.{sha1-empty_tree}
 use Rattle.gix_hash_id.specs.declared.object_id.ObjectId.{ObjectId}
-use Rattle.gix_object_find.specs.Table.{Table}
+use Rattle.gix_object_lookup.specs.Table.{Table}
 use Rattle.gix_object_nodes.specs.Nodes.{leaf_in}
 use Rattle.gix_object_nodes.specs.Files.{IsEmptyTree, Leaf, is_null}
 use Rattle.gix_object_editor.specs.declared.tree.editor.state.Editor.{Editor}

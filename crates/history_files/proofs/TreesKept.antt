@@ -12,8 +12,8 @@ use Rattle.gix_hash_id.specs.Id.{Id, id_of}
 use Rattle.gix_hash_id.specs.Order.{id_cmp}
 use Rattle.gix_hash_id.specs.OrderLaws.{id_eq-same, id_tied}
 use Rattle.gix_hash_id.specs.declared.object_id.ObjectId.{ObjectId}
-use Rattle.gix_object_find.specs.Table.{Object, Table, content_at, content_or_none, kind_at}
-use Rattle.gix_object_find.specs.declared.find.Error.{Error}
+use Rattle.gix_object_lookup.specs.Table.{Object, Table, content_at, content_or_none, kind_at}
+use Rattle.gix_object_lookup.specs.declared.find.Error.{Error}
 use Rattle.gix_object_lines.specs.declared.kind.Kind as object
 use Rattle.gix_object_lines.specs.declared.kind.Kind.TheVariants as kinds
 use Rattle.history_files.specs.KeptTrees.{AreKept, Contents, content_of, ids_of, kept_or, tree_object, tree_or}

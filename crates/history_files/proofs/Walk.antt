@@ -11,10 +11,11 @@ use Rattle.gix_object_entries.specs.Entry.{Item, SpellsEntry, SpellsEntries, Spe
 use Rattle.gix_object_entries.specs.Order.{is_tree}
 use Rattle.gix_object_entries.proofs.Spelled.{one_entry, none_left}
 use Rattle.gix_object_tree.specs.Object.{Tree}
-use Rattle.gix_object_find.specs.Table.{Table, Object}
-use Rattle.gix_object_find.specs.Existing.{Stands, StandsAs}
-use Rattle.gix_object_find.specs.declared.find.Error.TheVariants as looked_up
-use Rattle.gix_object_find.specs.declared.find.existing_iter.Error.TheVariants as not_given
+use Rattle.gix_object_lookup.specs.Table.{Table, Object}
+use Rattle.gix_object_lookup.specs.Existing.{Stands}
+use Rattle.gix_object_find.specs.Values.{StandsAs}
+use Rattle.gix_object_lookup.specs.declared.find.Error.TheVariants as looked_up
+use Rattle.gix_object_lookup.specs.declared.find.existing_iter.Error.TheVariants as not_given
 use Rattle.gix_traverse_tree.specs.Calls.{Answer, Call, pop_back, push, pop, at_tree, at_nontree, visit_of}
 use Rattle.gix_traverse_tree.specs.Depth as depth
 use Rattle.gix_traverse_tree.specs.Depth.{InDepth, Place, before, inside as within}

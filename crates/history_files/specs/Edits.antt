@@ -5,10 +5,10 @@ use Rattle.gix_hash_id.specs.Id.{Id, id_of}
 use Rattle.gix_hash_id.specs.declared.kind.Kind.{Kind}
 use Rattle.gix_object_lines.specs.declared.decode.Error as decode
 use Rattle.gix_object_lines.specs.declared.decode.Error.TheVariants as unread
-use Rattle.gix_object_find.specs.declared.find.Error.TheVariants as looked_up
-use Rattle.gix_object_find.specs.declared.find.existing_object.Error as existing
-use Rattle.gix_object_find.specs.declared.find.existing_object.Error.TheVariants as not_given
-use Rattle.gix_object_find.specs.Table.{Table}
+use Rattle.gix_object_lookup.specs.declared.find.Error.TheVariants as looked_up
+use Rattle.gix_object_lookup.specs.declared.find.existing_object.Error as existing
+use Rattle.gix_object_lookup.specs.declared.find.existing_object.Error.TheVariants as not_given
+use Rattle.gix_object_lookup.specs.Table.{Table}
 use Rattle.gix_object_nodes.specs.Files as unfolded
 use Rattle.gix_object_nodes.specs.Files.{Trees, IsEmptyTree, is_null}
 use Rattle.gix_object_editor.specs.Stored.{HasStored}

@@ -5,7 +5,7 @@ use Rattle.gix_hash_id.specs.Id.{Id}
 use Rattle.gix_hash_id.specs.declared.kind.Kind.{Kind}
 use Rattle.gix_object_entries.specs.Entry.{Item, SpellsTree}
 use Rattle.gix_object_entries.specs.WellFormed.{IsWellFormed}
-use Rattle.gix_object_find.specs.Table.{Table}
+use Rattle.gix_object_lookup.specs.Table.{Table}
 use Rattle.gix_object_nodes.specs.Files as unfolded
 use Rattle.gix_object_nodes.specs.Files.{Trees, SameFiles, HasNoneBelow, is_null}
 use Rattle.gix_object_editor.specs.Stored.{HasStored}

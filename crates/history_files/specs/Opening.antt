@@ -8,7 +8,7 @@ use Rattle.gix_object_editor.specs.Editor.{EachEntryHas, files_of}
 use Rattle.gix_object_editor.specs.Stored.{HasStored}
 use Rattle.gix_object_nodes.specs.Files.{Trees}
 use Rattle.gix_object_editor.specs.declared.tree.editor.state.Editor.{Editor}
-use Rattle.gix_object_find.specs.Table.{Table}
+use Rattle.gix_object_lookup.specs.Table.{Table}
 use Rattle.history_model.specs.Bytes.{is_empty}
 use Rattle.history_model.specs.FileMap as model
 use Rattle.history_model.specs.FileMap.{FileMap, IsFileMap, some_refused}

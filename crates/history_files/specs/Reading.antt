@@ -12,12 +12,12 @@ use Rattle.gix_object_entries.specs.Mode.{kind_of}
 use Rattle.gix_object_entries.specs.declared.tree.mode.EntryKind.{EntryKind}
 use Rattle.gix_object_entries.specs.declared.tree.mode.EntryKind.TheVariants as entries
 use Rattle.gix_object_tree.specs.Object.{Tree}
-use Rattle.gix_object_find.specs.Table.{Table}
-use Rattle.gix_object_find.specs.Existing.{StandsAs}
-use Rattle.gix_object_find.specs.declared.find.Error as looking_up
-use Rattle.gix_object_find.specs.declared.find.Error.TheVariants as looked_up
-use Rattle.gix_object_find.specs.declared.find.existing_iter.Error as existing
-use Rattle.gix_object_find.specs.declared.find.existing_iter.Error.TheVariants as not_given
+use Rattle.gix_object_lookup.specs.Table.{Table}
+use Rattle.gix_object_find.specs.Values.{StandsAs}
+use Rattle.gix_object_lookup.specs.declared.find.Error as looking_up
+use Rattle.gix_object_lookup.specs.declared.find.Error.TheVariants as looked_up
+use Rattle.gix_object_lookup.specs.declared.find.existing_iter.Error as existing
+use Rattle.gix_object_lookup.specs.declared.find.existing_iter.Error.TheVariants as not_given
 use Rattle.gix_object_nodes.specs.Files.{named}
 use Rattle.history_model.specs.Bytes.{Bytes}
 use Rattle.history_model.specs.FileMap.{FileMap, Content, IsFileMap}

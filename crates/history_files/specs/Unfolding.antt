@@ -7,8 +7,8 @@ use Rattle.gix_object_lines.specs.declared.kind.Kind.TheVariants as objects
 use Rattle.gix_object_entries.specs.Mode.{kind_value}
 use Rattle.gix_object_entries.specs.declared.tree.mode.EntryKind.{EntryKind}
 use Rattle.gix_object_entries.specs.declared.tree.mode.EntryKind.TheVariants as entries
-use Rattle.gix_object_find.specs.Table.{Table}
-use Rattle.gix_object_find.specs.Existing.{Stands}
+use Rattle.gix_object_lookup.specs.Table.{Table}
+use Rattle.gix_object_lookup.specs.Existing.{Stands}
 use Rattle.gix_object_nodes.specs.Files as unfolded
 use Rattle.gix_object_nodes.specs.Files.{Path, Leaf, is_null}
 use Rattle.history_model.specs.Bytes.{Bytes}

@@ -27,9 +27,9 @@ use crate::trees::{EditedFiles, EditedTree};
 use gix_hash::{Kind, ObjectId};
 use gix_object_editor::tree::editor::Editor;
 use gix_object_entries::Tree;
-use gix_object_find::Find;
 use gix_object_hash::compute_hash;
 use gix_object_lines::{Kind as ObjectKind, WriteTo};
+use gix_object_lookup::FindInto;
 use history_model::laws::edits_keep;
 use std::alloc::{AllocError, Global};
 
@@ -42,7 +42,7 @@ use std::alloc::{AllocError, Global};
 /// `IsFolder` where a `RemoveFile` finds files below its path; `EmptyTree` where what is grafted has the id of the tree without entries;
 /// `NullId` where no edit is refused and what is put or one of the trees has the null id; `Failed` where a lookup failed; `Broken` where the root or a tree on a path isn't there or can't be read; and
 /// `Memory` where no memory is left.
-pub fn edit_files<S: Find>(
+pub fn edit_files<S: FindInto>(
     alloc: Global,
     store: &S,
     kind: Kind,
@@ -103,7 +103,7 @@ fn has_names(path: &[u8]) -> bool
 }
 
 // An editor of the root's files, or of none.
-fn editor_of<'a, S: Find>(
+fn editor_of<'a, S: FindInto>(
     alloc: Global,
     store: &'a S,
     root: Option<&ObjectId>,
@@ -194,7 +194,7 @@ fn roots(root: Option<&ObjectId>) -> u64
 }
 
 // The trees that the editor hands out. So many were asked for before it counted.
-fn written<S: Find>(
+fn written<S: FindInto>(
     alloc: Global,
     kind: Kind,
     editor: &Editor<S>,

@@ -25,9 +25,9 @@ use crate::names::names_of;
 use gix_hash::{Kind, ObjectId};
 use gix_object_editor::tree::editor::{self, Editor};
 use gix_object_entries::tree::EntryKind;
-use gix_object_find::find::existing_object;
-use gix_object_find::{Find, find};
 use gix_object_lines::decode;
+use gix_object_lookup::find::existing_object;
+use gix_object_lookup::{FindInto, find};
 use history_model::FileKind;
 use std::alloc::{AllocError, Global};
 
@@ -146,7 +146,7 @@ fn unread(error: existing_object::Error) -> EditError
 /// It is `BadPath` where a path has an empty name, `IsFolder` where a `RemoveFile` finds files below its path, `EmptyTree` where what
 /// is grafted has the id of the tree without entries, `Failed` where a lookup failed, `Broken` where a tree on a path isn't there or
 /// can't be read, and `Memory` where no memory is left. Some of the edits before may be made then.
-pub fn make_edits<S: Find>(
+pub fn make_edits<S: FindInto>(
     alloc: Global,
     editor: &mut Editor<S>,
     edits: &[Edit<'_>],
@@ -186,7 +186,7 @@ pub fn make_edits<S: Find>(
 }
 
 // Makes one edit.
-fn make_edit<S: Find>(
+fn make_edit<S: FindInto>(
     alloc: Global,
     editor: &mut Editor<S>,
     edit: &Edit<'_>,

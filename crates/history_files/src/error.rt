@@ -5,8 +5,8 @@ ghost use Rattle.history_files.specs.Reading.{as_read};
 ghost use Rattle.history_files.specs.declared.error.ReadError.TheVariants.{Memory};
 
 use gix_hash::ObjectId;
-use gix_object_find::find;
-use gix_object_find::find::existing_iter;
+use gix_object_lookup::find;
+use gix_object_lookup::find::existing_iter;
 use std::alloc::{AllocError, AllocFailed};
 
 /// Why the trees of files aren't read.

@@ -6,7 +6,7 @@ ghost use Rattle.gix_object_lines.specs.declared.kind.Kind.TheVariants as object
 ghost use Rattle.gix_object_entries.specs.Entry.{Item, item_of};
 ghost use Rattle.gix_object_entries.specs.Mode.{kind_of};
 ghost use Rattle.gix_object_tree.specs.Object.{Tree};
-ghost use Rattle.gix_object_find.specs.Existing.{StandsAs};
+ghost use Rattle.gix_object_find.specs.Values.{StandsAs};
 ghost use Rattle.gix_object_nodes.specs.Files.{named};
 ghost use Rattle.history_model.specs.Objects as model;
 ghost use Rattle.history_files.specs.Reading.{entry_of, named_as, named_by, TreeFault, OfFiles, OwnFault, StepsBelow, TellsUnread, unless_memory};
@@ -17,8 +17,8 @@ use crate::error::ReadError;
 use crate::names::names_of;
 use gix_hash::ObjectId;
 use gix_object_entries::tree::{EntryKind, EntryMode, EntryRef};
-use gix_object_find::{Find, FindExt};
 use gix_object_lines::decode;
+use gix_object_lookup::{self as lookup, FindInto};
 use history_model::FileKind;
 use std::alloc::Global;
 
@@ -43,7 +43,7 @@ pub enum Found {
 ///
 /// It is `Failed` where a lookup failed, `Broken` where a tree on the path isn't there or can't be read, and `Memory` where no
 /// memory is left.
-pub fn entry_at<S: Find>(
+pub fn entry_at<S: FindInto>(
     alloc: Global,
     store: &S,
     root: &ObjectId,
@@ -69,7 +69,7 @@ pub fn entry_at<S: Find>(
 }
 
 // What stands under a name in what was found: nothing in a file.
-fn below<S: Find>(
+fn below<S: FindInto>(
     alloc: Global,
     store: &S,
     found: Found,
@@ -88,7 +88,7 @@ fn below<S: Find>(
 }
 
 // What stands under a name in the tree of this id.
-fn named_in<S: Find>(
+fn named_in<S: FindInto>(
     alloc: Global,
     store: &S,
     tree: &ObjectId,
@@ -107,7 +107,7 @@ fn named_in<S: Find>(
 }
 
 // The entries of the tree of this id, which stand in the buffer.
-pub(crate) fn entries_of<'a, S: Find>(
+pub(crate) fn entries_of<'a, S: FindInto>(
     alloc: Global,
     store: &S,
     tree: &ObjectId,
@@ -120,7 +120,7 @@ pub(crate) fn entries_of<'a, S: Find>(
         (TreeFault (S.is_honest store.now) (S.may_fail store.now) (S.table store.now)
         (id_of tree.now)) }
 {
-    let content = store.find_tree_iter(tree.as_oid(), buffer)?;
+    let content = lookup::entries_of(store, tree.as_oid(), buffer)?;
     match content.entries(alloc) {
         Ok(entries) => Ok(entries),
         Err(error) => Err(unread(error, *tree)),

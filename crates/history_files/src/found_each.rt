@@ -13,7 +13,7 @@ use crate::found::{Found, found_of};
 use crate::listing::read_error;
 use gix_hash::ObjectId;
 use gix_object_entries::tree::EntryMode;
-use gix_object_find::Find;
+use gix_object_lookup::FindInto;
 use gix_traverse_tree::EntriesState;
 use std::alloc::{AllocError, Global};
 
@@ -22,7 +22,7 @@ use std::alloc::{AllocError, Global};
 ///
 /// It is `Failed` where a lookup failed, `Broken` where a tree on the paths isn't there (which it then tells) or can't be read (it
 /// then tells the root), and `Memory` where no memory is left.
-pub fn entries_at<S: Find>(
+pub fn entries_at<S: FindInto>(
     alloc: Global,
     store: &S,
     root: &ObjectId,

@@ -3,7 +3,7 @@
 ghost use Rattle.std.specs.Prelude.{◌≡◌, ◌++◌, map, IfOk, IfErr, IsErrOf, OnOk};
 ghost use Rattle.std.specs.FinMap.{entries};
 ghost use Rattle.gix_hash_id.specs.Id.{id_of};
-ghost use Rattle.gix_object_find.specs.declared.find.Error.TheVariants as looked_up;
+ghost use Rattle.gix_object_lookup.specs.declared.find.Error.TheVariants as looked_up;
 ghost use Rattle.history_model.specs.Answers.{file_line};
 ghost use Rattle.history_files.specs.KeptTrees.{AreKept, ids_of, kept_or};
 ghost use Rattle.history_files.specs.Reading.{OfFiles, OwnFault, line_of};
@@ -13,9 +13,9 @@ use crate::error::ReadError;
 use crate::listing::{File, files};
 use gix_hash::{ObjectId, oid};
 use gix_object_entries::TreeRefIter;
-use gix_object_find::find::Error;
-use gix_object_find::{Find, Lookup};
 use gix_object_lines::{Kind, decode};
+use gix_object_lookup::find::Error;
+use gix_object_lookup::{FindInto, Lookup};
 use std::alloc::{AllocError, Global};
 use std::collections::BTreeMap;
 
@@ -36,7 +36,7 @@ impl<S: Lookup> Lookup for KeptTrees<S> {
     ghost may_fail = { λ kept. S.may_fail kept.store };
 }
 
-impl<S: Find> Find for KeptTrees<S> {
+impl<S: FindInto> FindInto for KeptTrees<S> {
     fn find_into(&self, id: oid<'_>, buffer: &mut Vec<u8>) -> Result<Option<Kind>, Error> {
         let Some(content) = self.contents.get(&ObjectId::from(id)) else {
             return self.store.find_into(id, buffer);
@@ -48,7 +48,7 @@ impl<S: Find> Find for KeptTrees<S> {
 }
 
 /// As [`files`], but each different tree is asked for once, however often it stands: all of them are kept in memory meanwhile.
-pub fn files_by_trees<S: Find>(
+pub fn files_by_trees<S: FindInto>(
     alloc: Global,
     store: &S,
     root: &ObjectId,
@@ -65,7 +65,7 @@ pub fn files_by_trees<S: Find>(
 }
 
 // The contents of the trees below a root, each read once. What can't be read is left out.
-fn trees_below<S: Find>(
+fn trees_below<S: FindInto>(
     alloc: Global,
     store: &S,
     root: ObjectId,
@@ -86,7 +86,7 @@ fn trees_below<S: Find>(
 }
 
 // Reads a tree that isn't kept yet. Its folders wait behind the others.
-fn read_tree<S: Find>(
+fn read_tree<S: FindInto>(
     alloc: Global,
     store: &S,
     id: ObjectId,

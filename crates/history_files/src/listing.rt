@@ -13,7 +13,7 @@ ghost use Rattle.history_files.specs.declared.error.ReadError.TheVariants.{Faile
 use crate::error::ReadError;
 use gix_hash::ObjectId;
 use gix_object_entries::tree::{EntryKind, EntryMode};
-use gix_object_find::Find;
+use gix_object_lookup::FindInto;
 use gix_traverse_tree::Recorder;
 use gix_traverse_tree::depthfirst::{self, State, depthfirst};
 use gix_traverse_tree::recorder::Entry;
@@ -35,7 +35,7 @@ pub struct File {
 ///
 /// It is `Failed` where a lookup failed, `Broken` where the root or a tree below it isn't there (which it then tells), or where one
 /// can't be read or lies under itself (it then tells the root), and `Memory` where no memory is left.
-pub fn files<S: Find>(alloc: Global, store: &S, root: &ObjectId) -> Result<Vec<File>, ReadError>
+pub fn files<S: FindInto>(alloc: Global, store: &S, root: &ObjectId) -> Result<Vec<File>, ReadError>
     ensures files { OfFiles (S.is_honest store.now) (S.table store.now) (id_of root.now)
         (λ kind files. IfOk result (λ found.
         map line_of found.items ≡ map (file_line kind) (entries files))) }
@@ -50,7 +50,7 @@ pub fn files<S: Find>(alloc: Global, store: &S, root: &ObjectId) -> Result<Vec<F
 }
 
 // All entries below a root, recorded with their paths.
-fn recorded<S: Find>(alloc: Global, store: &S, root: &ObjectId) -> Result<Recorder, ReadError>
+fn recorded<S: FindInto>(alloc: Global, store: &S, root: &ObjectId) -> Result<Recorder, ReadError>
     ensures files { OfFiles (S.is_honest store.now) (S.table store.now) (id_of root.now)
         (λ kind files. IfOk result (λ recorder.
         filter_map line_recorded (map recorded_of recorder.records.items)

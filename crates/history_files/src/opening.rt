@@ -15,14 +15,14 @@ use crate::found::entries_of;
 use gix_hash::ObjectId;
 use gix_object_editor::tree::editor::Editor;
 use gix_object_entries::TreeRef;
-use gix_object_find::Find;
+use gix_object_lookup::FindInto;
 use std::alloc::Global;
 
 /// An editor of a root's files, which looks trees up in the store. The root is the id of a tree.
 ///
 /// It is `Failed` where the lookup failed, `Broken` where no tree stands under the root's id that can be read and is well-formed,
 /// and `Memory` where no memory is left.
-pub fn open_editor<S: Find>(
+pub fn open_editor<S: FindInto>(
     alloc: Global,
     store: S,
     root: &ObjectId,

@@ -7,7 +7,7 @@ use Rattle.std.proofs.lemmas.Bool.{or_from}
 use Rattle.gix_hash_id.specs.Id.{Id, id_of}
 use Rattle.gix_hash_id.specs.declared.kind.Kind.{Kind}
 use Rattle.gix_hash_id.specs.declared.object_id.ObjectId.{ObjectId}
-use Rattle.gix_object_find.specs.Table.{Object, Table, content_at, content_or_none, kind_at}
+use Rattle.gix_object_lookup.specs.Table.{Object, Table, content_at, content_or_none, kind_at}
 use Rattle.gix_object_lines.specs.declared.kind.Kind.TheVariants.{Tag}
 use Rattle.gix_hash_id.specs.Order.{id_eq}
 use Rattle.std.proofs.lemmas.Option.{same_Some}

@@ -6,7 +6,7 @@ ghost use Rattle.history_names_survey.specs.declared.error.NamesError.TheVariant
 
 use crate::log::LogFault;
 use gix_hash::ObjectId;
-use gix_object_find::find;
+use gix_object_lookup::find;
 use gix_ref_file::FileError;
 use std::alloc::{AllocError, AllocFailed};
 use thiserror::Error;

@@ -2,7 +2,7 @@
 
 ghost use Rattle.std.specs.Prelude.{◌≡◌, ◌⊎◌, IfErr, IfOk, IsErrOf, IsFalse, IsTrue, OnOk};
 ghost use Rattle.gix_hash_id.specs.Id.{id_of};
-ghost use Rattle.gix_object_find.specs.Table.{kind_at};
+ghost use Rattle.gix_object_lookup.specs.Table.{kind_at};
 ghost use Rattle.gix_ref_file.specs.Calls.{Finds};
 ghost use Rattle.gix_ref_file.specs.Changes.{is_file_at};
 ghost use Rattle.gix_ref_file.specs.Tree.{bytes_at};
@@ -22,8 +22,8 @@ use crate::loose::{Loose, read_loose};
 use crate::packed::Packed;
 use crate::records::PACKED_REFS;
 use gix_hash::{Kind, ObjectId};
-use gix_object_find::FindHeader;
 use gix_object_lines::Kind as ObjectKind;
+use gix_object_lookup::FindHeader;
 use gix_ref_file::{FileError, Files, Place};
 use history_model::names::{HEAD, REFS};
 use history_texts::is_name;

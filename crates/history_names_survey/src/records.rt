@@ -4,7 +4,7 @@ ghost use Rattle.std.specs.Prelude.{◌≡◌, ◌⊎◌, IfErr, IfOk, IsErrOf, 
 ghost use Rattle.std.specs.List.{Contains};
 ghost use Rattle.gix_hash_id.specs.Id.{id_of};
 ghost use Rattle.gix_hash_id.specs.Order.{id_eq};
-ghost use Rattle.gix_object_find.specs.declared.find.Error.TheVariants.{Failed};
+ghost use Rattle.gix_object_lookup.specs.declared.find.Error.TheVariants.{Failed};
 ghost use Rattle.gix_ref_file.specs.Calls.{Finds};
 ghost use Rattle.gix_ref_format.specs.Packed.{record_of};
 ghost use Rattle.history_names_survey.specs.Causes.{HasCause};
@@ -16,9 +16,9 @@ use crate::error::NamesError;
 use crate::file::{is_file, is_private, test_apart, test_held};
 use crate::packed::Packed;
 use gix_hash::{Kind, ObjectId};
-use gix_object_find::{Find, FindHeader, find};
 use gix_object_lines::Kind as ObjectKind;
 use gix_object_lines::cut::strip_prefix;
+use gix_object_lookup::{FindHeader, FindInto, find};
 use gix_ref_file::Files;
 use gix_ref_format::ids::parse_hex;
 use gix_ref_format::packed::Reference;
@@ -29,7 +29,7 @@ pub(crate) const PACKED_REFS: &[u8] = b"packed-refs";
 
 /// Tests that each record is one that a repository has: of a name that is no worktree's own and stands apart from all others; with the
 /// id of a stored commit or tag, unless the name has a file; and with no peeled id but that of its tag's commit.
-pub(crate) fn test_records<F: Files, S: Find + FindHeader>(
+pub(crate) fn test_records<F: Files, S: FindInto + FindHeader>(
     alloc: Global,
     files: &F,
     kind: Kind,
@@ -50,7 +50,7 @@ pub(crate) fn test_records<F: Files, S: Find + FindHeader>(
 }
 
 // Tests one record.
-fn test_record<F: Files, S: Find + FindHeader>(
+fn test_record<F: Files, S: FindInto + FindHeader>(
     alloc: Global,
     files: &F,
     kind: Kind,
@@ -82,7 +82,7 @@ fn test_record<F: Files, S: Find + FindHeader>(
 }
 
 // Whether the record has no peeled id but the commit of a stored tag that it holds.
-fn is_well_peeled<S: Find>(
+fn is_well_peeled<S: FindInto>(
     alloc: Global,
     kind: Kind,
     stored: &S,
@@ -100,7 +100,7 @@ fn is_well_peeled<S: Find>(
 }
 
 // Whether a tag of this commit is stored under the id.
-fn is_tag_of<S: Find>(
+fn is_tag_of<S: FindInto>(
     alloc: Global,
     kind: Kind,
     stored: &S,

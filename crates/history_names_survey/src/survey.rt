@@ -19,7 +19,7 @@ use crate::file::{is_file, test_file, text_at};
 use crate::packed::Packed;
 use crate::records::{PACKED_REFS, test_records};
 use gix_hash::Kind;
-use gix_object_find::{Find, FindHeader};
+use gix_object_lookup::{FindHeader, FindInto};
 use gix_ref_file::paths::{is_deeper, joined};
 use gix_ref_file::{Files, Place};
 use history_folders::Part;
@@ -34,7 +34,7 @@ use std::alloc::Global;
 /// record. No file is changed; each is read once, and each folder listed once.
 ///
 /// Else the error names a cause that holds. It is `File` where a call of the files failed, and `Memory` where a growth was refused.
-pub fn survey_names<F: Files, S: Find + FindHeader>(
+pub fn survey_names<F: Files, S: FindInto + FindHeader>(
     alloc: Global,
     names: &Names<F>,
     stored: &S,
@@ -91,7 +91,7 @@ fn is_branch(name: &[u8]) -> bool
 }
 
 // Tests all that stands.
-fn test_all<F: Files, S: Find + FindHeader>(
+fn test_all<F: Files, S: FindInto + FindHeader>(
     alloc: Global,
     files: &F,
     kind: Kind,

@@ -7,7 +7,7 @@ use Rattle.gix_hash_id.specs.Id.{Id}
 use Rattle.gix_hash_id.specs.Order.{id_eq}
 use Rattle.gix_ref_file.specs.Tree.{Tree}
 use Rattle.gix_object_lines.specs.declared.kind.Kind.{Kind as ObjectKind}
-use Rattle.gix_object_find.specs.Table.{Object, Table}
+use Rattle.gix_object_lookup.specs.Table.{Object, Table}
 use Rattle.gix_object_write.specs.Keeping.{IsAsBefore, Puts}
 use Rattle.history_model.specs.Bytes.{Bytes}
 use Rattle.history_model.specs.Objects.{object_text}

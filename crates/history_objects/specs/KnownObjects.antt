@@ -4,7 +4,7 @@ use Rattle.std.specs.FinMap.{contains_key}
 use Rattle.gix_hash_id.specs.Id.{Id}
 use Rattle.gix_ref_file.specs.History.{History}
 use Rattle.gix_ref_file.specs.Tree.{Tree}
-use Rattle.gix_object_find.specs.Table.{Object, Table}
+use Rattle.gix_object_lookup.specs.Table.{Object, Table}
 use Rattle.history_model.specs.Places.{file_at, object_place}
 use Rattle.history_objects.specs.Face.{files_of_objects, ids_of_objects, kind_of_objects}
 use Rattle.history_objects.specs.Ids.{AreOfKind}

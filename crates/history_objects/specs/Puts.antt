@@ -5,9 +5,9 @@ use Rattle.gix_hash_id.specs.Id.{Id, id_of}
 use Rattle.gix_hash_id.specs.declared.kind.Kind.{Kind}
 use Rattle.gix_ref_file.specs.Tree.{Tree}
 use Rattle.gix_object_lines.specs.declared.kind.Kind.{Kind as ObjectKind}
-use Rattle.gix_object_find.specs.Table.{Table, kind_at}
-use Rattle.gix_object_find.specs.declared.find.Error as find
-use Rattle.gix_object_find.specs.declared.find.Error.TheVariants as found
+use Rattle.gix_object_lookup.specs.Table.{Table, kind_at}
+use Rattle.gix_object_lookup.specs.declared.find.Error as find
+use Rattle.gix_object_lookup.specs.declared.find.Error.TheVariants as found
 use Rattle.history_model.specs.Bytes.{Bytes}
 use Rattle.history_model.specs.Forms.{max_content}
 use Rattle.history_texts.specs.ObjectTexts.{object_id}

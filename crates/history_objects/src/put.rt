@@ -2,7 +2,7 @@
 ghost use Rattle.std.specs.Prelude.{◌≡◌, ◌↔◌, ◌<◌, ◌≤◌, ◌⊎◌, Some, length, map, IfErr, IfOk, IsErrOf, IsFalse, IsTrue, OnErr, OnOk};
 ghost use Rattle.std.specs.List.{All};
 ghost use Rattle.gix_hash_id.specs.Id.{id_of};
-ghost use Rattle.gix_object_find.specs.declared.find.Error.TheVariants as found;
+ghost use Rattle.gix_object_lookup.specs.declared.find.Error.TheVariants as found;
 ghost use Rattle.gix_object_write.specs.Keeping.{IsAsBefore, Puts};
 ghost use Rattle.gix_ref_file.specs.Calls.{Achieves, HasFault, Passes};
 ghost use Rattle.history_model.specs.Forms.{max_content};
@@ -18,8 +18,8 @@ ghost use Rattle.history_objects.specs.declared.put.PutError.TheVariants.{File, 
 
 use crate::objects::{Objects, PutMadeError};
 use gix_hash::ObjectId;
-use gix_object_find::{FindHeader, find};
 use gix_object_lines::Kind as ObjectKind;
+use gix_object_lookup::{FindHeader, find};
 use gix_ref_file::Files;
 use history_model::limits::MAX_CONTENT;
 use history_texts::{Named, NewObject, named_by};

@@ -17,8 +17,8 @@ use Rattle.gix_object_commit_tokens.specs.ReadingOn.{Reads, TellsNone, committer
 use Rattle.gix_object_commit_tokens.specs.Tokens.{Part, start}
 use Rattle.gix_object_commit_tokens.proofs.OnePart.{one_id}
 use Rattle.gix_object_commit_tokens.proofs.ToldParts.{parts_read, end}
-use Rattle.gix_object_find.specs.Existing.{Stands}
-use Rattle.gix_object_find.specs.Table.{Object, Table, content_or_none}
+use Rattle.gix_object_lookup.specs.Existing.{Stands}
+use Rattle.gix_object_lookup.specs.Table.{Object, Table, content_or_none}
 use Rattle.gix_traverse_commit_graph.specs.Commits.{Commit, Commits, Reached, WalkRequest, asked_parents, tip, parent}
 use Rattle.gix_traverse_commit_known.specs.Fetching.{LacksParents}
 use Rattle.gix_traverse_commit_graph.specs.Order.{At}

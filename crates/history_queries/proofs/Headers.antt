@@ -4,7 +4,7 @@ use Rattle.std.proofs.lemmas.Option.{same_Some}
 use Rattle.std.specs.Prelude.{Some, option_map}
 use Rattle.std.specs.FinMap.{get}
 use Rattle.gix_hash_id.specs.Id.{Id}
-use Rattle.gix_object_find.specs.Table.{Object, Table, header_at}
+use Rattle.gix_object_lookup.specs.Table.{Object, Table, header_at}
 use Rattle.gix_object_lines.specs.declared.header.Header.{Header}
 use Rattle.gix_ref_file.specs.History.{History}
 use Rattle.history_model.specs.Objects.{Value, content_of, object_kind}

@@ -4,7 +4,7 @@ use Rattle.std.specs.Prelude.{Option, Some, None, IsTrue, IsSome, is_some, lengt
 use Rattle.std.specs.FinMap.{get, contains_key}
 use Rattle.gix_hash_id.specs.Id.{Id}
 use Rattle.gix_ref_file.specs.History.{History}
-use Rattle.gix_object_find.specs.Table.{Object, Table}
+use Rattle.gix_object_lookup.specs.Table.{Object, Table}
 use Rattle.history_model.specs.FileMap.{FileMap}
 use Rattle.history_model.specs.Objects.{Value, StoredFolder, object_kind, content_of}
 use Rattle.history_model.specs.Forms.{max_content}

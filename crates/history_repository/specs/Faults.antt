@@ -9,8 +9,8 @@ use Rattle.history_objects.specs.declared.objects.PutMadeError.{PutMadeError}
 use Rattle.history_walks.specs.declared.error.WalkError.{WalkError}
 use Rattle.history_repository.specs.declared.stopped.Stopped.{Stopped}
 use Rattle.gix_ref_file.specs.declared.files.FileError.TheVariants as file
-use Rattle.gix_object_find.specs.declared.find.Error as find
-use Rattle.gix_object_find.specs.declared.find.Error.TheVariants as found
+use Rattle.gix_object_lookup.specs.declared.find.Error as find
+use Rattle.gix_object_lookup.specs.declared.find.Error.TheVariants as found
 use Rattle.gix_traverse_commit_graph.specs.declared.rows.RowsError.TheVariants as rows
 use Rattle.history_files.specs.declared.error.ReadError.TheVariants as read
 use Rattle.history_objects.specs.declared.objects.PutMadeError.TheVariants as put

@@ -11,7 +11,7 @@ use Rattle.gix_object_lines.specs.declared.kind.Kind.{Kind as ObjectKind}
 use Rattle.gix_object_lines.specs.declared.kind.Kind.TheVariants as kinds
 use Rattle.gix_object_lines.proofs.Headers.{header_cut}
 use Rattle.gix_object_lines.proofs.Numbers.{decimal_lacks}
-use Rattle.gix_object_find.specs.Table.{Object}
+use Rattle.gix_object_lookup.specs.Table.{Object}
 use Rattle.history_model.specs.Bytes.{Bytes}
 use Rattle.history_model.specs.Objects.{object_text}
 use Rattle.history_texts.specs.ObjectTexts.{as_object, behind_zero, object_in, IsNoObject}

@@ -9,7 +9,7 @@ use Rattle.gix_hash_id.specs.declared.kind.Kind.{Kind}
 use Rattle.gix_hash_id.specs.declared.object_id.ObjectId.{ObjectId}
 use Rattle.gix_object_lines.specs.declared.kind.Kind.{Kind as ObjectKind}
 use Rattle.gix_object_lines.specs.declared.kind.Kind.TheVariants as kinds
-use Rattle.gix_object_find.specs.Table.{Object}
+use Rattle.gix_object_lookup.specs.Table.{Object}
 
 -- a text that is no object's
 abbrev pub IsNoObject : Bytes → Type 0

@@ -3,10 +3,10 @@ use Rattle.std.proofs.Common.{◌≡◌, ap, sym, subst, List, inl, inr, Option,
 use Rattle.std.specs.Prelude.{Contains}
 use Rattle.gix_hash_id.specs.Id.{id_of}
 use Rattle.gix_hash_id.specs.declared.object_id.ObjectId.{ObjectId}
-use Rattle.gix_object_find.specs.Table.{Table, kind_at}
-use Rattle.gix_object_find.specs.declared.find.Error.TheVariants as lookup
-use Rattle.gix_object_find.specs.declared.find.existing_iter.Error as existing_iter
-use Rattle.gix_object_find.specs.declared.find.existing_iter.Error.TheVariants as iter_case
+use Rattle.gix_object_lookup.specs.Table.{Table, kind_at}
+use Rattle.gix_object_lookup.specs.declared.find.Error.TheVariants as lookup
+use Rattle.gix_object_lookup.specs.declared.find.existing_iter.Error as existing_iter
+use Rattle.gix_object_lookup.specs.declared.find.existing_iter.Error.TheVariants as iter_case
 use Rattle.gix_object_lines.specs.declared.decode.Error as decode
 use Rattle.gix_object_lines.specs.declared.kind.Kind.TheVariants as kinds
 use Rattle.gix_traverse_commit_graph.specs.Commits.{Commits, Reached, tip, parent, asked_parents}

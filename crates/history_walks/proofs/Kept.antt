@@ -11,8 +11,8 @@ use Rattle.gix_hash_id.specs.Id.{Id, id_of}
 use Rattle.gix_hash_id.specs.Order.{id_cmp}
 use Rattle.gix_hash_id.specs.OrderLaws.{id_eq-same, id_tied}
 use Rattle.gix_hash_id.specs.declared.object_id.ObjectId.{ObjectId}
-use Rattle.gix_object_find.specs.Existing.{Stands}
-use Rattle.gix_object_find.specs.Table.{Table}
+use Rattle.gix_object_lookup.specs.Existing.{Stands}
+use Rattle.gix_object_lookup.specs.Table.{Table}
 use Rattle.gix_object_lines.specs.declared.kind.Kind.TheVariants as kinds
 use Rattle.gix_traverse_commit_graph.specs.Commits.{Commits, Listed, Reached, tip, parent}
 use Rattle.gix_traverse_commit_known.specs.Painting.{ReachedFrom}

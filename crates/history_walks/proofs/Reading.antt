@@ -5,8 +5,8 @@ use Rattle.std.specs.BTreeMap.{Updates}
 use Rattle.std.specs.declared.alloc.Global.{Global}
 use Rattle.gix_hash_id.specs.Id.{Id, id_of}
 use Rattle.gix_hash_id.specs.declared.object_id.ObjectId.{ObjectId}
-use Rattle.gix_object_find.specs.Existing as object
-use Rattle.gix_object_find.specs.Table.{Table}
+use Rattle.gix_object_lookup.specs.Existing as object
+use Rattle.gix_object_lookup.specs.Table.{Table}
 use Rattle.gix_object_lines.specs.declared.kind.Kind.TheVariants as kinds
 use Rattle.gix_traverse_commit_graph.specs.Commits.{Commits}
 use Rattle.gix_traverse_commit_known.specs.Fetching.{HasRowsGeneration}

@@ -4,7 +4,7 @@ use Rattle.std.specs.declared.alloc.Global.{Global}
 use Rattle.std.specs.Prelude.{◌⊎◌, ℤ, IfOk, IfErr, IfSome, IsErrAnd}
 use Rattle.gix_hash_id.specs.Id.{Id}
 use Rattle.gix_hash_id.specs.declared.object_id.ObjectId.{ObjectId}
-use Rattle.gix_object_find.specs.Table.{Table}
+use Rattle.gix_object_lookup.specs.Table.{Table}
 use Rattle.gix_traverse_commit_graph.specs.Commits.{Commits, Listed}
 use Rattle.gix_traverse_commit.specs.Giving.{GivesNext, IsNext}
 use Rattle.gix_traverse_commit_known.specs.Asked.{IsTurn, Answers, Asked, IsSure, request_in}

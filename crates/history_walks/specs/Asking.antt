@@ -1,7 +1,7 @@
 -- What is asked for, and which lists answer it.
 use Rattle.std.specs.Prelude.{true, ℤ, List, Option, None}
 use Rattle.gix_hash_id.specs.declared.object_id.ObjectId.{ObjectId}
-use Rattle.gix_object_find.specs.Table.{Table}
+use Rattle.gix_object_lookup.specs.Table.{Table}
 use Rattle.gix_traverse_commit_graph.specs.Commits.{Commits, WalkRequest}
 use Rattle.gix_traverse_commit_known.specs.Told.{AreTold}
 use Rattle.gix_traverse_commit_graph.specs.Walks.{InBreadth, ByNewest, ByOldest, InDate, InTopological}

@@ -4,12 +4,12 @@ use Rattle.gix_hash_id.specs.Id.{id_of}
 use Rattle.gix_hash_id.specs.declared.object_id.ObjectId.{ObjectId}
 use Rattle.gix_object_commit_tokens.specs.ReadingOn.{TellsNone, committer_told}
 use Rattle.gix_object_commit_tokens.specs.Tokens.{start}
-use Rattle.gix_object_find.specs.Existing.{Stands}
-use Rattle.gix_object_find.specs.Table.{Table}
-use Rattle.gix_object_find.specs.declared.find.Error as looking_up
-use Rattle.gix_object_find.specs.declared.find.Error.TheVariants as looked_up
-use Rattle.gix_object_find.specs.declared.find.existing_iter.Error as existing
-use Rattle.gix_object_find.specs.declared.find.existing_iter.Error.TheVariants as found
+use Rattle.gix_object_lookup.specs.Existing.{Stands}
+use Rattle.gix_object_lookup.specs.Table.{Table}
+use Rattle.gix_object_lookup.specs.declared.find.Error as looking_up
+use Rattle.gix_object_lookup.specs.declared.find.Error.TheVariants as looked_up
+use Rattle.gix_object_lookup.specs.declared.find.existing_iter.Error as existing
+use Rattle.gix_object_lookup.specs.declared.find.existing_iter.Error.TheVariants as found
 use Rattle.gix_object_lines.specs.declared.decode.Error as decode
 use Rattle.gix_object_lines.specs.declared.kind.Kind.TheVariants as kinds
 use Rattle.gix_traverse_commit_graph.specs.Commits.{Commits}

@@ -5,8 +5,8 @@ use Rattle.std.specs.declared.alloc.Global.{Global}
 use Rattle.gix_hash_id.specs.Id.{Id, id_of}
 use Rattle.gix_hash_id.specs.Order.{id_cmp}
 use Rattle.gix_hash_id.specs.declared.object_id.ObjectId.{ObjectId}
-use Rattle.gix_object_find.specs.Existing.{Stands}
-use Rattle.gix_object_find.specs.Table.{Object, Table}
+use Rattle.gix_object_lookup.specs.Existing.{Stands}
+use Rattle.gix_object_lookup.specs.Table.{Object, Table}
 use Rattle.gix_object_lines.specs.declared.kind.Kind.TheVariants as kinds
 use Rattle.gix_traverse_commit_graph.specs.Rows.{Holds}
 use Rattle.gix_traverse_commit_graph.specs.declared.rows.Row.{Row}

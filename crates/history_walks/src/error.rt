@@ -4,8 +4,8 @@ ghost use Rattle.std.specs.Prelude.{◌≡◌};
 ghost use Rattle.history_walks.specs.Faults.{as_found, as_looked_up, as_sorted, as_walked};
 ghost use Rattle.history_walks.specs.declared.error.WalkError.TheVariants.{Memory};
 
-use gix_object_find::find;
-use gix_object_find::find::existing_iter;
+use gix_object_lookup::find;
+use gix_object_lookup::find::existing_iter;
 use gix_traverse_commit::simple::{self, HiddenGraphError};
 use std::alloc::{AllocError, AllocFailed};
 

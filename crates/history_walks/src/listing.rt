@@ -11,7 +11,7 @@ ghost use Rattle.history_walks.specs.Faults.{WalkFault};
 use crate::error::WalkError;
 use crate::{simply, sorted};
 use gix_hash::ObjectId;
-use gix_object_find::Find;
+use gix_object_lookup::FindInto;
 use gix_traverse_commit::simple::{CommitTimeOrder, Sorting};
 use gix_traverse_commit::{Graph, Parents};
 use gix_traverse_topo as topo;
@@ -53,7 +53,7 @@ pub struct Request {
 ///
 /// It is `Failed` where a lookup failed, `Broken` where a commit that the tips or the hidden commits reach has no row and doesn't stand
 /// or can't be read, and `Memory` where no memory is left.
-pub fn list_commits<S: Find>(
+pub fn list_commits<S: FindInto>(
     alloc: Global,
     store: &S,
     rows: Option<Graph>,

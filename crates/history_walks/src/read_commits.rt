@@ -11,8 +11,8 @@ ghost use Rattle.history_walks.specs.ReadCommits.{AreKept, ids_of, table_of};
 
 use crate::error::WalkError;
 use gix_hash::{ObjectId, oid};
-use gix_object_find::{Find, Lookup, find};
 use gix_object_lines::Kind;
+use gix_object_lookup::{FindInto, Lookup, find};
 use gix_traverse_commit::{All, Graph, Simple};
 use std::alloc::Global;
 use std::collections::BTreeMap;
@@ -28,7 +28,7 @@ impl ReadCommits {
     ///
     /// It is `Failed` where a lookup failed, `Broken` where one of these commits doesn't stand or can't be read, and `Memory` where
     /// no memory is left.
-    pub(crate) fn reached<S: Find>(
+    pub(crate) fn reached<S: FindInto>(
         alloc: Global,
         store: &S,
         rows: Option<Graph>,
@@ -49,7 +49,7 @@ impl ReadCommits {
 }
 
 // All commits of a walk that have no row.
-fn read_all<F: Find + Drop>(
+fn read_all<F: FindInto + Drop>(
     alloc: Global,
     mut walk: Simple<F, All>,
 ) -> Result<ReadCommits, WalkError>
@@ -87,7 +87,7 @@ impl Lookup for ReadCommits {
     ghost may_fail = { λ _. ⊥ };
 }
 
-impl Find for ReadCommits {
+impl FindInto for ReadCommits {
     fn find_into(&self, id: oid<'_>, buffer: &mut Vec<u8>) -> Result<Option<Kind>, find::Error> {
         buffer.clear();
         let Some(content) = self.contents.get(&ObjectId::from(id)) else {

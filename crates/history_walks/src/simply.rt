@@ -12,7 +12,7 @@ ghost use Rattle.history_walks.specs.Simply.{asked};
 use crate::error::WalkError;
 use crate::read_commits::ReadCommits;
 use gix_hash::ObjectId;
-use gix_object_find::Find;
+use gix_object_lookup::FindInto;
 use gix_traverse_commit::simple::Sorting;
 use gix_traverse_commit::{All, Graph, Parents, Simple};
 use std::alloc::{AllocError, Global};
@@ -31,7 +31,7 @@ fn copied(rows: &Option<Graph>) -> Result<Option<Graph>, AllocError>
 ///
 /// Where a lookup fails, such a walk takes a commit for one of time 0 and goes on. So it goes over commits that were read before.
 /// The errors are those of `list_commits`.
-pub(crate) fn listed_by_time<S: Find>(
+pub(crate) fn listed_by_time<S: FindInto>(
     alloc: Global,
     store: &S,
     rows: Option<Graph>,
@@ -51,7 +51,7 @@ pub(crate) fn listed_by_time<S: Find>(
 }
 
 /// All commits that a walk in this order gives.
-pub(crate) fn listed<F: Find + Drop>(
+pub(crate) fn listed<F: FindInto + Drop>(
     alloc: Global,
     store: F,
     rows: Option<Graph>,
@@ -77,7 +77,10 @@ pub(crate) fn listed<F: Find + Drop>(
 }
 
 // All commits of a walk.
-fn given<F: Find + Drop>(alloc: Global, walk: Simple<F, All>) -> Result<Vec<ObjectId>, WalkError>
+fn given<F: FindInto + Drop>(
+    alloc: Global,
+    walk: Simple<F, All>,
+) -> Result<Vec<ObjectId>, WalkError>
     ensures lists { OverTable (F.is_honest (objects_of walk)) (rows_of (graph_of walk))
         (F.table (objects_of walk)) (λ g. (a : Asked)
         → IsSure (F.may_fail (objects_of walk)) a → IsMade (λ _ _. true) a walk

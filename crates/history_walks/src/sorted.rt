@@ -17,13 +17,13 @@ ghost use Rattle.history_walks.specs.Sorted.{StopsSorted};
 
 use crate::error::WalkError;
 use gix_hash::ObjectId;
-use gix_object_find::Find;
+use gix_object_lookup::FindInto;
 use gix_traverse_commit::{All, Graph, Parents};
 use gix_traverse_topo::{Builder, Sorting, Topo};
 use std::alloc::Global;
 
 /// All commits that a walk gives in which each comes after its children.
-pub(crate) fn listed<S: Find>(
+pub(crate) fn listed<S: FindInto>(
     alloc: Global,
     store: &S,
     rows: Option<Graph>,

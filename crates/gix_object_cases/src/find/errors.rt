@@ -2,9 +2,9 @@
 
 use case_words::Page;
 use gix_hash::ObjectId;
-use gix_object_find::find::{existing, existing_iter, existing_object};
-use gix_object_find::lookup;
 use gix_object_lines::Kind;
+use gix_object_lookup::find::{existing, existing_iter, existing_object};
+use gix_object_lookup::lookup;
 
 fn absent(id: ObjectId, page: &mut Page) {
     page.put_between("refused NotFound ", id, "");

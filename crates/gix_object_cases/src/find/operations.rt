@@ -5,7 +5,7 @@ use crate::find::keeping;
 use crate::find::store::Store;
 use case_store::Case;
 use case_words::Page;
-use gix_object_find::find::Never;
+use gix_object_lookup::find::Never;
 use std::alloc::Global;
 use std::rc::Rc;
 

@@ -5,9 +5,9 @@ ghost use Rattle.case_store.specs.Store.{ids_of, table_of};
 
 use case_store::{Stored, read_loose, stored_at};
 use gix_hash::{Kind as HashKind, oid};
-use gix_object_find::find::Error;
-use gix_object_find::{Exists, Find, FindHeader, Lookup};
 use gix_object_lines::{Header, Kind};
+use gix_object_lookup::find::Error;
+use gix_object_lookup::{Exists, FindHeader, FindInto, Lookup};
 use std::alloc::Global;
 
 /// Objects, the first of an id before others.
@@ -54,7 +54,7 @@ impl Exists for Store {
     }
 }
 
-impl Find for Store {
+impl FindInto for Store {
     fn find_into(&self, id: oid<'_>, buffer: &mut Vec<u8>) -> Result<Option<Kind>, Error> {
         buffer.clear();
         if self.is_broken {

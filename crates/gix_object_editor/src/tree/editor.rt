@@ -34,12 +34,12 @@ pub use error::Error;
 use gix_hash::ObjectId;
 use gix_object_entries::Tree;
 use gix_object_entries::tree::{EntryKind, EntryRef};
-use gix_object_find::Find;
+use gix_object_lookup::FindInto;
 use gix_object_nodes::node::NodeId;
 pub use state::{Cursor, Editor};
 use std::alloc::{AllocError, Global};
 
-impl<S: Find> Editor<S> {
+impl<S: FindInto> Editor<S> {
     ghost use Rattle.gix_object_editor.specs.Lending.{LendsStore};
 
     /// An editor of this tree, whose subtrees are looked up in the store. The tree is well-formed.

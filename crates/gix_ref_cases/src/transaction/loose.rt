@@ -6,9 +6,9 @@ use crate::transaction::ref_edits::read_edits;
 use crate::transaction::trees::{read_files, show_files};
 use bstr::BStr;
 use case_words::Page;
-use gix_object_find::Find;
-use gix_object_find::find::Never;
 use gix_object_lines::lines::ActorRef;
+use gix_object_lookup::FindInto;
+use gix_object_lookup::find::Never;
 use gix_ref_edit::RefEdit;
 use gix_ref_file::{Fuse, MemoryFiles};
 use gix_ref_loose_transaction::PackedRefs;
@@ -48,7 +48,7 @@ fn store_of(alloc: Global, files: &[u8], fuse: &[u8]) -> Option<Store<Fuse<Memor
     Store::at(trial, Vec::new(alloc)).ok()
 }
 
-fn put_told<O: Find>(
+fn put_told<O: FindInto>(
     alloc: Global,
     operation: &str,
     [fuse, files, edits]: [&[u8]; 3],
@@ -61,7 +61,7 @@ fn put_told<O: Find>(
     }
 }
 
-fn put_edited<O: Find>(
+fn put_edited<O: FindInto>(
     alloc: Global,
     operation: &str,
     [fuse, files]: [&[u8]; 2],
@@ -79,7 +79,7 @@ fn put_edited<O: Find>(
     }
 }
 
-fn put_tried<O: Find>(
+fn put_tried<O: FindInto>(
     alloc: Global,
     store: &mut Store<Fuse<MemoryFiles>>,
     operation: &str,

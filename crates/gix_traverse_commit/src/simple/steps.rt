@@ -27,7 +27,7 @@ use crate::paint::paint;
 use crate::simple::timed::{await_parents, await_tips, read_times};
 use crate::simple::{Error, Simple};
 use gix_hash::ObjectId;
-use gix_object_find::Find;
+use gix_object_lookup::FindInto;
 use gix_traverse_commit_graph::sorting::{Sorting, shown_time, time_order};
 use gix_traverse_commit_graph::{Info, Parents};
 use gix_traverse_commit_known::Accept;
@@ -37,7 +37,7 @@ use gix_traverse_commit_known::meet::{meet_parents, queue_tips};
 use std::alloc::{AllocError, Global};
 use std::mem;
 
-impl<F: Find + Drop, P: Accept + Drop> Simple<F, P> {
+impl<F: FindInto + Drop, P: Accept + Drop> Simple<F, P> {
     // Lets the rest of a walk that has begun begin anew from what is queued.
     pub(crate) fn turn(&mut self)
         ensures source { self.new.source ≡ self.old.source }

@@ -22,7 +22,7 @@ ghost use Rattle.gix_traverse_commit_known.specs.declared.faults.Error.TheVarian
 
 use crate::simple::Error;
 use gix_hash::ObjectId;
-use gix_object_find::Find;
+use gix_object_lookup::FindInto;
 use gix_traverse_commit_graph::sorting::is_in_time;
 use gix_traverse_commit_known::Accept;
 use gix_traverse_commit_known::fetch::{FetchError, Source};
@@ -32,7 +32,7 @@ use gix_traverse_commit_known::nodes::Marks;
 use gix_traverse_commit_known::waiting::Turn;
 
 // The committer's seconds, and 0 where they aren't read. It is `Memory` where no memory is left.
-fn seconds_or_zero<F: Find>(source: &mut Source<F>, id: &ObjectId) -> Result<i64, Error>
+fn seconds_or_zero<F: FindInto>(source: &mut Source<F>, id: &ObjectId) -> Result<i64, Error>
     ensures objects { source.new.objects ≡ source.old.objects }
     ensures rows { source.new.rows ≡ source.old.rows }
     ensures counted { source.new.lookups ≤ source.old.lookups + 1 }
@@ -55,7 +55,11 @@ fn seconds_or_zero<F: Find>(source: &mut Source<F>, id: &ObjectId) -> Result<i64
 }
 
 // Reads the time of a tip, unless the predicate refused it.
-fn read_time<F: Find>(source: &mut Source<F>, known: &Known, tip: &ObjectId) -> Result<(), Error>
+fn read_time<F: FindInto>(
+    source: &mut Source<F>,
+    known: &Known,
+    tip: &ObjectId,
+) -> Result<(), Error>
     ensures objects { source.new.objects ≡ source.old.objects }
     ensures rows { source.new.rows ≡ source.old.rows }
     ensures counted { source.new.lookups ≤ source.old.lookups + 1 }
@@ -81,7 +85,7 @@ fn read_time<F: Find>(source: &mut Source<F>, known: &Known, tip: &ObjectId) -> 
 }
 
 /// Reads the times of these tips, but of those that the predicate refused.
-pub fn read_times<F: Find>(
+pub fn read_times<F: FindInto>(
     source: &mut Source<F>,
     known: &Known,
     tips: &[ObjectId],
@@ -108,7 +112,7 @@ pub fn read_times<F: Find>(
 }
 
 // Marks a commit as met, and lets it wait where it is no older than the cutoff.
-fn wait<F: Find>(
+fn wait<F: FindInto>(
     source: &mut Source<F>,
     known: &mut Known,
     since: Option<i64>,
@@ -152,7 +156,7 @@ fn wait<F: Find>(
 }
 
 // Lets a tip wait that is not hidden and was not met.
-fn await_tip<F: Find>(
+fn await_tip<F: FindInto>(
     source: &mut Source<F>,
     known: &mut Known,
     since: Option<i64>,
@@ -197,7 +201,7 @@ fn await_tip<F: Find>(
 }
 
 /// Lets the tips wait that are accepted, not hidden and no older than the cutoff, each once.
-pub fn await_tips<F: Find>(
+pub fn await_tips<F: FindInto>(
     source: &mut Source<F>,
     known: &mut Known,
     since: Option<i64>,
@@ -243,7 +247,7 @@ pub fn await_tips<F: Find>(
 }
 
 // Lets a commit wait that was not met, is not hidden, is accepted and is no older than the cutoff.
-fn await_parent<F: Find, P: Accept>(
+fn await_parent<F: FindInto, P: Accept>(
     source: &mut Source<F>,
     known: &mut Known,
     predicate: &mut P,
@@ -300,7 +304,7 @@ fn await_parent<F: Find, P: Accept>(
 }
 
 /// Lets the parents of a commit wait that were not met, are not hidden, are accepted and are no older than the cutoff.
-pub fn await_parents<F: Find, P: Accept>(
+pub fn await_parents<F: FindInto, P: Accept>(
     source: &mut Source<F>,
     known: &mut Known,
     predicate: &mut P,

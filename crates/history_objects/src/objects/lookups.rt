@@ -1,7 +1,7 @@
 //! Looking stored objects up: of the ids that are known alone.
 ghost use Rattle.std.specs.Prelude.{◌≡◌, option_map};
 ghost use Rattle.std.specs.FinMap.{keys};
-ghost use Rattle.gix_object_find.specs.Table.{content_or_none};
+ghost use Rattle.gix_object_lookup.specs.Table.{content_or_none};
 ghost use Rattle.history_objects.specs.Face.{ids_of_objects};
 ghost use Rattle.history_objects.specs.KnownObjects.{table_of, HoldsKnown};
 ghost use Rattle.history_objects.specs.Lookups.{find_fault};
@@ -9,8 +9,8 @@ ghost use Rattle.history_texts.specs.ObjectTexts.{object_in};
 
 use crate::objects::{Objects, cut_front, object_place};
 use gix_hash::{ObjectId, oid};
-use gix_object_find::{Exists, Find, FindHeader, Lookup, find};
 use gix_object_lines::{Header, Kind as ObjectKind};
+use gix_object_lookup::{Exists, FindHeader, FindInto, Lookup, find};
 use gix_ref_file::{FileError, Files};
 use history_texts::parse_header;
 
@@ -30,7 +30,7 @@ impl<F: Files> Exists for Objects<F> {
     }
 }
 
-impl<F: Files> Find for Objects<F> {
+impl<F: Files> FindInto for Objects<F> {
     fn find_into(
         &self,
         id: oid<'_>,

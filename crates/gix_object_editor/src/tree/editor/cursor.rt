@@ -21,11 +21,11 @@ use crate::tree::editor::{Cursor, Editor, Error, write};
 use gix_hash::{Kind, ObjectId};
 use gix_object_entries::Tree;
 use gix_object_entries::tree::{EntryKind, EntryRef};
-use gix_object_find::Find;
+use gix_object_lookup::FindInto;
 use gix_object_nodes::node::NodeId;
 use std::alloc::Global;
 
-impl<S: Find> Editor<S> {
+impl<S: FindInto> Editor<S> {
     /// A cursor at the root.
     pub fn to_cursor(&mut self) -> Cursor<'_, S>
         ensures stands { StandsAt result [] }
@@ -94,7 +94,7 @@ impl<S: Find> Editor<S> {
     }
 }
 
-impl<'c, S: Find> Cursor<'c, S> {
+impl<'c, S: FindInto> Cursor<'c, S> {
     /// The entry at the path below the cursor, as `Editor::get` answers it.
     pub fn get<'a>(&'a self, path: &[&'a [u8]]) -> Option<EntryRef<'a>>
         ensures entry { (base : Path) → StandsAt self.now base → path.now ≢ []

@@ -18,11 +18,11 @@ use crate::tree::editor::marks::{cut, mark_changed, mark_where};
 use crate::tree::editor::{Editor, Error};
 use gix_hash::{Kind, ObjectId};
 use gix_object_entries::tree::{EntryKind, EntryMode};
-use gix_object_find::Find;
+use gix_object_lookup::FindInto;
 use gix_object_nodes::node::{NodeId, Slot, slot_at};
 use std::alloc::Global;
 
-impl<S: Find> Editor<S> {
+impl<S: FindInto> Editor<S> {
     /// Takes out what stands at or below the path, which begins at an opened tree.
     pub(crate) fn remove_from(
         &mut self,

@@ -4,8 +4,8 @@ ghost use Rattle.std.specs.Prelude.{◌≡◌};
 ghost use Rattle.gix_object_editor.specs.declared.tree.editor.error.Error.TheVariants.{FindExistingObject, Memory};
 
 use gix_hash::ObjectId;
-use gix_object_find::find::existing_object;
 use gix_object_lines::ByteString;
+use gix_object_lookup::find::existing_object;
 use std::alloc::{AllocError, AllocFailed};
 
 /// Why an edit is refused.

@@ -11,13 +11,13 @@ ghost use Rattle.gix_object_editor.specs.Asked.{unopened_into, Asks};
 
 use crate::tree::editor::Error;
 use crate::tree::editor::forest::open;
-use gix_object_find::Find;
 use gix_object_lines::ByteString;
+use gix_object_lookup::FindInto;
 use gix_object_nodes::node::{Node, NodeId};
 use std::alloc::Global;
 
 /// Refuses a name's folder, where a file stands below it. Its tree is opened.
-pub(crate) fn refuse_folder<S: Find>(
+pub(crate) fn refuse_folder<S: FindInto>(
     store: &S,
     nodes: &mut Vec<Node>,
     lookups: &mut u64,

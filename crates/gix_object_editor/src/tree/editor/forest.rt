@@ -14,7 +14,7 @@ ghost use Rattle.gix_object_nodes.specs.declared.node.Slot.{Slot};
 
 use crate::tree::editor::Error;
 use crate::tree::editor::load::load;
-use gix_object_find::Find;
+use gix_object_lookup::FindInto;
 use gix_object_nodes::node::{Node, NodeId, Slot, put_at, slot_at};
 use std::alloc::{AllocError, Global};
 
@@ -64,7 +64,7 @@ pub(crate) fn attach(
 }
 
 /// The folder of a name, opened. `None` where no folder stands there.
-pub(crate) fn open<S: Find>(
+pub(crate) fn open<S: FindInto>(
     store: &S,
     nodes: &mut Vec<Node>,
     lookups: &mut u64,
@@ -127,7 +127,7 @@ pub(crate) fn open<S: Find>(
 
 /// The opened tree in which a path's walk down from one ends, and how many names lead there. What is left is one name alone, or begins
 /// with that of no folder.
-pub(crate) fn walk<S: Find>(
+pub(crate) fn walk<S: FindInto>(
     store: &S,
     nodes: &mut Vec<Node>,
     lookups: &mut u64,
@@ -200,7 +200,7 @@ pub(crate) fn walk<S: Find>(
 }
 
 /// The folder at the end of the names that a walk left, opened. `None` where none stands there.
-pub(crate) fn folder_below<S: Find>(
+pub(crate) fn folder_below<S: FindInto>(
     store: &S,
     nodes: &mut Vec<Node>,
     lookups: &mut u64,

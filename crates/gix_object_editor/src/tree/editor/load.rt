@@ -5,7 +5,7 @@ ghost use Rattle.gix_hash_id.specs.Id.{id_of};
 ghost use Rattle.gix_object_lines.specs.declared.kind.Kind.TheVariants as kinds;
 ghost use Rattle.gix_object_entries.specs.Entry.{item_of};
 ghost use Rattle.gix_object_entries.specs.WellFormed.{IsWellFormed};
-ghost use Rattle.gix_object_find.specs.Existing.{Stands};
+ghost use Rattle.gix_object_lookup.specs.Existing.{Stands};
 ghost use Rattle.gix_object_nodes.specs.Files.{Bytes, Trees, named};
 ghost use Rattle.gix_object_editor.specs.Stored.{HasStored, OpensTree, IsReadTree};
 ghost use Rattle.gix_object_nodes.specs.Nodes.{slot_in, StandsFor, child_of};
@@ -15,14 +15,14 @@ ghost use Rattle.gix_object_editor.specs.Refusals.{TreeIsUnread, OpeningFault};
 use crate::tree::editor::Error;
 use gix_hash::ObjectId;
 use gix_object_entries::tree::{EntryRef, TreeRef};
-use gix_object_find::Find;
-use gix_object_find::find::existing_object;
 use gix_object_lines::Kind;
+use gix_object_lookup::find::existing_object;
+use gix_object_lookup::{self as lookup, FindInto};
 use gix_object_nodes::node::{Node, Slot};
 use std::alloc::{AllocError, Global};
 
 /// The stored tree of this id, opened.
-pub(crate) fn load<S: Find>(store: &S, alloc: Global, oid: ObjectId) -> Result<Node, Error>
+pub(crate) fn load<S: FindInto>(store: &S, alloc: Global, oid: ObjectId) -> Result<Node, Error>
     ensures opened { S.is_honest store.now
         → IfOk result (OpensTree (S.table store.now) (id_of oid)) }
     ensures holds { S.is_honest store.now
@@ -40,7 +40,7 @@ pub(crate) fn load<S: Find>(store: &S, alloc: Global, oid: ObjectId) -> Result<N
 }
 
 // The entries of the stored tree of this id.
-fn read_tree<'a, S: Find>(
+fn read_tree<'a, S: FindInto>(
     store: &S,
     alloc: Global,
     oid: ObjectId,
@@ -59,7 +59,7 @@ fn read_tree<'a, S: Find>(
 }
 
 // The content of the stored tree of this id.
-fn content_of<'a, S: Find>(
+fn content_of<'a, S: FindInto>(
     store: &S,
     oid: ObjectId,
     buffer: &'a mut Vec<u8>,
@@ -69,17 +69,7 @@ fn content_of<'a, S: Find>(
     ensures refused { IfErr result (TreeIsUnread (S.is_honest store.now) (S.may_fail store.now)
         (S.table store.now) (id_of oid)) }
 {
-    let Some(found) = store.try_find(oid.as_oid(), buffer)? else {
-        return Err(existing_object::Error::NotFound { oid });
-    };
-    if found.kind != Kind::Tree {
-        return Err(existing_object::Error::ObjectKind {
-            oid,
-            actual: found.kind,
-            expected: Kind::Tree,
-        });
-    }
-    Ok(found.content)
+    Ok(lookup::content_of(store, oid.as_oid(), Kind::Tree, buffer)?)
 }
 
 // The node of a well-formed tree of these entries.

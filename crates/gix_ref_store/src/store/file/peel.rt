@@ -14,7 +14,9 @@ use crate::store::file::find::{self, ExistingError};
 use crate::store::file::follow::{self, end_from};
 use crate::store::file::search::Search;
 use gix_hash::ObjectId;
-use gix_object_find::{Find, find as object};
+use gix_object_lines::Kind;
+use gix_object_lookup::{FindInto, find as object};
+use gix_object_tag::TagRefIter;
 use gix_ref_file::Files;
 use gix_ref_format::packed::buffer;
 use std::alloc::{AllocFailed, Global};
@@ -76,7 +78,7 @@ impl<T: Drop> From<AllocFailed<T>> for Error {
 }
 
 // The object that a reference stands for, and the last reference on the way where it is another.
-pub(crate) fn peeled_end<F: Files, T: Find>(
+pub(crate) fn peeled_end<F: Files, T: FindInto>(
     search: &Search<'_, '_, F>,
     from: &Reference,
     objects: &T,
@@ -100,7 +102,7 @@ pub(crate) fn peeled_end<F: Files, T: Find>(
 }
 
 // The object that an id stands for: its own, or the one that tags lead to.
-fn object_named<T: Find>(alloc: Global, objects: &T, id: ObjectId) -> Result<ObjectId, Error>
+fn object_named<T: FindInto>(alloc: Global, objects: &T, id: ObjectId) -> Result<ObjectId, Error>
     ensures peeled { T.is_honest objects.now
         → IfOk result (λ end. PeelsTo (T.table objects.now) (id_of id) (id_of end)) }
     ensures refused { IfErr result (TagFault (T.is_honest objects.now) (T.may_fail objects.now)
@@ -120,7 +122,7 @@ fn object_named<T: Find>(alloc: Global, objects: &T, id: ObjectId) -> Result<Obj
 }
 
 // What the tag of this id names; `None` where another object stands.
-fn named_by_tag<T: Find>(
+fn named_by_tag<T: FindInto>(
     objects: &T,
     id: ObjectId,
     buffer: &mut Vec<u8>,
@@ -132,13 +134,13 @@ fn named_by_tag<T: Find>(
     ensures refused { IfErr result (StepFault (T.is_honest objects.now) (T.may_fail objects.now)
         (T.table objects.now) (id_of id)) }
 {
-    let Some(found) = objects.try_find(id.as_oid(), buffer)? else {
+    let Some(kind) = objects.find_into(id.as_oid(), buffer)? else {
         return Err(Error::NotFound { oid: id });
     };
-    let Some(tag) = found.try_into_tag_iter() else {
+    if kind != Kind::Tag {
         return Ok(None);
-    };
-    match tag.target_id() {
+    }
+    match TagRefIter::from_bytes(buffer.as_slice(), id.kind()).target_id() {
         Ok(target) => Ok(Some(target)),
         Err(_) => Err(Error::NotFound { oid: id }),
     }

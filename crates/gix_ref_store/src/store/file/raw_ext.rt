@@ -23,7 +23,7 @@ use crate::store::file::peel::peeled_end;
 use crate::store::file::search::Search;
 use crate::store::file::{LogPlatform, Store, follow, log, peel};
 use gix_hash::ObjectId;
-use gix_object_find::Find;
+use gix_object_lookup::FindInto;
 use gix_ref_file::Files;
 use gix_ref_format::packed::Buffer;
 use gix_ref_name::Target;
@@ -54,7 +54,7 @@ pub trait ReferenceExt: Sealed {
 
     /// The id of the object that the reference stands for in the end, as `peel_to_id` has it; and the reference becomes the last
     /// of those on the way, and points to the object of the id, which it also tells as peeled. After an error it is as it was.
-    fn peel_to_id_in_place<F: Files, T: Find>(
+    fn peel_to_id_in_place<F: Files, T: FindInto>(
         &mut self,
         alloc: Global,
         store: &Store<F>,
@@ -78,7 +78,7 @@ pub trait ReferenceExt: Sealed {
     /// are followed to an object, as `follow_to_object_packed` does, and tags to what they name. `NotFound` where no object stands
     /// under an id on the way, or a tag that names none or leads back to itself. Where an id is told as peeled nothing is looked up,
     /// and only the opening of packed references is refused.
-    fn peel_to_id<F: Files, T: Find>(
+    fn peel_to_id<F: Files, T: FindInto>(
         &self,
         alloc: Global,
         store: &Store<F>,
@@ -95,7 +95,7 @@ pub trait ReferenceExt: Sealed {
             (peels.MayTell F.reading_may_fail (T.may_fail objects.now)) };
 
     /// What `peel_to_id_in_place` does, with these packed references.
-    fn peel_to_id_in_place_packed<F: Files, T: Find>(
+    fn peel_to_id_in_place_packed<F: Files, T: FindInto>(
         &mut self,
         alloc: Global,
         store: &Store<F>,
@@ -116,7 +116,7 @@ pub trait ReferenceExt: Sealed {
             (peels.MayTell F.reading_may_fail (T.may_fail objects.now)) };
 
     /// The id that `peel_to_id` has, with these packed references.
-    fn peel_to_id_packed<F: Files, T: Find>(
+    fn peel_to_id_packed<F: Files, T: FindInto>(
         &self,
         alloc: Global,
         store: &Store<F>,
@@ -204,7 +204,7 @@ impl ReferenceExt for Reference {
         store.reflog_exists(alloc, self.name.as_ref())
     }
 
-    fn peel_to_id_in_place<F: Files, T: Find>(
+    fn peel_to_id_in_place<F: Files, T: FindInto>(
         &mut self,
         alloc: Global,
         store: &Store<F>,
@@ -218,7 +218,7 @@ impl ReferenceExt for Reference {
         }
     }
 
-    fn peel_to_id<F: Files, T: Find>(
+    fn peel_to_id<F: Files, T: FindInto>(
         &self,
         alloc: Global,
         store: &Store<F>,
@@ -230,7 +230,7 @@ impl ReferenceExt for Reference {
         }
     }
 
-    fn peel_to_id_in_place_packed<F: Files, T: Find>(
+    fn peel_to_id_in_place_packed<F: Files, T: FindInto>(
         &mut self,
         alloc: Global,
         store: &Store<F>,
@@ -251,7 +251,7 @@ impl ReferenceExt for Reference {
         Ok(id)
     }
 
-    fn peel_to_id_packed<F: Files, T: Find>(
+    fn peel_to_id_packed<F: Files, T: FindInto>(
         &self,
         alloc: Global,
         store: &Store<F>,

@@ -1,6 +1,6 @@
 use Rattle.std.proofs.Common.{◌≡◌, ◌∙◌, sym, subst, ap, map, take, get_or, ◌+◌, ℕ, List, [], ◌∷◌, ◌++◌, Bor}
 use Rattle.std.proofs.lemmas.List.{map-append, take_more}
-use Rattle.gix_object_find.specs.Path.{Path}
+use Rattle.gix_object_lookup.specs.Path.{Path}
 use Rattle.gix_traverse_tree.specs.AtPaths.{names_of}
 use Rattle.gix_traverse_tree.specs.Folders.{NumbersPaths}
 use Rattle.gix_traverse_tree.proofs.Numbering.{paths_more}

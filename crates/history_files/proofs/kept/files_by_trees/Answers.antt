@@ -1,6 +1,6 @@
 use Rattle.std.proofs.Common.{subst, sym}
 use Rattle.gix_hash_id.specs.Id.{id_of}
-use Rattle.gix_object_find.specs.Table.{Table}
+use Rattle.gix_object_lookup.specs.Table.{Table}
 use Rattle.history_files.specs.Reading.{IsRootOf}
 use Rattle.history_files.proofs.TreesKept.{kept_same}
 use Rattle.history_files.proofs.kept.files_by_trees.Goals as goal

@@ -12,7 +12,7 @@ use Rattle.gix_object_editor.specs.Editor.{files_of}
 use Rattle.gix_object_editor.specs.Entries.{ItemsHave}
 use Rattle.gix_object_lines.specs.declared.kind.Kind.TheVariants as objects
 use Rattle.gix_object_tree.specs.Object.{Tree}
-use Rattle.gix_object_find.specs.Existing.{StandsAs}
+use Rattle.gix_object_find.specs.Values.{StandsAs}
 use Rattle.history_model.proofs.WholeLists.{clash}
 use Rattle.history_model.proofs.WholeRoots.{has_all}
 use Rattle.history_files.specs.Unfolding.{IsInTable}

@@ -1,6 +1,6 @@
 use Rattle.std.proofs.Common.{◌≡◌, Some, rules}
 use Rattle.gix_hash_id.specs.Id.{id_of}
-use Rattle.gix_object_find.specs.Table.{content_at, kind_at}
+use Rattle.gix_object_lookup.specs.Table.{content_at, kind_at}
 use Rattle.gix_object_lines.specs.declared.kind.Kind.TheVariants.{Tag}
 use Rattle.history_names_survey.proofs.Told.{tag_told}
 use Rattle.history_names_survey.proofs.records.is_tag_of.Goals as goal

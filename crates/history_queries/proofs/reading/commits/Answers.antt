@@ -1,7 +1,7 @@
 use Rattle.std.proofs.Common.{◌≡◌, ap, sym, subst, List, Option}
 use Rattle.gix_hash_id.specs.Id.{id_of}
 use Rattle.gix_hash_id.specs.Packed.{object_id_of, object_id_of-id_of}
-use Rattle.gix_object_find.specs.Table.{Table}
+use Rattle.gix_object_lookup.specs.Table.{Table}
 use Rattle.gix_traverse_commit_known.specs.Told.{AreTold, rows_of}
 use Rattle.gix_traverse_commit_graph.specs.declared.rows.Row.{Row}
 use Rattle.history_model.specs.Answers.{commits_of}

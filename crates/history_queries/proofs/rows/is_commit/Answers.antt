@@ -1,6 +1,6 @@
 use Rattle.std.proofs.Common.{◌≡◌, ◌∙◌, ap, sym, length}
 use Rattle.gix_hash_id.specs.Id.{id_of}
-use Rattle.gix_object_find.specs.Table.{header_at}
+use Rattle.gix_object_lookup.specs.Table.{header_at}
 use Rattle.history_model.specs.Objects.{content_of, object_kind}
 use Rattle.history_objects.specs.KnownObjects.{table_of}
 use Rattle.history_queries.proofs.AllTold.{is_commit_kind, other_kind}

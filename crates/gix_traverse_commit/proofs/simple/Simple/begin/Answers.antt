@@ -16,7 +16,7 @@ use Rattle.gix_traverse_commit.specs.Giving.{CountsHiddenFault, CountsUnbegun, I
 use Rattle.gix_traverse_commit_known.specs.Faults.{SimpleFault, hidden_error}
 use Rattle.gix_traverse_commit_known.specs.Timely.{AllRowed, LetsWaitIn}
 use Rattle.gix_traverse_commit_known.specs.Told.{AreTold, rows_of}
-use Rattle.gix_object_find.specs.Table.{Table}
+use Rattle.gix_object_lookup.specs.Table.{Table}
 use Rattle.gix_traverse_commit_known.specs.declared.fetch.FetchError.{FetchError}
 use Rattle.gix_traverse_commit_known.specs.declared.fetch.FetchError.TheVariants as fault
 use Rattle.gix_traverse_commit_graph.specs.declared.parents.Parents.{Parents}

@@ -4,7 +4,7 @@ use Rattle.std.proofs.lemmas.Result.{err_from_is_err_and}
 use Rattle.gix_hash_id.specs.Id.{id_of}
 use Rattle.gix_object_entries.specs.Order.{is_tree}
 use Rattle.gix_object_entries.specs.Reading.{place_of, start}
-use Rattle.gix_object_find.specs.Path.{IsNamedBy}
+use Rattle.gix_object_lookup.specs.Path.{IsNamedBy}
 use Rattle.gix_traverse_tree.specs.AtPaths.{Answer}
 use Rattle.gix_traverse_tree.specs.Folders.{number_in}
 use Rattle.gix_traverse_tree.specs.Known.{known, item_named, ReadFault}

@@ -1,6 +1,6 @@
 use Rattle.std.proofs.Common.{◌∙◌, sym, ap, subst, arith}
 use Rattle.std.specs.Option.{option_map}
-use Rattle.gix_object_find.specs.Table.{content_or_none}
+use Rattle.gix_object_lookup.specs.Table.{content_or_none}
 use Rattle.history_texts.specs.ObjectTexts.{IsNoObject}
 use Rattle.history_texts.proofs.TextObjects.{object_in-none, object_in-read}
 use Rattle.history_objects.proofs.objects.lookups.take_header.Goals as goal

@@ -1,0 +1,4 @@
+pub mod Table
+pub mod Cases
+pub mod Existing
+pub mod Path

@@ -1,0 +1,11 @@
+//! Objects under their ids: what each lookup speaks of, their content, and entries by paths, after the crate `gix-object` 0.64.
+#![tactic(auto)]
+
+mod content;
+pub mod find;
+pub mod lookup;
+mod traits;
+
+pub use crate::content::{content_of, entries_of};
+pub use crate::lookup::{lookup_entry, lookup_entry_by_path};
+pub use crate::traits::{Exists, FindHeader, FindInto, Lookup};
