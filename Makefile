@@ -1,13 +1,10 @@
 # On a fresh machine with `rt` on the path each of these works alone.
 PREFIX ?= /usr/local
 PROGRAM := crates/history_program/out/history_program
-HASHING := crates/gix_hash_cases/out/gix_hash_cases
-WALKS := crates/gix_traverse_cases/out/gix_traverse_cases
-REFERENCES := crates/gix_ref_store_cases/out/gix_ref_store_cases
 # Names a source that is newer than the program, if there is one.
 NEWER = find crates.txt crates -name out -prune -o -type f -newer $(PROGRAM) -print -quit
 
-.PHONY: test wrong-bodies demo folder-demo bench faults install program hashing walks references
+.PHONY: test wrong-bodies demo folder-demo bench faults install program
 
 # The merge gate: the documents' names, every proof from nothing, the must-fail edits, the tests and the program. docs/GATE.md says
 # how long it takes.
@@ -34,13 +31,9 @@ demo:
 folder-demo: program
 	demo/folder $(PROGRAM)
 
-# A report, no test: commits per second as the history grows, one large content, the hashing of a stream, look-ups of prefixes,
-# walks over 30,000 commits, and listings and lookups of 10,000 references.
-bench: program hashing walks references
+# A report, no test: commits per second as the history grows, and one large content.
+bench: program
 	bench/report $(PROGRAM)
-	bench/hashing $(HASHING)
-	bench/walks $(WALKS)
-	bench/references $(REFERENCES)
 
 # Refuses each growth of memory of the program's own run in turn; it needs a C compiler.
 faults: program
@@ -54,22 +47,4 @@ install: program
 program:
 	@echo 'building the program'
 	@cd crates/history_program && log=$$(mktemp) && \
-	if rt run < stdin > /dev/null 2> "$$log"; then rm "$$log"; else cat "$$log"; rm "$$log"; exit 1; fi
-
-# Proves, compiles and links what bench/hashing times.
-hashing:
-	@echo 'building what bench/hashing times'
-	@cd crates/gix_hash_cases && log=$$(mktemp) && \
-	if rt run < stdin > /dev/null 2> "$$log"; then rm "$$log"; else cat "$$log"; rm "$$log"; exit 1; fi
-
-# Proves, compiles and links what bench/walks times.
-walks:
-	@echo 'building what bench/walks times'
-	@cd crates/gix_traverse_cases && log=$$(mktemp) && \
-	if rt run < stdin > /dev/null 2> "$$log"; then rm "$$log"; else cat "$$log"; rm "$$log"; exit 1; fi
-
-# Proves, compiles and links what bench/references times.
-references:
-	@echo 'building what bench/references times'
-	@cd crates/gix_ref_store_cases && log=$$(mktemp) && \
 	if rt run < stdin > /dev/null 2> "$$log"; then rm "$$log"; else cat "$$log"; rm "$$log"; exit 1; fi

@@ -1,28 +1,26 @@
-//! A store of objects, in which the lookups of some ids fail.
+//! A store of objects.
 
 ghost use Rattle.std.specs.Prelude.{◌≡◌, ⊤};
 ghost use Rattle.case_store.specs.Store.{ids_of, table_of};
 
 use crate::stored::{Stored, stored_at};
-use gix_hash::{ObjectId, oid};
+use gix_hash::oid;
 use gix_object_lines::Kind;
 use gix_object_lookup::find::Error;
 use gix_object_lookup::{FindInto, Lookup};
 use std::alloc::{AllocError, Global};
 
-/// Objects, the first of an id before others, and ids of which each lookup fails.
+/// Objects, the first of an id before others.
 #[derive(Drop)]
 pub struct Store {
     objects: Vec<Stored>,
-    failing: Vec<ObjectId>,
 }
 
 impl Store {
-    /// No objects, and no lookup that fails.
+    /// No objects.
     pub fn new(alloc: Global) -> Store {
         Store {
             objects: Vec::new(alloc),
-            failing: Vec::new(alloc),
         }
     }
 
@@ -30,18 +28,6 @@ impl Store {
     pub fn put(&mut self, stored: Stored) -> Result<(), AllocError> {
         self.objects.push(stored)?;
         Ok(())
-    }
-
-    /// Lets each lookup of this id fail.
-    pub fn fail(&mut self, id: ObjectId) -> Result<(), AllocError> {
-        self.failing.push(id)?;
-        Ok(())
-    }
-
-    fn is_failing(&self, id: oid<'_>) -> bool {
-        self.failing
-            .iter()
-            .any(|failing| failing.as_oid().eq_oid(id))
     }
 }
 
@@ -58,9 +44,6 @@ impl Lookup for Store {
 impl FindInto for Store {
     fn find_into(&self, id: oid<'_>, buffer: &mut Vec<u8>) -> Result<Option<Kind>, Error> {
         buffer.clear();
-        if self.is_failing(id) {
-            return Err(Error::Failed);
-        }
         let Some(stored) = stored_at(&self.objects, id) else {
             return Ok(None);
         };

@@ -1,7 +1,7 @@
 //! Files in memory that words change and read, with a call that is made to fail.
 
 use crate::bytes::read_bytes;
-use case_page::Page;
+use crate::page::Page;
 use gix_ref_file::{FileError, Files, Fuse, MemoryFiles, Place};
 use std::alloc::Global;
 use std::mem;

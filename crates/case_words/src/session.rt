@@ -1,6 +1,6 @@
 //! The words of a line, one after another, or again and again with a number that grows.
 
-use case_page::Page;
+use crate::page::Page;
 use std::alloc::{AllocError, Global};
 
 /// What the words of a line act on.

@@ -1,8 +1,7 @@
 #!/usr/bin/env python3
 """Writes the rows of `lines` in stdin and stdout; git 2.39 is asked, on the path.
 
-Nothing of the crate is used. The answers are git's where git tells them: its loose objects' headers, the lines of a commit that it
-made, the lines that `git var` prints and that `git cat-file` gives back, what `git check-ref-format` says. The others
+Nothing of the crate is used. The answers are git's where git tells them: its loose objects' headers, the lines that `git var` prints and that `git cat-file` gives back, what `git check-ref-format` says. The others
 are what the formats' descriptions say, as regular expressions and numbers of Python.
 """
 import datetime
@@ -52,11 +51,6 @@ def quoted(text):
 
 def truth(value):
     return "true" if value else "false"
-
-
-def order(one, other):
-    """How two values stand to each other, and whether they are equal; equal ones hash alike, and digests of what differs differ."""
-    return f"{'Less' if one < other else 'Greater' if other < one else 'Equal'} {truth(one == other)} {truth(one == other)}"
 
 
 def git(*words, folder=".", given=b"", env=None):
@@ -111,67 +105,6 @@ def headers():
             case("header", text[:80], answer=f"{kind.decode()} {size} {len(header)}")
             case("header", header, answer=f"{kind.decode()} {size} {len(header)}")
             case("write_header", kind, size, answer=quoted(header))
-            if kind == b"commit":
-                hex_lines(text[len(header):])
-    for size in [0, 1, 5, 9, 10, 300]:
-        text = b"hello"[:size] if size < 6 else b"x" * size
-        case("blob", text, answer=f"{len(text)} {quoted(b'blob %d%c' % (len(text), 0))} {quoted(text)}")
-
-
-# ---- kinds, numbers and lines of digits
-
-def kinds():
-    for word in KINDS + [b"", b"Blob", b"TREE", b"tre", b"trees", b"tag ", b" tag", b"commits", b"tag\n", b"a"]:
-        answers = " ".join(truth(word == kind) for kind in KINDS)
-        known = f"{word.decode()} {word.decode()} {answers}"
-        case("kind", word, answer=known if word in KINDS else "the word names no kind of object")
-    for one, other in itertools.product(KINDS, repeat=2):
-        case("kinds", one, other, answer=order(KINDS.index(one), KINDS.index(other)))
-
-
-def unsigned():
-    limits = [b"%d" % (2**64 + step) for step in range(-2, 3)] + [b"10" + b"0" * n for n in range(17, 21)]
-    others = [b"7", b"10", b"+1", b"-0", b"-1", b" 1", b"1 ", b"1a", b"00", b"01", b"1.0", b"1e3", b"0x1", b"\xd9\xa1", b"1\0", b"1_0"]
-    for text in limits + others + letters(b"019-", 3):
-        number = re.fullmatch(rb"0|[1-9][0-9]*", text) and int(text) < 2**64
-        case("unsigned", text, answer=text.decode() if number else "none")
-
-
-def hex_line_of(word, count, text):
-    if not text.startswith(word + b" "):
-        return "another field was expected"
-    line = re.match(rb"[0-9A-Fa-f]{%d}" % count, text[len(word) + 1:])
-    if not line:
-        return "an id of hexadecimal digits was expected"
-    rest = text[len(word) + 1 + count:]
-    return f"{quoted(line[0])} {quoted(rest[1:])}" if rest.startswith(b"\n") else "the end of the line was expected"
-
-
-def hex_lines(commit):
-    tree, rest = commit.split(b"\n", 1)
-    case("hex_line", 40, b"tree", commit, answer=f"{quoted(tree[5:])} {quoted(rest)}")
-    case("write_hex_line", b"tree", tree[5:], answer=quoted(tree + b"\n"))
-    for text in [tree[5:], tree[6:], commit[:40]]:
-        case("id", text, answer=truth(re.fullmatch(rb"[0-9a-f]{40}", text)))
-    for count in [0, 39, 41, 64]:
-        case("hex_line", count, b"tree", commit, answer=hex_line_of(b"tree", count, commit))
-    for text in [b"parent 0a\n", b"tree", b"tree 0\n", b"tree 0g\n", b"tree 0A", b"tree 0A \n", b"tree 0A\n", b"tree  0A\n", b"tree\t0A\n", b" tree 0A\n"]:
-        case("hex_line", 2, b"tree", text, answer=hex_line_of(b"tree", 2, text))
-    for text in texts([b"tree", b" ", b"0", b"F", b"\n"], 4):
-        case("hex_line", 1, b"tree", text, answer=hex_line_of(b"tree", 1, text))
-    for word, count in itertools.product([b"", b"object", b"parent"], [0, 2, 40, 64]):
-        text = word + b" " + b"aB" * (count // 2) + b"\n"
-        case("hex_line", count, word, text + b"x\n", answer=hex_line_of(word, count, text + b"x\n"))
-        case("write_hex_line", word, b"aB" * (count // 2), answer=quoted(text))
-
-
-def ids():
-    for digits in [b"0123456789abcdefABCDEF0123456789abcdefAB" + b"c" * 30, b"0" * 66]:
-        for count in [0, 1, 20, 32, 39, 40, 41, 63, 64, 65]:
-            case("id", digits[:count], answer=truth(count in (40, 64)))
-    for byte in range(256):
-        text = b"%c" % byte + b"5" * 39
-        case("id", text, answer=truth(re.fullmatch(rb"[0-9A-Fa-f]{40}", text)))
 
 
 # ---- times
@@ -193,22 +126,6 @@ def time_text(seconds, offset):
 
 def or_unspellable(text):
     return UNSPELLABLE if text is None else quoted(text)
-
-
-def times():
-    edges = [b"9223372036854775807 +0000", b"9223372036854775808 +0000", b"-9223372036854775808 +0000", b"-9223372036854775809 +0000",
-             b"+1 +0000", b"1 +00000", b"1 +000", b"1  +0000", b"1 +0000 ", b"", b" ", b"1\t+0000", b"1 +0000\n", b"1 +00:00", b"now"]
-    parts = [part + b" +0100" for part in letters(b"-019 ", 4)] + [b"7 " + part for part in letters(b"-+06", 4)]
-    parts += [b"7 -" + part for part in letters(b"0569", 4)]
-    parts += [b"7 %c%s" % (sign, digits) for sign in b"+-" for digits in [b"0060", b"0099", b"9960", b"9959", b"9999"]]
-    for text in parts + edges:
-        time = time_of(text)
-        case("time", text, answer=f"true {time[0]} {time[1]} {or_unspellable(time_text(*time))}" if time else f"false {NO_TIME}")
-    offsets = [0, 1, -1, 30, 59, 60, -60, 61, 3599, 3600, -3600, 20700, -12600, 359_940, 359_999, 360_000, -359_940, -360_000, 2**31 - 1, -(2**31)]
-    for seconds, offset in itertools.product([0, 1, -1, 1_700_000_000, 2**63 - 1, -(2**63)], offsets):
-        case("write_time", seconds, offset, answer=or_unspellable(time_text(seconds, offset)))
-    for one, other in itertools.product([b"0 +0000", b"-0 -0000", b"1 -0100", b"1 +0000", b"1 +0060", b"01 +0100", b"-5 +9999"], repeat=2):
-        case("times", one, other, answer=order(time_of(one), time_of(other)))
 
 
 # ---- actors
@@ -273,15 +190,9 @@ def actors():
     lines += [text + b"> 1 +0000" for text in texts([b"A", b" ", b"<", b">", b"\n"], 4)]
     for line in lines:
         case("actor", line, answer=actor_of(line))
-    for name, email, (seconds, offset) in itertools.product([b"", b"A", b"A\n", b"<", b"A>"], [b"a", b"", b"a>", b"\n", b"<b"], [(-1, -60), (5, 30), (0, 360_000), (1, 0)]):
-        text = actor_text(name, email, seconds, offset)
-        case("write_actor", name, email, seconds, offset, answer=f"{UNSPELLABLE}, 0 written" if text is None else quoted(text))
-    for name, email, text in itertools.product([b"", b"A", b"<\n\xff"], [b"", b"a@b"], [b"1 +0000", b"-9 -9999", b"007 +0060", b"", b"now", b"1 +00"]):
-        time = time_of(text)
-        case("own_actor", name, email, text, answer=f"{quoted(name)} {quoted(email)} {time[0]} {time[1]} true" if time else NO_TIME)
 
 
-# ---- names and plain bytes
+# ---- names
 
 def names():
     more = ["main", "refs/heads/main", "a.lock", "a.lock/b", "a.lockb", ".lock", "lock", "a/.lock", "a.LOCK", "a b", "a~b", "a^b", "a:b", "a?b", "a*b", "a[b", "a]b", "a\\b", "a\x7fb", "a\tb", "a\x1fb", "é", "a@{b", "@@", "@/a", "a/@", "a/-b", "a..b", "a.b.c", "HEAD", "@/", ""]
@@ -295,28 +206,6 @@ def names():
         case("name", name, answer=f"{truth(partial)} {truth(full)} {truth(capitals)}")
 
 
-def sides(front, mark, back):
-    return f"{quoted(front)} {quoted(back)} false" if mark else "none true"
-
-
-def plain_bytes():
-    for byte, text in itertools.product([b" ", b"\0"], texts([b" ", b"a", b"b\0"], 4)):
-        case("cut", byte, text, answer=sides(*text.partition(byte)))
-        case("rcut", byte, text, answer=sides(*text.rpartition(byte)))
-    for edge, text in itertools.product([b"", b"a", b"ab", b"ba", b"aba"], letters(b"ab", 4)):
-        behind = quoted(text[len(edge):]) if text.startswith(edge) else "none"
-        before = quoted(text[:len(text) - len(edge)]) if text.endswith(edge) else "none"
-        case("edges", edge, text, answer=f"{behind} {before} {truth(text.startswith(edge))}")
-    for text in [b"", b"hello", bytes(range(256)), b"x" * 5000]:
-        case("write", text, answer=quoted(text))
-    strings = [b"", b"A", b"a@b", b"A\n", b"\n", b"A\n\n", b"\nA", b"A\r\n", b"\xff\0"]
-    for text in strings:
-        case("string", text, answer=f"{quoted(text)} {quoted(text)}")
-        case("line", text, answer=quoted(text[:-1] if text.endswith(b"\n") else text))
-    for one, other in itertools.product(strings, repeat=2):
-        case("strings", one, other, answer=order(one, other))
-
-
-for part in [kinds, headers, unsigned, ids, times, actors, names, plain_bytes]:
+for part in [headers, actors, names]:
     part()
 write(__file__, ROWS)

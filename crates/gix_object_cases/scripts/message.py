@@ -37,10 +37,6 @@ def quoted(text):
     return f'"{"".join(shown)}"'
 
 
-def truths(*values):
-    return f"[{', '.join('true' if value else 'false' for value in values)}]"
-
-
 # ---- what git tells
 
 TITLES = ["title", "title ", "first\nsecond", "first  \n second\t\nthird", "Ž: ü", "fix: it", "a\tb  c", "one\ntwo\nthree\nfour", "Don't \"quote\" \\ it", "日本"]
@@ -127,37 +123,7 @@ def trailer_part(body):
 
 def message(text):
     title, body = parts_of(text)
-    case("parts", text, f"{quoted(title)} {quoted(body) if body else 'none'}")
     case("message", text, f"{quoted(summary_of(title))} {quoted(body)} {written(trailers_in(trailer_part(body)))}")
-
-
-def body(text):
-    part = trailer_part(text)
-    front = quoted(text[:len(text) - len(part)])
-    case("body", text, f"{front} {front} {written(trailers_in(part))}")
-
-
-def blocks(text):
-    runs = [(kind, b"".join(run)) for kind, run in itertools.groupby(paragraphs_of(text), is_trailers)]
-    found = []
-    for kind, run in runs:
-        if not kind:
-            found.append((run, b""))
-        else:
-            front = found.pop()[0] if found and not found[-1][1] else b""
-            found.append((front, run))
-    case("blocks", text, "".join(f"[{quoted(front)} {quoted(back)} {written(trailers_in(back))}]" for front, back in found))
-
-
-def tells(token):
-    words = [b"signed-off-by", b"co-authored-by", b"assisted-by", b"acked-by", b"reviewed-by", b"tested-by"]
-    return [token.lower() == word for word in words]
-
-
-def selected(text):
-    trailers = trailers_in(trailer_part(text))
-    wanted = [{0}, {1}, {2}, {0, 1}, set(range(6))]
-    case("selected", text, "".join(f"[{written([t for t in trailers if any(tells(t[0])[word] for word in words)])}]" for words in wanted))
 
 
 def texts_of_rows(rows):
@@ -169,25 +135,6 @@ def by_rules():
         message(text)
     for text in texts([b"a", b" ", b"\n", b"\r\n"], 5):
         message(text)
-    for title in texts_of_rows(["", " ~%", " a  b ", "a %b", "%a ~%  % b %", " title "]) + texts([b"a", b" ", b"\t\n", b"\r\n", b"\f", b"\x0b"], 3):
-        case("summary", title, f"{quoted(summary_of(title))} {'owned' if b'%c' % 10 in title.strip(WHITE) else 'borrowed'}")
-    for text in texts_of_rows([
-        "", "text", "A: b", "text%%A: b%", "text%%%%A: b%%%", "%A: b%", "text~%~%A: b~%C: ~%", "text%A: b%", "A: b%%text", "A: b%%C: d",
-        "A: b% continued%no trailer%C-1:  d  e %", "text%%A:b%", "text%%A b: c%", "text%%: c%", "text%%A_b: c%", "text%%A: b: c%",
-        "text%%more%", "A: b%", "A: b%%text%%more%%C: d%other%%E: f%%end%", "text~%~%A: b~%~%end",
-    ]) + texts([b"A: b", b"x", b"\n", b"\r\n"], 5) + texts([b"A-1", b":", b" ", b"\n", b"\xff"], 4):
-        body(text)
-        blocks(text)
-    words = ["SIGNED-OFF-BY: a", "co-authored-by: b", "Assisted-By: c", "aCKED-bY: d", "reviewed-BY: e", "Tested-by: f", "Fixes: g", "Signed-off-by-too: h"]
-    every = "".join(word + "\n" for word in words).encode()
-    body(every)
-    selected(every)
-    for some in itertools.product(words, repeat=2):
-        selected("\n".join(("text\n",) + some).encode())
-    names = ["Signed-off-by", "Co-authored-by", "Assisted-by", "Acked-by", "Reviewed-by", "Tested-by"]
-    others = ["signed-OFF-by", "ASSISTED-BY", "Signed-off", "Tested-by-A", "Signed_off_by", "", "by", "Fixes", "Signed-off-by ", "Signed-off-by:", "Sıgned-off-by"]
-    for token in names + [form(name) for name in names for form in [str.lower, str.upper, lambda n: n[:-1], lambda n: n + "y", lambda n: " " + n]] + others:
-        case("token", token.encode(), truths(*tells(token.encode()), any(tells(token.encode()))))
 
 
 by_git()

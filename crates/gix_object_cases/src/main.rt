@@ -1,45 +1,84 @@
-//! Answers cases of the crates below the face `gix_object`, a line each: a family, an operation of it, and bytes in hexadecimal digits.
+//! Answers cases of the crates from ids up to the face `gix_object`, a line each: a family, an operation of it, and what it is asked of.
 #![tactic(auto)]
 
 mod commit;
+mod editor;
+mod entries;
+mod errors;
+mod find;
+mod hash;
 mod lines;
 mod message;
+mod object;
+mod program;
 mod signature;
 mod tag;
+mod written;
 
-use crate::commit::Commits;
-use crate::tag::Tags;
-use case_page::Page;
+use case_store::Case;
+use case_words::Page;
+use gix_hash::ObjectId;
 use std::alloc::{AllocError, Global};
 use std::io;
 
-// What the line's operation gives: its family stands first.
-fn answer(alloc: Global, line: &str) -> Result<String, AllocError> {
-    let (family, case) = line.split_once(' ').unwrap_or((line, ""));
+// Adds what a line gives: its family stands first. `None` where it is no case or no memory is left.
+fn put_answer(
+    rt: &HostRuntime,
+    list: &mut Vec<ObjectId>,
+    line: &str,
+    page: &mut Page,
+) -> Option<()> {
+    let (family, case) = line.split_once(' ')?;
     match family {
-        "tag" => case_ids::answer::<Tags>(alloc, case),
-        "commit" => case_ids::answer::<Commits>(alloc, case),
-        _ => told(alloc, family, case),
+        "hash" => hash::put_answer(rt, list, case, page),
+        "lines" => lines::put_answer(rt.alloc(), case, page),
+        "message" => message::put_answer(rt.alloc(), case, page),
+        "signature" => signature::put_answer(rt.alloc(), case, page),
+        "editor" => {
+            editor::put_answer(rt.alloc(), case, page);
+            Some(())
+        }
+        _ => put_of_words(rt.alloc(), family, case, page),
     }
 }
 
-fn told(alloc: Global, family: &str, case: &str) -> Result<String, AllocError> {
-    let mut page = Page::new(alloc);
-    let answered = match family {
-        "lines" => lines::put_answer(alloc, case, &mut page),
-        "message" => message::put_answer(alloc, case, &mut page),
-        "signature" => signature::put_answer(alloc, case, &mut page),
-        _ => None,
-    };
-    if answered.is_none() {
+fn put_of_words(alloc: Global, family: &str, line: &str, page: &mut Page) -> Option<()> {
+    let (operation, words) = line.split_once(' ')?;
+    put_of_case(alloc, family, operation, &Case::read(alloc, words)?, page)
+}
+
+// The families whose operations are asked of a hash function and bytes.
+fn put_of_case(
+    alloc: Global,
+    family: &str,
+    operation: &str,
+    case: &Case,
+    page: &mut Page,
+) -> Option<()> {
+    match family {
+        "tag" => tag::put_answer(alloc, operation, case, page),
+        "commit" => commit::put_answer(alloc, operation, case, page),
+        "entries" => entries::put_answer(alloc, operation, case, page)?,
+        "object" => object::put_answer(alloc, operation, case, page)?,
+        "find" => find::put_answer(alloc, operation, case, page),
+        "face" => errors::put_answer(alloc, operation, case, page)?,
+        _ => return None,
+    }
+    Some(())
+}
+
+fn answer(rt: &HostRuntime, list: &mut Vec<ObjectId>, line: &str) -> Result<String, AllocError> {
+    let mut page = Page::new(rt.alloc());
+    if put_answer(rt, list, line, &mut page).is_none() {
         page.text("no case");
     }
     page.finish()
 }
 
 fn main(rt: HostRuntime) -> io::Result<()> {
+    let mut list: Vec<ObjectId> = Vec::new(rt.alloc());
     for line in rt.lines(rt.alloc()) {
-        let text = answer(rt.alloc(), line?.as_str())?;
+        let text = answer(&rt, &mut list, line?.as_str())?;
         println!(rt; "{text}")?;
     }
     Ok(())

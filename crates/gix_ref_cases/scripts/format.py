@@ -5,7 +5,6 @@ Git's documents; none from the program.
 repository, and `git symbolic-ref` or `git rev-parse` tells what it points to; `git rev-parse` looks words up.
 """
 import os
-import re
 import shutil
 import subprocess
 import sys
@@ -134,27 +133,6 @@ for name in ["HEAD", "refs/bisect/bad", "refs/rewritten/x", "refs/worktree/y", "
 for name in ["refs/heads/w", "main-worktree/refs/heads/w", "worktrees/w/refs/heads/w", "w"]:
     add(f"find {name} {own.hex()}", f"{one} refs/heads/w {one}")
 
-# gitrevisions: names directly below the folder of git and those below refs/ are taken as they stand, and so are those of another
-# worktree; git-worktree: the names that each worktree has of its own, and the fronts behind which another worktree's are.
-def shared(name):
-    """The name by which a record may stand for it."""
-    rest = re.sub(rb"^main-worktree/|^worktrees/[^/]*/", b"", name)
-    if is_private(rest):
-        return b"none"
-    return rest if rest.startswith(b"refs/") else name
-
-
-def is_private(name):
-    return re.fullmatch(rb"[A-Z_]*|refs/(bisect|rewritten|worktree)/.*", name, re.S) is not None
-
-
-for name in [b"HEAD", b"FETCH_HEAD", b"head", b"main", b"refs/heads/main", b"refs/bisect/bad", b"refs/bisect", b"refs/bisecting/x", b"refs/rewritten/x", b"refs/worktree/y",
-             b"refs/worktrees/y", b"main-worktree/HEAD", b"main-worktree/refs/heads/a", b"main-worktree/refs/bisect/bad", b"main-worktree/x", b"worktrees/w/HEAD", b"worktrees/w/refs/heads/a",
-             b"worktrees/w/refs/rewritten/x", b"worktrees/w/x", b"worktrees/HEAD", b"worktrees/w", b"a/worktrees/w/HEAD", b"refs", b"refs/x", b"heads/main", b"a/b/c", b"tags/", b"refsx/a"]:
-    whole = name.startswith((b"refs/", b"main-worktree/", b"worktrees/")) or re.fullmatch(rb"[A-Z_]*", name) is not None
-    behind = name.partition(b"/")[2] if b"/" in name else b"none"
-    add("lookup " + name.hex(), f"{str(whole).lower()} {str(is_private(name)).lower()} {shared(name).decode()} {behind.decode()}")
-
 # ---- bad lines: git refuses the whole file
 
 bads = {b"x\n": 1, bare[:-1]: len(body), one.encode() + b"  refs/heads/x\n": 1, one.encode() + b" refs/heads/x y\n": 1, one[:39].encode() + b" refs/heads/x\n": 1,
@@ -175,15 +153,6 @@ twice = f"{one} refs/heads/x\n{two} refs/heads/x\n{three} refs/heads/a\n".encode
 add("find x " + twice.hex(), f"{one} refs/heads/x {one}")
 upper = b"D53C4B0F91F1B29769C9430F2D1C0BCAB1170C75 refs/heads/uppercase\n^E9CDC958E7CE2290E2D7958CDB5AA9323EF35D37\n"
 add("items " + upper.hex(), "d53c4b0f91f1b29769c9430f2d1c0bcab1170c75 refs/heads/uppercase e9cdc958e7ce2290e2d7958cdb5aa9323ef35d37; ")
-
-# ---- headers (git-pack-refs; the words that git itself tests)
-
-for line, answer in {b"# pack-refs with: \n": "unspecified false", b"# pack-refs with: peeled fully-peeled sorted \n": "fully true", b"# pack-refs with: peeled \n": "partial false",
-                     b"# pack-refs with: sorted\n": "unspecified true", b"# pack-refs with: fully-peeled peeled\n": "fully false", b"# pack-refs with: xsorted sortedx \n": "unspecified false",
-                     b"# pack-refs with: sorted": "none", b"# pack-refs: sorted\n": "none", b"x\n": "none", b"# pack-refs with: sorted\r\n": "unspecified true"}.items():
-    add("header " + line.hex(), answer)
-assert lines[0].split() == [b"#", b"pack-refs", b"with:", b"peeled", b"fully-peeled", b"sorted"]
-add("header " + (lines[0] + b"\n").hex(), "fully true")
 
 # ---- loose texts: git reads them where the program should
 

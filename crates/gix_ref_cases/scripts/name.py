@@ -1,8 +1,7 @@
 """Writes the rows of `name` in ../stdin and ../stdout: names with what git says of them, and tables of documented answers.
 
 Each answer comes from `git check-ref-format` (with `--allow-onelevel` for partial names), from the files of references that git
-writes, from Git's documents (gitrepository-layout, git-worktree, gitnamespaces, git-update-ref), from Python's `unicodedata` and
-its order of bytes, or from what the tables say by hand; none from the program.
+writes, from Git's documents (gitnamespaces, git-update-ref), from Python's `unicodedata`, or by hand; none from the program.
 """
 import os
 import random
@@ -62,24 +61,15 @@ letters = [b"a", b"B", b".", b"/", b"@", b"{", b"~", b"^", b".lock", b"_", b"*",
 for _ in range(400):
     name_row(b"".join(random.choice(letters) for _ in range(random.randint(1, 6))))
 
-table = {
-    b"refs/tags/v1": "tag v1", b"refs/tags/a/b": "tag a/b", b"refs/heads/main": "local main", b"refs/heads/refs/heads/x": "local refs/heads/x",
-    b"refs/remotes/origin/main": "remote origin/main", b"refs/notes/commits": "note notes/commits", b"refs/bisect/bad": "bisect bisect/bad",
-    b"refs/rewritten/onto": "rewritten rewritten/onto", b"refs/worktree/foo": "worktree worktree/foo", b"HEAD": "pseudo HEAD",
-    b"FETCH_HEAD": "pseudo FETCH_HEAD", b"main-worktree/HEAD": "main-pseudo HEAD", b"main-worktree/refs/heads/x": "main refs/heads/x",
-    b"main-worktree/refs/bisect/bad": "main refs/bisect/bad", b"worktrees/w/HEAD": "linked-pseudo HEAD",
-    b"worktrees/w/refs/heads/x": "linked refs/heads/x", b"worktrees/refs/HEAD": "linked-pseudo HEAD", b"main-worktree/x": "none",
-    b"worktrees/w/x": "none", b"worktrees/w/x/HEAD": "none", b"refs/bisect": "none", b"refs/heads": "none", b"refs/stash": "none",
-    b"refs/tagsx/a": "none", b"refs/headsa/b": "none", b"refs/notesx/a": "none", b"logs/HEAD": "none", b"worktrees/HEAD": "none",
-    b"main": "refused", b"refs/heads/a.lock": "refused", b"refs/heads/a/refs/b": "local a/refs/b", b"Refs/heads/a": "none",
-}
-for name, answer in table.items():
-    add("category", name, answer)
-    if answer not in ("none", "refused"):
-        # What stands behind the whole front is told again, unless it begins with the front.
-        add("again", name, {b"refs/heads/refs/heads/x": "refs/heads/x"}.get(name, name.decode()))
-    if answer != "refused":
-        add("last", name, name.decode().split("/")[-1])
+# Names of each category.
+table = [
+    b"refs/tags/v1", b"refs/tags/a/b", b"refs/heads/main", b"refs/heads/refs/heads/x", b"refs/remotes/origin/main", b"refs/notes/commits",
+    b"refs/bisect/bad", b"refs/rewritten/onto", b"refs/worktree/foo", b"HEAD", b"FETCH_HEAD", b"main-worktree/HEAD", b"main-worktree/refs/heads/x",
+    b"main-worktree/refs/bisect/bad", b"worktrees/w/HEAD", b"worktrees/w/refs/heads/x", b"worktrees/refs/HEAD", b"refs/heads/a/refs/b",
+]
+for name in table:
+    # What stands behind the whole front is told again, unless it begins with the front.
+    add("again", name, {b"refs/heads/refs/heads/x": "refs/heads/x"}.get(name, name.decode()))
 
 # A view and a name of its own, and both again of a full name; bytes that are no text as Unicode's recommendation has them.
 for name in [b"main", b"a/b", b"caf\xc3\xa9", b"\xff", b"a\xe2\x82b", b"\xf0\x9f\x98", b"HEAD", b"refs/heads/main", b"refs/heads/caf\xc3\xa9",
@@ -113,14 +103,6 @@ for name in some:
     partial, full = rules(name)
     add("partial", name, times(name, 3, True) if partial else broken)
     add("path", name, times(name, 3, full) if full else "refused")
-    add("partial_bytes", name, times(name, 4, partial))
-    add("partial_text", name, times(name, 3, partial))
-    add("full_bytes", name, times(name, 3, full))
-    add("full_text", name, times(name, 3, full))
-    add("between", name, times(name, 7, full) if full else "refused")
-for operation in ["partial_text", "full_text"]:
-    for name in [b"refs/heads/\xff", b"a\xe2\x82"]:
-        add(operation, name, "no text")
 for name, component in [(b"refs/heads", b"main"), (b"a", b"b/c"), (b"a", b""), (b"a", b"/b"), (b"a", b".b"), (b"a", b"b.lock"), (b"a", b"b/"),
                         (b"a", b"@"), (b"@a", b"@{b"), (b"HEAD", b"x"), (b"a", b"caf\xc3\xa9"), (b"a", b"b c"), (b"a.", b"b")]:
     whole = name + b"/" + component
@@ -128,28 +110,6 @@ for name, component in [(b"refs/heads", b"main"), (b"a", b"b/c"), (b"a", b""), (
     add_fields("join", [name, component], answer if rules(name)[0] else "refused")
 add_fields("join", [b"a..b", b"c"], "refused")
 add_fields("join", [b"a.lock", b"c"], "refused")
-
-# The short name and the category of the table above, each by the view and by the name; the whole where there is none.
-for name, answer in table.items():
-    category, _, short = answer.partition(" ")
-    short = short or name.decode()
-    add("shorten", name, "refused" if answer == "refused" else f"{short} {short} {category} {category}")
-
-# What begins the names (gitrepository-layout), and which of them git-worktree says that worktrees don't share: pseudo refs, which are
-# all names directly below the folder of git, and those below refs/bisect, refs/worktree and refs/rewritten. Of another worktree, what is
-# below refs/ isn't told apart.
-fronts = {"tag": ("refs/tags/", False), "local": ("refs/heads/", False), "remote": ("refs/remotes/", False), "note": ("refs/notes/", False),
-          "pseudo": ("", True), "main-pseudo": ("main-worktree/", True), "main": ("main-worktree/refs/", False),
-          "linked-pseudo": ("worktrees/", True), "linked": ("worktrees/", False), "bisect": ("refs/bisect/", True),
-          "rewritten": ("refs/rewritten/", True), "worktree": ("refs/worktree/", True)}
-for name, answer in table.items():
-    category = answer.partition(" ")[0]
-    if category in fronts:
-        front, private = fronts[category]
-        add("prefix", name, f"[{front}] {str(private).lower()} {str(category == 'remote').lower()}")
-    else:
-        add("prefix", name, answer)
-
 
 def front_of(name):
     return b"".join(b"refs/namespaces/" + part + b"/" for part in name.split(b"/"))
@@ -168,49 +128,6 @@ for name in [b"foo", b"foo/bar"]:
 add_fields("prefixed", [b"a..b", b"x"], "refused")
 add_fields("strip", [b"main", b"foo"], "refused")
 add_fields("strip", [b"HEAD", b"a..b"], "refused")
-
-
-def order(one, other):
-    """The order of two values, and whether they and their hashes are equal: equal ones hash alike, and digests of what differs differ."""
-    word = "Less" if one < other else "Greater" if one > other else "Equal"
-    return " ".join([word] + [str(one == other).lower()] * 2)
-
-
-# Names are ordered by their bytes, as Python orders bytes; namespaces by those of their fronts.
-pairs = [(b"refs/heads/a", b"refs/heads/b"), (b"refs/heads/b", b"refs/heads/a"), (b"refs/heads/a", b"refs/heads/a"), (b"HEAD", b"refs/heads/a"),
-         (b"refs/heads/a", b"refs/heads/a/b"), (b"refs/heads/a-b", b"refs/heads/a/b"), (b"refs/heads/a0", b"refs/heads/a/b"),
-         (b"refs/heads/\xff", b"refs/heads/z"), (b"refs/heads/\xc3\xa9", b"refs/heads/\xc3\xa8"), (b"HEAD", b"HEAD"), (b"FETCH_HEAD", b"HEAD"),
-         (b"refs/heads/A", b"refs/heads/a")]
-for one, other in pairs:
-    add_fields("order_of_full", [one, other], f"{order(one, other)} {order(one, other)}")
-for one, other in pairs + [(b"main", b"main"), (b"main", b"mai"), (b"main", b"Main"), (b"a/b", b"a-b")]:
-    add_fields("order_of_partial", [one, other], f"{order(one, other)} {order(one, other)}")
-for one, other in [(b"a", b"b"), (b"a/b", b"a"), (b"a", b"a"), (b"a/b", b"a-b"), (b"b", b"a/c")]:
-    add_fields("order_of_namespaces", [one, other], order(front_of(one), front_of(other)))
-for one, other in [(b"a..b", b"a"), (b"a", b"a..b"), (b"a/b", b"")]:
-    for operation in ["order_of_full", "order_of_partial", "order_of_namespaces"]:
-        add_fields(operation, [one, other], "refused")
-
-
-# Categories are ordered as gix-ref declares them, those of linked worktrees then by the worktree's name.
-declared = ["tag", "local", "remote", "note", "pseudo", "main-pseudo", "main", "linked-pseudo", "linked", "bisect", "rewritten", "worktree"]
-told = {name: answer.partition(" ")[0] for name, answer in table.items()}
-told |= {b"worktrees/v/HEAD": "linked-pseudo", b"worktrees/x/refs/heads/x": "linked", b"worktrees/w/refs/bisect/bad": "linked"}
-
-
-def category_key(name):
-    is_linked = told[name].startswith("linked")
-    return declared.index(told[name]), name.split(b"/")[1] if is_linked else b""
-
-
-for one in told:
-    for other in told:
-        known = told[one] in declared and told[other] in declared
-        if known or one == other:
-            add_fields("order_of_categories", [one, other], order(category_key(one), category_key(other)) if known else "refused")
-for one, other in [(b"both", b"both"), (b"both", b"log"), (b"log", b"both"), (b"log", b"log")]:
-    add_fields("order_of_logs", [one, other], order(one, other))
-add_fields("order_of_logs", [b"both", b"none"], "refused")
 
 
 def git(room, *words, text=b""):
@@ -234,65 +151,15 @@ def files_of_git(kind):
         return texts
 
 
-# A target prints as the file that git writes for it; its kind, its id and its name are what git was asked to write.
+# A target prints as the file that git writes for it; its id is what git was asked to write.
 zeros = [(("0" * length), None, b"0" * length + b"\n") for length in (40, 64)]
 written = files_of_git("sha1") + files_of_git("sha256")[:2] + zeros
-for digits, name, text in written:
+for digits, _, text in written:
     assert text.endswith(b"\n")
     text = text[:-1]
-    kind = "Symbolic none " + name if name else f"Object {digits} none"
-    null = "true" if digits and not digits.strip("0") else "false"
-    add("target", text, f"{text.decode()}; {null}; {kind}; {kind}")
     taken = f"id {digits}" if digits else f"back {text.decode()}"
     add("taken", text, f"{taken}; {taken}; {text.decode()}")
-for text in [b"", b"ref: ", b"ref: main", b"ref: a..b", b"ref: refs/heads/a.lock", b"0" * 39, b"0" * 41, b"g" * 40, b"refs/heads/main"]:
-    add("target", text, "refused")
 add("taken", b"ref: main", "refused")
-for digits, _, _ in written:
-    if digits:
-        add("object", digits.encode(), f"{digits} {digits} {digits}")
-add("object", b"ref: refs/heads/main", "refused")
-
-
-# Ids come before names, as the type declares them: ids by their kind, SHA-1 first, and then by their digits (gix_hash), views of ids by
-# their digits alone; names by their bytes.
-def keys(target):
-    digits, name, _ = target
-    if name:
-        return (1, 0, name.encode()), (1, name.encode()), 1
-    return (0, len(digits), digits.encode()), (0, digits.encode()), 0
-
-
-for one in written:
-    for other in written:
-        answers = [order(key, other_key) for key, other_key in zip(keys(one), keys(other))]
-        add_fields("order_of_targets", [one[2][:-1], other[2][:-1]], " ".join(answers))
-add_fields("order_of_targets", [b"ref: main", b"0" * 40], "refused")
-add_fields("order_of_targets", [b"0" * 40, b"0"], "refused")
-
-# git-update-ref: what a reference becomes, and what it must be before. Expectations are ordered as the type declares them, then by target.
-texts = [text[:-1] for _, _, text in written]
-words = [b"any", b"stands", b"lacks", b"stands-at", b"if-at"]
-for word in words:
-    for new in [b"", texts[0], texts[2]]:
-        for target in [texts[1], texts[3]]:
-            told = target.decode() if word.endswith(b"-at") else "none"
-            plain = word == b"any" and not new
-            add_fields("edit", [word, target, new], f"refs/heads/main; {new.decode() or 'none'}; {told}; {str(plain).lower()}")
-for fields in [[b"never", b"", b""], [b"stands-at", b"", b""], [b"if-at", b"ref: main", b""], [b"any", b"", b"ref: main"], [b"", b"", b""]]:
-    add_fields("edit", fields, "refused")
-for one in words:
-    for other in words:
-        for target, other_target in [(written[0], written[1]), (written[2], written[0])]:
-            at = (words.index(one), keys(target)[0] if one.endswith(b"-at") else ())
-            other_at = (words.index(other), keys(other_target)[0] if other.endswith(b"-at") else ())
-            add_fields("order_of_expectations", [one, target[2][:-1], other, other_target[2][:-1]], order(at, other_at))
-add_fields("order_of_expectations", [b"any", b"", b"never", b""], "refused")
-
-# The usual change of a log: with the reference, not forced, and without a message.
-for message in [b"", b"commit: one", b"\n"]:
-    add("log", message, f"AndReference false [] {str(not message).lower()}")
-
 # ---- lists of edits
 
 NEW = "64c5e58854b06001b3a0c20edb97900dd0131025"

@@ -1,13 +1,9 @@
 //! Cases of `gix_ref_format`, but for its logs.
 
-use bstr::BStr;
-use case_page::Page;
+use case_words::Page;
 use gix_hash::Kind;
-use gix_ref_format::lookup::{behind_slash, is_complete, is_own, key_of};
 use gix_ref_format::loose;
-use gix_ref_format::packed::{
-    Buffer, FindError, Header, Iter, Peeled, Records, Reference, buffer, iter,
-};
+use gix_ref_format::packed::{Buffer, FindError, Iter, Records, Reference, buffer, iter};
 use gix_ref_name::{FullName, FullNameRef, PartialNameRef, TargetRef};
 use std::alloc::Global;
 
@@ -58,24 +54,6 @@ fn put_of_name(alloc: Global, name: FullName, text: &[u8], page: &mut Page) {
             page.name(reference.kind());
         }
         Err(error) => page.text(word(error)),
-    }
-}
-
-fn header(line: &[u8], page: &mut Page) {
-    match Header::from_line(line) {
-        Some(header) => {
-            page.text(peeled(header.peeled));
-            page.value(header.sorted);
-        }
-        None => page.text("none"),
-    }
-}
-
-fn peeled(peeled: Peeled) -> &'static str {
-    match peeled {
-        Peeled::Unspecified => "unspecified",
-        Peeled::Partial => "partial",
-        Peeled::Fully => "fully",
     }
 }
 
@@ -157,19 +135,6 @@ fn must_stand(alloc: Global, word: &[u8], buffer: &Buffer, page: &mut Page) {
     }
 }
 
-// Whether no rule completes the name, whether each worktree has its own, the name by which a record may stand for it, and what
-// stands behind its first slash.
-fn looked_up(name: &[u8], page: &mut Page) {
-    page.put(is_complete(name));
-    page.value(is_own(name));
-    page.value(name_or_none(key_of(name)));
-    page.value(name_or_none(behind_slash(name)));
-}
-
-fn name_or_none(name: Option<&[u8]>) -> BStr<'_> {
-    BStr::new(name.unwrap_or(b"none"))
-}
-
 // Each record.
 fn put_all(records: Records<'_>, page: &mut Page) {
     for record in records {
@@ -201,10 +166,8 @@ fn put_of_bytes(alloc: Global, operation: &str, word: &[u8], bytes: &[u8], page:
         "loose" => target(alloc, bytes, page),
         "again" => again(alloc, bytes, page),
         "path" => from_path(alloc, bytes, page),
-        "header" => header(bytes, page),
         "items" => items(bytes, page),
         "open" => opened(alloc, bytes, page),
-        "lookup" => looked_up(bytes, page),
         _ => match open(alloc, bytes) {
             Ok(buffer) => put_of_buffer(alloc, operation, word, &buffer, page),
             Err(_) => page.text("not opened"),

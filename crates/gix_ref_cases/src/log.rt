@@ -1,6 +1,6 @@
 //! Cases of the logs of `gix_ref_format`.
 
-use case_page::Page;
+use case_words::Page;
 use gix_object_lines::hex_line::is_id;
 use gix_ref_file::{Files, MemoryFiles};
 use gix_ref_log::iter::{Error, FileAt, ReadAt, forward, reverse};

@@ -7,8 +7,10 @@ mod format;
 mod log;
 mod name;
 mod packed;
+mod store;
+mod transaction;
 
-use case_page::Page;
+use case_words::Page;
 use std::alloc::{AllocError, Global};
 use std::io;
 
@@ -21,6 +23,8 @@ fn told(alloc: Global, family: &str, case: &str) -> Result<String, AllocError> {
         "format" => format::put_answer(alloc, case, &mut page),
         "log" => log::put_answer(alloc, case, &mut page),
         "packed" => packed::put_answer(alloc, case, &mut page),
+        "store" => store::put_answer(alloc, case, &mut page),
+        "transaction" => transaction::put_answer(alloc, case, &mut page),
         _ => page.text("no case"),
     }
     page.finish()

@@ -1,12 +1,9 @@
 //! Cases of `gix_ref_name` and `gix_ref_edit`.
 
 mod cases;
-mod conversions;
-mod edits;
 mod full;
 mod lists;
 mod operations;
-mod orders;
 mod partial;
 mod targets;
 

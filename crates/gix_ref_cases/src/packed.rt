@@ -1,6 +1,6 @@
 //! Cases of `gix_ref_packed`.
 
-use case_page::{Page, read_texts, text_of};
+use case_words::{Page, read_texts, text_of};
 use gix_hash::{Kind, ObjectId};
 use gix_ref_format::packed::{Buffer, Reference};
 use gix_ref_name::FullNameRef;

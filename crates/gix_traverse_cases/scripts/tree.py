@@ -134,12 +134,8 @@ def main():
         for _ in range(60):
             root = git.tree(any_tree(git, blobs, chance, 4))
             add_paths(git, root, any_paths(git, root, chance))
-        # the walk ends at the third entry, and doesn't go below `shut`
-        shut = {b"a": {b"shut": {b"x": file}, b"y": file, b"z": file}, b"b": file}
-        root = git.tree(shut)
+        root = git.tree({b"a": {b"shut": {b"x": file}, b"y": file, b"z": file}, b"b": file})
         depth, breadth = git.depth(root), git.breadth(root)
-        add("depth-stopped", git, root, git.trees(root), "whole" + told([it for it in depth if it[2] != b"a/shut/x"][:3], lambda path: path))
-        add("breadth-stopped", git, root, git.trees(root), "refused Cancelled" + told(breadth[:3], lambda path: path))
         # copies tell the same: the path `a`, `a/b` that is queued, and the entries; buffers are empty when they are taken
         add("depth-copied", git, root, git.trees(root), "0 0 a a/b" + told(depth, lambda path: path))
         add("breadth-copied", git, root, git.trees(root), "a a/b" + told(breadth, lambda path: path))

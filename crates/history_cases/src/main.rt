@@ -1,6 +1,7 @@
-//! Answers cases of `history`, a line each: a hash function, and words that make, open and run a repository.
+//! Answers cases of `history` and, behind `files`, of `history_files`, a line each: a hash function, and words.
 #![tactic(auto)]
 
+mod edits;
 mod face;
 mod files;
 mod indexed;
@@ -14,7 +15,11 @@ use std::io;
 
 fn main(rt: HostRuntime) -> io::Result<()> {
     for line in rt.lines(rt.alloc()) {
-        let text = answer::<Store>(rt.alloc(), line?.as_str())?;
+        let line = line?;
+        let text = match line.as_str().strip_prefix("files ") {
+            Some(case) => edits::answer(rt.alloc(), case)?,
+            None => answer::<Store>(rt.alloc(), line.as_str())?,
+        };
         println!(rt; "{text}")?;
     }
     Ok(())

@@ -1,16 +1,58 @@
 //! Commits with one part changed: what is written of them, and whether they can be owned.
 
+use crate::written::show_written;
 use bstr::BStr;
-use case_ids::Case;
-use case_objects::show_written;
-use case_page::Page;
+use case_store::Case;
+use case_words::{Page, text_of};
 use gix_object_commit::CommitRef;
 use gix_object_commit::commit::HeaderRef;
 use gix_object_lines::lines::{ActorRef, Time};
-use std::alloc::Global;
+use std::alloc::{AllocError, Global};
 
-fn show_both(alloc: Global, commit: CommitRef<'_>, page: &mut Page) {
+/// Adds what is written of the commit with the part that the operation names, and of the commit that owns its parts, but for a header.
+pub fn change<'a>(
+    alloc: Global,
+    operation: &str,
+    mut commit: CommitRef<'a>,
+    case: &'a Case,
+    page: &mut Page,
+) {
+    if put_part(operation, &mut commit, case).is_err() {
+        return page.text("no memory");
+    }
     show_written(alloc, &commit, page);
+    if operation != "with-header" {
+        show_own(alloc, commit, page);
+    }
+}
+
+fn put_part<'a>(
+    operation: &str,
+    commit: &mut CommitRef<'a>,
+    case: &'a Case,
+) -> Result<(), AllocError> {
+    let part = BStr::new(case.text(1));
+    match operation {
+        "with-tree" => commit.tree = part,
+        "with-parent" => return Ok(commit.parents.push(part)?),
+        "with-encoding" => commit.encoding = Some(part),
+        "with-header" => {
+            let value = BStr::new(case.text(2));
+            let header = HeaderRef { name: part, value };
+            return Ok(commit.extra_headers.push(header)?);
+        }
+        _ => {
+            commit.author = ActorRef {
+                name: part,
+                email: BStr::new(case.text(2)),
+                time: BStr::new(case.text(3)),
+            };
+        }
+    }
+    Ok(())
+}
+
+fn show_own(alloc: Global, commit: CommitRef<'_>, page: &mut Page) {
     match commit.into_owned() {
         Ok(own) => {
             page.text("; own ");
@@ -23,52 +65,10 @@ fn show_both(alloc: Global, commit: CommitRef<'_>, page: &mut Page) {
     }
 }
 
-/// With the second text as its tree's id.
-pub fn tree<'a>(alloc: Global, mut commit: CommitRef<'a>, case: &'a Case, page: &mut Page) {
-    commit.tree = BStr::new(case.text(1));
-    show_both(alloc, commit, page);
-}
-
-/// With the second text as a further parent's id.
-pub fn parent<'a>(alloc: Global, mut commit: CommitRef<'a>, case: &'a Case, page: &mut Page) {
-    if commit.parents.push(BStr::new(case.text(1))).is_err() {
-        return page.text("no memory");
-    }
-    show_both(alloc, commit, page);
-}
-
-/// With the further texts as its author's name, email and time.
-pub fn author<'a>(alloc: Global, mut commit: CommitRef<'a>, case: &'a Case, page: &mut Page) {
-    commit.author = ActorRef {
-        name: BStr::new(case.text(1)),
-        email: BStr::new(case.text(2)),
-        time: BStr::new(case.text(3)),
-    };
-    show_both(alloc, commit, page);
-}
-
-/// With the second text as its encoding.
-pub fn encoding<'a>(alloc: Global, mut commit: CommitRef<'a>, case: &'a Case, page: &mut Page) {
-    commit.encoding = Some(BStr::new(case.text(1)));
-    show_both(alloc, commit, page);
-}
-
-/// With a further header, whose name and value are the further texts, and what is written of that.
-pub fn header<'a>(alloc: Global, mut commit: CommitRef<'a>, case: &'a Case, page: &mut Page) {
-    let header = HeaderRef {
-        name: BStr::new(case.text(1)),
-        value: BStr::new(case.text(2)),
-    };
-    if commit.extra_headers.push(header).is_err() {
-        return page.text("no memory");
-    }
-    show_written(alloc, &commit, page);
-}
-
 fn time_of(seconds: &[u8], offset: &[u8]) -> Option<Time> {
     Some(Time {
-        seconds: str::from_utf8(seconds).ok()?.parse::<i64>().ok()?,
-        offset: str::from_utf8(offset).ok()?.parse::<i32>().ok()?,
+        seconds: text_of(seconds)?.parse::<i64>().ok()?,
+        offset: text_of(offset)?.parse::<i32>().ok()?,
     })
 }
 

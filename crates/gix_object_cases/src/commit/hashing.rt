@@ -1,8 +1,8 @@
 //! Blobs, and the ids of objects.
 
-use case_ids::Case;
-use case_objects::show_object;
-use case_page::Page;
+use crate::written::show_object;
+use case_store::Case;
+use case_words::Page;
 use gix_hash::io::{self, Interrupt, Progress};
 use gix_object_hash::{BlobRef, compute_hash, compute_stream_hash};
 use gix_object_lines::Kind;
@@ -44,19 +44,17 @@ impl Progress for Amount {
 }
 
 #[derive(Drop)]
-struct Stop {
-    wanted: bool,
-}
+struct Never;
 
-impl Interrupt for Stop {
+impl Interrupt for Never {
     fn asked(&mut self) -> bool {
-        self.wanted
+        false
     }
 }
 
 /// The id of an object whose content is the front of a stream: the word of its kind, the content's length and the stream; how
-/// much progress was told; and how many bytes are left. The reading is to stop where that is wanted.
-pub fn stream(case: &Case, wanted: bool, page: &mut Page) {
+/// much progress was told; and how many bytes are left.
+pub fn stream(case: &Case, page: &mut Page) {
     let (Ok(kind), Some(length)) = (Kind::from_bytes(case.text(0)), read_unsigned(case.text(1)))
     else {
         return page.text("no object");
@@ -69,7 +67,7 @@ pub fn stream(case: &Case, wanted: bool, page: &mut Page) {
         &mut bytes,
         length,
         &mut progress,
-        &mut Stop { wanted },
+        &mut Never,
     ) {
         Ok(id) => {
             page.put_between("", id, "; told ");

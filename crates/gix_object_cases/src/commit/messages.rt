@@ -1,6 +1,6 @@
 //! A commit's message, parted, and its trailers.
 
-use case_page::Page;
+use case_words::Page;
 use gix_object_commit::CommitRef;
 use gix_object_message::{SelectedTrailers, TrailerRef};
 

@@ -1,10 +1,10 @@
 //! Signatures of commits, found and made.
 
-use crate::commit::parts::show_header;
+use crate::program::Program;
+use crate::written::show_written;
 use bstr::BStr;
-use case_ids::Case;
-use case_objects::{Program, show_written};
-use case_page::Page;
+use case_store::Case;
+use case_words::Page;
 use gix_object_commit::{Commit, CommitRef};
 use gix_object_commit_tokens::CommitRefIter;
 use gix_object_commit_tokens::ref_iter::CommitSignature;
@@ -14,7 +14,8 @@ use gix_object_signature::sign::Options;
 use std::alloc::Global;
 
 fn show_signature(alloc: Global, found: CommitSignature<'_>, page: &mut Page) {
-    show_header("header ", found.header, "; ", page);
+    page.between("header ", found.header.name.as_bytes(), "|");
+    page.between("", found.header.value.as_bytes(), "; ");
     match found.header.unfolded(alloc) {
         Ok(value) => page.between("signature ", value.as_bytes(), "; "),
         Err(error) => page.name(error),
@@ -90,7 +91,7 @@ fn sign_lent(
 /// the program's status, its standard output and its standard error.
 pub fn sign(alloc: Global, commit: CommitRef<'_>, case: &Case, page: &mut Page) {
     let options = options(case.text(1));
-    let mut program = Program::new(alloc, case.behind(2));
+    let mut program = Program::new(alloc, case.behind(2), true);
     let copy = commit.to_owned();
     sign_lent(alloc, commit, &options, &mut program, page);
     match copy {
@@ -100,20 +101,6 @@ pub fn sign(alloc: Global, commit: CommitRef<'_>, case: &Case, page: &mut Page) 
             page.name(error);
         }
     }
-    page.text("; ");
-    program.tell(page);
-}
-
-/// Signs a commit whose tree's id is replaced: the commit, the id, and the program's answer as for `sign`.
-pub fn sign_with_tree<'a>(
-    alloc: Global,
-    mut commit: CommitRef<'a>,
-    case: &'a Case,
-    page: &mut Page,
-) {
-    commit.tree = BStr::new(case.text(1));
-    let mut program = Program::new(alloc, case.behind(2));
-    sign_lent(alloc, commit, &options(b"key"), &mut program, page);
     page.text("; ");
     program.tell(page);
 }

@@ -1,8 +1,8 @@
 //! Signatures verified.
 
-use crate::signature::program::Program;
+use crate::program::Program;
 use bstr::BStr;
-use case_page::{Page, Texts};
+use case_words::{Page, Texts};
 use gix_object_signature::SignedData;
 use gix_object_signature::run::Word;
 use gix_object_signature::verify::{Options, Outcome, TrustLevel};
@@ -17,8 +17,8 @@ struct Signed<'a> {
     answers: &'a [Vec<u8>],
 }
 
-fn read_signed(case: &Texts, place: usize) -> Option<Signed<'_>> {
-    let [trust, before, behind, signature, answers @ ..] = case.behind(place) else {
+fn read_signed(words: &[Vec<u8>]) -> Option<Signed<'_>> {
+    let [trust, before, behind, signature, answers @ ..] = words else {
         return None;
     };
     Some(Signed {
@@ -53,14 +53,12 @@ fn show_outcome(outcome: &Outcome, page: &mut Page) {
     } else {
         " failed"
     });
-    page.text(" output ");
-    page.escaped(outcome.answer.output.as_bytes());
-    page.text(" errors ");
-    page.escaped(outcome.answer.errors.as_bytes());
+    page.between(" output ", outcome.answer.output.as_bytes(), "");
+    page.between(" errors ", outcome.answer.errors.as_bytes(), "");
 }
 
 fn verify(alloc: Global, signed: &Signed<'_>, options: &Options<'_>, page: &mut Page) {
-    let mut program = Program::new(alloc, signed.answers);
+    let mut program = Program::new(alloc, signed.answers, false);
     match signed.data.verify(
         alloc,
         signed.signature,
@@ -68,56 +66,48 @@ fn verify(alloc: Global, signed: &Signed<'_>, options: &Options<'_>, page: &mut 
         &mut |words: &[Word<'_>], input: &[u8]| { program.answer(words, input) },
     ) {
         Ok(outcome) => show_outcome(&outcome, page),
-        Err(error) => {
-            page.text("refused ");
-            page.name(error);
-        }
+        Err(error) => page.refused(error),
     }
     program.tell(page);
 }
 
-/// What a program tells of a signature of OpenPGP: the program, the least trust, the bytes before and behind the signature, the
-/// signature, and the program's answers.
-pub fn openpgp(alloc: Global, case: &Texts, page: &mut Page) {
-    let Some(signed) = read_signed(case, 1) else {
-        return page.text("no case");
-    };
-    let options = Options::OpenPgp {
-        program: BStr::new(case.text(0)),
-        minimum_trust: signed.minimum_trust,
-    };
-    verify(alloc, &signed, &options, page);
+// How a signature of OpenPGP, of X.509 or of the secure shell is verified, of which the last has the paths of the allowed signers and of
+// the revoked keys behind the program; there are none where the path is empty.
+fn options<'a>(operation: &str, case: &'a Texts, minimum_trust: TrustLevel) -> Options<'a> {
+    let program = BStr::new(case.text(0));
+    let revoked = BStr::new(case.text(2));
+    match operation {
+        "verify-openpgp" => Options::OpenPgp {
+            program,
+            minimum_trust,
+        },
+        "verify-x509" => Options::X509 {
+            program,
+            minimum_trust,
+        },
+        _ => Options::Ssh {
+            program,
+            allowed_signers: BStr::new(case.text(1)),
+            revoked_keys: if revoked.as_bytes().is_empty() {
+                None
+            } else {
+                Some(revoked)
+            },
+            minimum_trust,
+        },
+    }
 }
 
-/// The same of X.509.
-pub fn x509(alloc: Global, case: &Texts, page: &mut Page) {
-    let Some(signed) = read_signed(case, 1) else {
-        return page.text("no case");
+/// What a program tells of a signature: the program, the paths, the least trust, the bytes before and behind the signature, the
+/// signature, and the program's answers. `None` where the operation or the words are none.
+pub fn put_answer(alloc: Global, operation: &str, case: &Texts, page: &mut Page) -> Option<()> {
+    let front = match operation {
+        "verify-openpgp" | "verify-x509" => 1,
+        "verify-ssh" => 3,
+        _ => return None,
     };
-    let options = Options::X509 {
-        program: BStr::new(case.text(0)),
-        minimum_trust: signed.minimum_trust,
-    };
+    let signed = read_signed(case.behind(front))?;
+    let options = options(operation, case, signed.minimum_trust);
     verify(alloc, &signed, &options, page);
-}
-
-/// The same of the secure shell, with the paths of the allowed signers and of the revoked keys, of which there are none where the
-/// path is empty, behind the program.
-pub fn ssh(alloc: Global, case: &Texts, page: &mut Page) {
-    let Some(signed) = read_signed(case, 3) else {
-        return page.text("no case");
-    };
-    let revoked = case.text(2);
-    let revoked_keys = if revoked.is_empty() {
-        None
-    } else {
-        Some(BStr::new(revoked))
-    };
-    let options = Options::Ssh {
-        program: BStr::new(case.text(0)),
-        allowed_signers: BStr::new(case.text(1)),
-        revoked_keys,
-        minimum_trust: signed.minimum_trust,
-    };
-    verify(alloc, &signed, &options, page);
+    Some(())
 }

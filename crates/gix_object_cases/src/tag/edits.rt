@@ -1,12 +1,48 @@
 //! Tags with one part changed: what is written of them, and whether they can be owned.
 
+use crate::written::show_written;
 use bstr::BStr;
-use case_ids::Case;
-use case_objects::show_written;
-use case_page::Page;
+use case_store::Case;
+use case_words::Page;
 use gix_object_lines::lines::ActorRef;
 use gix_object_tag::TagRef;
 use std::alloc::Global;
+
+/// Adds what is written of the tag with the part that the operation names, and of the tag that owns its parts.
+pub fn change(alloc: Global, operation: &str, tag: TagRef<'_>, case: &Case, page: &mut Page) {
+    match changed(operation, tag, case) {
+        Some(tag) => show_both(alloc, tag, page),
+        None => page.text("no operation"),
+    }
+}
+
+fn changed<'a>(operation: &str, tag: TagRef<'a>, case: &'a Case) -> Option<TagRef<'a>> {
+    let part = BStr::new(case.text(1));
+    match operation {
+        "with-target" => Some(TagRef {
+            target: part,
+            ..tag
+        }),
+        "with-name" => Some(TagRef { name: part, ..tag }),
+        "with-message" => Some(TagRef {
+            message: part,
+            ..tag
+        }),
+        "with-signature" => Some(TagRef {
+            pgp_signature: Some(part),
+            ..tag
+        }),
+        "with-tagger" => Some(TagRef {
+            tagger: Some(ActorRef {
+                name: part,
+                email: BStr::new(case.text(2)),
+                time: BStr::new(case.text(3)),
+            }),
+            ..tag
+        }),
+        _ => None,
+    }
+}
 
 fn show_both(alloc: Global, tag: TagRef<'_>, page: &mut Page) {
     show_written(alloc, &tag, page);
@@ -20,45 +56,4 @@ fn show_both(alloc: Global, tag: TagRef<'_>, page: &mut Page) {
             page.name(error);
         }
     }
-}
-
-/// With the second text as its target's id.
-pub fn target<'a>(alloc: Global, tag: TagRef<'a>, case: &'a Case, page: &mut Page) {
-    let target = BStr::new(case.text(1));
-    show_both(alloc, TagRef { target, ..tag }, page);
-}
-
-/// With the second text as its name.
-pub fn name<'a>(alloc: Global, tag: TagRef<'a>, case: &'a Case, page: &mut Page) {
-    let name = BStr::new(case.text(1));
-    show_both(alloc, TagRef { name, ..tag }, page);
-}
-
-/// With the further texts as its tagger's name, email and time.
-pub fn tagger<'a>(alloc: Global, tag: TagRef<'a>, case: &'a Case, page: &mut Page) {
-    let tagger = Some(ActorRef {
-        name: BStr::new(case.text(1)),
-        email: BStr::new(case.text(2)),
-        time: BStr::new(case.text(3)),
-    });
-    show_both(alloc, TagRef { tagger, ..tag }, page);
-}
-
-/// With the second text as its message.
-pub fn message<'a>(alloc: Global, tag: TagRef<'a>, case: &'a Case, page: &mut Page) {
-    let message = BStr::new(case.text(1));
-    show_both(alloc, TagRef { message, ..tag }, page);
-}
-
-/// With the second text as its signature.
-pub fn signature<'a>(alloc: Global, tag: TagRef<'a>, case: &'a Case, page: &mut Page) {
-    let pgp_signature = Some(BStr::new(case.text(1)));
-    show_both(
-        alloc,
-        TagRef {
-            pgp_signature,
-            ..tag
-        },
-        page,
-    );
 }

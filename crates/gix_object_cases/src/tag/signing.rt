@@ -1,10 +1,11 @@
 //! Signatures of tags, found and made.
 
-use crate::tag::parts::show_signature;
+use crate::program::Program;
+use crate::tag::whole::show_signature;
+use crate::written::show_written;
 use bstr::BStr;
-use case_ids::Case;
-use case_objects::{Program, show_written};
-use case_page::Page;
+use case_store::Case;
+use case_words::Page;
 use gix_object_signature::run::Word;
 use gix_object_signature::sign::Options;
 use gix_object_signature::{Format, SignatureRef, SignedData};
@@ -91,24 +92,9 @@ pub fn sign<'a>(alloc: Global, mut tag: TagRef<'a>, case: &'a Case, page: &mut P
         tag.pgp_signature = Some(BStr::new(signature));
     }
     let options = options(case.text(2));
-    let mut program = Program::new(alloc, case.behind(3));
+    let mut program = Program::new(alloc, case.behind(3), true);
     sign_lent(alloc, tag, &options, &mut program, page);
     sign_own(alloc, tag, &options, &mut program, page);
     page.text("; ");
-    program.tell(page);
-}
-
-/// Signs a tag whose target's id is replaced: the tag, the id, the user's key and the program's answer as for `sign`.
-pub fn sign_with_target<'a>(alloc: Global, tag: TagRef<'a>, case: &'a Case, page: &mut Page) {
-    let target = BStr::new(case.text(1));
-    let options = options(case.text(2));
-    let mut program = Program::new(alloc, case.behind(3));
-    sign_lent(
-        alloc,
-        TagRef { target, ..tag },
-        &options,
-        &mut program,
-        page,
-    );
     program.tell(page);
 }

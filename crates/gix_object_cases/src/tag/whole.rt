@@ -1,12 +1,30 @@
 //! Tags read whole and owned.
 
-use crate::tag::parts::{show_signature, show_tagger};
-use case_ids::Case;
-use case_objects::show_object;
-use case_page::Page;
-use gix_object_lines::WriteTo;
+use crate::written::{show_actor, show_object};
+use case_words::Page;
+use gix_object_lines::lines::ActorRef;
+use gix_object_signature::SignatureRef;
 use gix_object_tag::{Tag, TagRef};
 use std::alloc::Global;
+
+fn show_tagger(tagger: Option<ActorRef<'_>>, page: &mut Page) {
+    match tagger {
+        Some(tagger) => show_actor("tagger ", tagger, "", page),
+        None => page.text("tagger none"),
+    }
+}
+
+/// Adds a signature's format and bytes, or `none`.
+pub fn show_signature(signature: Option<SignatureRef<'_>>, page: &mut Page) {
+    match signature {
+        Some(found) => {
+            page.text("signature ");
+            page.name(found.format);
+            page.between(" ", found.signature.as_bytes(), "");
+        }
+        None => page.text("signature none"),
+    }
+}
 
 /// The parts of a tag as its fields hold them.
 pub fn read(tag: TagRef<'_>, page: &mut Page) {
@@ -16,20 +34,6 @@ pub fn read(tag: TagRef<'_>, page: &mut Page) {
     show_tagger(tag.tagger, page);
     page.between("; message ", tag.message.as_bytes(), "; ");
     page.told("signature ", tag.pgp_signature, "");
-}
-
-/// What a tag's calls lend of it.
-pub fn lent(case: &Case, page: &mut Page) {
-    match TagRef::from_bytes(case.text(0), case.kind) {
-        Ok(tag) => {
-            page.put_between("", tag.kind(), " ");
-            page.put_between("", tag.target(), "; ");
-            show_tagger(tag.tagger(), page);
-            page.text("; ");
-            show_signature(tag.signature(), page);
-        }
-        Err(error) => page.refused(error),
-    }
 }
 
 fn show_own(tag: &Tag, page: &mut Page) {

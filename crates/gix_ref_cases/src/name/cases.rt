@@ -1,9 +1,9 @@
 //! What full and partial names are, by their bytes.
 
-use case_page::Page;
+use case_words::Page;
 use gix_ref_name::compose::precompose_unicode;
 use gix_ref_name::namespace::expand;
-use gix_ref_name::{Category, FullName, FullNameRef, Namespace, PartialNameRef};
+use gix_ref_name::{FullName, FullNameRef, Namespace, PartialNameRef};
 use std::alloc::Global;
 
 /// Whether it is a partial name, and whether a full one.
@@ -11,36 +11,6 @@ pub fn name(bytes: &[u8], page: &mut Page) -> Option<()> {
     page.put(PartialNameRef::new(bytes).is_ok());
     page.value(FullNameRef::new(bytes).is_ok());
     Some(())
-}
-
-/// The category and the short name.
-pub fn category(bytes: &[u8], page: &mut Page) -> Option<()> {
-    match FullNameRef::new(bytes).ok()?.category_and_short_name() {
-        Some((category, short)) => {
-            page.text(word(category));
-            page.value(short);
-        },
-        None => page.text("none"),
-    }
-    Some(())
-}
-
-/// The word for a category.
-pub fn word(category: Category<'_>) -> &'static str {
-    match category {
-        Category::Tag => "tag",
-        Category::LocalBranch => "local",
-        Category::RemoteBranch => "remote",
-        Category::Note => "note",
-        Category::PseudoRef => "pseudo",
-        Category::MainPseudoRef => "main-pseudo",
-        Category::MainRef => "main",
-        Category::LinkedPseudoRef { .. } => "linked-pseudo",
-        Category::LinkedRef { .. } => "linked",
-        Category::Bisect => "bisect",
-        Category::Rewritten => "rewritten",
-        Category::WorktreePrivate => "worktree",
-    }
 }
 
 /// The name again, from its category and its short name.
@@ -89,14 +59,5 @@ fn show_main(alloc: Global, main: FullName, namespace: &Namespace, page: &mut Pa
 /// The bytes with their characters composed.
 pub fn composed(alloc: Global, bytes: &[u8], page: &mut Page) -> Option<()> {
     page.hex(precompose_unicode(alloc, bytes).ok()?.as_bytes());
-    Some(())
-}
-
-/// The last component.
-pub fn last(bytes: &[u8], page: &mut Page) -> Option<()> {
-    match FullNameRef::new(bytes) {
-        Ok(name) => page.put(name.file_name()),
-        Err(error) => page.put(error),
-    }
     Some(())
 }

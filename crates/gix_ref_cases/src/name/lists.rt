@@ -3,7 +3,7 @@
 ghost use Rattle.std.specs.Prelude.{⊤, None};
 
 use crate::name::targets;
-use case_page::{Page, text_of};
+use case_words::{Page, text_of};
 use gix_hash::ObjectId;
 use gix_ref_edit::{
     Change, FindTarget, FindTargetError, LogChange, PreProcessError, PreviousValue, RefEdit,

@@ -1,7 +1,7 @@
 //! The operations by their names.
 
-use crate::name::{cases, conversions, edits, full, lists, orders, partial, targets};
-use case_page::{Page, read_texts};
+use crate::name::{cases, full, lists, partial, targets};
+use case_words::{Page, read_texts};
 use std::alloc::Global;
 
 /// Adds what the operation of the line gives.
@@ -22,10 +22,6 @@ fn of_fields(alloc: Global, operation: &str, fields: &[Vec<u8>], page: &mut Page
     match fields {
         [bytes] => of_names(alloc, operation, bytes, page),
         [one, other] => of_two(alloc, operation, one, other, page),
-        [word, expected, new] => edits::edit(alloc, [word, expected, new], page),
-        [word, target, other_word, other] => {
-            orders::expectations(alloc, [word, target], [other_word, other], page)
-        }
         _ => none(page),
     }
 }
@@ -38,31 +34,13 @@ fn none(page: &mut Page) -> Option<()> {
 fn of_names(alloc: Global, operation: &str, bytes: &[u8], page: &mut Page) -> Option<()> {
     match operation {
         "name" => cases::name(bytes, page),
-        "category" => cases::category(bytes, page),
         "again" => cases::again(alloc, bytes, page),
-        "last" => cases::last(bytes, page),
         "shown" => cases::shown(alloc, bytes, page),
         "namespace" => cases::namespace(alloc, bytes, page),
         "composed" => cases::composed(alloc, bytes, page),
-        "target" => targets::target(alloc, bytes, page),
         "taken" => targets::taken(alloc, bytes, page),
-        "object" => targets::object(bytes, page),
-        _ => of_owned(alloc, operation, bytes, page),
-    }
-}
-
-fn of_owned(alloc: Global, operation: &str, bytes: &[u8], page: &mut Page) -> Option<()> {
-    match operation {
         "partial" => partial::partial(alloc, bytes, page),
-        "shorten" => full::shorten(alloc, bytes, page),
         "path" => full::path(alloc, bytes, page),
-        "prefix" => full::prefix(bytes, page),
-        "partial_bytes" => conversions::partial_bytes(alloc, bytes, page),
-        "partial_text" => conversions::partial_text(alloc, bytes, page),
-        "full_bytes" => conversions::full_bytes(alloc, bytes, page),
-        "full_text" => conversions::full_text(alloc, bytes, page),
-        "between" => conversions::between(alloc, bytes, page),
-        "log" => edits::log(alloc, bytes, page),
         "once" => lists::once(alloc, bytes, page),
         _ => none(page),
     }
@@ -75,12 +53,6 @@ fn of_two(alloc: Global, operation: &str, one: &[u8], other: &[u8], page: &mut P
         "copied" => lists::copied(alloc, one, other, page),
         "prefixed" => partial::prefixed(alloc, one, other, page),
         "strip" => full::strip(alloc, one, other, page),
-        "order_of_partial" => orders::partial(alloc, one, other, page),
-        "order_of_full" => orders::full(alloc, one, other, page),
-        "order_of_namespaces" => orders::namespaces(alloc, one, other, page),
-        "order_of_categories" => orders::categories(one, other, page),
-        "order_of_logs" => orders::logs(one, other, page),
-        "order_of_targets" => orders::targets(alloc, one, other, page),
         _ => none(page),
     }
 }

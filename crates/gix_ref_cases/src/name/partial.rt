@@ -1,7 +1,7 @@
 //! Partial names that own their bytes, and what namespaces make of bytes.
 
 use bstr::BStr;
-use case_page::Page;
+use case_words::Page;
 use gix_ref_name::namespace::expand;
 use gix_ref_name::{Namespace, PartialName, PartialNameRef};
 use std::alloc::Global;

@@ -1,0 +1,58 @@
+//! Entries by their paths.
+
+use crate::find::errors;
+use case_words::Page;
+use gix_hash::{ObjectId, oid};
+use gix_object_entries::TreeRefIter;
+use gix_object_entries::tree::Entry;
+use gix_object_find::{Find, FindExt, lookup_entry, lookup_entry_by_path};
+use gix_object_lookup::lookup::Error;
+use std::alloc::{AllocError, Global};
+
+fn show(found: Result<Option<Entry>, Error>, page: &mut Page) {
+    match found {
+        Ok(Some(entry)) => {
+            page.put_between("", entry.mode.as_str(), " ");
+            page.put_between("", entry.oid, " ");
+            page.escaped(entry.filename.as_bytes());
+        }
+        Ok(None) => page.text("none"),
+        Err(error) => errors::lookup(error, page),
+    }
+}
+
+// The names between line feeds.
+fn names(alloc: Global, text: &[u8]) -> Result<Vec<&[u8]>, AllocError> {
+    text.split(|byte| *byte == b'\n').collect(alloc)
+}
+
+/// The entry of a path from the tree of the id on: by one text, or by names between line feeds.
+pub fn entry<T: Find>(
+    alloc: Global,
+    objects: &T,
+    id: oid<'_>,
+    path: &[u8],
+    is_text: bool,
+    page: &mut Page,
+) {
+    let mut root = Vec::new(alloc);
+    let tree = match objects.find_tree_iter(id, &mut root) {
+        Ok(tree) => tree,
+        Err(error) => return errors::existing_iter(error, page),
+    };
+    let mut buffer = Vec::new(alloc);
+    if is_text {
+        show(
+            lookup_entry_by_path(tree, objects, path, &mut buffer, alloc),
+            page,
+        );
+        return;
+    }
+    match names(alloc, path) {
+        Ok(names) => show(
+            lookup_entry(tree, objects, names.as_slice(), &mut buffer, alloc),
+            page,
+        ),
+        Err(error) => page.refused(error),
+    }
+}

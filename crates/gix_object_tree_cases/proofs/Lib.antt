@@ -1,2 +1,0 @@
-pub mod Shorter
-pub mod Kept

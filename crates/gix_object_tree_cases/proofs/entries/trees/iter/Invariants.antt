@@ -1,6 +1,0 @@
-use Rattle.std.proofs.Common.{◌≤◌, length}
-use Rattle.gix_object_tree_cases.proofs.entries.trees.iter.Given as goal
-
--- what is left is no longer than the content
-abbrev pub invariant-tokens : goal.invariant-tokens
-invariant-tokens l = length l.tokens.rest.now ≤ length l.content

@@ -1,6 +1,0 @@
-//! Cases of `gix_object_editor`.
-
-mod case;
-mod session;
-
-pub use session::answer;

@@ -1,6 +1,0 @@
-//! Cases of `history_names_survey`.
-
-mod session;
-mod shown;
-
-pub use session::NamesSurvey;
