@@ -1,9 +1,10 @@
--- What is known of a real folder: which one it is, and how many changes of it have failed; nothing of what it holds.
-use Rattle.std.specs.Prelude.{ℕ, Bool, not, ◌||◌, List, [], ◌++◌, ◌∷◌, ◌≡◌, Option, IfSome, String, bytes_eq, codes, length, take, string_bytes}
+-- What is known of a real folder: which one it is, and how many changes of it have failed. What it holds is supposed alone.
+use Rattle.std.specs.Prelude.{ℕ, Bool, not, ◌||◌, List, [], ◌++◌, ◌∷◌, ◌≡◌, Option, IfSome, String, bytes_eq, codes, take, string_bytes}
 use Rattle.std.specs.FinMap.{empty}
 use Rattle.gix_ref_file.specs.History.{History}
 use Rattle.std.specs.declared.alloc.Global.{Global}
 use Rattle.gix_ref_folder.specs.declared.folder.Folder.{Folder}
+use Rattle.gix_ref_folder.specs.declared.own.Own.{Own}
 use Rattle.gix_ref_folder.specs.declared.part.Part.{Part}
 use Rattle.gix_ref_folder.specs.declared.part.Part.TheVariants.{Objects, Names}
 
@@ -21,12 +22,19 @@ has Names path = not (is_object_path path)
 
 -- ---- a real folder
 
--- No call tells what a real folder holds, so no clause on trees speaks of one.
-abbrev pub IsKnown : Type 0
-IsKnown = ⊥
+-- What it holds and held, and that the system keeps what `Files` says of each call. Both are closed: no other crate sees their text, so
+-- they can neither be shown of a folder nor refuted, only supposed. No call of the system promises anything, so within this crate only a
+-- premise that never holds could give the clauses.
+pub history_of : {R File Dir : Type 0} → Folder R File Dir → History
+history_of folder = record { past = []; tree = empty }
 
-abbrev pub unknown : History
-unknown = record { past = []; tree = empty }
+pub IsHonest : {R File Dir : Type 0} → Folder R File Dir → Type 0
+IsHonest folder = ⊥
+
+-- So this crate's own calls keep them. No other crate can name `Own`.
+pub follows : {R File Dir : Type 0} (folder : Folder R File Dir) (P : Type 0) → Own → IsHonest folder → P
+unfolding IsHonest
+follows folder P own honest = absurd honest
 
 abbrev pub failures_of : {R File Dir : Type 0} → Folder R File Dir → ℕ
 failures_of folder = folder.failures

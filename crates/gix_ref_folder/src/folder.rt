@@ -136,13 +136,13 @@ impl<R: fs::Files + AllocGlobal + Clone + Drop> Folder<R> {
 }
 
 impl<R: fs::Files + AllocGlobal + Clone + Drop> Files for Folder<R> {
-    ghost use Rattle.std.specs.Prelude.{⊤, []};
-    ghost use Rattle.std.specs.FinMap.{empty};
-    ghost use Rattle.gix_ref_folder.specs.Folders.{failures_of, IsKnown, unknown};
+    ghost use Rattle.std.specs.Prelude.{⊤};
+    ghost use Rattle.gix_ref_folder.specs.declared.own.Own.TheVariants.{Proof};
+    ghost use Rattle.gix_ref_folder.specs.Folders.{failures_of, follows, history_of, IsHonest};
 
-    ghost history = { λ folder. unknown };
+    ghost history = { λ folder. history_of folder };
 
-    ghost is_honest = { λ folder. IsKnown };
+    ghost is_honest = { λ folder. IsHonest folder };
 
     ghost failures = { λ folder. failures_of folder };
 
@@ -251,5 +251,5 @@ impl<R: fs::Files + AllocGlobal + Clone + Drop> Files for Folder<R> {
         self.counted(removed)
     }
 
-    ghost rooted = { λ folder known. absurd known };
+    ghost rooted = { λ folder honest. follows folder _ Proof honest };
 }

@@ -3,6 +3,7 @@
 
 mod faults;
 mod folder;
+mod own;
 mod part;
 
 pub use folder::Folder;
