@@ -1,6 +1,7 @@
 #!/usr/bin/env python3
 """Writes the rows of `folder` in stdin and stdout. The answers come from the tree of files of the rows of `file`, of which each of the two
-parts shows its own: `objects` and what lies below it, or all else."""
+parts shows its own: `objects` and what lies below it, or all else. At a path with a component of more than 255 bytes nothing exists, and a
+change fails."""
 
 import random
 
@@ -28,6 +29,8 @@ class Parts(files.Tree):
         if any(files.is_path(it) and is_of(part, it) and not is_text(it) for it in paths):
             return "failed"
         if any(it != b"" and not is_of(part, it) for it in paths):
+            return {"kind": "absent", "read": "none:so%20", "read-at": "none:......", "list": "names"}.get(name, "failed")
+        if any(len(it) > 255 for path in paths for it in path.split(b"/")):
             return {"kind": "absent", "read": "none:so%20", "read-at": "none:......", "list": "names"}.get(name, "failed")
         if name == "list" and path == b"":
             names = [it for it in self.below(b"") if is_of(part, it)]
@@ -70,6 +73,37 @@ def by_hand():
         ["failed", "failed", "absent", "absent"])
 
 
+def fixed(words, answers):
+    """A line whose answers the tree of files doesn't have: links, and what is shown of a failed call."""
+    ROWS.append((f"n:folder:refs n:write:kept:1 {words}", f"done done {answers}"))
+
+
+def by_hand_alone():
+    for path in (b"w" * 255, b"refs/" + b"w" * 255):
+        row(BOTH + [("n", "write", path, b"1"), ("n", "kind", path), ("n", "append", path, b"2"), ("n", "remove", path)],
+            ["done", "file:1", "done", "done"])
+    for path in (b"w" * 256, b"refs/" + b"w" * 256, b"w" * 256 + b"/x", b"refs/" + b"w" * 4000, b"/".join([b"w" * 255] * 16)):
+        row(BOTH + [("n", "kind", path), ("n", "read", path), ("n", "read-at", path, 0), ("n", "list", path), ("n", "create", path),
+                    ("n", "write", path, b"1"), ("n", "append", path, b"1"), ("n", "rename", b"HEAD", path), ("n", "rename", path, b"a"),
+                    ("n", "remove", path), ("n", "folder", path), ("n", "remove-folder", path), ("n", "list", b"")],
+            ["absent", "none:so%20", "none:......", "names"] + ["failed"] * 8 + ["names:HEAD:refs"])
+    # A link is never read, written through or listed; it may be replaced and removed.
+    link = "link:refs/l:../kept"
+    fixed(f"{link} n:kind:refs/l n:read:refs/l n:read-at:refs/l:0 n:list:refs", "linked failed failed failed names:l")
+    fixed(f"{link} n:create:refs/l n:write:refs/l:2 n:append:refs/l:3 n:read:kept n:last", "linked stands failed failed 1:so%201 refs/l%3a%20not%20a%20file")
+    fixed("link:refs/l:../gone n:create:refs/l n:write:refs/l:2 n:append:refs/l:3 n:kind:gone", "linked stands failed failed absent")
+    fixed("link:refs/l:.. n:list:refs/l n:folder:refs/l n:remove-folder:refs/l n:list:-", "linked failed failed failed names:kept:refs")
+    fixed(f"{link} n:rename:refs/l:a n:rename:kept:refs/l n:read:refs/l n:list:-", "linked failed done 1:so%201 names:refs")
+    fixed(f"{link} n:remove:refs/l n:list:refs n:read:kept", "linked done names 1:so%201")
+    # A path through links that lead in a circle isn't absent.
+    fixed("link:l:l n:kind:l/x n:read:l/x n:last", "linked failed failed l/x%3a%20Too%20many%20levels%20of%20symbolic%20links")
+    fixed("n:last o:last n:kind:none n:create:refs n:read:a/b n:last", "none none absent stands none:so%20 none")
+    fixed("n:folder:refs n:last n:remove-folder:none n:last o:last", "failed refs%3a%20File%20exists failed none%3a%20No%20such%20file%20or%20directory none")
+    fixed("o:write:objects/a:1 o:last n:write:objects/a:1 n:last",
+          "failed objects/a%3a%20No%20such%20file%20or%20directory failed objects/a%3a%20no%20path%20of%20this%20part")
+    fixed("n:rename:none:kept n:last n:kind:%ff n:last", "failed kept%3a%20no%20file%20to%20move%20here failed %ff%3a%20not%20UTF-8")
+
+
 PATHS = [b"a", b"a/b", b"a/b/c", b"a-", b"b", b"b/c", b"c", b"..", b"a//b", b"", b"objects", b"objects/a", b"objects/a/b", b"objects-"]
 
 
@@ -90,6 +124,7 @@ def by_chance(chance):
 
 if __name__ == "__main__":
     by_hand()
+    by_hand_alone()
     chance = random.Random(41)
     for _ in range(300):
         by_chance(chance)

@@ -1,6 +1,7 @@
 //! Cases of `gix_ref_folder`.
 use case_words::{Page, call_by};
 use gix_ref_folder::{Folder, Part};
+use std::os::unix::fs::symlink;
 use std::{fs, io};
 
 type RealFolder<'a> = Folder<&'a HostRuntime>;
@@ -26,24 +27,46 @@ fn play(rt: &HostRuntime, root: &str, line: &str) -> io::Result<String> {
     let mut names = part(rt, root, Part::Names)?;
     let mut page = Page::new(rt.alloc());
     for word in line.split(' ') {
-        act(rt, &mut objects, &mut names, word, &mut page);
+        let told = match word.split_once(':') {
+            Some(("o", call)) => act(rt, &mut objects, call, &mut page),
+            Some(("n", call)) => act(rt, &mut names, call, &mut page),
+            Some(("link", paths)) => link(rt, root, paths, &mut page)?,
+            _ => None,
+        };
+        if told.is_none() {
+            page.word("unread");
+        }
     }
     Ok(page.finish()?)
 }
 
+// Calls a part, or shows its last failed call.
 fn act(
     rt: &HostRuntime,
-    objects: &mut RealFolder<'_>,
-    names: &mut RealFolder<'_>,
-    word: &str,
+    part: &mut RealFolder<'_>,
+    call: &str,
     page: &mut Page,
-) {
-    let told = match word.split_once(':') {
-        Some(("o", call)) => call_by(rt.alloc(), objects, call, page),
-        Some(("n", call)) => call_by(rt.alloc(), names, call, page),
-        _ => None,
-    };
-    if told.is_none() {
-        page.word("unread");
+) -> Option<()> {
+    if call != "last" {
+        return call_by(rt.alloc(), part, call, page);
     }
+    match part.last_failure() {
+        Some(failure) => {
+            page.word("");
+            page.bytes(&failure.text(rt.alloc()).ok()?);
+        }
+        None => page.word("none"),
+    }
+    Some(())
+}
+
+// Makes a link: its path, and where it leads.
+fn link(rt: &HostRuntime, root: &str, paths: &str, page: &mut Page) -> io::Result<Option<()>> {
+    let Some((path, to)) = paths.split_once(':') else {
+        return Ok(None);
+    };
+    let place = format!(in rt.alloc(); "{root}/{path}")?;
+    symlink(rt, to, place.as_str())?;
+    page.word("linked");
+    Ok(Some(()))
 }

@@ -1,17 +1,28 @@
-//! What an error of the system is told as.
+//! What an error of the system means.
+ghost use Rattle.std.specs.Prelude.{◌≡◌};
+ghost use Rattle.std.specs.IoError.{error_kind};
+ghost use Rattle.gix_ref_folder.specs.Folders.{fault_of, means_absent};
 
 use gix_ref_file::FileError;
 use std::io::{self, ErrorKind};
 
 /// `Memory` where memory was refused, else `Failed`.
-pub fn fault(error: io::Error) -> FileError {
+pub fn fault(error: &io::Error) -> FileError
+    ensures { result ≡ fault_of (error_kind error.now) }
+{
     match error.kind() {
         ErrorKind::OutOfMemory => FileError::Memory,
         _ => FileError::Failed,
     }
 }
 
-/// Whether it says that nothing stands at a path.
-pub fn is_missing(error: &io::Error) -> bool {
-    matches!(error.kind(), ErrorKind::NotFound | ErrorKind::NotADirectory)
+/// Whether it says that nothing exists at a path. Nothing does at a path that is too long for the system; a refused permission says
+/// nothing of it.
+pub fn is_missing(error: &io::Error) -> bool
+    ensures { result ≡ means_absent (error_kind error.now) }
+{
+    matches!(
+        error.kind(),
+        ErrorKind::NotFound | ErrorKind::NotADirectory | ErrorKind::InvalidFilename,
+    )
 }

@@ -1,0 +1,52 @@
+//! The last call that failed.
+ghost use Rattle.std.specs.Prelude.{◌≡◌, ◌++◌, ◌∷◌, ℕ, List, IfOk};
+ghost use Rattle.gix_ref_folder.specs.Folders.{failed_path, failed_error};
+
+use std::alloc::{AllocError, Global};
+use std::io;
+
+/// A call that failed: its path, and the system's reason.
+#[derive(Drop)]
+pub struct Failure {
+    path: Vec<u8>,
+    error: io::Error,
+}
+
+impl Failure {
+    // Keeps the error alone where memory for the path is refused.
+    pub(crate) fn new(alloc: Global, path: &[u8], error: io::Error) -> Self
+        ensures error { failed_error result ≡ error }
+    {
+        Failure {
+            path: Vec::from_slice(alloc, path).unwrap_or(Vec::new(alloc)),
+            error,
+        }
+    }
+
+    /// The path, from the folder's root on. It is empty for the root, and where memory to keep it was refused.
+    pub fn path(&self) -> &[u8]
+        ensures { result.now ≡ failed_path self.now }
+    {
+        &self.path
+    }
+
+    /// The system's error.
+    pub fn error(&self) -> io::Error
+        ensures { result ≡ failed_error self.now }
+    {
+        self.error
+    }
+
+    /// The path and the system's reason, as `objects/8f: Permission denied`.
+    pub fn text(&self, alloc: Global) -> Result<Vec<u8>, AllocError>
+        ensures { IfOk result (λ text. (reason : List ℕ)
+            × (text.items ≡ failed_path self.now ++ 58 ∷ 32 ∷ reason)) }
+    {
+        let reason = format!(in alloc; "{}", self.error)?;
+        let end = reason.find(" (os error ").unwrap_or(reason.len());
+        let mut text = Vec::from_slice(alloc, &self.path)?;
+        text.extend_from_slice(b": ")?;
+        text.extend_from_slice(&reason.as_bytes()[..end])?;
+        Ok(text)
+    }
+}
