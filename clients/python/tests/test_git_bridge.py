@@ -10,7 +10,7 @@ import sys
 import tempfile
 import time
 import unittest
-from contextlib import redirect_stderr, redirect_stdout
+from contextlib import redirect_stderr, redirect_stdout, suppress
 from typing import Any, Dict, List, Optional, Sequence
 
 sys.path.insert(0, os.path.dirname(os.path.dirname(os.path.abspath(__file__))))
@@ -83,6 +83,8 @@ class Case(unittest.TestCase):
             os.makedirs(os.path.dirname(path), exist_ok=True)
             if text is None:
                 os.remove(path)
+                with suppress(OSError):
+                    os.removedirs(os.path.dirname(path))
             else:
                 with open(path, "w", encoding="utf-8") as it:
                     it.write(text)
