@@ -12,7 +12,7 @@ import subprocess
 import tempfile
 import threading
 from collections import deque
-from typing import Any, Deque, Generic, List, Optional, Sequence, TypeVar, Union
+from typing import Any, Callable, Deque, Generic, List, Optional, Sequence, TypeVar, Union
 
 from .protocol import Command, Fault, HistoryError, ProtocolError, Reading, Refused, text
 
@@ -91,28 +91,43 @@ def command_line(action: str, folder: Folder, sha256: bool, engine: Optional[str
 
 
 def _refusal(said: str, status: Optional[int], folder: Folder, sha256: bool, engine: Optional[str]) -> HistoryError:
-    """Returns what an engine's last line on standard error says."""
-    line = said.strip("\n").rsplit("\n", 1)[-1]
-    verb, _, rest = line.partition(" ")
-    cause, _, values = rest.partition(" ")
-    if verb == "refused" and cause in STOPPED:
-        return Unfinished(cause, [values] if values else [], folder, sha256, engine)
-    if verb == "refused" and cause:
-        return Refused(cause, values=[values] if values else [])
-    if verb == "fault" and cause:
-        return Fault(cause)
+    """Returns what an engine's line on standard error says; lines of notes may follow it."""
+    lines = said.strip("\n").split("\n")
+    for at, line in enumerate(lines):
+        verb, _, rest = line.partition(" ")
+        cause, _, about = rest.partition(" ")
+        values = [it for it in [about, *lines[at + 1 :]] if it]
+        if verb == "refused" and cause in STOPPED:
+            return Unfinished(cause, values, folder, sha256, engine)
+        if verb == "refused" and cause:
+            return Refused(cause, values=values)
+        if verb == "fault" and cause:
+            return Fault(cause, values=values)
     return EngineError(f"the engine ended with status {status}", status, said.strip())
 
 
-def act(action: str, folder: Folder, sha256: bool = False, engine: Optional[str] = None) -> None:
-    """Does one thing, `create`, `check` or `recover`, with a folder."""
+def act(
+    action: str, folder: Folder, sha256: bool = False, engine: Optional[str] = None, waiting: Optional[Callable[[], None]] = None
+) -> None:
+    """Does one thing, `create`, `check` or `recover`, with a folder; `waiting` is called a few times a second meanwhile."""
     words = command_line(action, folder, sha256, engine)
     try:
-        done = subprocess.run(words, stdin=subprocess.DEVNULL, stdout=subprocess.PIPE, stderr=subprocess.PIPE, start_new_session=True)
+        process = subprocess.Popen(words, stdin=subprocess.DEVNULL, stdout=subprocess.DEVNULL, stderr=subprocess.PIPE, start_new_session=True)
     except OSError as error:
         raise EngineError(f"{words[0]} doesn't start: {error.strerror}") from error
-    if done.returncode:
-        raise _refusal(text(done.stderr), done.returncode, folder, sha256, engine)
+    with process:
+        while True:
+            try:
+                said = process.communicate(timeout=0.2 if waiting else None)[1]
+                break
+            except subprocess.TimeoutExpired:
+                if waiting:
+                    waiting()
+            except BaseException:
+                process.kill()
+                raise
+    if process.returncode:
+        raise _refusal(text(said), process.returncode, folder, sha256, engine)
 
 
 class Pending(Generic[T]):

@@ -17,7 +17,7 @@ import re
 import time
 from dataclasses import dataclass, field
 from datetime import datetime, timedelta, timezone
-from typing import Any, Callable, Dict, Generator, Generic, Iterable, Iterator, List, Optional, Sequence, Tuple, TypeVar, Union, overload
+from typing import Any, Callable, Dict, Generator, Generic, Iterable, List, Optional, Sequence, Tuple, TypeVar, Union, overload
 
 Text = Union[str, bytes]
 T = TypeVar("T")
@@ -291,17 +291,19 @@ class Ids(Sequence[str]):
 
 @dataclass(frozen=True)
 class Command(Generic[T]):
-    """A command: its word, its bytes, and how what follows `ok <word>` is read. `changes` says that it changes the repository."""
+    """A command: its word, its bytes, and how what follows `ok <word>` is read. `changes` says that it changes the repository, `about` names
+    for a person what its first line doesn't."""
 
     word: str
     data: bytes = field(repr=False)
     rest: Callable[[List[bytes]], Reading[T]] = field(repr=False)
     changes: bool = False
+    about: str = ""
 
     @property
     def title(self) -> str:
-        """The command's first line, for a person."""
-        return text(self.data.split(b"\n", 1)[0][:200])
+        """The command's first line, for a person, with what it is about."""
+        return text(self.data[:300].split(b"\n", 1)[0][:200]) + (f": {self.about}" if self.about else "")
 
     def reading(self) -> Reading[T]:
         """Returns the generator that reads the reply: it raises `Refused` or `Fault`, or returns the value."""
@@ -561,7 +563,7 @@ def show(word: Text) -> Command[Commit]:
 def content(word: Text, path: Text) -> Command[Content]:
     """Tells the content at a path of the word's commit."""
     where = raw(path)
-    return Command("show", b"show %s path %d\n%s\n" % (_commit_word(word), len(where), where), _content)
+    return Command("show", b"show %s path %d\n%s\n" % (_commit_word(word), len(where), where), _content, about=repr(text(where))[:200])
 
 
 def index() -> Command[int]:

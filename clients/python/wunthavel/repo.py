@@ -227,17 +227,17 @@ class Repo:
         more = True
         while True:
             while more and len(ahead) < window and self._engine.unsent < 1 << 18:
-                for command in coming:
+                command = next(coming, None)
+                more = command is not None
+                if command is not None:
                     ahead.append(self._engine.send(command))
-                    break
-                else:
-                    more = False
             if not ahead:
                 return
             try:
-                yield ahead.popleft().result()
+                reply: Union[T, Refused, protocol.Fault] = ahead.popleft().result()
             except (Refused, protocol.Fault) as error:
-                yield error
+                reply = error
+            yield reply
 
     # One method for each command.
 
