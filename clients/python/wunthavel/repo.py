@@ -220,7 +220,7 @@ class Repo:
                 raise reply
             yield reply
 
-    def results(self, commands: Iterable[Command[T]], *, window: int = WINDOW) -> "Iterator[Union[T, Refused, protocol.Fault]]":
+    def results(self, commands: Iterable[Command[T]], *, window: int = WINDOW) -> Iterator[Union[T, Refused, protocol.Fault]]:
         """The same as `batch`, with a `Refused` or a `Fault` in the place of the reply, after which it goes on."""
         ahead: Deque[Pending[T]] = deque()
         coming = iter(commands)
@@ -355,8 +355,8 @@ class Repo:
         self,
         words: Union[Text, Iterable[Text]] = "HEAD",
         *,
-        hidden: Iterable[Text] = (),
-        paths: Iterable[Text] = (),
+        hidden: Union[Text, Iterable[Text]] = (),
+        paths: Union[Text, Iterable[Text]] = (),
         order: str = "topological",
         first_parents: bool = False,
         since: Optional[int] = None,
@@ -373,7 +373,7 @@ class Repo:
         limit: Optional[int] = None,
         *,
         words: Union[Text, Iterable[Text]] = "HEAD",
-        hidden: Iterable[Text] = (),
+        hidden: Union[Text, Iterable[Text]] = (),
         order: str = "topological",
         first_parents: bool = False,
         since: Optional[int] = None,
@@ -476,11 +476,11 @@ class _Blame:
             if error.cause in ("NoSuchPath", "IsFolder"):
                 return
             raise
-        passed = [(line, at) for at, line in _same_lines(before, content) if at in lines]
+        passed = [(there, at) for there, at in _same_lines(before, content) if at in lines]
         if passed:
             to = suspects.setdefault(self._nearest(self.repo.show(parent), listed), {})
-            for line, at in passed:
-                to[line] = lines.pop(at)
+            for there, at in passed:
+                to[there] = lines.pop(at)
 
 
 def _same_lines(old: List[bytes], new: List[bytes]) -> Iterator[Tuple[int, int]]:
