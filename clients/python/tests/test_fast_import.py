@@ -10,10 +10,9 @@ import unittest
 from typing import Any, Dict, List, Optional
 from unittest import mock
 
-sys.path.insert(0, os.path.dirname(os.path.abspath(__file__)))
+sys.path.insert(0, os.path.dirname(os.path.dirname(os.path.abspath(__file__))))
 
-from test_git_bridge import ACTOR, PACKAGE, Case, commit_text, engine, git
-
+from tests.test_git_bridge import ACTOR, PACKAGE, Case, commit_text, engine, git
 from wunthavel import fast_import
 from wunthavel.fast_import import EXPORT, read_path
 

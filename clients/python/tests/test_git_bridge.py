@@ -406,6 +406,14 @@ class NotHeldByAHistory(Case):
         said = self.bring("--skip-refs", "refs/remotes", "--skip-refs", "refs/bis*")
         self.assertEqual(said["skipped"], ["refs/bisect/bad", "refs/remotes/origin/HEAD"])
 
+    def test_names_that_git_cannot_read(self) -> None:
+        for name, text in (("bad", "no id\n"), ("dangling", "ref: refs/heads/none\n"), ("bad..name", self.first + "\n")):
+            with self.subTest(name), open(os.path.join(self.source, ".git/refs/heads", name), "w", encoding="ascii") as it:
+                it.write(text)
+                it.flush()
+                self.refused("can't read", f"refs/heads/{name}")
+        self.assertEqual(self.bring("--skip-refs", "refs/heads/bad*", "--skip-refs", "refs/heads/dangling")["names"], 1)
+
     def test_names_that_are_not_utf8(self) -> None:
         git(self.source, "update-ref", os.fsdecode(b"refs/heads/\xff\xfe"), self.first)
         self.refused("isn't UTF-8", "refs/heads/\\xff\\xfe")

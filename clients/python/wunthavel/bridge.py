@@ -1,14 +1,17 @@
 """What both ways of the bridge do: what reaches what, which names moved on both sides, progress, and the words of the two commands."""
 import argparse
+import contextlib
 import json
 import sys
-import time
 from typing import Any, Callable, Dict, Iterable, Iterator, List, NamedTuple, Optional, Sequence, Set, Tuple, TypeVar
 
 from .bridge_forms import FOLDER, CannotHold, Hashing, Problem, collisions, read_commit, read_tag, read_tree, shown
+from .progress import Progress
 from .protocol import HistoryError
 
 T = TypeVar("T")
+# So many problems are shown to a person.
+SHOWN = 50
 
 
 class Links(NamedTuple):
@@ -123,41 +126,28 @@ class Side(NamedTuple):
     logs: Dict[bytes, bytes]
 
 
-class Progress:
-    """Says at a terminal how far the work is, on standard error."""
+class Bars:
+    """Says at a terminal how far the work is."""
 
     def __init__(self, quiet: bool = False) -> None:
-        self._shows = not quiet and sys.stderr.isatty()
-        self._next = 0.0
-        self._width = 0
+        self._quiet = quiet
 
     def over(self, items: Iterable[T], title: str, total: Optional[int] = None) -> Iterator[T]:
-        """Returns the items, and says meanwhile how many of them were taken."""
-        count = 0
-        for it in items:
-            yield it
-            count += 1
-            if self._shows and time.monotonic() >= self._next:
-                self._show(f"{title} {count:,}" + (f" of {total:,} ({100 * count // max(total, 1)} %)" if total else ""))
-        if self._shows and count:
-            self._show(f"{title} {count:,}")
+        """Returns the items, and shows meanwhile how many of them were taken."""
+        with Progress(title, total, quiet=self._quiet) as bar:
+            yield from bar.each(items)
 
-    def step(self, title: str) -> None:
-        """Says what is done now."""
-        if self._shows:
-            self._show(title)
-
-    def _show(self, text: str) -> None:
-        self._next = time.monotonic() + 0.1
-        sys.stderr.write("\r" + text.ljust(self._width))
-        sys.stderr.flush()
-        self._width = len(text)
-
-    def end(self) -> None:
-        """Clears the line."""
-        if self._shows and self._width:
-            sys.stderr.write("\r" + " " * self._width + "\r")
-            sys.stderr.flush()
+    @contextlib.contextmanager
+    def during(self, title: str) -> Iterator[None]:
+        """Shows what is done in the block."""
+        shows = not self._quiet and sys.stderr.isatty()
+        if shows:
+            print(title, end=" ..", file=sys.stderr, flush=True)
+        try:
+            yield
+        finally:
+            if shows:
+                print("\r\x1b[K", end="", file=sys.stderr, flush=True)
 
 
 def words_of(name: str, text: str, example: str, places: Sequence[Tuple[str, str]]) -> argparse.ArgumentParser:
@@ -177,22 +167,21 @@ def words_of(name: str, text: str, example: str, places: Sequence[Tuple[str, str
     return parser
 
 
-def report(work: Callable[[Progress], Dict[str, Any]], asked: argparse.Namespace) -> int:
+def report(work: Callable[[Bars], Dict[str, Any]], asked: argparse.Namespace) -> int:
     """Does the work, prints its summary, and returns the status: 0 done, 1 it can't be done."""
-    progress = Progress(asked.quiet)
     try:
-        summary = work(progress)
+        summary = work(Bars(asked.quiet))
     except CannotHold as error:
-        progress.end()
         summary = {"done": False, "cannot_hold": [it._asdict() for it in error.problems]}
         if not asked.json:
-            print("wunthavel: nothing was written, since the other side can't hold:", *(f"  {it}" for it in error.problems), sep="\n", file=sys.stderr)
+            lines = [f"  {it}" for it in error.problems[:SHOWN]]
+            more = len(error.problems) - len(lines)
+            lines += [f"  and {more:,} more, which --json lists"] if more else []
+            print("wunthavel: nothing was written, since the other side can't hold:", *lines, sep="\n", file=sys.stderr)
     except (HistoryError, OSError) as error:
-        progress.end()
         summary = {"done": False, "error": str(error)}
         if not asked.json:
             print(f"wunthavel: {error}", file=sys.stderr)
-    progress.end()
     if asked.json:
         print(json.dumps(summary))
     elif not asked.quiet and summary.get("done"):

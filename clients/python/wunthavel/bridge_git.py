@@ -2,12 +2,13 @@
 import contextlib
 import hashlib
 import os
+import re
 import subprocess
 import threading
 import zlib
 from typing import Dict, Iterable, Iterator, List, Optional, Tuple
 
-from .bridge_folder import read_logs, write_file
+from .bridge_folder import files_below, read_logs, write_file
 from .bridge_forms import SHA1, SHA256, BridgeError, Hashing, Problem, shown
 
 # What would have git look elsewhere than at the repository that is named.
@@ -26,6 +27,7 @@ class Git:
         self._env["GIT_OPTIONAL_LOCKS"] = "0"
         fixed = ["-c", "gc.auto=0", "-c", "core.logAllRefUpdates=false", "-c", "core.hooksPath=/dev/null", "-c", "core.quotePath=false"]
         self._words = ["git", *fixed, "-C", folder]
+        self.broken: List[bytes] = []
 
     def run(self, *words: str, given: bytes = b"") -> bytes:
         """Returns what git writes; a BridgeError says what it complains of."""
@@ -87,10 +89,15 @@ class Git:
         return self.run("rev-parse", "HEAD").strip(), False
 
     def names(self) -> Tuple[Dict[bytes, bytes], Dict[bytes, bytes]]:
-        """Returns the ids by the names, and by the symbolic ones what they name."""
-        said = self.run("for-each-ref", "--format=%(refname)%00%(objectname)%00%(symref)")
-        rows = [it.split(b"\0") for it in said.splitlines()]
+        """Returns the ids by the names, and by the symbolic ones what they name. `broken` are those that git can't read."""
+        done = self._start(["for-each-ref", "--format=%(refname)%00%(objectname)%00%(symref)"])
+        if done.returncode:
+            raise BridgeError(f"git for-each-ref in {self.folder}: {done.stderr.decode(errors='replace').strip()}")
+        rows = [it.split(b"\0") for it in done.stdout.split(b"\n") if it]
         names = {row[0]: bytes.fromhex(row[1].decode()) for row in rows}
+        # Git says nothing of some of them.
+        files = {it for it in files_below(self.path, b"refs") if not it.endswith(b".lock")}
+        self.broken = sorted(files.union(re.findall(rb"^warning: ignoring .*?(refs/[^\n]*)$", done.stderr, re.M)) - names.keys())
         return names, {row[0]: row[2] for row in rows if row[2]}
 
     def logs(self) -> Dict[bytes, bytes]:

@@ -13,9 +13,10 @@ import sys
 import tempfile
 from collections import deque
 from dataclasses import dataclass, field
-from typing import Any, BinaryIO, Callable, Deque, Dict, Iterator, List, Optional, Sequence, Tuple
+from typing import IO, Any, Callable, Deque, Dict, Iterator, List, Optional, Sequence, Tuple
 
 from . import protocol
+from .bridge_folder import Store
 from .engine import Pending, act
 from .progress import Progress
 from .protocol import ANY, NEW, Actor, Expected, HistoryError, Refused
@@ -67,7 +68,7 @@ class Made:
 class Stream:
     """The lines and data of a stream."""
 
-    def __init__(self, source: BinaryIO) -> None:
+    def __init__(self, source: IO[bytes]) -> None:
         self._source = source
         self._again: Optional[bytes] = None
         self.number = 0
@@ -417,7 +418,7 @@ class FastImport:
             self.stream.give_back(end)
 
     def _move(self, names: Dict[bytes, str], title: str) -> None:
-        moves = [(name, self._now[name] if name in self._now else NEW, id) for name, id in names.items()]
+        moves: List[Tuple[bytes, Expected, str]] = [(name, self._now[name] if name in self._now else NEW, id) for name, id in names.items()]
         self._send(protocol.move(moves, b"fast-import", self._last), title)
         self._now.update(names)
         for name in names:
@@ -490,12 +491,12 @@ class FastImport:
         self._room.close()
 
 
-def fast_import(folder: str, source: BinaryIO, sha256: bool = False, new_ids: bool = False, head: str = "", engine: Optional[str] = None, bar: Optional[Progress] = None) -> Dict[str, Any]:
+def fast_import(folder: str, source: IO[bytes], sha256: bool = False, new_ids: bool = False, head: str = "", engine: Optional[str] = None, bar: Optional[Progress] = None) -> Dict[str, Any]:
     """Imports a stream into a folder, which is made where there is none, and returns a summary."""
     if not os.path.exists(os.path.join(folder, "HEAD")):
         os.makedirs(folder, exist_ok=True)
         act("create", folder, sha256, engine)
-    with Repo(folder, sha256=sha256, recover=True, engine=engine) as repo:
+    with Store(folder, sha256, engine).alone(), Repo(folder, sha256=sha256, recover=True, engine=engine) as repo:
         work = FastImport(repo, Stream(source), new_ids, bar)
         try:
             work.run()

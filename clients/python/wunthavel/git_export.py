@@ -8,7 +8,7 @@ import os
 import shutil
 from typing import Any, Dict, Iterator, List, Optional, Sequence, Set, Tuple
 
-from .bridge import Changes, Links, Progress, Side, changes, is_reached, links_of, reached, report, words_of
+from .bridge import Bars, Changes, Links, Side, changes, is_reached, links_of, reached, report, words_of
 from .bridge_folder import Store, left_out
 from .bridge_forms import BridgeError, CannotHold, Patterns, Problem, git_entry_problem, git_time_problem, log_ids, log_lines
 from .bridge_forms import read_commit, read_tag, read_tree, shown
@@ -18,8 +18,8 @@ from .bridge_git import Git
 class Export:
     """One export."""
 
-    def __init__(self, store: Store, skip: Patterns, progress: Progress) -> None:
-        self.store, self.skip, self.progress = store, skip, progress
+    def __init__(self, store: Store, skip: Patterns, bars: Bars) -> None:
+        self.store, self.skip, self.bars = store, skip, bars
         self.hashing = store.hashing
         self.problems: List[Problem] = []
         self.kinds: Dict[bytes, str] = {}
@@ -53,7 +53,7 @@ class Export:
             tips = {*self.side.names.values(), *(id for log in self.side.logs.values() for id in log_ids(log, self.hashing))}
             wanted = reached(tips, self._links)
         missing = sorted(wanted - there)
-        for id in self.progress.over(missing, "reading objects", len(missing)):
+        for id in self.bars.over(missing, "reading objects", len(missing)):
             self._test(id)
         if self.problems:
             raise CannotHold(sorted(self.problems))
@@ -96,14 +96,13 @@ class Export:
 
     def objects(self, ids: Sequence[bytes]) -> Iterator[Tuple[str, bytes]]:
         """Returns kind and content of these objects."""
-        for id in self.progress.over(ids, "writing objects", len(ids)):
+        for id in self.bars.over(ids, "writing objects", len(ids)):
             yield self.store.read(id)
 
     def write(self, git: Git, missing: Sequence[bytes], now: Changes, old: Dict[bytes, bytes]) -> None:
         """Gives git objects, then names, then logs, then HEAD."""
         if missing:
             git.add(len(missing), self.objects(missing))
-        self.progress.step("writing names")
         git.move_names(now.names, old, now.gone)
         for name, log in now.logs.items():
             git.write_log(name, log)
@@ -149,14 +148,14 @@ def git_export(
     prune: bool = False,
     dry_run: bool = False,
     engine: Optional[str] = None,
-    progress: Optional[Progress] = None,
+    bars: Optional[Bars] = None,
 ) -> Dict[str, Any]:
     """Exports a history, and returns a summary. `CannotHold` names what git can't hold; then nothing was written."""
-    store, progress = Store(folder, sha256, engine), progress or Progress(quiet=True)
+    store, bars = Store(folder, sha256, engine), bars or Bars(quiet=True)
     with store.alone():
-        progress.step("checking the folder")
-        store.check()
-        work, is_new = Export(store, Patterns(skip_refs), progress), _is_new(dest)
+        with bars.during("checking the folder"):
+            store.check()
+        work, is_new = Export(store, Patterns(skip_refs), bars), _is_new(dest)
         work.read_names()
         git = None if is_new else _open(dest, store)
         old = Side(git.names()[0], git.logs()) if git else Side({}, {})
@@ -174,8 +173,8 @@ def git_export(
             if is_new:
                 _clear(dest)
             raise
-        progress.step("git fsck --strict")
-        complaints = git.fsck()
+        with bars.during("git fsck --strict"):
+            complaints = git.fsck()
         if complaints:
             raise BridgeError("git fsck --strict in " + dest + ": " + "; ".join(complaints[:20]))
         return {**work.summary(missing, now), "fsck": "whole", "check": "whole"}
@@ -190,4 +189,4 @@ def main(argv: Sequence[str]) -> int:
     places = (("FOLDER", "the history's folder"), ("DEST.git", "the git repository"))
     asked = words_of("git-export", TEXT, "wunthavel git-export store project.git", places).parse_args(argv)
     given = (asked.sha256, asked.skip_refs, asked.force, asked.prune, asked.dry_run, asked.engine)
-    return report(lambda progress: git_export(asked.folder, asked.dest, *given, progress), asked)
+    return report(lambda bars: git_export(asked.folder, asked.dest, *given, bars), asked)

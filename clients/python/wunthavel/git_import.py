@@ -6,7 +6,7 @@ then all names, then the logs: after a stop anywhere the folder is whole, once r
 import os
 from typing import Any, Dict, List, Optional, Sequence, Set, Tuple
 
-from .bridge import Changes, Links, Progress, Side, changes, in_order, is_reached, links_of, reached, report, words_of
+from .bridge import Bars, Changes, Links, Side, changes, in_order, is_reached, links_of, reached, report, words_of
 from .bridge_folder import Store, left_out
 from .bridge_forms import MAX_CONTENT, MAX_PATH, BridgeError, CannotHold, Patterns, Problem, collisions, commit_problem, is_full_name
 from .bridge_forms import log_ids, log_problems, name_problem, read_commit, read_tag, read_tree, shown, tag_problem, tree_problem
@@ -18,8 +18,8 @@ PARTS = 10_000
 class Import:
     """One import. `git` is open."""
 
-    def __init__(self, git: Git, store: Store, skip: Patterns, progress: Progress) -> None:
-        self.git, self.store, self.skip, self.progress = git, store, skip, progress
+    def __init__(self, git: Git, store: Store, skip: Patterns, bars: Bars) -> None:
+        self.git, self.store, self.skip, self.bars = git, store, skip, bars
         self.hashing = git.hashing
         self.problems: List[Problem] = []
         self.notes: List[str] = []
@@ -36,6 +36,7 @@ class Import:
         names, symbolic = self.git.names()
         names, logs, self.skipped = left_out(names, self.git.logs(), self.skip)
         self.side = Side(names, logs)
+        self.problems += [Problem(shown(it), "git can't read the name") for it in self.git.broken if not self.skip.has(it)]
         self.problems += symbolic_problems({name: it for name, it in symbolic.items() if name in names})
         for name in sorted(names):
             problem = name_problem(name)
@@ -59,10 +60,10 @@ class Import:
 
     def read_objects(self) -> None:
         """Reads all objects but files' contents, and finds which ones are to be brought."""
-        for id, kind, length in self.progress.over(self.git.objects(), "listing objects"):
+        for id, kind, length in self.bars.over(self.git.objects(), "listing objects"):
             self.kinds[id] = (kind, length)
         small = [id for id, (kind, length) in self.kinds.items() if kind != "blob" and length <= MAX_CONTENT]
-        for id, kind, content in self.progress.over(self.git.read(small), "reading folders, commits and tags", len(small)):
+        for id, kind, content in self.bars.over(self.git.read(small), "reading folders, commits and tags", len(small)):
             self._read(id, kind, content)
         if not self.skip:
             self.wanted = set(self.kinds)
@@ -171,10 +172,9 @@ class Import:
         if empty in missing:
             self.store.write(empty, "tree", b"")
         given = [id for id in missing if id != empty]
-        for id, kind, content in self.progress.over(self.git.read(given), "writing objects", len(given)):
+        for id, kind, content in self.bars.over(self.git.read(given), "writing objects", len(given)):
             self.store.write(id, kind, content)
         if now.names or now.gone:
-            self.progress.step("writing names")
             self.store.write_names(now.names, now.gone, {id: it.commits[0] for id, it in self.links.items() if it.kind == "tag"})
         for name, log in now.logs.items():
             self.store.write_log(name, log)
@@ -197,14 +197,14 @@ def git_import(
     prune: bool = False,
     dry_run: bool = False,
     engine: Optional[str] = None,
-    progress: Optional[Progress] = None,
+    bars: Optional[Bars] = None,
 ) -> Dict[str, Any]:
     """Imports a git repository, and returns a summary. `CannotHold` names what a history can't hold; then nothing was written."""
-    git, progress = Git(source), progress or Progress(quiet=True)
+    git, bars = Git(source), bars or Bars(quiet=True)
     git.open()
     if (git.hashing.name == "sha256") != sha256:
         raise BridgeError(f"{source} has ids of {git.hashing.name}: {'give' if not sha256 else 'leave out'} --sha256")
-    work = Import(git, Store(folder, sha256, engine), Patterns(skip_refs), progress)
+    work = Import(git, Store(folder, sha256, engine), Patterns(skip_refs), bars)
     work.read_names()
     work.read_objects()
     work.test_objects()
@@ -216,9 +216,11 @@ def git_import(
         now, missing = work.compare(force, prune), work.missing()
         if not dry_run:
             work.write(missing, now)
-            progress.step("checking the folder")
-            work.store.check()
-    return {**work.summary(missing, now), **({"dry_run": True} if dry_run else {"check": "whole"})}
+            if missing or now.names or now.logs or now.gone:
+                with bars.during("checking the folder"):
+                    work.store.check()
+    end: Dict[str, Any] = {"dry_run": True} if dry_run else {"check": "whole"}
+    return {**work.summary(missing, now), **end}
 
 
 TEXT = """Brings a git repository's objects, names and logs into a history's folder, which is made where there is none. Ids stay.
@@ -230,4 +232,4 @@ def main(argv: Sequence[str]) -> int:
     places = (("SRC.git", "the git repository"), ("FOLDER", "the history's folder"))
     asked = words_of("git-import", TEXT, "wunthavel git-import project/.git store --skip-refs refs/remotes", places).parse_args(argv)
     given = (asked.sha256, asked.skip_refs, asked.force, asked.prune, asked.dry_run, asked.engine)
-    return report(lambda progress: git_import(asked.src, asked.folder, *given, progress), asked)
+    return report(lambda bars: git_import(asked.src, asked.folder, *given, bars), asked)

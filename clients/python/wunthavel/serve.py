@@ -166,7 +166,8 @@ class Keeper:
             self.unsent_bytes = 0
 
     def _some(self) -> List[memoryview]:
-        some, size = [], 0
+        some: List[memoryview] = []
+        size = 0
         while self.unsent and (not some or size + len(self.unsent[0]) <= PART):
             size += len(self.unsent[0])
             some.append(self.unsent.popleft())
