@@ -103,27 +103,24 @@ class WorkTree:
 
     def at(self, paths: Iterable[str]) -> Iterator[Here]:
         """Gives the files on disk at these paths, and those that are in their way: at a beginning of one, or below it."""
-        folders, given = set(), set()
+        given = set()
         for path in paths:
-            parts = path.split("/")
-            for count in range(1, len(parts) + 1):
-                one = "/".join(parts[:count])
-                if one in given:
-                    break
-                if one not in folders or count == len(parts):
-                    found = self._look(one)
-                    if found is None:
-                        break
-                    if not stat.S_ISDIR(found.st_mode):
-                        given.add(one)
-                        yield self._here(one, found)
-                        break
-                    folders.add(one)
-                    if count == len(parts):
-                        for it in self._below(raw(one) + b"/", []):
-                            if it.path not in given:
-                                given.add(it.path)
-                                yield it
+            for it in self._at(path):
+                if it.path not in given:
+                    given.add(it.path)
+                    yield it
+
+    def _at(self, path: str) -> Iterator[Here]:
+        parts = path.split("/")
+        for count in range(1, len(parts) + 1):
+            one = "/".join(parts[:count])
+            found = self._look(one)
+            if found is None:
+                return
+            if not stat.S_ISDIR(found.st_mode):
+                yield self._here(one, found)
+                return
+        yield from self._below(raw(path) + b"/", [])
 
     def _look(self, path: str) -> Optional[os.stat_result]:
         """Tells what is at a path, or `None` where nothing is."""
