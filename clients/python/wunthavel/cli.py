@@ -13,7 +13,7 @@ import sys
 from typing import Any, Callable, Dict, Iterable, List, Optional, Sequence, Tuple, Union
 
 from . import protocol
-from .engine import Unfinished, act, is_sha256
+from .engine import Unfinished, act
 from .progress import Progress
 from .protocol import NEW, Commit, File, HistoryError, Names, Refused, raw, text
 from .repo import Change, Repo, changes
@@ -114,7 +114,7 @@ class Session:
     def __init__(self, asked: argparse.Namespace, out: Output) -> None:
         self.asked, self.out = asked, out
         self.tree = WorkTree.find()
-        self.repo = Repo(self.tree.store)
+        self.repo = Repo(self.tree.store, sha256=self.tree.sha256)
 
     def tip(self) -> Optional[str]:
         """The commit that HEAD's branch is at, or `None` where it has none yet."""
@@ -140,6 +140,8 @@ def init(asked: argparse.Namespace, out: Output) -> int:
     if os.path.exists(os.path.join(tree.store, "HEAD")):
         raise WorkError(f"{folder} has a history already")
     Repo.create(tree.store, sha256=asked.sha256).close()
+    if asked.sha256:
+        tree.mark_sha256()
     out.say(f"{folder} has a history now, in {os.path.relpath(tree.store, folder)}")
     out.tell({"folder": folder, "store": tree.store})
     return 0
@@ -269,22 +271,16 @@ def _is_below(path: str, folder: str) -> bool:
 
 
 def _restore(at: Session, saved: Dict[str, File], wanted: Dict[str, File], force: bool) -> Tuple[List[str], List[str]]:
-    """Writes the wanted files and removes those saved ones that aren't wanted; refuses to lose what was never saved."""
+    """Writes the wanted files, and removes the saved ones that aren't wanted and what is in the way; refuses to lose what was never saved."""
     for it in wanted:
         refuse_path(it)
-    present = {}
-    for it in saved.keys() | wanted.keys():
-        here = at.tree.here(it)
-        if here is not None:
-            present[it] = File(here.kind, at.tree.id_of(here, at.repo.sha256), it)
-    unsaved = sorted(it for it, file in present.items() if file not in (saved.get(it), wanted.get(it)))
-    if unsaved and not force:
-        names = ", ".join(map(shown, unsaved[:5])) + (", .." if len(unsaved) > 5 else "")
-        raise WorkError(f"these have changes that aren't saved: {names} (save them, or add --force)")
-    removed = sorted((it for it in saved if it not in wanted and it in present), key=raw)
+    here = {it.path: it for it in at.tree.at(saved.keys() | wanted.keys())}
+    present = {path: File(it.kind, at.tree.id_of(it, at.repo.sha256), path) for path, it in here.items()}
+    written = [it for it in wanted if present.get(it) != wanted[it]]
+    removed = sorted((it for it in present if it not in wanted), key=raw)
+    _refuse_loss(at, [present[it] for it in (*written, *removed) if it in present], saved, force)
     for it in removed:
         at.tree.remove(it)
-    written = [it for it in wanted if present.get(it) != wanted[it]]
     word = at.repo.resolve(at.asked.word)
     assert word is not None
     with Progress("restoring", len(written)) as bar:
@@ -293,6 +289,17 @@ def _restore(at: Session, saved: Dict[str, File], wanted: Dict[str, File], force
             at.tree.write(wanted[path], content.data)
     at.tree.remember()
     return written, removed
+
+
+def _refuse_loss(at: Session, files: List[File], saved: Dict[str, File], force: bool) -> None:
+    """Refuses where a content is in no commit: an id that means no stored object is an unknown word."""
+    if not force:
+        asked = [it for it in files if it != saved.get(it.path)]
+        replies = at.repo.results(protocol.show(it.id) for it in asked)
+        lost = [shown(it.path) for it, reply in zip(asked, replies) if isinstance(reply, Refused) and reply.cause == "UnknownWord"]
+        if lost:
+            names = ", ".join(lost[:5]) + (", .." if len(lost) > 5 else "")
+            raise WorkError(f"these have changes that aren't saved: {names} (save them, or add --force)")
 
 
 def branch(at: Session) -> int:
@@ -376,9 +383,9 @@ def recover(asked: argparse.Namespace, out: Output) -> int:
 
 
 def _act(action: str, done: str, asked: argparse.Namespace, out: Output) -> int:
-    store = WorkTree.find().store
+    tree = WorkTree.find()
     with Progress(action) as bar:
-        act(action, store, is_sha256(store), waiting=lambda: bar.step(0))
+        act(action, tree.store, tree.sha256, waiting=lambda: bar.step(0))
     out.say(done)
     out.tell({done: True})
     return 0

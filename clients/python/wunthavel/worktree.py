@@ -8,7 +8,7 @@ import stat
 import tempfile
 import time
 from dataclasses import dataclass
-from typing import Dict, Iterator, List, Optional, Tuple
+from typing import Dict, Iterable, Iterator, List, Optional, Tuple
 
 from .protocol import File, HistoryError, raw, text
 
@@ -48,6 +48,16 @@ class WorkTree:
         self.store = os.path.join(folder, OWN, "store")
         self._known: Dict[str, List[object]] = {}
         self._read_known()
+
+    @property
+    def sha256(self) -> bool:
+        """Whether the ids of this history are of SHA-256, which a store without objects can't tell."""
+        return os.path.exists(os.path.join(self.folder, OWN, "sha256"))
+
+    def mark_sha256(self) -> None:
+        """Keeps that the ids are of SHA-256."""
+        with open(os.path.join(self.folder, OWN, "sha256"), "w", encoding="ascii"):
+            pass
 
     @classmethod
     def find(cls, start: str = ".") -> "WorkTree":
@@ -91,13 +101,36 @@ class WorkTree:
                 elif it.is_symlink() or it.is_file(follow_symlinks=False):
                     yield self._here(text(path), it.stat(follow_symlinks=False))
 
-    def here(self, path: str) -> Optional[Here]:
-        """Returns the file at a path of the folder, or `None` where none is."""
+    def at(self, paths: Iterable[str]) -> Iterator[Here]:
+        """Gives the files on disk at these paths, and those that are in their way: at a beginning of one, or below it."""
+        given = set()
+        for path in paths:
+            for it in self._at(path):
+                if it.path not in given:
+                    given.add(it.path)
+                    yield it
+
+    def _at(self, path: str) -> Iterator[Here]:
+        parts = path.split("/")
+        for count in range(1, len(parts) + 1):
+            one = "/".join(parts[:count])
+            found = self._look(one)
+            if found is None:
+                return
+            if not stat.S_ISDIR(found.st_mode):
+                yield self._here(one, found)
+                return
+        yield from self._below(raw(path) + b"/", [])
+
+    def _look(self, path: str) -> Optional[os.stat_result]:
+        """Tells what is at a path, or `None` where nothing is."""
         try:
             found = os.lstat(self.place(path))
         except (FileNotFoundError, NotADirectoryError):
             return None
-        return self._here(path, found) if stat.S_ISREG(found.st_mode) or stat.S_ISLNK(found.st_mode) else None
+        if not (stat.S_ISDIR(found.st_mode) or stat.S_ISREG(found.st_mode) or stat.S_ISLNK(found.st_mode)):
+            raise WorkError(f"{ascii(path)} is neither a file, a link nor a folder")
+        return found
 
     def _here(self, path: str, found: os.stat_result) -> Here:
         kind = "link" if stat.S_ISLNK(found.st_mode) else "exec" if found.st_mode & stat.S_IXUSR else "file"
