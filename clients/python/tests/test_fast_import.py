@@ -12,7 +12,7 @@ from unittest import mock
 
 sys.path.insert(0, os.path.dirname(os.path.dirname(os.path.abspath(__file__))))
 
-from tests.test_git_bridge import ACTOR, PACKAGE, Case, commit_text, engine, git
+from tests.test_git_bridge import ACTOR, PACKAGE, Case, commit_text, engine, git, random_stream
 from wunthavel import fast_import
 from wunthavel.fast_import import EXPORT, read_path
 
@@ -83,6 +83,17 @@ class Streams(Case):
         self.assertIn(b"deleteall", stream)
         self.load(stream)
         self.same()
+
+    def test_histories_made_at_random(self) -> None:
+        for seed in range(3):
+            with self.subTest(seed):
+                self.source, self.store = (os.path.join(self.room, f"{it}{seed}") for it in ("source", "store"))
+                self.init("--bare")
+                git(self.source, "fast-import", "--quiet", given=random_stream(seed, 60))
+                stream = self.export()
+                said = self.load(stream)
+                self.assertEqual((said["commits"], said["other_ids"]), (stream.count(b"\ncommitter "), []))
+                self.same()
 
     def test_without_original_ids(self) -> None:
         self.history()

@@ -62,6 +62,32 @@ def commit_text(tree: str, *more: bytes, author: bytes = ACTOR, message: bytes =
     return b"\n".join(lines) + b"\n\n" + message
 
 
+def random_stream(seed: int, commits: int) -> bytes:
+    """Returns a stream for git's own fast-import: branches, merges, roots, tags, files that become folders and folders that become files."""
+    chance, parts, branches = random.Random(seed), [], ["main"]
+    names = [b"a", b"b", b"a/b", b"a/b/c", b"a.b", b"a0", b"b/a", b"b/\\303\\251", b"c d", b"d/e/f/g"]
+    who = b"%%s Ada %d <ada@example.org> %%d +0%d30\n"
+    for mark in range(1, commits + 1):
+        branch, line = chance.choice(branches), who % (chance.randrange(9), chance.randrange(9))
+        if chance.random() < 0.15:
+            branch = f"b{mark}"
+            branches.append(branch)
+        message = chance.choice([b"one line", b"title\n\nbody\n", b"no end", b"\303\251 \n\n\n", b"t\n\r\n"]) + b" %d" % mark
+        parts.append(b"commit refs/heads/%s\nmark :%d\n" % (branch.encode(), mark) + line % (b"author", mark) + line % (b"committer", 5 * mark))
+        parts.append(b"data %d\n%s\n" % (len(message), message))
+        others = chance.sample(range(1, mark), min(mark - 1, chance.choice([0, 1, 1, 1, 2, 4])))
+        parts += [b"%s :%d\n" % (b"merge" if at else b"from", it) for at, it in enumerate(others)]
+        for _ in range(chance.randrange(4)):
+            name, data = chance.choice(names), b"%d" % chance.randrange(20) * chance.choice([0, 1, 50])
+            if chance.random() < 0.3:
+                parts.append(b'D "%s"\n' % name)
+            else:
+                parts.append(b'M %s inline "%s"\ndata %d\n%s\n' % (chance.choice([b"100644", b"100755", b"120000"]), name, len(data), data))
+        if chance.random() < 0.1:
+            parts.append(b"tag v%d\nfrom :%d\n" % (mark, mark) + line % (b"tagger", mark) + b"data 6\nv\n\nend\n")
+    return b"".join(parts)
+
+
 @unittest.skipIf(MISSING, MISSING)
 class Case(unittest.TestCase):
     """A folder for each test, and the two commands."""
@@ -181,6 +207,14 @@ class Histories(Case):
         git(self.source, "branch", "\u00fcber/\u00e4st")
         git(self.source, "symbolic-ref", "HEAD", "refs/heads/unborn")
         self.both_ways()
+
+    def test_histories_made_at_random(self) -> None:
+        for seed in range(3):
+            with self.subTest(seed):
+                self.source, self.store, self.dest = (os.path.join(self.room, f"{it}{seed}") for it in ("source", "store", "dest.git"))
+                self.init("--bare")
+                git(self.source, "fast-import", "--quiet", given=random_stream(seed, 60))
+                self.both_ways()
 
     def test_an_empty_repository(self) -> None:
         self.init()

@@ -174,6 +174,8 @@ class WithTheEngine(Served):
     def client(self, number: int, commands: int) -> None:
         """Sends commands in parts of odd sizes, many ahead, and tests each reply: it must be of this client's command."""
         chance, branch, sock = random.Random(number), f"c{number}", self.raw()
+        # A client waits long where many are before it.
+        sock.settimeout(600)
         wanted: List[Tuple[bytes, Optional[bytes]]] = []
         at = 0
         for it in range(commands):

@@ -5,6 +5,7 @@ first commit or tag whose id isn't the original's ends the import. Each commit i
 elsewhere it is moved first, and where a commit without parents comes to a name that exists, it is made under a name of its own.
 """
 import argparse
+import contextlib
 import json
 import os
 import re
@@ -487,7 +488,10 @@ class FastImport:
         raise StreamError(f"tag {outer.title}: it is of the tag {inner.original or shown(inner.mark)}, and not of a commit")
 
     def close(self) -> None:
-        """Ends what is kept meanwhile."""
+        """Waits for what was sent, and ends what is kept meanwhile."""
+        for pending, _, _ in self._ahead:
+            with contextlib.suppress(HistoryError):
+                pending.result()
         self._room.close()
 
 

@@ -83,8 +83,11 @@ class Client:
         self.parts = Parts(command, LONGEST_LINE, most)
         # Whole commands that wait; what is sent to the client; how many commands the engine has.
         self.ready: Deque[Whole] = deque()
+        self.ready_bytes = 0
         self.out = bytearray()
         self.flying = 0
+        # About how large its replies are.
+        self.usual = 1
         # Set where nothing more is read of it: then a last line follows its replies, and it is closed.
         self.last: Optional[bytes] = None
         # `cut` is set where a reply ended its run: what it sent after that is not done.
@@ -115,8 +118,15 @@ class Keeper:
 
     def start(self, recover: bool) -> None:
         """Starts the engine; what it is to do first is in `flying`."""
-        if recover:
-            act("recover", self.folder, self.sha256, self.engine)
+        while recover:
+            try:
+                act("recover", self.folder, self.sha256, self.engine)
+                recover = False
+            except EngineError as error:
+                # As where it was killed.
+                self._barren += 1
+                if self._barren > TRIES:
+                    raise ServeError(f"the folder isn't recovered: {error}") from error
         self._said = tempfile.TemporaryFile()
         words, pipe = command_line("run", self.folder, self.sha256, self.engine), subprocess.PIPE
         try:
@@ -303,6 +313,7 @@ class Server:
             if client.closed or not self._may_send(client):
                 continue
             it = client.ready.popleft()
+            client.ready_bytes -= len(it.data or b"")
             if it.data is None:
                 # It waits for its turn among the client's replies.
                 client.out += b"refused TooLarge\n"
@@ -327,7 +338,10 @@ class Server:
     def _may_send(self, client: Client) -> bool:
         if not client.ready or len(client.out) > self.limits.unread:
             return False
-        return not client.flying if client.ready[0].data is None else client.flying < self.limits.ahead
+        if not client.flying:
+            return True
+        room = len(client.out) + client.flying * client.usual < self.limits.unread
+        return room and client.ready[0].data is not None and client.flying < self.limits.ahead
 
     def _queue(self, client: Client) -> None:
         if not client.in_turn and not client.closed and self._may_send(client):
@@ -352,7 +366,9 @@ class Server:
             if client.closed or client.cut:
                 continue
             client.flying -= 1
-            client.out += it.data or b""
+            data = it.data or b""
+            client.out += data
+            client.usual = max(len(data), client.usual // 2)
             self._touched[client.number] = client
             if it.value and flight.it.value or it.data in ENDS:
                 # The engine's run ends by this reply, and so does this client's.
@@ -372,8 +388,9 @@ class Server:
         if first is not None and not keeper.is_over:
             first.tries += 1
             if first.client is not None and (first.it.value or first.tries > 1):
-                # Whether it was done isn't known, or it ends engines.
-                self._close(first.client)
+                # Whether it was done isn't known, or it ends engines: what was replied before is still sent.
+                first.client.cut, first.client.flying = True, 0
+                self._finish(first.client, b"")
         keeper.flying = deque(it for it in keeper.flying if it.client is None or not (it.client.closed or it.client.cut))
         keeper.again(said)
         self._watch()
@@ -402,7 +419,7 @@ class Server:
 
     def _hear(self, client: Client) -> None:
         try:
-            data = client.sock.recv(PART)
+            data = client.sock.recv(PART // 4)
         except (BlockingIOError, InterruptedError):
             return
         except OSError:
@@ -412,15 +429,19 @@ class Server:
         try:
             whole = client.parts.feed(data)
         except BadCommand as bad:
-            client.ready.extend(bad.whole)
+            self._add(client, bad.whole)
             self._finish(client, f"refused {bad.cause}\n".encode(), False)
         else:
-            client.ready.extend(whole)
+            self._add(client, whole)
             if not data:
                 self._finish(client, b"" if client.parts.is_between else b"refused Truncated\n", False)
         self._queue(client)
         self._end_if_done(client)
         self._set_events(client)
+
+    def _add(self, client: Client, whole: List[Whole]) -> None:
+        client.ready.extend(whole)
+        client.ready_bytes += sum(len(it.data or b"") for it in whole)
 
     def _finish(self, client: Client, last: bytes, drops: bool = True) -> None:
         """Reads no more of a client; what it waits for is still written, and then this line."""
@@ -462,7 +483,7 @@ class Server:
         """Listens to a client while few of its commands wait, and looks whether it reads while there is something for it."""
         if client.closed:
             return
-        reads = client.last is None and len(client.ready) < self.limits.waiting
+        reads = client.last is None and len(client.ready) < self.limits.waiting and client.ready_bytes <= self.limits.command
         events = (selectors.EVENT_READ if reads else 0) | (selectors.EVENT_WRITE if client.out else 0)
         if events == client.events:
             return
@@ -749,7 +770,7 @@ def _serve(asked: argparse.Namespace) -> Dict[str, Any]:
         _wait_for_opening(keeper)
         listeners, places = _open_listeners(asked)
         server = Server(keeper, listeners, limits, asked.quiet)
-        for it in (signal.SIGTERM, signal.SIGINT):
+        for it in (signal.SIGTERM, signal.SIGINT, signal.SIGHUP):
             signal.signal(it, server.stop)
         if asked.json:
             print(json.dumps({"serving": places}), flush=True)
