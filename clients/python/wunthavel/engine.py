@@ -4,6 +4,7 @@ Commands go out and replies come in by one `poll`, so neither side ever waits fo
 """
 import contextlib
 import fcntl
+import itertools
 import os
 import select
 import shutil
@@ -22,6 +23,8 @@ CHECKOUT = os.path.join(os.path.dirname(os.path.abspath(__file__)), "../../../cr
 # So many bytes may wait to be written before `send` waits too.
 UNSENT = 1 << 20
 PIPE = 1 << 20
+# So many commands are written together.
+TOGETHER = 64
 # What recover mends, where a folder is refused for it.
 STOPPED = ("Unfinished", "LogWithoutName", "BadLog")
 
@@ -224,8 +227,9 @@ class Engine:
         """What the engine's end was, once it has ended."""
         return self._over
 
-    def send(self, command: Command[T]) -> Pending[T]:
-        """Sends a command, and returns at once unless much waits to be written; then it reads replies meanwhile."""
+    def send(self, command: Command[T], at_once: bool = True) -> Pending[T]:
+        """Sends a command, and returns at once unless much waits to be written; then it reads replies meanwhile. One that needn't go at once is
+        written with others, at the latest when a reply is waited for."""
         with self._lock:
             if self._over is not None:
                 raise EngineDied(f"the engine is closed or has ended ({self._over})", self._over.status, command=command)
@@ -236,7 +240,8 @@ class Engine:
                 self._unsent.append(memoryview(command.data))
                 self._unsent_bytes += len(command.data)
                 self._busy = False
-                self._write()
+                if at_once or len(self._unsent) >= TOGETHER or self._unsent_bytes >= PIPE // 64:
+                    self._write()
                 while self._unsent_bytes > UNSENT and self._over is None:
                     self._transfer()
                     self._take_replies()
@@ -268,10 +273,9 @@ class Engine:
     def _write(self) -> None:
         """Writes what the pipe takes."""
         while self._unsent and self._can_write:
-            first = self._unsent[0]
             self._busy = True
             try:
-                count = os.write(self._in, first)
+                count = os.writev(self._in, list(itertools.islice(self._unsent, TOGETHER)))
             except BlockingIOError:
                 break
             except BrokenPipeError:
@@ -281,10 +285,10 @@ class Engine:
                 self._unsent_bytes = 0
                 break
             self._unsent_bytes -= count
-            if count == len(first):
-                self._unsent.popleft()
-            else:
-                self._unsent[0] = first[count:]
+            while self._unsent and count >= len(self._unsent[0]):
+                count -= len(self._unsent.popleft())
+            if count:
+                self._unsent[0] = self._unsent[0][count:]
         self._busy = False
 
     def _transfer(self) -> None:

@@ -230,7 +230,7 @@ class Repo:
                 command = next(coming, None)
                 more = command is not None
                 if command is not None:
-                    ahead.append(self._engine.send(command))
+                    ahead.append(self._engine.send(command, at_once=False))
             if not ahead:
                 return
             try:
