@@ -45,6 +45,10 @@ class EngineDied(EngineError):
         self.command = command
 
 
+class Busy(Fault):
+    """Another process works in the folder."""
+
+
 class Unfinished(Refused):
     """A stopped run left something in the folder. `recover()` removes it; then the folder opens.
 
@@ -105,7 +109,7 @@ def _refusal(said: str, status: Optional[int], folder: Folder, sha256: bool, eng
         if verb == "refused" and cause:
             return Refused(cause, values=values)
         if verb == "fault" and cause:
-            return Fault(cause, values=values)
+            return (Busy if any("another process" in it for it in values) else Fault)(cause, values=values)
     return EngineError(f"the engine ended with status {status}", status, said.strip())
 
 
