@@ -295,6 +295,17 @@ class Processes(AtATerminal):
         self.assertIn(b"wunthavel save", self.run_words().stdout)
         self.assertIn(b"example: wunthavel log", self.run_words("log", "--help").stdout)
 
+    def test_another_directory(self) -> None:
+        self.begin()
+        os.chdir("/")
+        self.assertIn("whole", self.does("-C", self.room, "verify"))
+        os.chdir("/")
+        self.assertIn("1 commit", self.does("-C", self.room, "html", ".", "pages"))
+        os.chdir("/")
+        self.assertEqual(json.loads(self.does("--json", "-C", self.room, "html", ".", "pages"))["commits"], 1)
+        self.assertTrue(os.path.exists(os.path.join(self.room, "pages/index.html")))
+        self.assertIn("nowhere", self.does("-C", "nowhere", "log", status=1))
+
     def test_a_reader_that_leaves(self) -> None:
         self.begin()
         code = f"{sys.executable} -m wunthavel log | true; exit ${{PIPESTATUS[0]}}"

@@ -399,10 +399,10 @@ class Engine:
         with contextlib.suppress(OSError):
             self._process.kill()
 
-    def close(self) -> None:
-        """Sends what waits, ends the input, and waits for the engine's end. Replies that nobody took are dropped."""
+    def close(self, send: bool = True) -> None:
+        """Sends what waits, unless that isn't wanted, ends the input, and waits for the engine's end. A command is done whole or not at all."""
         with self._lock:
-            while self._pending and self._over is None:
+            while send and self._pending and self._over is None:
                 with self._in_step():
                     self._transfer()
                     self._take_replies()

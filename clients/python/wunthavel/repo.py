@@ -13,7 +13,7 @@ import time
 from collections import deque
 from dataclasses import dataclass
 from types import TracebackType
-from typing import Any, Deque, Dict, Iterable, Iterator, List, Mapping, Optional, Sequence, Tuple, Type, TypeVar, Union, overload
+from typing import Deque, Dict, Iterable, Iterator, List, Mapping, Optional, Sequence, Tuple, Type, TypeVar, Union, overload
 
 from . import protocol
 from .engine import Busy, Engine, EngineDied, Folder, Pending, Unfinished, _refusal, act, command_line, find_engine, is_sha256
@@ -138,11 +138,19 @@ class Repo:
         self._engine = self._open(recover)
 
     @classmethod
-    def create(cls, folder: Folder, *, sha256: bool = False, **options: Any) -> "Repo":
+    def create(
+        cls,
+        folder: Folder,
+        *,
+        sha256: bool = False,
+        actor: Optional[Who] = None,
+        timeout: Optional[float] = None,
+        engine: Optional[str] = None,
+    ) -> "Repo":
         """Makes a repository in a folder that is empty or doesn't exist yet, and opens it."""
         os.makedirs(folder, exist_ok=True)
-        act("create", folder, sha256, options.get("engine"))
-        return cls(folder, sha256=sha256, **options)
+        act("create", folder, sha256, engine)
+        return cls(folder, sha256=sha256, actor=actor, timeout=timeout, engine=engine)
 
     @classmethod
     def check(cls, folder: Folder, *, sha256: Optional[bool] = None, engine: Optional[str] = None) -> None:
@@ -207,7 +215,8 @@ class Repo:
         return self
 
     def __exit__(self, kind: Optional[Type[BaseException]], error: Optional[BaseException], trace: Optional[TracebackType]) -> None:
-        self.close()
+        # After an error what isn't sent yet isn't done any more.
+        self._engine.close(send=kind is None)
 
     def __repr__(self) -> str:
         return f"<Repo {self.folder!r}{' closed' if self.closed else ''}>"
