@@ -167,10 +167,12 @@ class Commands(AtATerminal):
                 with self.assertRaises(WorkError):
                     refuse_path(path)
                 with wunthavel.Repo(os.path.join(self.room, ".wunthavel/store"), actor="A <a@b>") as repo:
-                    with contextlib.suppress(wunthavel.Refused):
+                    try:
                         repo.commit("Bad", name="refs/heads/bad").put(path, b"bad").put("page", b"bad").run()
-                        self.assertIn("isn't written", self.does("restore", "bad", status=1))
-                        repo.delete("refs/heads/bad")
+                    except wunthavel.Refused:
+                        continue
+                self.assertIn("isn't written", self.does("restore", "bad", status=1))
+                self.does("branch", "-d", "bad")
         self.assertEqual(self.read("page"), "one\n")
         self.assertFalse(os.path.exists(os.path.join(os.path.dirname(self.room), "out")))
 
@@ -292,6 +294,17 @@ class Processes(AtATerminal):
         self.assertEqual(self.run_words("nonsense").returncode, 2)
         self.assertIn(b"wunthavel save", self.run_words().stdout)
         self.assertIn(b"example: wunthavel log", self.run_words("log", "--help").stdout)
+
+    def test_another_directory(self) -> None:
+        self.begin()
+        os.chdir("/")
+        self.assertIn("whole", self.does("-C", self.room, "verify"))
+        os.chdir("/")
+        self.assertIn("1 commit", self.does("-C", self.room, "html", ".", "pages"))
+        os.chdir("/")
+        self.assertEqual(json.loads(self.does("--json", "-C", self.room, "html", ".", "pages"))["commits"], 1)
+        self.assertTrue(os.path.exists(os.path.join(self.room, "pages/index.html")))
+        self.assertIn("nowhere", self.does("-C", "nowhere", "log", status=1))
 
     def test_a_reader_that_leaves(self) -> None:
         self.begin()

@@ -106,14 +106,17 @@ class Pages(WithRepo):
         self.repo.move([(f"refs/heads/n{it}", wunthavel.NEW, "HEAD") for it in range(300)], actor=ADA)
         for it in range(300):
             self.repo.commit(f"On {it}", name=f"refs/heads/n{it}").put("a", b"%d" % it).run()
-        self.assertEqual(html.write(self.store, self.out, limit=200), 200)
         self.assertEqual(len(html.read_commits(self.repo, None)), 300 + len(self.repo.log_ids()))
+        self.repo.close()
+        self.assertEqual(html.write(self.store, self.out, limit=200), 200)
 
     def test_a_new_repository(self) -> None:
+        self.repo.close()
         self.assertEqual(html.write(self.store, self.out), 0)
 
     def test_the_command(self) -> None:
         self.repo.commit("Begin").run()
+        self.repo.close()
         said = io.StringIO()
         with contextlib.redirect_stdout(said):
             self.assertEqual(cli.main(["html", self.store, self.out, "--json"]), 0)

@@ -216,9 +216,9 @@ class Ends(WithRepo):
 
     def test_kills_lose_nothing_that_was_acknowledged(self) -> None:
         for delay in (0.01, 0.05, 0.1, 0.2):
+            made = self.repo.resolve()
             timer = threading.Timer(delay, os.kill, (self.repo.pid, signal.SIGKILL))
             timer.start()
-            made = self.repo.resolve()
             try:
                 for number in range(10000):
                     made = self.repo.commit(f"{number}").put(f"d/{number}", b"%d" % number).run()
@@ -256,15 +256,31 @@ class Ends(WithRepo):
     def test_folders_that_are_none(self) -> None:
         with self.refused("NoHead"):
             wunthavel.Repo(self.room)
+        self.repo.close()
         with self.refused("NotEmpty"):
             wunthavel.Repo.create(self.store)
         with self.assertRaises(wunthavel.HistoryError):
             wunthavel.Repo(os.path.join(self.room, "nothing"))
-        self.repo.close()
         with open(os.path.join(self.store, "README"), "w", encoding="ascii") as it:
             it.write("hello")
         with self.refused("Stray"):
             wunthavel.Repo.check(self.store)
+
+    def test_another_process_is_waited_for(self) -> None:
+        busy = os.path.join(self.room, "busy")
+        program = self.fake("sys.stdin.read()")
+        with open(program, encoding="utf-8") as it:
+            body = it.read()
+        with open(program, "w", encoding="utf-8") as it:
+            it.write(body.replace("folder =", f"if os.path.exists({busy!r}): sys.exit('fault File\\nnote: store: another process works there')\nfolder ="))
+        open(busy, "w").close()
+        with self.assertRaises(wunthavel.Busy) as met:
+            wunthavel.Repo(self.store, engine=program, wait=0)
+        self.assertIn("another process", str(met.exception))
+        timer = threading.Timer(0.3, os.unlink, (busy,))
+        timer.start()
+        wunthavel.Repo(self.store, engine=program, wait=30).close()
+        timer.join()
 
     def test_no_engine(self) -> None:
         with self.assertRaises(wunthavel.EngineError):
@@ -297,6 +313,7 @@ class Ends(WithRepo):
 
     def test_an_interrupted_wait_leaves_it_in_step(self) -> None:
         self.chain(1)
+        self.repo.close()
         code = (
             "import os, signal, sys, threading, wunthavel\n"
             "from wunthavel import protocol\n"

@@ -7,7 +7,7 @@
 ['Begin']
 """
 from . import protocol
-from .engine import EngineDied, EngineError, Pending, Unfinished, find_engine
+from .engine import Busy, EngineDied, EngineError, Pending, Unfinished, find_engine
 from .protocol import (
     ANY,
     NEW,
@@ -32,6 +32,7 @@ __version__ = "0.1.0"
 __all__ = [
     "ANY",
     "Actor",
+    "Busy",
     "Change",
     "Command",
     "Commit",

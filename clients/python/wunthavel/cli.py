@@ -449,21 +449,32 @@ def _count(word: str) -> int:
 def main(argv: Optional[Sequence[str]] = None) -> int:
     """Does what the words say, and returns the exit status: 0, 1 where it can't be done, 2 where the words are none."""
     words = list(sys.argv[1:] if argv is None else argv)
-    if words and words[0] in APART:
-        return _guarded(lambda: int(importlib.import_module(f"wunthavel.{APART[words[0]]}").main(words[1:]) or 0), "--json" in words)
+    at = 0
+    while at < len(words) and words[at] in ("--json", "-C"):
+        at += 2 if words[at] == "-C" else 1
+    if at < len(words) and words[at] in APART:
+        return _guarded(lambda: _run_apart(words[:at], words[at], words[at + 1 :]), "--json" in words)
     parser = _parser()
     asked = parser.parse_args(words)
     if asked.command is None:
         parser.print_help()
         return 0
-    if asked.directory:
-        os.chdir(asked.directory)
     as_json = getattr(asked, "json", False)
     return _guarded(lambda: _run(asked, Output(as_json, getattr(asked, "colour", "auto"))), as_json)
 
 
+def _run_apart(before: List[str], name: str, rest: List[str]) -> int:
+    """Runs a command that reads its words itself, after the common ones."""
+    module = importlib.import_module(f"wunthavel.{APART[name]}")
+    if "-C" in before:
+        os.chdir(before[before.index("-C") + 1])
+    return int(module.main([*(["--json"] if "--json" in before else []), *rest]) or 0)
+
+
 def _run(asked: argparse.Namespace, out: Output) -> int:
     does = asked.does
+    if asked.directory:
+        os.chdir(asked.directory)
     if does in (init, verify, recover):
         return int(does(asked, out))
     at = Session(asked, out)
@@ -491,7 +502,8 @@ def _complain(error: Exception, as_json: bool) -> int:
     if isinstance(error, Unfinished):
         said += "\nwunthavel recover removes it"
     if as_json:
-        print(json.dumps({"error": getattr(error, "cause", type(error).__name__), "message": said}), file=sys.stderr)
+        about = {"error": getattr(error, "cause", type(error).__name__), "values": list(getattr(error, "values", ())), "message": said}
+        print(json.dumps(about), file=sys.stderr)
     else:
         print(f"wunthavel: {said}", file=sys.stderr)
     return 1

@@ -4,6 +4,7 @@ Commands go out and replies come in by one `poll`, so neither side ever waits fo
 """
 import contextlib
 import fcntl
+import itertools
 import os
 import select
 import shutil
@@ -22,6 +23,8 @@ CHECKOUT = os.path.join(os.path.dirname(os.path.abspath(__file__)), "../../../cr
 # So many bytes may wait to be written before `send` waits too.
 UNSENT = 1 << 20
 PIPE = 1 << 20
+# So many commands are written together.
+TOGETHER = 64
 # What recover mends, where a folder is refused for it.
 STOPPED = ("Unfinished", "LogWithoutName", "BadLog")
 
@@ -40,6 +43,10 @@ class EngineDied(EngineError):
     def __init__(self, why: str, status: Optional[int] = None, said: str = "", command: Optional[Command[Any]] = None) -> None:
         super().__init__(why + (f" (no reply to {command.title!r})" if command is not None else ""), status, said)
         self.command = command
+
+
+class Busy(Fault):
+    """Another process works in the folder."""
 
 
 class Unfinished(Refused):
@@ -102,7 +109,7 @@ def _refusal(said: str, status: Optional[int], folder: Folder, sha256: bool, eng
         if verb == "refused" and cause:
             return Refused(cause, values=values)
         if verb == "fault" and cause:
-            return Fault(cause, values=values)
+            return (Busy if any("another process" in it for it in values) else Fault)(cause, values=values)
     return EngineError(f"the engine ended with status {status}", status, said.strip())
 
 
@@ -224,8 +231,9 @@ class Engine:
         """What the engine's end was, once it has ended."""
         return self._over
 
-    def send(self, command: Command[T]) -> Pending[T]:
-        """Sends a command, and returns at once unless much waits to be written; then it reads replies meanwhile."""
+    def send(self, command: Command[T], at_once: bool = True) -> Pending[T]:
+        """Sends a command, and returns at once unless much waits to be written; then it reads replies meanwhile. One that needn't go at once is
+        written with others, at the latest when a reply is waited for."""
         with self._lock:
             if self._over is not None:
                 raise EngineDied(f"the engine is closed or has ended ({self._over})", self._over.status, command=command)
@@ -236,7 +244,8 @@ class Engine:
                 self._unsent.append(memoryview(command.data))
                 self._unsent_bytes += len(command.data)
                 self._busy = False
-                self._write()
+                if at_once or len(self._unsent) >= TOGETHER or self._unsent_bytes >= PIPE // 64:
+                    self._write()
                 while self._unsent_bytes > UNSENT and self._over is None:
                     self._transfer()
                     self._take_replies()
@@ -268,10 +277,9 @@ class Engine:
     def _write(self) -> None:
         """Writes what the pipe takes."""
         while self._unsent and self._can_write:
-            first = self._unsent[0]
             self._busy = True
             try:
-                count = os.write(self._in, first)
+                count = os.writev(self._in, list(itertools.islice(self._unsent, TOGETHER)))
             except BlockingIOError:
                 break
             except BrokenPipeError:
@@ -281,10 +289,10 @@ class Engine:
                 self._unsent_bytes = 0
                 break
             self._unsent_bytes -= count
-            if count == len(first):
-                self._unsent.popleft()
-            else:
-                self._unsent[0] = first[count:]
+            while self._unsent and count >= len(self._unsent[0]):
+                count -= len(self._unsent.popleft())
+            if count:
+                self._unsent[0] = self._unsent[0][count:]
         self._busy = False
 
     def _transfer(self) -> None:
@@ -391,10 +399,10 @@ class Engine:
         with contextlib.suppress(OSError):
             self._process.kill()
 
-    def close(self) -> None:
-        """Sends what waits, ends the input, and waits for the engine's end. Replies that nobody took are dropped."""
+    def close(self, send: bool = True) -> None:
+        """Sends what waits, unless that isn't wanted, ends the input, and waits for the engine's end. A command is done whole or not at all."""
         with self._lock:
-            while self._pending and self._over is None:
+            while send and self._pending and self._over is None:
                 with self._in_step():
                     self._transfer()
                     self._take_replies()

@@ -202,5 +202,5 @@ def main(argv: Sequence[str]) -> int:
     folder = own if os.path.isdir(own) else asked.folder
     count = write(folder, asked.out, asked.limit, asked.title)
     index = os.path.join(asked.out, "index.html")
-    print(json.dumps({"page": index, "commits": count}) if asked.json else f"{index} shows {count:,} commits")
+    print(json.dumps({"page": index, "commits": count}) if asked.json else f"{index} shows {count:,} commit{'s' * (count != 1)}")
     return 0

@@ -6,15 +6,17 @@
 ...     repo.read("README")
 b'Hello.'
 """
+import contextlib
 import difflib
 import os
+import time
 from collections import deque
 from dataclasses import dataclass
 from types import TracebackType
-from typing import Any, Deque, Dict, Iterable, Iterator, List, Mapping, Optional, Sequence, Tuple, Type, TypeVar, Union, overload
+from typing import Deque, Dict, Iterable, Iterator, List, Mapping, Optional, Sequence, Tuple, Type, TypeVar, Union, overload
 
 from . import protocol
-from .engine import Engine, EngineDied, Folder, Pending, Unfinished, _refusal, act, command_line, find_engine, is_sha256
+from .engine import Busy, Engine, EngineDied, Folder, Pending, Unfinished, _refusal, act, command_line, find_engine, is_sha256
 from .protocol import ANY, NEW, Actor, Command, Commit, Content, Expected, File, Ids, LogEntry, Names, Refused, Text, raw, text
 
 T = TypeVar("T")
@@ -114,7 +116,8 @@ class Repo:
 
     `sha256` says that its ids are of SHA-256; by default the ids of its objects tell. `actor` is who makes commits where nobody is named: an
     `Actor`, or a text `"Name <email>"` with the time of each call. `recover` recovers a folder that a stopped run left unfinished, which is else
-    refused by `Unfinished`. `timeout` is how many seconds the engine may be silent; then it is ended. `engine` is its program (see `find_engine`).
+    refused by `Unfinished`. `wait` is how many seconds to wait for another process that works in the folder, which is then told by `Busy`. `timeout` is
+    how many seconds the engine may be silent; then it is ended. `engine` is its program (see `find_engine`).
     """
 
     def __init__(
@@ -124,21 +127,30 @@ class Repo:
         sha256: Optional[bool] = None,
         actor: Optional[Who] = None,
         recover: bool = False,
+        wait: float = 5.0,
         timeout: Optional[float] = None,
         engine: Optional[str] = None,
     ) -> None:
         self.folder = os.fspath(folder)
         self.sha256 = is_sha256(folder) if sha256 is None else sha256
         self.actor = actor
-        self._timeout, self._program = timeout, engine or find_engine()
+        self._wait, self._timeout, self._program = wait, timeout, engine or find_engine()
         self._engine = self._open(recover)
 
     @classmethod
-    def create(cls, folder: Folder, *, sha256: bool = False, **options: Any) -> "Repo":
+    def create(
+        cls,
+        folder: Folder,
+        *,
+        sha256: bool = False,
+        actor: Optional[Who] = None,
+        timeout: Optional[float] = None,
+        engine: Optional[str] = None,
+    ) -> "Repo":
         """Makes a repository in a folder that is empty or doesn't exist yet, and opens it."""
         os.makedirs(folder, exist_ok=True)
-        act("create", folder, sha256, options.get("engine"))
-        return cls(folder, sha256=sha256, **options)
+        act("create", folder, sha256, engine)
+        return cls(folder, sha256=sha256, actor=actor, timeout=timeout, engine=engine)
 
     @classmethod
     def check(cls, folder: Folder, *, sha256: Optional[bool] = None, engine: Optional[str] = None) -> None:
@@ -151,19 +163,30 @@ class Repo:
         act("recover", folder, is_sha256(folder) if sha256 is None else sha256, engine)
 
     def _open(self, recover: bool) -> Engine:
+        """Starts the engine; where another process works in the folder, again and again until it doesn't, and where it is to be recovered, once more."""
+        until, pause = time.monotonic() + self._wait, 0.01
+        while True:
+            try:
+                return self._start()
+            except Busy:
+                if time.monotonic() + pause > until:
+                    raise
+                time.sleep(pause)
+                pause = min(2 * pause, 0.2)
+            except Unfinished as error:
+                if not recover:
+                    raise
+                error.recover()
+                recover = False
+
+    def _start(self) -> Engine:
         engine = Engine(command_line("run", self.folder, self.sha256, self._program), self._timeout)
-        try:
+        with contextlib.suppress(EngineDied):
             # A question with a short answer: the engine replies once it has opened the folder.
             engine.wait(engine.send(protocol.names("refs/wunthavel/none")))
-        except EngineDied:
-            pass
         if engine.over is None:
             return engine
-        error = _refusal(engine.over.said, engine.over.status, self.folder, self.sha256, self._program)
-        if not (recover and isinstance(error, Unfinished)):
-            raise error from None
-        error.recover()
-        return self._open(False)
+        raise _refusal(engine.over.said, engine.over.status, self.folder, self.sha256, self._program)
 
     def reopen(self, recover: bool = True) -> None:
         """Starts the engine again, after it ended by a fault or a signal, or to see what others changed in the folder."""
@@ -192,7 +215,8 @@ class Repo:
         return self
 
     def __exit__(self, kind: Optional[Type[BaseException]], error: Optional[BaseException], trace: Optional[TracebackType]) -> None:
-        self.close()
+        # After an error what isn't sent yet isn't done any more.
+        self._engine.close(send=kind is None)
 
     def __repr__(self) -> str:
         return f"<Repo {self.folder!r}{' closed' if self.closed else ''}>"
@@ -230,7 +254,7 @@ class Repo:
                 command = next(coming, None)
                 more = command is not None
                 if command is not None:
-                    ahead.append(self._engine.send(command))
+                    ahead.append(self._engine.send(command, at_once=False))
             if not ahead:
                 return
             try:
