@@ -12,10 +12,11 @@ import time
 import unittest
 from contextlib import redirect_stderr, redirect_stdout, suppress
 from typing import Any, Dict, List, Optional, Sequence
+from unittest import mock
 
 sys.path.insert(0, os.path.dirname(os.path.dirname(os.path.abspath(__file__))))
 
-from wunthavel import git_export, git_import
+from wunthavel import bridge_folder, git_export, git_import
 from wunthavel.bridge_forms import Patterns, is_full_name
 from wunthavel.engine import EngineError, act, find_engine
 
@@ -289,8 +290,10 @@ class Increments(Case):
         self.init()
         self.commit("one", a="a")
         self.bring()
-        with git_import.Store(self.store, False, None).alone():
-            self.assertIn("in use", self.bring(status=1)["error"])
+        with mock.patch.object(bridge_folder, "WAIT", 0.1), git_import.Store(self.store, False, None).held(alone=True):
+            self.commit("two", b="b")
+            self.assertIn("another process", self.bring(status=1)["error"])
+            self.assertIn("another process", self.give(status=1)["error"])
 
     def killed(self, module: str, *words: str) -> None:
         """Kills the command at moments all along its work, and lets it end at last."""

@@ -2,11 +2,14 @@
 import contextlib
 import fcntl
 import os
+import time
 from typing import Dict, Iterator, List, Optional, Set, Tuple
 
 from .bridge_forms import SHA1, SHA256, BridgeError, Hashing, Patterns, read_tag, shown
-from .engine import Unfinished, act
+from .engine import Busy, Unfinished, act
 
+# How many seconds to wait for another process that works in a folder.
+WAIT = 5.0
 HEADER = b"# pack-refs with: peeled fully-peeled sorted \n"
 
 
@@ -54,7 +57,7 @@ def read_logs(folder: bytes) -> Dict[bytes, bytes]:
 
 
 class Store:
-    """The folder of a history, which no engine and no other bridge uses meanwhile."""
+    """The folder of a history."""
 
     def __init__(self, folder: str, sha256: bool, engine: Optional[str]) -> None:
         self.folder, self.sha256, self.engine = folder, sha256, engine
@@ -66,32 +69,52 @@ class Store:
     # The whole folder.
 
     @contextlib.contextmanager
-    def alone(self) -> Iterator[None]:
-        """Keeps other bridges and servers out. (The engine itself takes no lock: one at a time is its user's part.)"""
+    def held(self, alone: bool) -> Iterator[None]:
+        """Holds the folder by the lock that engines take too: alone, or with others that only read it."""
         at = os.open(self.path, os.O_RDONLY)
         try:
-            try:
-                fcntl.flock(at, fcntl.LOCK_EX | fcntl.LOCK_NB)
-            except OSError:
-                raise BridgeError(f"{self.folder} is in use by another wunthavel") from None
+            self._lock(at, fcntl.LOCK_EX if alone else fcntl.LOCK_SH)
             yield
         finally:
             os.close(at)
 
+    def _lock(self, at: int, how: int) -> None:
+        end = time.monotonic() + WAIT
+        while True:
+            try:
+                fcntl.flock(at, how | fcntl.LOCK_NB)
+                return
+            except OSError:
+                if time.monotonic() > end:
+                    raise BridgeError(f"{self.folder}: another process works there") from None
+                time.sleep(0.02)
+
     def check(self) -> None:
         """Has the engine say whether the folder is whole; `Refused` and `Fault` say why it isn't."""
-        act("check", self.folder, self.sha256, self.engine)
+        self._act("check")
+
+    def _act(self, action: str) -> None:
+        """Has the engine do something, once nobody else works in the folder."""
+        end = time.monotonic() + WAIT
+        while True:
+            try:
+                act(action, self.folder, self.sha256, self.engine)
+                return
+            except Busy:
+                if time.monotonic() > end:
+                    raise
+                time.sleep(0.02)
 
     def make(self) -> None:
         """Makes the folder, and a history in it, where none is there, and takes away what a stop left; else it must be whole."""
         os.makedirs(self.folder, exist_ok=True)
         if read_file(os.path.join(self.path, b"HEAD")) is None:
-            act("create", self.folder, self.sha256, self.engine)
+            self._act("create")
             return
         try:
             self.check()
-        except Unfinished as stopped:
-            stopped.recover()
+        except Unfinished:
+            self._act("recover")
             self.check()
 
     # Names.

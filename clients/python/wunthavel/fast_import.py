@@ -17,7 +17,7 @@ from dataclasses import dataclass, field
 from typing import IO, Any, Callable, Deque, Dict, Iterator, List, Optional, Sequence, Tuple
 
 from . import protocol
-from .bridge_folder import Store
+from .bridge_folder import WAIT
 from .engine import Pending, act
 from .progress import Progress
 from .protocol import ANY, NEW, Actor, Expected, HistoryError, Refused
@@ -500,7 +500,7 @@ def fast_import(folder: str, source: IO[bytes], sha256: bool = False, new_ids: b
     if not os.path.exists(os.path.join(folder, "HEAD")):
         os.makedirs(folder, exist_ok=True)
         act("create", folder, sha256, engine)
-    with Store(folder, sha256, engine).alone(), Repo(folder, sha256=sha256, recover=True, engine=engine) as repo:
+    with Repo(folder, sha256=sha256, recover=True, wait=WAIT, engine=engine) as repo:
         work = FastImport(repo, Stream(source), new_ids, bar)
         try:
             work.run()

@@ -152,7 +152,7 @@ def git_export(
 ) -> Dict[str, Any]:
     """Exports a history, and returns a summary. `CannotHold` names what git can't hold; then nothing was written."""
     store, bars = Store(folder, sha256, engine), bars or Bars(quiet=True)
-    with store.alone():
+    with store.held(alone=False):
         with bars.during("checking the folder"):
             store.check()
         work, is_new = Export(store, Patterns(skip_refs), bars), _is_new(dest)

@@ -212,13 +212,13 @@ def git_import(
         return {**work.summary(work.order, Changes(work.side.names, work.side.logs, set(), [])), "dry_run": True}
     if not dry_run:
         work.store.make()
-    with work.store.alone():
+    with work.store.held(alone=not dry_run):
         now, missing = work.compare(force, prune), work.missing()
         if not dry_run:
             work.write(missing, now)
-            if missing or now.names or now.logs or now.gone:
-                with bars.during("checking the folder"):
-                    work.store.check()
+    if not dry_run and (missing or now.names or now.logs or now.gone):
+        with bars.during("checking the folder"):
+            work.store.check()
     end: Dict[str, Any] = {"dry_run": True} if dry_run else {"check": "whole"}
     return {**work.summary(missing, now), **end}
 

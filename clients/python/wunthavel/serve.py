@@ -5,8 +5,8 @@ that stalls, floods or dies holds up nobody: what isn't whole waits with its cli
 
 Where the engine ends (a fault, a kill), the folder is recovered and opened again. Then the engine has written the replies of all commands that it
 did but the first one without a reply: whether that one was done isn't known, so if it changes the repository its client's connection is closed
-without a reply; the others are sent again. What was acknowledged is kept. The lock on the folder goes with the server and its engine, so that a
-new server waits until a killed one's engine has ended.
+without a reply; the others are sent again. What was acknowledged is kept. A lock beside the socket goes with the server and its engine, so that a
+new server waits until a killed one's engine has ended; and an engine that finds another process in the folder is started again.
 
     with wunthavel.serve.connect("/run/store.sock") as repo:
         repo.log(limit=10)
@@ -32,7 +32,7 @@ from collections import deque
 from typing import Any, Callable, Deque, Dict, List, NamedTuple, Optional, Sequence, Tuple, Union
 
 from . import protocol
-from .engine import PIPE, Engine, EngineError, act, command_line, find_engine, is_sha256
+from .engine import PIPE, Busy, Engine, EngineError, act, command_line, find_engine, is_sha256
 from .protocol import HistoryError
 from .repo import Repo
 from .serve_wire import LONGEST_LINE, BadCommand, Parts, Whole, command, reply
@@ -40,6 +40,8 @@ from .serve_wire import LONGEST_LINE, BadCommand, Parts, Whole, command, reply
 Address = Union[str, Tuple[str, int]]
 LOOPBACK = ("127.0.0.1", "localhost", "::1")
 PART = 1 << 18
+# What an engine says that finds another process in its folder.
+BUSY = "another process works"
 # Causes for which a folder is refused that recovering mends.
 STOPPED = ("Unfinished", "LogWithoutName", "BadLog")
 # Replies after which a run ends, besides a fault in a changing command.
@@ -78,16 +80,16 @@ def say(text: str) -> None:
 class Client:
     """A client's connection."""
 
-    def __init__(self, sock: socket.socket, number: int, most: int) -> None:
+    def __init__(self, sock: socket.socket, number: int, limits: Limits) -> None:
         self.sock, self.number = sock, number
-        self.parts = Parts(command, LONGEST_LINE, most)
+        self.parts = Parts(command, LONGEST_LINE, limits.command)
         # Whole commands that wait; what is sent to the client; how many commands the engine has.
         self.ready: Deque[Whole] = deque()
         self.ready_bytes = 0
         self.out = bytearray()
         self.flying = 0
-        # About how large its replies are.
-        self.usual = 1
+        # About how large its replies are: they are taken for large until they are known.
+        self.usual = limits.unread // 4
         # Set where nothing more is read of it: then a last line follows its replies, and it is closed.
         self.last: Optional[bytes] = None
         # `cut` is set where a reply ended its run: what it sent after that is not done.
@@ -107,10 +109,12 @@ class Flight:
 class Keeper:
     """Keeps an engine running on the folder."""
 
-    def __init__(self, folder: str, sha256: bool, engine: str, lock: int) -> None:
-        self.folder, self.sha256, self.engine, self.lock = folder, sha256, engine, lock
+    def __init__(self, folder: str, sha256: bool, engine: str, wait: float, lock: Optional[int]) -> None:
+        self.folder, self.sha256, self.engine, self.wait = folder, sha256, engine, wait
+        self._passed = [] if lock is None else [lock]
         self.flying: Deque[Flight] = deque()
         self.restarts = self._barren = 0
+        self._busy_until = time.monotonic() + wait
         # Set by a reply after which the engine does no further command.
         self.is_over = False
         self.process: Optional["subprocess.Popen[bytes]"] = None
@@ -118,20 +122,13 @@ class Keeper:
 
     def start(self, recover: bool) -> None:
         """Starts the engine; what it is to do first is in `flying`."""
-        while recover:
-            try:
-                act("recover", self.folder, self.sha256, self.engine)
-                recover = False
-            except EngineError as error:
-                # As where it was killed.
-                self._barren += 1
-                if self._barren > TRIES:
-                    raise ServeError(f"the folder isn't recovered: {error}") from error
+        if recover:
+            self._recover()
         self._said = tempfile.TemporaryFile()
         words, pipe = command_line("run", self.folder, self.sha256, self.engine), subprocess.PIPE
         try:
             # The lock goes to the engine too: it outlives a server that is killed.
-            self.process = subprocess.Popen(words, stdin=pipe, stdout=pipe, stderr=self._said, bufsize=0, start_new_session=True, pass_fds=[self.lock])
+            self.process = subprocess.Popen(words, stdin=pipe, stdout=pipe, stderr=self._said, bufsize=0, start_new_session=True, pass_fds=self._passed)
         except OSError as error:
             raise ServeError(f"{words[0]} doesn't start: {error.strerror}") from error
         assert self.process.stdin and self.process.stdout
@@ -144,6 +141,22 @@ class Keeper:
         self.unsent: Deque[memoryview] = deque(memoryview(it.it.data or b"") for it in self.flying)
         self.unsent_bytes = sum(map(len, self.unsent))
         self.heard = time.monotonic()
+
+    def _recover(self) -> None:
+        until = time.monotonic() + self.wait
+        while True:
+            try:
+                act("recover", self.folder, self.sha256, self.engine)
+                return
+            except Busy as error:
+                if time.monotonic() > until:
+                    raise ServeError(str(error)) from error
+                time.sleep(0.05)
+            except EngineError as error:
+                # As where it was killed.
+                self._barren += 1
+                if self._barren > TRIES:
+                    raise ServeError(f"the folder isn't recovered: {error}") from error
 
     def send(self, flight: Flight) -> None:
         """Has a command written."""
@@ -195,6 +208,7 @@ class Keeper:
         whole = self.parts.feed(data)
         if whole:
             self._barren = 0
+            self._busy_until = time.monotonic() + self.wait
         return [(self.flying.popleft(), it) for it in whole]
 
     def end(self, kill: bool = False, wait: float = 30.0) -> str:
@@ -220,6 +234,12 @@ class Keeper:
     def again(self, said: str) -> None:
         """Starts an engine in the place of one that has ended."""
         self.restarts += 1
+        if BUSY in said:
+            if time.monotonic() > self._busy_until:
+                raise ServeError(f"{self.folder}: {BUSY} there")
+            time.sleep(0.05)
+            self.start(False)
+            return
         self._barren += 1
         cause = re.match(r"refused (\S+)", said)
         if self._barren > TRIES or cause and cause[1] not in STOPPED:
@@ -413,7 +433,7 @@ class Server:
             sock.close()
             return
         self.count["clients"] += 1
-        client = Client(sock, self.count["clients"], self.limits.command)
+        client = Client(sock, self.count["clients"], self.limits)
         self.clients[client.number] = client
         self._selector.register(sock, selectors.EVENT_READ, client)
 
@@ -579,9 +599,9 @@ def listen_tcp(address: Tuple[str, int]) -> socket.socket:
     return sock
 
 
-def lock_folder(folder: str, wait: float) -> int:
-    """Keeps other servers and bridges out of a folder, and returns what keeps them out while it is open."""
-    at = os.open(folder, os.O_RDONLY)
+def lock_beside(path: str, wait: float) -> int:
+    """Keeps other servers from a socket's path, and returns what keeps them while it is open: here, or in an engine of a server that was killed."""
+    at = os.open(path + ".lock", os.O_RDWR | os.O_CREAT | os.O_NOFOLLOW, 0o600)
     end = time.monotonic() + wait
     while True:
         try:
@@ -590,7 +610,7 @@ def lock_folder(folder: str, wait: float) -> int:
         except OSError:
             if time.monotonic() > end:
                 os.close(at)
-                raise ServeError(f"{folder} is in use by another wunthavel") from None
+                raise ServeError(f"{path}: a server listens there, or the engine of one still works") from None
             time.sleep(0.02)
 
 
@@ -762,11 +782,11 @@ def _serve(asked: argparse.Namespace) -> Dict[str, Any]:
     limits = Limits(*(getattr(asked, f"limit_{name}") for name in Limits._fields))
     if not os.path.isdir(asked.folder):
         raise ServeError(f"there is no folder {asked.folder}")
-    lock = lock_folder(asked.folder, limits.folder)
+    lock = None if asked.socket == "-" else lock_beside(asked.socket, limits.folder)
     keeper: Optional[Keeper] = None
     places: List[str] = []
     try:
-        keeper = Keeper(asked.folder, asked.sha256 or is_sha256(asked.folder), asked.engine or find_engine(), lock)
+        keeper = Keeper(asked.folder, asked.sha256 or is_sha256(asked.folder), asked.engine or find_engine(), limits.folder, lock)
         _wait_for_opening(keeper)
         listeners, places = _open_listeners(asked)
         server = Server(keeper, listeners, limits, asked.quiet)
@@ -784,7 +804,8 @@ def _serve(asked: argparse.Namespace) -> Dict[str, Any]:
                 os.unlink(asked.socket)
         if keeper is not None:
             keeper.end(kill=True)
-        os.close(lock)
+        if lock is not None:
+            os.close(lock)
 
 
 def _wait_for_opening(keeper: Keeper) -> None:
