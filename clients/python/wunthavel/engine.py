@@ -15,7 +15,7 @@ import threading
 from collections import deque
 from typing import Any, Callable, Deque, Generic, List, Optional, Sequence, TypeVar, Union
 
-from .protocol import Command, Fault, HistoryError, ProtocolError, Reading, Refused, text
+from .protocol import Command, Fault, HistoryError, Need, ProtocolError, Reading, Refused, Rows, rows, text
 
 T = TypeVar("T")
 Folder = Union[str, "os.PathLike[str]"]
@@ -161,7 +161,7 @@ class Pending(Generic[T]):
             raise self._error
         return self._value  # type: ignore[no-any-return]
 
-    def _take(self, data: bytes) -> bool:
+    def _take(self, data: Any) -> bool:
         """Takes what the reading needs; returns whether the reply is whole."""
         assert self._reading is not None
         try:
@@ -315,8 +315,9 @@ class Engine:
                 self._receive()
 
     def _receive(self) -> None:
+        need = self._pending[0]._need if self._pending else None
         try:
-            data = os.read(self._out, PIPE)
+            data = os.read(self._out, PIPE if need and need > PIPE // 256 else PIPE // 16)
         except BlockingIOError:
             return
         if data:
@@ -340,8 +341,12 @@ class Engine:
             self._pending.popleft()
             self._busy = False
 
-    def _part(self, need: Optional[int]) -> Optional[bytes]:
-        """Returns the next line, or the next field of so many bytes, where it is there whole."""
+    def _part(self, need: Need) -> Any:
+        """Returns the next line, the next field of so many bytes, or the next rows; `None` where it isn't there whole."""
+        if isinstance(need, Rows):
+            found, at = rows(self._read, self._at, need)
+            self._pass(at)
+            return found or None
         if need is None:
             end = self._read.find(b"\n", max(self._at, self._searched))
             if end < 0:
@@ -355,12 +360,16 @@ class Engine:
                 raise ProtocolError("a field isn't followed by a line feed")
         with memoryview(self._read) as read:
             part = bytes(read[self._at : end])
-        self._at = end + 1
+        self._pass(end + 1)
+        return part
+
+    def _pass(self, at: int) -> None:
+        """Goes on to a place, and drops what is before it now and then."""
+        self._at = at
         if self._at >= PIPE or self._at == len(self._read):
             del self._read[: self._at]
             self._at = 0
         self._searched = self._at
-        return part
 
     def _end(self, why: str, kill: bool = False) -> None:
         """Ends the process and tells all commands that wait."""

@@ -1,7 +1,7 @@
 """The command stream of docs/PROTOCOL.md: commands are written here, and replies are read. No file is touched.
 
-A `Command` has its bytes, and knows how its reply is read. A reply is read by a generator that yields what it needs next, `None` for a line
-or a number for a field of so many bytes, is sent those bytes, and returns a typed value. So the same code serves pipes, sockets and tests:
+A `Command` has its bytes, and knows how its reply is read. A reply is read by a generator that yields what it needs next, `None` for a line,
+a number for a field of so many bytes, or `Rows`, is sent that, and returns a typed value. So the same code serves pipes, sockets and tests:
 
 >>> command = files("main")
 >>> command.data
@@ -21,7 +21,13 @@ from typing import Any, Callable, Dict, Generator, Generic, Iterable, List, Opti
 
 Text = Union[str, bytes]
 T = TypeVar("T")
-Reading = Generator[Optional[int], bytes, T]
+
+class Rows(int):
+    """A need of some rows, one at least and so many at most: each is a line whose last word is a length, and a field of that length."""
+
+
+Need = Union[None, int, Rows]
+Reading = Generator[Need, Any, T]
 KINDS = ("file", "exec", "link")
 ORDERS = ("breadth", "newest", "oldest", "date", "topological")
 LONGEST_LINE = 4096
@@ -318,15 +324,39 @@ class Command(Generic[T]):
         raise ProtocolError(f"{line[:200]!r} is no reply to {self.title!r}")
 
 
+def rows(data: bytes, at: int, most: int) -> Tuple[List[Tuple[bytes, bytes]], int]:
+    """Returns the rows that are whole from a place on, each its line and its field, and the place after them."""
+    found: List[Tuple[bytes, bytes]] = []
+    while len(found) < most:
+        end = data.find(b"\n", at)
+        if end < 0:
+            break
+        line = data[at:end]
+        last = end + 1 + int(line[line.rfind(b" ") + 1 :])
+        if last >= len(data):
+            break
+        if data[last] != 10:
+            raise ProtocolError("a field isn't followed by a line feed")
+        found.append((line, data[end + 1 : last]))
+        at = last + 1
+    return found, at
+
+
 def read_reply(command: Command[T], data: bytes) -> T:
     """Reads a reply that is whole in these bytes, and nothing else is."""
     reading, at = command.reading(), 0
     need = next(reading)
     while True:
-        end = data.find(b"\n", at) if need is None else at + need
-        if end < 0 or data[end : end + 1] != b"\n":
+        part: Any
+        if isinstance(need, Rows):
+            part, at = rows(data, at, need)
+            whole = bool(part)
+        else:
+            end = data.find(b"\n", at) if need is None else at + need
+            whole = end >= 0 and data[end : end + 1] == b"\n"
+            part, at = data[at:end], end + 1
+        if not whole:
             raise ProtocolError(f"the reply to {command.title!r} isn't whole")
-        part, at = data[at:end], end + 1
         try:
             need = reading.send(part)
         except StopIteration as ended:
@@ -429,10 +459,12 @@ def _ids(words: List[bytes]) -> Reading[Ids]:
 
 
 def _files(words: List[bytes]) -> Reading[List[File]]:
-    found = []
-    for _ in range(int(words[0])):
-        kind, id, length = (yield None).split(b" ")
-        found.append(File(kind.decode(), id.decode(), text((yield int(length)))))
+    count = int(words[0])
+    found: List[File] = []
+    while len(found) < count:
+        for line, path in (yield Rows(count - len(found))):
+            kind, id, _ = line.decode().split(" ")
+            found.append(File(kind, id, path.decode("utf-8", "surrogateescape")))
     return found
 
 
