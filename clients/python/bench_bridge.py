@@ -1,9 +1,9 @@
 #!/usr/bin/env python3
-"""Measures the clients, and writes a table in Markdown: commands a second by Repo, by batch() and through serve; the bridge against git.
+"""Measures the server and the bridge, and writes a table in Markdown: commands a second through serve, and the bridge against git.
 
     WUNTHAVEL_ENGINE=.. clients/python/bench_bridge.py [--commits N] [--repository FOLDER]
 
-It is a report, no test. All is done in a temporary folder. Git's own rows are `git cat-file --batch` over the same objects and `git fast-import`
+It is a report, no test; `bench.py` has `Repo` and `batch()` without a server. All is done in a temporary folder. Git's own rows are `git cat-file --batch` over the same objects and `git fast-import`
 of the same stream. `--repository` takes the bridge's rows over a git repository of yours, in the place of a made one.
 """
 import argparse
@@ -66,19 +66,8 @@ class Bench:
         self.rows.append((what, how, count, seconds))
         print(f"{what}, {how}: {count / seconds:,.0f} a second", file=sys.stderr, flush=True)
 
-    def commands(self) -> None:
-        """Commits and questions, one at a time and in a batch."""
-        count, few = self.commits, max(self.commits // 10, 100)
-        with Repo.create(self.path("one")) as repo:
-            self.add("commits", "Repo, one after another", few, timed(lambda: [repo.run(made(it)) for it in range(few)]))
-            self.add("shows of a content", "Repo, one after another", count, timed(lambda: [repo.show("main", "folder 1/page 1") for _ in range(count)]))
-        with Repo.create(self.path("many")) as repo:
-            self.add("commits", "batch()", count, timed(lambda: list(repo.batch(made(it) for it in range(count)))))
-            shows = (protocol.content("main", "folder 1/page 1") for _ in range(5 * count))
-            self.add("shows of a content", "batch()", 5 * count, timed(lambda: [None for _ in repo.batch(shows)]))
-
     def served(self) -> None:
-        """The same through a server, by one client and by many."""
+        """Commits and questions through a server, by one client and by many."""
         Repo.create(self.path("served")).close()
         socket, program = self.path("socket"), [sys.executable, "-m", "wunthavel", "serve"]
         env = {**os.environ, "PYTHONPATH": os.path.dirname(os.path.abspath(__file__))}
@@ -163,7 +152,6 @@ def main() -> int:
     asked = parser.parse_args()
     with tempfile.TemporaryDirectory(prefix="bench-bridge-") as room:
         bench = Bench(room, asked.commits, asked.repository)
-        bench.commands()
         bench.served()
         bench.bridge()
         print(bench.table())
