@@ -1,0 +1,55 @@
+#!/usr/bin/env python3
+"""A release log: what came with each release, from tags and what lies between them.
+
+    releases.py FOLDER release 1.2 'Faster searches'
+    releases.py FOLDER log
+    releases.py FOLDER changed 1.1 1.2
+"""
+import sys
+from typing import Iterator, List, Tuple
+
+from wunthavel import Commit, Name, Repo
+
+TAGS = "refs/tags/v"
+
+
+class Releases:
+    """The releases of a repository: annotated tags named `v` and a version."""
+
+    def __init__(self, repo: Repo) -> None:
+        self.repo = repo
+
+    def release(self, version: str, notes: str) -> str:
+        """Makes a release of what HEAD has."""
+        return self.repo.tag(f"v{version}", "HEAD", notes)
+
+    def tags(self) -> List[Name]:
+        """The releases' tags, newest first."""
+        made = {it.name: self.repo.past(it.name)[0].actor.seconds for it in self.repo.names("refs/tags") if it.name.startswith(TAGS)}
+        return sorted((it for it in self.repo.names("refs/tags") if it.name in made), key=lambda it: (made[it.name], it.name), reverse=True)
+
+    def log(self) -> Iterator[Tuple[str, str, List[Commit]]]:
+        """Gives each release, newest first: its version, the title of its notes, and the commits that came with it."""
+        tags = self.tags()
+        for tag, before in zip(tags, [*tags[1:], None]):
+            hidden = [before.name] if before else []
+            yield tag.name[len(TAGS) :], self.repo.past(tag.name)[0].title, list(self.repo.log(words=tag.name, hidden=hidden))
+
+
+def main(folder: str, action: str, *words: str) -> None:
+    with Repo(folder, actor="Release <release@example.org>") as repo:
+        releases = Releases(repo)
+        if action == "release":
+            print(releases.release(*words))
+        elif action == "log":
+            for version, notes, commits in releases.log():
+                print(f"{version}: {notes}")
+                for commit in commits:
+                    print(f"  - {commit.title} ({commit.author.name})")
+        elif action == "changed":
+            for change in repo.diff_names(TAGS + words[0], TAGS + words[1]):
+                print(change.kind, change.path)
+
+
+if __name__ == "__main__":
+    main(*sys.argv[1:])

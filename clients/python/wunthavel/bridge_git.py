@@ -1,0 +1,217 @@
+"""A git repository, read and written by git itself."""
+import contextlib
+import hashlib
+import os
+import re
+import subprocess
+import threading
+import zlib
+from typing import Dict, Iterable, Iterator, List, Optional, Tuple
+
+from .bridge_folder import files_below, read_logs, write_file
+from .bridge_forms import SHA1, SHA256, BridgeError, Hashing, Problem, shown
+
+# What would have git look elsewhere than at the repository that is named.
+OWN = ("GIT_DIR", "GIT_WORK_TREE", "GIT_INDEX_FILE", "GIT_OBJECT_DIRECTORY", "GIT_ALTERNATE_OBJECT_DIRECTORIES", "GIT_COMMON_DIR", "GIT_NAMESPACE")
+KINDS = {"commit": 1, "tree": 2, "blob": 3, "tag": 4}
+# Git itself keeps fewer objects than these as files of their own.
+FEW = 100
+
+
+class Git:
+    """A git repository."""
+
+    def __init__(self, folder: str) -> None:
+        self.folder = folder
+        self._env = {**{name: it for name, it in os.environ.items() if name not in OWN}, "LC_ALL": "C", "GIT_NO_REPLACE_OBJECTS": "1"}
+        self._env["GIT_OPTIONAL_LOCKS"] = "0"
+        fixed = ["-c", "gc.auto=0", "-c", "core.logAllRefUpdates=false", "-c", "core.hooksPath=/dev/null", "-c", "core.quotePath=false"]
+        self._words = ["git", *fixed, "-C", folder]
+        self.broken: List[bytes] = []
+
+    def run(self, *words: str, given: bytes = b"") -> bytes:
+        """Returns what git writes; a BridgeError says what it complains of."""
+        done = self._start(words, given)
+        if done.returncode:
+            raise BridgeError(f"git {words[0]} in {self.folder}: {done.stderr.decode(errors='replace').strip() or done.returncode}")
+        return done.stdout
+
+    def _start(self, words: Iterable[str], given: bytes = b"") -> "subprocess.CompletedProcess[bytes]":
+        try:
+            return subprocess.run([*self._words, *words], input=given, stdout=subprocess.PIPE, stderr=subprocess.PIPE, env=self._env)
+        except FileNotFoundError:
+            raise BridgeError("there is no git on PATH") from None
+
+    @contextlib.contextmanager
+    def _process(self, words: List[str]) -> Iterator["subprocess.Popen[bytes]"]:
+        """Runs git beside this process, and ends it with the block."""
+        pipe = subprocess.PIPE
+        process = subprocess.Popen([*self._words, *words], stdin=pipe, stdout=pipe, stderr=pipe, env=self._env)
+        try:
+            yield process
+        finally:
+            process.kill()
+            for it in (process.stdin, process.stdout, process.stderr):
+                with contextlib.suppress(OSError):
+                    it and it.close()
+            process.wait()
+
+    # The whole repository.
+
+    def open(self) -> None:
+        """Finds the repository's folder and its kind of ids. It is the folder itself, or its `.git`, and none above it."""
+        self._env["GIT_CEILING_DIRECTORIES"] = os.path.dirname(os.path.realpath(self.folder))
+        kind = self.run("rev-parse", "--show-object-format").decode().strip()
+        self.hashing: Hashing = {"sha1": SHA1, "sha256": SHA256}[kind]
+        self.path = os.path.join(os.fsencode(self.folder), self.run("rev-parse", "--git-common-dir").rstrip(b"\n"))
+        self.is_bare = self.run("rev-parse", "--is-bare-repository").strip() == b"true"
+
+    def make(self, hashing: Hashing) -> None:
+        """Makes a bare repository."""
+        os.makedirs(self.folder, exist_ok=True)
+        self.run("init", "--quiet", "--bare", "--template=", f"--object-format={hashing.name}", ".")
+
+    def fsck(self) -> List[str]:
+        """Returns what `git fsck --strict` complains of; nothing where the repository is whole."""
+        done = self._start(["fsck", "--strict", "--no-dangling", "--no-progress"])
+        if not done.returncode:
+            return []
+        lines = (done.stderr + done.stdout).decode(errors="replace").splitlines()
+        return [it for it in lines if not it.startswith("notice: ")] or [f"git fsck ended with status {done.returncode}"]
+
+    # Names.
+
+    def head(self) -> Tuple[bytes, bool]:
+        """Returns what HEAD names, and whether that is a name and no id."""
+        done = self._start(["symbolic-ref", "--quiet", "HEAD"])
+        if not done.returncode:
+            return done.stdout.strip(), True
+        return self.run("rev-parse", "HEAD").strip(), False
+
+    def names(self) -> Tuple[Dict[bytes, bytes], Dict[bytes, bytes]]:
+        """Returns the ids by the names, and by the symbolic ones what they name. `broken` are those that git can't read."""
+        done = self._start(["for-each-ref", "--format=%(refname)%00%(objectname)%00%(symref)"])
+        if done.returncode:
+            raise BridgeError(f"git for-each-ref in {self.folder}: {done.stderr.decode(errors='replace').strip()}")
+        rows = [it.split(b"\0") for it in done.stdout.split(b"\n") if it]
+        names = {row[0]: bytes.fromhex(row[1].decode()) for row in rows}
+        # Git says nothing of some of them.
+        files = {it for it in files_below(self.path, b"refs") if not it.endswith(b".lock")}
+        self.broken = sorted(files.union(re.findall(rb"^warning: ignoring .*?(refs/[^\n]*)$", done.stderr, re.M)) - names.keys())
+        return names, {row[0]: row[2] for row in rows if row[2]}
+
+    def logs(self) -> Dict[bytes, bytes]:
+        """Returns the logs by the names."""
+        if os.path.isdir(os.path.join(self.path, b"reftable")):
+            raise BridgeError(f"{self.folder} keeps its names and logs in a reftable, which isn't read")
+        return read_logs(self.path)
+
+    def move_names(self, names: Dict[bytes, bytes], old: Dict[bytes, bytes], gone: Iterable[bytes]) -> None:
+        """Deletes names, and then gives others these ids in one transaction; each must be at its old id still."""
+        null = b"0" * (2 * self.hashing.width)
+        was = {name: id.hex().encode() for name, id in old.items()}
+        rows = [b"delete %s\0%s\0" % (name, was[name]) for name in gone]
+        if rows:
+            self.run("update-ref", "--stdin", "-z", "--no-deref", given=b"".join(rows))
+        rows = [b"update %s\0%s\0%s\0" % (name, id.hex().encode(), was.get(name, null)) for name, id in names.items()]
+        if rows:
+            self.run("update-ref", "--stdin", "-z", "--no-deref", given=b"".join(rows))
+
+    def write_log(self, name: bytes, log: bytes) -> None:
+        """Writes a name's log."""
+        write_file(os.path.join(self.path, b"logs", name), log)
+
+    def write_head(self, branch: bytes) -> None:
+        """Has HEAD name the branch."""
+        self.run("symbolic-ref", "HEAD", os.fsdecode(branch))
+
+    # Objects.
+
+    def objects(self) -> Iterator[Tuple[bytes, str, int]]:
+        """Returns id, kind and length of each object."""
+        words = ["cat-file", "--batch-all-objects", "--unordered", "--batch-check=%(objectname) %(objecttype) %(objectsize)"]
+        with self._process(words) as process:
+            assert process.stdin and process.stdout and process.stderr
+            process.stdin.close()
+            for line in process.stdout:
+                id, kind, length = line.split()
+                yield bytes.fromhex(id.decode()), kind.decode(), int(length)
+            if process.wait():
+                raise BridgeError(f"git cat-file in {self.folder}: {process.stderr.read().decode(errors='replace').strip()}")
+
+    def read(self, ids: Iterable[bytes]) -> Iterator[Tuple[bytes, str, bytes]]:
+        """Returns id, kind and content of these objects, in their order. An object whose bytes have another id is told by a BridgeError."""
+        with self._process(["cat-file", "--batch", "--buffer"]) as process:
+            assert process.stdin and process.stdout
+            given, out = process.stdin, process.stdout
+
+            def ask() -> None:
+                with contextlib.suppress(OSError, ValueError), given:
+                    for id in ids:
+                        given.write(b"%s\n" % id.hex().encode())
+
+            asking = threading.Thread(target=ask, daemon=True)
+            asking.start()
+            for line in out:
+                digits, kind, *length = line.split()
+                if not length:
+                    raise BridgeError(f"{self.folder} has no object {digits.decode()}")
+                content = out.read(int(length[0]) + 1)[:-1]
+                id = bytes.fromhex(digits.decode())
+                if len(content) != int(length[0]) or self.hashing.id_of(kind.decode(), content) != id:
+                    raise BridgeError(f"{self.folder}: the object {digits.decode()} is damaged")
+                yield id, kind.decode(), content
+            asking.join()
+            if process.wait():
+                raise BridgeError(f"git cat-file in {self.folder} ended with status {process.returncode}")
+
+    def add(self, count: int, objects: Iterable[Tuple[str, bytes]]) -> None:
+        """Adds so many objects: git tests all of them, and then takes all or none, as one pack, or as files where they are few."""
+        words = ["unpack-objects", "-q", "--strict"] if count < FEW else ["index-pack", "--stdin", "--strict", "--fix-thin"]
+        with self._process(words) as process:
+            assert process.stdin and process.stdout and process.stderr
+            said: List[bytes] = []
+            listening = [threading.Thread(target=lambda it=it: said.append(it.read()), daemon=True) for it in (process.stdout, process.stderr)]
+            for it in listening:
+                it.start()
+            try:
+                for part in packed(count, objects, self.hashing):
+                    process.stdin.write(part)
+                process.stdin.close()
+            except BrokenPipeError:
+                pass
+            status = process.wait()
+            for it in listening:
+                it.join()
+            if status:
+                raise BridgeError(f"git {words[0]} in {self.folder}: {b''.join(said).decode(errors='replace').strip()}")
+
+
+def packed(count: int, objects: Iterable[Tuple[str, bytes]], hashing: Hashing) -> Iterator[bytes]:
+    """Returns a pack of these objects, in parts (gitformat-pack(5))."""
+    digest = hashlib.new(hashing.name)
+    part = b"PACK" + (2).to_bytes(4, "big") + count.to_bytes(4, "big")
+    digest.update(part)
+    yield part
+    for kind, content in objects:
+        part = entry_head(KINDS[kind], len(content)) + zlib.compress(content, 1)
+        digest.update(part)
+        yield part
+    yield digest.digest()
+
+
+def entry_head(kind: int, length: int) -> bytes:
+    """Returns what a pack has before an object's compressed bytes: kind and length."""
+    first, length = kind << 4 | length & 15, length >> 4
+    head = bytearray()
+    while length:
+        head.append(first | 128)
+        first, length = length & 127, length >> 7
+    head.append(first)
+    return bytes(head)
+
+
+def symbolic_problems(symbolic: Dict[bytes, bytes]) -> Iterator[Problem]:
+    """Names each name that stands for another one."""
+    for name, target in sorted(symbolic.items()):
+        yield Problem(shown(name), f"the name stands for another one, {shown(target)}")
