@@ -411,10 +411,13 @@ class Engine:
     def close(self, send: bool = True) -> None:
         """Sends what waits, unless that isn't wanted, ends the input, and waits for the engine's end. A command is done whole or not at all."""
         with self._lock:
-            while send and self._pending and self._over is None:
+            while send and self._over is None:
                 with self._in_step():
-                    self._transfer()
+                    # Replies that were read together with one that was waited for are here already.
                     self._take_replies()
+                    if not self._pending:
+                        break
+                    self._transfer()
             self._end("the engine was closed")
 
     def kill(self) -> None:
