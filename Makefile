@@ -60,15 +60,16 @@ bench: program hashing walks references ## no test: the speed of the program, of
 faults: program ## refuses each growth of memory of the program's own run in turn; minutes, and a C compiler
 	faults/report $(PROGRAM)
 
-install: program install-files ## proves the program, and puts it as PREFIX/bin/wunthavel-history, with a link history; hours the first time
+install: program ## proves the program, and puts it as PREFIX/bin/wunthavel-history, with a link history; hours the first time
+	@$(MAKE) --no-print-directory install-files
 
 # It is built of a copy, in which the version says that it isn't proved.
 install-unproved: ## the same of a program that nothing proves, and that says so; minutes
 	@room=$$(mktemp -d) && trap 'rm -rf "$$room"' EXIT && \
 	find crates.txt HANDLES crates scripts -name out -prune -o -type f -print0 | xargs -0 cp --parents -t "$$room" && \
-	sed -i 's/, proved)/, not proved)/' "$$room/crates/history_command_line/src/version.rt" && \
-	"$$room/scripts/unproved-build" "$$room/unproved" && \
-	$(MAKE) --no-print-directory install-files ENGINE="$$room/unproved"
+	sed -i 's/, proved)/, unproved)/' "$$room/crates/history_command_line/src/version.rt" && \
+	"$$room/scripts/unproved-build" out/unproved/wunthavel-history
+	@$(MAKE) --no-print-directory install-files ENGINE=out/unproved/wunthavel-history
 	@echo 'Nothing of what was installed is proved: make install installs the proved program.'
 
 # `history` alone is a builtin of bash, so the program's own name is another.
@@ -80,6 +81,10 @@ install-files:
 	install -D -m 644 completions/wunthavel-history.bash $(SHARE)/bash-completion/completions/wunthavel-history
 	install -D -m 644 completions/wunthavel.bash $(SHARE)/bash-completion/completions/wunthavel
 	install -D -m 644 -t $(SHARE)/zsh/site-functions completions/_wunthavel-history completions/_wunthavel
+	@if [ -f clients/python/wunthavel/__main__.py ]; then echo 'installing the front end for Python'; \
+	  (cd clients/python && find wunthavel -name __pycache__ -prune -o -type f -exec install -D -m 644 {} $(abspath $(SHARE))/wunthavel/{} \;) && \
+	  printf '#!/bin/sh\nPYTHONPATH="%s$${PYTHONPATH:+:$$PYTHONPATH}" exec python3 -m wunthavel "$$@"\n' $(PREFIX)/share/wunthavel \
+	    > $(DESTDIR)$(PREFIX)/bin/wunthavel && chmod 755 $(DESTDIR)$(PREFIX)/bin/wunthavel; fi
 
 deb: program ## a Debian package of the proved program, its manual pages and completions, in the folder out/; hours the first time
 	debian/package $(PROGRAM) $(VERSION) out
