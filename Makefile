@@ -1,24 +1,37 @@
-# On a fresh machine with `rt` on the path each of these works alone.
+# On a fresh machine with `rt` on the path each of these works alone, and `make help` lists them. docs/GATE.md has the times.
 PREFIX ?= /usr/local
 PROGRAM := crates/history_program/out/history_program
 # Names a source that is newer than the program, if there is one.
 NEWER = find crates.txt crates -name out -prune -o -type f -newer $(PROGRAM) -print -quit
+SHARE = $(DESTDIR)$(PREFIX)/share
+# The engine that is installed, and what the package is named after.
+ENGINE ?= $(PROGRAM)
+VERSION = $(shell sed -n 's,.*VERSION: &str = "\([^ ]*\) .*,\1,p' crates/history_command_line/src/version.rt)
 
-.PHONY: test wrong-bodies demo folder-demo bench faults install program
+.PHONY: help test quick wrong-bodies demo folder-demo clients-test bench faults install install-unproved install-files deb \
+	program
 
-# The merge gate: the documents' names, every proof from nothing, the must-fail edits, the tests and the program. docs/GATE.md says
-# how long it takes.
-test:
+help: ## lists the targets, each with what it takes
+	@sed -n 's/^\([a-z-]*\):[^#]*## \(.*\)$$/\1	\2/p' $(MAKEFILE_LIST) | while IFS='	' read -r name text; do printf '%-17s %s\n' "$$name" "$$text"; done
+
+# docs/check holds the documents against the code; rt ci proves all from nothing, tries must-fail/, and runs tests and programs.
+test: ## the merge gate: documents, proofs, wrong bodies of must-fail/, tests, programs, clients; hours the first time
 	docs/check
 	RT_JOBS=$${RT_JOBS:-$$(.ci/lanes)} rt ci
+	@if python3 -c 'import sys; sys.exit(sys.version_info < (3, 9))' 2>/dev/null; then $(MAKE) --no-print-directory clients-test; \
+	else echo 'The clients are not tested: Python 3.9 or later is not here.'; fi
 
-# Tries all wrong bodies, of planted/ and of must-fail/, many in one check; CRATES="gix_hash_id history" those of some crates.
-wrong-bodies:
+# Each program on its own stream, against what it must write; as many side by side as .ci/lanes says.
+quick: ## the demo and the programs of cases by rt try, without a proof; some minutes. It proves nothing
+	@echo 'Nothing of this is proved: rt try runs the sources as they are.'
+	@for it in history_demo $(notdir $(wildcard crates/*_cases)); do echo $$it; done | xargs -P "$$(.ci/lanes)" -I{} sh -c \
+	  'cd crates/{} && if rt try --steps 1 --seconds 600 < stdin 2> /dev/null | cmp -s - stdout; then echo "{}: as wanted"; else echo "{}: NOT as wanted"; exit 1; fi'
+
+wrong-bodies: ## tries the wrong bodies of planted/ and must-fail/; CRATES="gix_hash_id history" those of some crates, NAMED=1 the named; many hours for all
 	planted/try $(CRATES)
 
-# Runs the program on a stream of several commands and prints its replies: the proved program where it stands and is of these
-# sources, else the sources of the program without words as they are, by rt try, which proves nothing.
-demo:
+# The proved program where it stands and is of these sources, else the sources of the program without words, by rt try.
+demo: ## the program on a stream of several commands: the proved one where it stands, else the sources without a proof; a minute
 	@if [ -x $(PROGRAM) ] && [ -z "$$($(NEWER))" ]; then \
 	  $(PROGRAM) < demo/first.stream; \
 	else \
@@ -26,25 +39,49 @@ demo:
 	  cd crates/history_demo && rt try --steps 60000000 < ../../demo/first.stream; \
 	fi
 
-# Shows the proved program on a real folder, which is removed again: made, run on, checked, refused, recovered. It fails where anything
-# else than demo/folder.wanted is told.
-folder-demo: program
+folder-demo: program ## shows the proved program on real folders, against demo/folder.wanted; seconds once it is proved
 	demo/folder $(PROGRAM)
 
-# A report, no test: commits per second as the history grows, and one large content.
-bench: program
+clients-test: ## the tests of clients/python, over the proved program where it stands, else an unproved one; minutes
+	clients/python/run-tests
+
+bench: program ## no test: commits per second as the history grows, and one large content; minutes once all is proved
 	bench/report $(PROGRAM)
 
-# Refuses each growth of memory of the program's own run in turn; it needs a C compiler.
-faults: program
+faults: program ## refuses each growth of memory of the program's own run in turn; minutes, and a C compiler
 	faults/report $(PROGRAM)
 
-install: program
-	install -D -m 755 $(PROGRAM) $(DESTDIR)$(PREFIX)/bin/history
+install: program ## proves the program, and puts it as PREFIX/bin/wunthavel-history, with a link history; hours the first time
+	@$(MAKE) --no-print-directory install-files
 
-# Proves, compiles and links the program, and runs it on the stream kept beside it. The first time every crate below is proved, as
-# long as docs/GATE.md says.
-program:
+# It is built of a copy, in which the version says that it isn't proved.
+install-unproved: ## the same of a program that nothing proves, and that says so; minutes
+	@room=$$(mktemp -d) && trap 'rm -rf "$$room"' EXIT && \
+	find crates.txt HANDLES crates scripts -name out -prune -o -type f -print0 | xargs -0 cp --parents -t "$$room" && \
+	sed -i 's/, proved)/, unproved)/' "$$room/crates/history_command_line/src/version.rt" && \
+	"$$room/scripts/unproved-build" out/unproved/wunthavel-history
+	@$(MAKE) --no-print-directory install-files ENGINE=out/unproved/wunthavel-history
+	@echo 'Nothing of what was installed is proved: make install installs the proved program.'
+
+# `history` alone is a builtin of bash, so the program's own name is another.
+install-files:
+	install -D -m 755 $(ENGINE) $(DESTDIR)$(PREFIX)/bin/wunthavel-history
+	ln -sf wunthavel-history $(DESTDIR)$(PREFIX)/bin/history
+	install -D -m 644 -t $(SHARE)/man/man1 man/wunthavel-history.1 man/wunthavel.1
+	install -D -m 644 -t $(SHARE)/man/man5 man/wunthavel-protocol.5
+	install -D -m 644 completions/wunthavel-history.bash $(SHARE)/bash-completion/completions/wunthavel-history
+	install -D -m 644 completions/wunthavel.bash $(SHARE)/bash-completion/completions/wunthavel
+	install -D -m 644 -t $(SHARE)/zsh/site-functions completions/_wunthavel-history completions/_wunthavel
+	@if [ -f clients/python/wunthavel/__main__.py ]; then echo 'installing the front end for Python'; \
+	  (cd clients/python && find wunthavel -name __pycache__ -prune -o -type f -exec install -D -m 644 {} $(abspath $(SHARE))/wunthavel/{} \;) && \
+	  printf '#!/bin/sh\nPYTHONPATH="%s$${PYTHONPATH:+:$$PYTHONPATH}" exec python3 -m wunthavel "$$@"\n' $(PREFIX)/share/wunthavel \
+	    > $(DESTDIR)$(PREFIX)/bin/wunthavel && chmod 755 $(DESTDIR)$(PREFIX)/bin/wunthavel; fi
+
+deb: program ## a Debian package of the proved program, its manual pages and completions, in the folder out/; hours the first time
+	debian/package $(PROGRAM) $(VERSION) out
+
+# It is run on the stream kept beside it. The first time every crate below it is proved.
+program: ## proves, compiles and links the program; hours the first time
 	@echo 'building the program'
 	@cd crates/history_program && log=$$(mktemp) && \
 	if rt run < stdin > /dev/null 2> "$$log"; then rm "$$log"; else cat "$$log"; rm "$$log"; exit 1; fi

@@ -193,11 +193,12 @@ def flaws(kind, first, log):
 
 
 MORE = "\nFor more information, try '--help'.\n"
-WHOLE = "\nUsage: history <COMMAND>\n"
+NAME = "wunthavel-history"
+WHOLE = f"\nUsage: {NAME} <COMMAND>\n"
 
 
 def words(*given):
-    return "words:" + ",".join(word(it.encode()) for it in ("history", *given))
+    return "words:" + ",".join(word(it.encode()) for it in (NAME, *given))
 
 
 def asks(given, action, folder, kind="sha1"):
@@ -215,39 +216,53 @@ def lines():
         asks((action, "--sha256", "there"), action, "there", "sha256")
         asks((action, "--", "--sha256"), action, "--sha256")
         asks((action, "a b/ü"), action, "a b/ü")
-        usage = f"\nUsage: history {action} [OPTIONS] <folder>\n" + MORE
+        usage = f"\nUsage: {NAME} {action} [OPTIONS] <folder>\n" + MORE
         lacking = "error: the following required arguments were not provided:\n  <folder>\n"
-        bad((action,), lacking + f"\nUsage: history {action} <folder>\n" + MORE)
-        bad((action, "--sha256"), lacking + f"\nUsage: history {action} --sha256 <folder>\n" + MORE)
+        bad((action,), lacking + f"\nUsage: {NAME} {action} <folder>\n" + MORE)
+        bad((action, "--sha256"), lacking + f"\nUsage: {NAME} {action} --sha256 <folder>\n" + MORE)
         bad((action, "a", "b"), "error: unexpected argument 'b' found\n" + usage)
         bad((action, "a", "--sha256", "--sha256"), "error: the argument '--sha256' cannot be used multiple times\n" + usage)
-        bad((action, "a", "--sha256=x"), "error: unexpected value 'x' for '--sha256' found; no more were expected\n" + f"\nUsage: history {action} --sha256 <folder>\n" + MORE)
+        bad((action, "a", "--sha256=x"), "error: unexpected value 'x' for '--sha256' found; no more were expected\n" + f"\nUsage: {NAME} {action} --sha256 <folder>\n" + MORE)
         ROWS.append((f"sha1 {words(action, '-h')}", f"help:{word(help_of(action).encode())}"))
-    bad((), "error: 'history' requires a subcommand but one was not provided\n  [subcommands: create, run, check, recover, help]\n" + WHOLE + MORE)
+    bad((), f"error: '{NAME}' requires a subcommand but one was not provided\n  [subcommands: create, run, check, recover, help]\n" + WHOLE + MORE)
     bad(("frobnicate",), "error: unrecognized subcommand 'frobnicate'\n" + WHOLE + MORE)
     bad(("--sha256", "create", "there"), "error: unexpected argument '--sha256' found\n\n  tip: 'create --sha256' exists\n" + WHOLE + MORE)
     ROWS.append((f"sha1 {words('--help')}", f"help:{word(HELP.encode())}"))
     ROWS.append((f"sha1 {words('help')}", f"help:{word(HELP.encode())}"))
+    for flag in ("-V", "--version"):
+        ROWS.append((f"sha1 {words(flag)}", f"help:{word(f'{NAME} {VERSION}'.encode())}"))
+        bad(("check", flag), f"error: unexpected argument '{flag}' found\n\n  tip: to pass '{flag}' as a value, use '-- {flag}'\n\nUsage: {NAME} check [OPTIONS] <folder>\n" + MORE)
 
 
 ABOUT = {
     "create": "Makes a repository",
     "run": "Runs the commands of standard input, and answers them on standard output",
-    "check": "Tells whether a repository is whole",
+    "check": "Finds whether a repository is whole",
     "recover": "Removes what a stopped run left",
 }
 
+EXAMPLES = {
+    "create": f"Example, where the folder pages is empty or doesn't exist:\n  {NAME} create pages",
+    "run": f"Example, with the protocol's commands in a file:\n  {NAME} run pages < commands > replies",
+    "check": f"Example, which changes no file:\n  {NAME} check pages && echo well",
+    "recover": f"Example, after check said refused Unfinished:\n  {NAME} recover pages",
+}
+
+VERSION = "0.1.0 (rattle-kit-13f, proved)\n"
+
 HELP = (
-    "A version store with Git's object ids, reference names and logs\n\nUsage: history <COMMAND>\n\nCommands:\n"
+    f"A version store with Git's object ids, reference names and logs\n\nUsage: {NAME} <COMMAND>\n\nCommands:\n"
     + "".join(f"  {name:<7}  {about}\n" for name, about in ABOUT.items())
-    + "  help     Print this message or the help of the given subcommand(s)\n\nOptions:\n  -h, --help  Print help\n"
+    + "  help     Print this message or the help of the given subcommand(s)\n\nOptions:\n  -h, --help     Print help\n  -V, --version  Print version\n\n"
+    f"Without words it runs the commands of standard input on a new repository in memory.\n\nExample:\n  {NAME} create pages\n  {NAME} run pages < commands\n"
 )
 
 
 def help_of(action):
     return (
-        f"{ABOUT[action]}\n\nUsage: history {action} [OPTIONS] <folder>\n\nArguments:\n  <folder>  The repository's folder\n\n"
-        "Options:\n      --sha256  Takes SHA-256 in place of SHA-1\n  -h, --help    Print help\n"
+        f"{ABOUT[action]}\n\nUsage: {NAME} {action} [OPTIONS] <folder>\n\nArguments:\n  <folder>  The repository's folder\n\n"
+        "Options:\n      --sha256  Takes SHA-256 in place of SHA-1\n  -h, --help    Print help\n\n"
+        f"{EXAMPLES[action]}\n"
     )
 
 

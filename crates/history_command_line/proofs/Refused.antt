@@ -4,8 +4,9 @@ use Rattle.std.specs.Prelude.{MatchOption}
 use Rattle.clap.specs.Words.{App, HasKind, HasMatchesOf, IsAmong, Row, Text, fault_of, first_of, is_simple, is_simple_and_free, kind_of, subcommand_of, subcommand_rows_of}
 use Rattle.clap.specs.declared.ArgMatches.{ArgMatches}
 use Rattle.clap.specs.declared.error.Error.{Error}
-use Rattle.clap.specs.declared.error.ErrorKind.TheVariants.{DisplayHelp, OutOfMemory}
-use Rattle.history_command_line.specs.Line.{IsAskedBy, IsRefusedFor, Reads, faults_of, line}
+use Rattle.clap.specs.declared.error.ErrorKind.{ErrorKind}
+use Rattle.clap.specs.declared.error.ErrorKind.TheVariants.{DisplayHelp, DisplayVersion, OutOfMemory}
+use Rattle.history_command_line.specs.Line.{IsAskedBy, IsRefusedFor, IsRequest, Reads, faults_of, line}
 use Rattle.history_command_line.specs.Refusals.{IsEntered, IsNoHelp, IsNothing, Tells}
 use Rattle.history_command_line.specs.declared.asked.AskError.{AskError}
 use Rattle.history_command_line.specs.declared.asked.AskError.TheVariants.{Help, Line, Memory}
@@ -38,11 +39,12 @@ found_by a words m same has =
 
 pub told : (words : List Text) (e : Error) (r : AskError) → Tells (kind_of e) r
     → HasKind (faults_of words) e → IsRefusedFor words r
-told words e (Help text) is (inl memory) = absurd (help_is_memory (sym is ∙ memory))
+told words e (Help text) is (inl memory) = absurd (no_memory (kind_of e) is memory)
   where
-    help_is_memory : DisplayHelp ≡ OutOfMemory → ⊥
-    help_is_memory same = cc
-told words e (Help text) is (inr among) = subst (λ k. IsAmong k (faults_of words)) is among
+    no_memory : (kind : ErrorKind) → IsRequest kind → kind ≡ OutOfMemory → ⊥
+    no_memory kind (inl help) same = absurd (cc (sym help ∙ same))
+    no_memory kind (inr version) same = absurd (cc (sym version ∙ same))
+told words e (Help text) is (inr among) = (kind_of e, is, among)
 told words e (Line text) is (inl memory) = absurd (is.1 memory)
 told words e (Line text) is (inr among) = inl (kind_of e, is.0, among)
 told words e Memory is has = tt

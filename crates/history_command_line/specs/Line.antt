@@ -1,9 +1,9 @@
--- The program's command line, as `clap` reads it: `history create|run|check|recover <folder> [--sha256]`.
-use Rattle.std.specs.Prelude.{◌≡◌, ◌≢◌, ◌⊎◌, ⊤, true, false, List, [], Option, Some, Result, MatchOption, MatchResult, bytes_eq, codes, string_bytes, if◌then◌else◌, option_map, unwrap_or}
+-- The program's command line, as `clap` reads it: `wunthavel-history create|run|check|recover <folder> [--sha256]`.
+use Rattle.std.specs.Prelude.{◌≡◌, ◌⊎◌, ⊤, true, false, List, [], Option, Some, Result, MatchOption, MatchResult, bytes_eq, codes, string_bytes, if◌then◌else◌, option_map, unwrap_or}
 use Rattle.clap.specs.Words.{App, IsAmong, Kinds, Rule, Row, Text, fault_of, first_of, new_app, new_rule, subcommand_of, with_rule, with_subcommand}
 use Rattle.clap.specs.Simple.{on_top}
 use Rattle.clap.specs.declared.error.ErrorKind.{ErrorKind}
-use Rattle.clap.specs.declared.error.ErrorKind.TheVariants.{DisplayHelp}
+use Rattle.clap.specs.declared.error.ErrorKind.TheVariants.{DisplayHelp, DisplayVersion}
 use Rattle.clap.specs.declared.builder.ArgAction.TheVariants.{Set, SetTrue}
 use Rattle.gix_hash_id.specs.declared.kind.Kind.{Kind}
 use Rattle.gix_hash_id.specs.declared.kind.Kind.TheVariants.{Sha1, Sha256}
@@ -26,7 +26,8 @@ action name = with_rule (with_rule (new_app name) folder_rule) sha256_rule
 
 abbrev pub line : App
 line =
-    let top = on_top (λ top. record top { subcommand_required = true }) (new_app (codes "history")) in
+    let top = on_top (λ top. record top { subcommand_required = true; has_version = true })
+    (new_app (codes "wunthavel-history")) in
     with_subcommand
     (with_subcommand
     (with_subcommand (with_subcommand top (action (codes "create")).top)
@@ -58,9 +59,16 @@ IsAsked words asked = MatchOption (subcommand_of line words) ⊥ (IsAskedBy aske
 abbrev pub faults_of : List Text → Kinds
 faults_of words = fault_of line words
 
--- something is wrong that isn't the asking for help
+-- help or the version is asked for
+abbrev pub IsRequest : ErrorKind → Type 0
+IsRequest kind = (kind ≡ DisplayHelp) ⊎ (kind ≡ DisplayVersion)
+
+abbrev pub HasRequest : Kinds → Type 0
+HasRequest kinds = (kind : ErrorKind) × IsRequest kind × IsAmong kind kinds
+
+-- something is wrong that is no request
 abbrev pub HasMistake : Kinds → Type 0
-HasMistake kinds = (kind : ErrorKind) × (kind ≢ DisplayHelp) × IsAmong kind kinds
+HasMistake kinds = (kind : ErrorKind) × (¬ IsRequest kind) × IsAmong kind kinds
 
 -- the words enter no action with a folder
 abbrev pub IsUnasked : List Text → Type 0
@@ -68,7 +76,7 @@ IsUnasked words = (asked : Asked) → IsAsked words asked → ⊥
 
 -- why the words ask for nothing
 abbrev pub IsRefusedFor : List Text → AskError → Type 0
-IsRefusedFor words (Help text) = IsAmong DisplayHelp (faults_of words)
+IsRefusedFor words (Help text) = HasRequest (faults_of words)
 IsRefusedFor words (Line text) = HasMistake (faults_of words) ⊎ IsUnasked words
 IsRefusedFor words Memory = ⊤
 

@@ -1,17 +1,17 @@
 -- What the parts of the reader tell of words that ask for nothing.
-use Rattle.std.specs.Prelude.{◌≡◌, ◌≢◌, ⊤, List, Option, Result, MatchOption, MatchResult}
+use Rattle.std.specs.Prelude.{◌≢◌, ⊤, List, Option, Result, MatchOption, MatchResult}
 use Rattle.clap.specs.Words.{Row, Text}
 use Rattle.clap.specs.declared.error.ErrorKind.{ErrorKind}
-use Rattle.clap.specs.declared.error.ErrorKind.TheVariants.{DisplayHelp, OutOfMemory}
-use Rattle.history_command_line.specs.Line.{IsAskedBy}
+use Rattle.clap.specs.declared.error.ErrorKind.TheVariants.{OutOfMemory}
+use Rattle.history_command_line.specs.Line.{IsAskedBy, IsRequest}
 use Rattle.history_command_line.specs.declared.asked.AskError.{AskError}
 use Rattle.history_command_line.specs.declared.asked.AskError.TheVariants.{Help, Line, Memory}
 use Rattle.history_command_line.specs.declared.asked.Asked.{Asked}
 
 -- what is told of an error of `clap` of this kind
 abbrev pub Tells : ErrorKind → AskError → Type 0
-Tells kind (Help text) = kind ≡ DisplayHelp
-Tells kind (Line text) = (kind ≢ DisplayHelp) × (kind ≢ OutOfMemory)
+Tells kind (Help text) = IsRequest kind
+Tells kind (Line text) = (¬ IsRequest kind) × (kind ≢ OutOfMemory)
 Tells kind Memory = ⊤
 
 abbrev pub IsNoHelp : AskError → Type 0

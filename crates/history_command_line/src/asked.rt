@@ -37,7 +37,7 @@ pub struct Asked {
 /// Why a command line asks for nothing.
 #[derive(Debug, Drop, PartialEq, Eq)]
 pub enum AskError {
-    /// It asks for help: this text.
+    /// It asks for help or for the version: this text.
     Help(String),
     /// It isn't one of the program's: this text says why.
     Line(String),
@@ -76,7 +76,7 @@ fn refusal(alloc: Global, error: &Error) -> AskError
     };
     match error.kind() {
         ErrorKind::OutOfMemory => AskError::Memory,
-        ErrorKind::DisplayHelp => AskError::Help(text),
+        ErrorKind::DisplayHelp | ErrorKind::DisplayVersion => AskError::Help(text),
         _ => AskError::Line(text),
     }
 }
@@ -84,7 +84,7 @@ fn refusal(alloc: Global, error: &Error) -> AskError
 /// Reads the words of a command line, of which the first is the program's name: `create`, `run`, `check` or `recover`, a folder, and
 /// perhaps `--sha256` before or behind the folder.
 ///
-/// `Help` comes where the words ask for help, with `clap`'s text of it; `Line` where they aren't the program's, with `clap`'s text of why;
+/// `Help` comes where the words ask for help or the version, with `clap`'s text of it; `Line` where they aren't the program's, with `clap`'s text of why;
 /// `Memory` where memory was refused.
 pub fn read_words<S: AsStr>(alloc: Global, words: &[S]) -> Result<Asked, AskError>
     ensures { Reads (map S.text words.now) result }

@@ -3,5 +3,6 @@
 
 mod asked;
 mod line;
+mod version;
 
 pub use asked::{Action, AskError, Asked, read_words};

@@ -1,32 +1,61 @@
 //! The words that the program takes, for `clap`.
 ghost use Rattle.std.specs.Prelude.{◌≡◌, false, IfOk};
-ghost use Rattle.clap.specs.Words.{app_of};
+ghost use Rattle.clap.specs.Words.{app_of, new_app};
 ghost use Rattle.clap.specs.declared.Command.TheViews.{out-Command as fields_of};
 ghost use Rattle.history_command_line.specs.Line.{line, action};
 
+use crate::version::VERSION;
 use clap::{Arg, ArgAction, Command};
 use std::alloc::{AllocError, Global};
 
-/// The line: an action, each with a folder and the flag `--sha256`.
+/// The line: an action, each with a folder and the flag `--sha256`; or `--help` or `--version`.
 pub fn line<'a>(alloc: Global) -> Result<Command<'a>, AllocError>
     ensures read { IfOk result (λ made. app_of made ≡ line) }
     ensures local { IfOk result (λ made. (fields_of made).has_globals ≡ false) }
 {
-    Command::new(alloc, "history")
-        .about("A version store with Git's object ids, reference names and logs")
+    described(alloc, "wunthavel-history", ABOUT, EXAMPLE)
+        .version(VERSION)
         .subcommand_required(true)
-        .subcommand(action(alloc, "create", "Makes a repository")?)?
+        .subcommand(action(alloc, "create", "Makes a repository", CREATE)?)?
         .subcommand(action(
             alloc,
             "run",
             "Runs the commands of standard input, and answers them on standard output",
+            RUN,
         )?)?
-        .subcommand(action(alloc, "check", "Tells whether a repository is whole")?)?
-        .subcommand(action(alloc, "recover", "Removes what a stopped run left")?)
+        .subcommand(action(alloc, "check", "Finds whether a repository is whole", CHECK)?)?
+        .subcommand(action(alloc, "recover", "Removes what a stopped run left", RECOVER)?)
 }
 
-// An action, with its folder and the flag.
-fn action<'a>(alloc: Global, name: &'a str, about: &'a str) -> Result<Command<'a>, AllocError>
+// What the help of all says first; and last, as that of each action.
+const ABOUT: &str = "A version store with Git's object ids, reference names and logs";
+
+const EXAMPLE: &str =
+    "Without words it runs the commands of standard input on a new repository in memory.
+
+Example:
+  wunthavel-history create pages
+  wunthavel-history run pages < commands";
+
+const CREATE: &str = "Example, where the folder pages is empty or doesn't exist:
+  wunthavel-history create pages";
+
+const RUN: &str = "Example, with the protocol's commands in a file:
+  wunthavel-history run pages < commands > replies";
+
+const CHECK: &str = "Example, which changes no file:
+  wunthavel-history check pages && echo well";
+
+const RECOVER: &str = "Example, after check said refused Unfinished:
+  wunthavel-history recover pages";
+
+// An action, with its folder and the flag, and an example behind its help.
+fn action<'a>(
+    alloc: Global,
+    name: &'a str,
+    about: &'a str,
+    example: &'a str,
+) -> Result<Command<'a>, AllocError>
     ensures read { IfOk result (λ made. app_of made ≡ action name.now) }
     ensures local { IfOk result (λ made. (fields_of made).has_globals ≡ false) }
 {
@@ -38,8 +67,15 @@ fn action<'a>(alloc: Global, name: &'a str, about: &'a str) -> Result<Command<'a
         .long("sha256")
         .action(ArgAction::SetTrue)
         .help("Takes SHA-256 in place of SHA-1");
-    Command::new(alloc, name)
-        .about(about)
+    described(alloc, name, about, example)
         .arg(folder)?
         .arg(sha256)
+}
+
+// A command of this name, with the texts of its help.
+fn described<'a>(alloc: Global, name: &'a str, about: &'a str, example: &'a str) -> Command<'a>
+    ensures app { app_of result ≡ new_app name.now }
+    ensures local { (fields_of result).has_globals ≡ false }
+{
+    Command::new(alloc, name).about(about).after_help(example)
 }

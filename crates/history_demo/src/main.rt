@@ -1,4 +1,4 @@
-//! The program `history` as it is without words: commands on a new repository in memory, from standard input to standard output.
+//! The program `wunthavel-history` as it is without words: commands on a new repository in memory, from standard input to standard output.
 #![tactic(auto)]
 
 use history_in_memory::serve;

@@ -3,9 +3,11 @@
 
 mod answer;
 mod opened;
+mod patient;
 pub mod rows;
 mod served;
 
 pub use answer::{Answer, AnswerError, answer_stream};
 pub use opened::{NewError, new_repository};
+pub use patient::Patient;
 pub use served::serve;

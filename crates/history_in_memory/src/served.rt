@@ -1,6 +1,7 @@
 //! A run over standard input and output, on a new repository in memory.
 
 use crate::opened::new_repository;
+use crate::patient::Patient;
 use gix_hash::Kind;
 use history::{End, Stream, run};
 
@@ -9,7 +10,7 @@ fn run_on_new(rt: &HostRuntime) -> Option<End> {
     let alloc = rt.alloc();
     let mut repository = new_repository(alloc, Kind::Sha1).ok()?;
     // Each reply is written by one call, so neither stream needs a buffer of its own.
-    let mut reader = Stream::new(rt.stdin());
+    let mut reader = Stream::new(Patient::new(rt.stdin()));
     let mut writer = Stream::new(rt.stdout());
     run(alloc, &mut reader, &mut writer, &mut repository).ok()
 }

@@ -8,11 +8,14 @@ use Rattle.history_command_line.proofs.line.line.Goals as goal
 abbrev top_of : App → App
 top_of = on_top (λ top. record top { subcommand_required = true })
 
+abbrev named : App
+named = on_top (λ top. record top { has_version = true }) (new_app (codes "wunthavel-history"))
+
 -- src/line.rt:10:1
 pub returns-clause-read : goal.returns-clause-read
 returns-clause-read c =
-    let about : app_of c.about.result ≡ new_app (codes "history") = ap app_of_fields c.about.ensures ∙ c.new.ensures.app in
-    let top : app_of c.subcommand_required.result ≡ top_of (new_app (codes "history")) = ap app_of_fields c.subcommand_required.ensures ∙ ap top_of about in
+    let version : app_of c.version.result ≡ named = ap app_of_fields c.version.ensures ∙ ap (on_top (λ top. record top { has_version = true })) c.described.ensures.app in
+    let top : app_of c.subcommand_required.result ≡ top_of named = ap app_of_fields c.subcommand_required.ensures ∙ ap top_of version in
     let one = c.in_ok-subcommand.ensures.shape (c.in_ok-action.ensures.local) ∙ ap₂ with_subcommand top (ap (λ (a : App). a.top) c.in_ok-action.ensures.read) in
     let two = c.in_ok-subcommand-2.ensures.shape (c.in_ok-action-2.ensures.local) ∙ ap₂ with_subcommand one (ap (λ (a : App). a.top) c.in_ok-action-2.ensures.read) in
     let three = c.in_ok-subcommand-3.ensures.shape (c.in_ok-action-3.ensures.local) ∙ ap₂ with_subcommand two (ap (λ (a : App). a.top) c.in_ok-action-3.ensures.read) in
@@ -20,7 +23,7 @@ returns-clause-read c =
 
 pub returns-clause-local : goal.returns-clause-local
 returns-clause-local c =
-    let top : (out-Command c.subcommand_required.result).has_globals ≡ false = ap (λ f. f.has_globals) c.subcommand_required.ensures ∙ ap (λ f. f.has_globals) c.about.ensures ∙ c.new.ensures.local in
+    let top : (out-Command c.subcommand_required.result).has_globals ≡ false = ap (λ f. f.has_globals) c.subcommand_required.ensures ∙ ap (λ f. f.has_globals) c.version.ensures ∙ c.described.ensures.local in
     let one = c.in_ok-subcommand.ensures.globals ∙ ap₂ (λ a b. a || b) top c.in_ok-action.ensures.local in
     let two = c.in_ok-subcommand-2.ensures.globals ∙ ap₂ (λ a b. a || b) one c.in_ok-action-2.ensures.local in
     let three = c.in_ok-subcommand-3.ensures.globals ∙ ap₂ (λ a b. a || b) two c.in_ok-action-3.ensures.local in

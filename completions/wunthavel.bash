@@ -1,0 +1,28 @@
+# Completion of wunthavel for bash: a command, its flags, and files.
+_wunthavel() {
+  local word=${COMP_WORDS[COMP_CWORD]} flags='--json --colour --help'
+  COMPREPLY=()
+  if ((COMP_CWORD == 1)); then
+    mapfile -t COMPREPLY < <(compgen -W 'init save log show diff-names cat blame restore branch switch tag verify recover serve git-export git-import fast-import html --help --version' -- "$word")
+    return
+  fi
+  if [[ $word != -* ]]; then
+    compopt -o filenames
+    mapfile -t COMPREPLY < <(compgen -f -- "$word")
+    return
+  fi
+  case ${COMP_WORDS[1]} in
+    init) flags+=' --sha256' ;;
+    save) flags+=' --author' ;;
+    log) flags+=' --number --word' ;;
+    restore) flags+=' --force' ;;
+    branch) flags+=' --delete' ;;
+    switch) flags+=' --create --force' ;;
+    tag) flags+=' --delete --message --author' ;;
+    serve) flags='--tcp --mode --sha256 --engine --json --quiet --help' ;;
+    git-export | git-import) flags='--sha256 --skip-refs --force --prune --dry-run --engine --json --quiet --help' ;;
+    fast-import) flags='--from --head --new-ids --sha256 --engine --json --quiet --help' ;;
+  esac
+  mapfile -t COMPREPLY < <(compgen -W "$flags" -- "$word")
+}
+complete -F _wunthavel wunthavel
