@@ -1,6 +1,6 @@
 //! Commits of moves.
 
-ghost use Rattle.std.specs.Prelude.{◌≡◌, OnOk};
+ghost use Rattle.std.specs.Prelude.{◌≡◌, OnOk, ◌≤◌};
 ghost use Rattle.gix_ref_file.specs.Calls.{Achieves, Passes};
 ghost use Rattle.gix_ref_moves.specs.Committing.{IsCommitted, IsShowing, KeepsPacked, LocksAlone, MayReplace, NoneLocked, OnTheWay, Replaces, commit_paths, shown};
 ghost use Rattle.gix_ref_moves.specs.Moments.{SameButLocks};
@@ -25,6 +25,8 @@ pub fn commit<F: Files>(
     packed: Option<Transaction>,
 ) -> Result<(), CommitError>
     ensures honest { F.is_honest files.old → F.is_honest files.new }
+    ensures later { F.failures files.old ≤ F.failures files.new }
+    ensures unfailed { OnOk result (F.failures files.new ≡ F.failures files.old) }
     ensures moments { Once (commit_paths packed moves.now)
         → Passes F.is_honest F.history files.old files.new (OnTheWay packed moves.now) }
     ensures done { Once (commit_paths packed moves.now)
@@ -45,6 +47,8 @@ pub fn give_back_all<F: Files>(
     moves: &[Move],
 ) -> Result<(), FileError>
     ensures honest { F.is_honest files.old → F.is_honest files.new }
+    ensures later { F.failures files.old ≤ F.failures files.new }
+    ensures unfailed { OnOk result (F.failures files.new ≡ F.failures files.old) }
     ensures locks { Passes F.is_honest F.history files.old files.new SameButLocks }
     ensures moments { Once (all_paths moves.now)
         → Passes F.is_honest F.history files.old files.new (AllMay LocksAlone moves.now) }
@@ -78,6 +82,8 @@ fn make<F: Files>(
     packed: Option<Transaction>,
 ) -> Result<(), CommitError>
     ensures honest { F.is_honest files.old → F.is_honest files.new }
+    ensures later { F.failures files.old ≤ F.failures files.new }
+    ensures unfailed { OnOk result (F.failures files.new ≡ F.failures files.old) }
     ensures moments { Once (commit_paths packed moves.now)
         → Passes F.is_honest F.history files.old files.new (OnTheWay packed moves.now) }
     ensures done { Once (commit_paths packed moves.now)
@@ -99,6 +105,8 @@ fn make<F: Files>(
 // Makes all updates, and lets the logs go of what is removed.
 fn show_updates<F: Files>(alloc: Global, files: &mut F, moves: &[Move]) -> Result<(), CommitError>
     ensures honest { F.is_honest files.old → F.is_honest files.new }
+    ensures later { F.failures files.old ≤ F.failures files.new }
+    ensures unfailed { OnOk result (F.failures files.new ≡ F.failures files.old) }
     ensures moments { Once (all_paths moves.now)
         → Passes F.is_honest F.history files.old files.new (IsShowing moves.now) }
     ensures shown { Once (all_paths moves.now)
@@ -115,6 +123,8 @@ fn replace_packed<F: Files>(
     packed: Option<Transaction>,
 ) -> Result<(), CommitError>
     ensures honest { F.is_honest files.old → F.is_honest files.new }
+    ensures later { F.failures files.old ≤ F.failures files.new }
+    ensures unfailed { OnOk result (F.failures files.new ≡ F.failures files.old) }
     ensures moments { Passes F.is_honest F.history files.old files.new (MayReplace packed) }
     ensures replaced { Achieves F.is_honest F.history files.old files.new result
         (Replaces packed) }
@@ -131,6 +141,7 @@ fn replace_packed<F: Files>(
 // Gives the lock of packed records back.
 fn drop_packed<F: Files>(alloc: Global, files: &mut F, packed: Option<Transaction>)
     ensures honest { F.is_honest files.old → F.is_honest files.new }
+    ensures later { F.failures files.old ≤ F.failures files.new }
     ensures moments { Passes F.is_honest F.history files.old files.new (KeepsPacked packed) }
 {
     if let Some(packed) = packed {

@@ -1,6 +1,6 @@
 //! Lines for logs.
 
-ghost use Rattle.std.specs.Prelude.{◌≡◌, ◌≤◌};
+ghost use Rattle.std.specs.Prelude.{◌≡◌, ◌≤◌, OnOk};
 ghost use Rattle.gix_ref_file.specs.Calls.{Achieves, Passes};
 ghost use Rattle.gix_ref_way.specs.Ways.{file_at};
 ghost use Rattle.gix_ref_moves.specs.Contents.{noted};
@@ -19,6 +19,8 @@ pub(crate) fn note<F: Files>(
     line: &Option<Vec<u8>>,
 ) -> Result<(), CommitError>
     ensures honest { F.is_honest files.old → F.is_honest files.new }
+    ensures later { F.failures files.old ≤ F.failures files.new }
+    ensures unfailed { OnOk result (F.failures files.new ≡ F.failures files.old) }
     ensures moments { Passes F.is_honest F.history files.old files.new (MayNote line.now log.now) }
     ensures noted { Achieves F.is_honest F.history files.old files.new result
         (NotesLog line.now log.now) }
@@ -36,6 +38,8 @@ fn append<F: Files>(
     line: &Vec<u8>,
 ) -> Result<(), CommitError>
     ensures honest { F.is_honest files.old → F.is_honest files.new }
+    ensures later { F.failures files.old ≤ F.failures files.new }
+    ensures unfailed { OnOk result (F.failures files.new ≡ F.failures files.old) }
     ensures moments { Passes F.is_honest F.history files.old files.new
         (MayNote (Some line.now) log.now) }
     ensures noted { Achieves F.is_honest F.history files.old files.new result

@@ -1,5 +1,6 @@
 //! The steps in which moves are made: all updates, then the logs go of what is removed, at last its files and those of what is packed.
 
+ghost use Rattle.std.specs.Prelude.{◌≡◌, ◌≤◌, OnOk};
 ghost use Rattle.gix_ref_file.specs.Calls.{Achieves, Passes};
 ghost use Rattle.gix_ref_moves.specs.Contents.{forgotten, gone, removed, updated};
 ghost use Rattle.gix_ref_moves.specs.Moments.{AreApart, Has, IsForgetting, IsGoing, IsGone, IsMaking, IsRemoving, IsUpdating, MayGo, MayMove, made_by};
@@ -28,6 +29,8 @@ pub(crate) fn make_all<F: Files>(
     moves: &[Move],
 ) -> Result<(), CommitError>
     ensures honest { F.is_honest files.old → F.is_honest files.new }
+    ensures later { F.failures files.old ≤ F.failures files.new }
+    ensures unfailed { OnOk result (F.failures files.new ≡ F.failures files.old) }
     ensures moments { Once (all_paths moves.now)
         → Passes F.is_honest F.history files.old files.new (AllMay (IsMaking step) moves.now) }
     ensures made { Once (all_paths moves.now)
@@ -44,6 +47,8 @@ pub(crate) fn make_all<F: Files>(
 
 fn make<F: Files>(alloc: Global, files: &mut F, step: Step, made: &Move) -> Result<(), CommitError>
     ensures honest { F.is_honest files.old → F.is_honest files.new }
+    ensures later { F.failures files.old ≤ F.failures files.new }
+    ensures unfailed { OnOk result (F.failures files.new ≡ F.failures files.old) }
     ensures moments { AreApart made.now
         → Passes F.is_honest F.history files.old files.new (MayMove (IsMaking step) made.now) }
     ensures made { AreApart made.now
@@ -58,6 +63,8 @@ fn make<F: Files>(alloc: Global, files: &mut F, step: Step, made: &Move) -> Resu
 
 fn update<F: Files>(alloc: Global, files: &mut F, made: &Move) -> Result<(), CommitError>
     ensures honest { F.is_honest files.old → F.is_honest files.new }
+    ensures later { F.failures files.old ≤ F.failures files.new }
+    ensures unfailed { OnOk result (F.failures files.new ≡ F.failures files.old) }
     ensures moments { AreApart made.now
         → Passes F.is_honest F.history files.old files.new (MayMove IsUpdating made.now) }
     ensures made { AreApart made.now
@@ -79,6 +86,8 @@ fn update<F: Files>(alloc: Global, files: &mut F, made: &Move) -> Result<(), Com
 
 fn forget<F: Files>(alloc: Global, files: &mut F, made: &Move) -> Result<(), CommitError>
     ensures honest { F.is_honest files.old → F.is_honest files.new }
+    ensures later { F.failures files.old ≤ F.failures files.new }
+    ensures unfailed { OnOk result (F.failures files.new ≡ F.failures files.old) }
     ensures moments { AreApart made.now
         → Passes F.is_honest F.history files.old files.new (MayMove IsForgetting made.now) }
     ensures made { AreApart made.now
@@ -94,6 +103,8 @@ fn forget<F: Files>(alloc: Global, files: &mut F, made: &Move) -> Result<(), Com
 
 fn remove<F: Files>(alloc: Global, files: &mut F, made: &Move) -> Result<(), CommitError>
     ensures honest { F.is_honest files.old → F.is_honest files.new }
+    ensures later { F.failures files.old ≤ F.failures files.new }
+    ensures unfailed { OnOk result (F.failures files.new ≡ F.failures files.old) }
     ensures moments { AreApart made.now
         → Passes F.is_honest F.history files.old files.new (MayMove IsRemoving made.now) }
     ensures made { AreApart made.now
@@ -110,6 +121,8 @@ fn remove<F: Files>(alloc: Global, files: &mut F, made: &Move) -> Result<(), Com
 // Removes the file, where one stands, and then gives its lock back.
 fn remove_locked<F: Files>(alloc: Global, files: &mut F, made: &Move) -> Result<(), CommitError>
     ensures honest { F.is_honest files.old → F.is_honest files.new }
+    ensures later { F.failures files.old ≤ F.failures files.new }
+    ensures unfailed { OnOk result (F.failures files.new ≡ F.failures files.old) }
     ensures moments { AreApart made.now
         → Passes F.is_honest F.history files.old files.new (MayMove IsGoing made.now) }
     ensures made { AreApart made.now
@@ -127,6 +140,8 @@ fn remove_file<F: Files>(
     why: CommitError,
 ) -> Result<(), CommitError>
     ensures honest { F.is_honest files.old → F.is_honest files.new }
+    ensures later { F.failures files.old ≤ F.failures files.new }
+    ensures unfailed { OnOk result (F.failures files.new ≡ F.failures files.old) }
     ensures moments { Passes F.is_honest F.history files.old files.new (MayGo path.now) }
     ensures gone { Achieves F.is_honest F.history files.old files.new result (IsGone path.now) }
 {

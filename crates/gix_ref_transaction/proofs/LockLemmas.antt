@@ -1,16 +1,19 @@
 -- What stands while a lock is made, filled, given back or put in its place.
 use Rattle.std.proofs.Common.{◌≡◌, ◌≢◌, ◌⊎◌, inl, inr, refl, sym, ◌∙◌, ap, ℕ, Bool, true, false, cond, ◌&&◌, ◌||◌, List, [], ◌∷◌, take, arith, length}
-use Rattle.std.specs.Prelude.{Option, Some, None, IsTrue, IsFalse, is_some, is_none, codes, Result, Ok, Err, OnOk}
+use Rattle.std.specs.Prelude.{Option, Some, None, IsTrue, IsFalse, is_some, is_none, codes, Result, Ok, Err, OnOk, IsErrOf}
 use Rattle.std.specs.List.{list_any}
 use Rattle.std.specs.FinMap.{get, insert, remove}
 use Rattle.std.proofs.lemmas.List.{length-append}
-use Rattle.gix_ref_file.specs.Tree.{Tree, Node, file, node_at, bytes_at, same_path}
+use Rattle.gix_ref_file.specs.Tree.{Tree, Node, file, is_folder, node_at, bytes_at, same_path}
 use Rattle.gix_ref_file.specs.Changes.{to_create, to_write, to_rename, to_remove_file, allows, after, may_hold_file, is_file_at, MayLeave}
-use Rattle.gix_ref_file.specs.History.{History, Adds}
+use Rattle.gix_ref_file.specs.History.{History, Adds, HasRisen, HasCause}
+use Rattle.gix_ref_file.specs.declared.files.FileError.{FileError}
+use Rattle.gix_ref_file.specs.declared.files.FileError.TheVariants.{Failed}
 use Rattle.gix_ref_file.proofs.Histories.{adds_weaker, adds_joined}
 use Rattle.gix_ref_file.proofs.Others.{others_stay, rename_gone}
 use Rattle.gix_ref_file.proofs.Rooted.{adds_now}
 use Rattle.gix_ref_file.proofs.Trees.{get-removed, get_inserted, node_at_path, one_path, same_path_itself}
+use Rattle.gix_ref_way.specs.Ways.{SameFolders}
 use Rattle.gix_ref_transaction.specs.Locks.{lock_of, OthersStay, KeepsHeld, IsTaken, MayBePut, IsPut}
 
 clash : {A : Type 0} → true ≡ false → A
@@ -111,13 +114,21 @@ put_by lock place old new is_lock may is = record {
   gone = ap (λ t. node_at t lock) is ∙ rename_gone old lock place may (apart_test lock place (λ same. lock_apart place (sym is_lock ∙ same)));
 }
 
+-- a change that the tree allows fails only where a failure is counted
+pub must_rise : {T : Type 0} (allowed : Bool) (before now : ℕ) (r : Result T FileError) → IsTrue allowed → HasCause allowed before now r → IsErrOf r Failed → HasRisen before now
+must_rise allowed before now r may cause failed = by_case (cause failed)
+  where
+    by_case : HasRisen before now ⊎ (allowed ≡ false) → HasRisen before now
+    by_case (inl risen) = risen
+    by_case (inr barred) = clash (sym may ∙ barred)
+
 pub on_ok_both : {T E P Q R : Type 0} (r : Result T E) → (P → Q → R) → OnOk r P → OnOk r Q → OnOk r R
 on_ok_both (Ok x) f p q = f p q
 on_ok_both (Err e) f p q = tt
 
 -- ---- one change after another
 
-now_stays : (lock : List ℕ) (old mid : History) → Adds (OthersStay lock old.tree) old mid → OthersStay lock old.tree mid.tree
+pub now_stays : (lock : List ℕ) (old mid : History) → Adds (OthersStay lock old.tree) old mid → OthersStay lock old.tree mid.tree
 now_stays lock old mid first = from_now (adds_now (OthersStay lock old.tree) old mid first)
   where
     from_now : (mid.tree ≡ old.tree) ⊎ OthersStay lock old.tree mid.tree → OthersStay lock old.tree mid.tree
@@ -157,3 +168,13 @@ back_puts place lock text old new is_lock first = adds_weaker old new first (λ 
   here = inl (stays place (λ same. lock_apart place (sym is_lock ∙ sym same)));
   others = λ path one other. stays path other;
 })
+
+folders_now : (old mid : History) → Adds (SameFolders old.tree) old mid → SameFolders old.tree mid.tree
+folders_now old mid first = from_now (adds_now (SameFolders old.tree) old mid first)
+  where
+    from_now : (mid.tree ≡ old.tree) ⊎ SameFolders old.tree mid.tree → SameFolders old.tree mid.tree
+    from_now (inl same) = λ path. ap (λ t. is_folder (get t path)) same
+    from_now (inr stay) = stay
+
+pub folders_joined : (old mid new : History) → Adds (SameFolders old.tree) old mid → Adds (SameFolders mid.tree) mid new → Adds (SameFolders old.tree) old new
+folders_joined old mid new first second = adds_joined old mid new first (adds_weaker mid new second (λ x stay path. stay path ∙ folders_now old mid first path))

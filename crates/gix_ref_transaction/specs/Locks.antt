@@ -1,11 +1,17 @@
 -- Files that are written beside their places: a lock, a file with `.lock` behind its name, which no one else may make while it stands,
 -- holds the new bytes, and is then renamed to its place (Git's `lockfile.h`).
-use Rattle.std.specs.Prelude.{ℕ, ◌≡◌, ◌≢◌, ◌⊎◌, List, [], ◌++◌, Some, None, codes}
+use Rattle.std.specs.Prelude.{ℕ, ◌≡◌, ◌≢◌, ◌⊎◌, List, [], ◌++◌, Some, None, codes, IsTrue}
 use Rattle.gix_ref_file.specs.Tree.{Tree, file, node_at}
+use Rattle.gix_ref_file.specs.Changes.{may_hold_file}
 
 -- the path of a place's lock
 abbrev pub lock_of : List ℕ → List ℕ
 lock_of place = place ++ codes ".lock"
+
+-- A lock may be made of this place: nothing stands at its path, where a file may.
+pub record HasLockPlace (place : List ℕ) (tree : Tree) : Type 0 where
+  pub free : node_at tree (lock_of place) ≡ None
+  pub may : IsTrue (may_hold_file tree (lock_of place))
 
 -- what stands elsewhere than at this path is as before
 abbrev pub OthersStay : List ℕ → Tree → Tree → Type 0

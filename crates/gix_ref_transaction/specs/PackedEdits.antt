@@ -1,7 +1,8 @@
 -- What a transaction of `packed-refs` holds.
-use Rattle.std.specs.Prelude.{ℕ, ◌≡◌, false, List, option_map}
+use Rattle.std.specs.Prelude.{ℕ, ◌≡◌, ⊤, false, List, Option, Some, None, option_map, IsSome}
 use Rattle.gix_hash_id.specs.declared.kind.Kind.{Kind}
 use Rattle.gix_ref_file.specs.Tree.{Tree, node_at, bytes_of}
+use Rattle.gix_ref_format.specs.Packed.{packed_records}
 use Rattle.gix_ref_format.specs.PackedBuffer.{KeepsFile}
 use Rattle.gix_ref_format.specs.PackedKept.{kept}
 use Rattle.gix_ref_transaction.specs.Locks.{lock_of, IsTaken}
@@ -13,6 +14,15 @@ place_of t = t.lock.place.items
 
 abbrev pub lock_path_of : Transaction → List ℕ
 lock_path_of t = t.lock.path.items
+
+-- the bytes of `packed-refs`, where it stands, are of records
+abbrev pub IsRead : Kind → Option (List ℕ) → Type 0
+IsRead kind None = ⊤
+IsRead kind (Some text) = IsSome (packed_records kind text)
+
+-- the file of packed records at this place is read
+abbrev pub IsReadAt : Kind → List ℕ → Tree → Type 0
+IsReadAt kind place tree = IsRead kind (bytes_of (node_at tree place))
 
 -- The transaction is of the file at this place: it has its records, and holds its lock, which is empty.
 pub record IsBegun (kind : Kind) (place : List ℕ) (old new : Tree) (t : Transaction) : Type 0 where

@@ -25,6 +25,11 @@ abbrev pub IsUnprepared : PrepareError → Type 0
 IsUnprepared prepare_case.Memory = Unit {0}
 IsUnprepared prepare_case.CloseLock = ⊥
 
+-- none was committed or rolled back, for want of memory
+abbrev pub IsUncommitted : CommitError → Type 0
+IsUncommitted commit_case.Memory = Unit {0}
+IsUncommitted commit_case.Commit = ⊥
+
 abbrev pub as_prepare : files.FileError → PrepareError
 as_prepare file_case.Failed = prepare_case.CloseLock
 as_prepare file_case.Memory = prepare_case.Memory

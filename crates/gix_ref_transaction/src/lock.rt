@@ -1,11 +1,12 @@
 //! A file's lock: a file beside it, which holds its new bytes and is then renamed to its place.
 
-ghost use Rattle.std.specs.Prelude.{◌≡◌, ◌≢◌, ◌≤◌, ◌⊎◌, false, None, Some, IfOk, IfSome, OnOk, IsErrOf};
-ghost use Rattle.gix_ref_file.specs.Changes.{is_file_at};
+ghost use Rattle.std.specs.Prelude.{◌≡◌, ◌≢◌, ◌≤◌, ◌⊎◌, false, None, Some, IfOk, IfSome, OnOk, IsErrOf, IsTrue};
+ghost use Rattle.gix_ref_file.specs.Changes.{is_file_at, may_hold_file};
 ghost use Rattle.gix_ref_file.specs.History.{HasRisen};
 ghost use Rattle.gix_ref_file.specs.declared.files.FileError.TheVariants.{Failed};
 ghost use Rattle.gix_ref_file.specs.Tree.{file, node_at, bytes_at};
 ghost use Rattle.gix_ref_file.specs.Calls.{Achieves, Passes};
+ghost use Rattle.gix_ref_way.specs.Ways.{SameFolders};
 ghost use Rattle.gix_ref_transaction.specs.Locks.{lock_of, OthersStay, KeepsHeld, IsTaken, MayBePut, IsPut};
 
 use gix_ref_file::{FileError, Files};
@@ -32,6 +33,7 @@ pub fn acquire<F: Files>(
     ensures place { IfOk result (λ found. IfSome found (λ lock. lock.place.items ≡ place.now)) }
     ensures moments { Passes F.is_honest F.history files.old files.new
         (OthersStay (lock_of place.now)) }
+    ensures folders { Passes F.is_honest F.history files.old files.new SameFolders }
     ensures fresh { Passes F.is_honest F.history files.old files.new (KeepsHeld (lock_of place.now)) }
     ensures taken { F.is_honest files.old → IfOk result (λ found. IfSome found (λ _.
         IsTaken (lock_of place.now) (F.history files.old).tree (F.history files.new).tree)) }
@@ -42,6 +44,9 @@ pub fn acquire<F: Files>(
     ensures refused { F.is_honest files.old → IsErrOf result Failed
         → HasRisen (F.failures files.old) (F.failures files.new)
         ⊎ ((F.history files.new).tree ≡ (F.history files.old).tree) }
+    ensures failed { F.is_honest files.old
+        → IsTrue (may_hold_file (F.history files.old).tree (lock_of place.now))
+        → IsErrOf result Failed → HasRisen (F.failures files.old) (F.failures files.new) }
     ensures later { F.failures files.old ≤ F.failures files.new }
     ensures unfailed { OnOk result (F.failures files.new ≡ F.failures files.old) }
 {
@@ -71,9 +76,14 @@ impl Lock {
         bytes: &[u8],
     ) -> Result<(), FileError>
         ensures honest { F.is_honest files.old → F.is_honest files.new }
+        ensures unfailed { OnOk result (F.failures files.new ≡ F.failures files.old) }
         ensures moments { Passes F.is_honest F.history files.old files.new
             (OthersStay self.now.path.items) }
+        ensures folders { Passes F.is_honest F.history files.old files.new SameFolders }
         ensures later { F.failures files.old ≤ F.failures files.new }
+        ensures failed { F.is_honest files.old
+            → IsTrue (is_file_at (F.history files.old).tree self.now.path.items)
+            → IsErrOf result Failed → HasRisen (F.failures files.old) (F.failures files.new) }
         ensures filled { F.is_honest files.old → OnOk result
             (node_at (F.history files.new).tree self.now.path.items ≡ Some (file bytes.now)) }
     {
@@ -83,11 +93,17 @@ impl Lock {
     /// Removes the lock. It is `Failed` where none stands or a call of the files failed.
     pub fn give_back<F: Files>(&self, alloc: Global, files: &mut F) -> Result<(), FileError>
         ensures honest { F.is_honest files.old → F.is_honest files.new }
+        ensures later { F.failures files.old ≤ F.failures files.new }
+        ensures unfailed { OnOk result (F.failures files.new ≡ F.failures files.old) }
         ensures moments { Passes F.is_honest F.history files.old files.new
             (OthersStay self.now.path.items) }
+        ensures folders { Passes F.is_honest F.history files.old files.new SameFolders }
         ensures failed { F.is_honest files.old → IsErrOf result Failed
             → HasRisen (F.failures files.old) (F.failures files.new)
             ⊎ (is_file_at (F.history files.new).tree self.now.path.items ≡ false) }
+        ensures held { F.is_honest files.old
+            → IsTrue (is_file_at (F.history files.old).tree self.now.path.items)
+            → IsErrOf result Failed → HasRisen (F.failures files.old) (F.failures files.new) }
         ensures gone { F.is_honest files.old → OnOk result
             (node_at (F.history files.new).tree self.now.path.items ≡ None) }
     {
@@ -98,9 +114,16 @@ impl Lock {
     /// call of the files failed.
     pub fn put<F: Files>(&self, alloc: Global, files: &mut F) -> Result<(), FileError>
         ensures honest { F.is_honest files.old → F.is_honest files.new }
+        ensures later { F.failures files.old ≤ F.failures files.new }
+        ensures unfailed { OnOk result (F.failures files.new ≡ F.failures files.old) }
         ensures moments { Passes F.is_honest F.history files.old files.new
             (MayBePut self.now.place.items self.now.path.items
             (bytes_at (F.history files.old).tree self.now.path.items)) }
+        ensures folders { Passes F.is_honest F.history files.old files.new SameFolders }
+        ensures failed { F.is_honest files.old
+            → IsTrue (is_file_at (F.history files.old).tree self.now.path.items)
+            → IsTrue (may_hold_file (F.history files.old).tree self.now.place.items)
+            → IsErrOf result Failed → HasRisen (F.failures files.old) (F.failures files.new) }
         ensures put { F.is_honest files.old → OnOk result
             (IsPut self.now.place.items self.now.path.items
             (bytes_at (F.history files.old).tree self.now.path.items)

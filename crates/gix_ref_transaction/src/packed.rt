@@ -1,18 +1,20 @@
 //! Transactions of `packed-refs`: its lock is held, its new text is written there, and the lock is put in its place.
 
-ghost use Rattle.std.specs.Prelude.{◌≡◌, ◌≢◌, ◌≤◌, ◌⊎◌, [], true, false, Some, None, map, option_map, IfOk, IfErr, OnOk};
+ghost use Rattle.std.specs.Prelude.{◌≡◌, ◌≢◌, ◌≤◌, ◌⊎◌, [], true, false, Some, None, map, option_map, IfOk, IfErr, OnOk, IsTrue};
 ghost use Rattle.gix_ref_file.specs.Tree.{node_at, bytes_at};
-ghost use Rattle.gix_ref_file.specs.Changes.{is_file_at};
-ghost use Rattle.gix_ref_file.specs.Calls.{Passes};
+ghost use Rattle.gix_ref_file.specs.Changes.{is_file_at, may_hold_file};
+ghost use Rattle.gix_ref_file.specs.Calls.{HasFault, Passes};
 ghost use Rattle.gix_ref_file.specs.History.{HasRisen};
 ghost use Rattle.gix_ref_format.specs.Packed.{record_of};
 ghost use Rattle.gix_ref_packed.specs.Edited.{line_of, lines_of, IsEdited};
 ghost use Rattle.gix_ref_transaction.specs.Records.{records_in, IsTextOf, HoldsEdited};
 ghost use Rattle.gix_ref_transaction.specs.RecordEdits.{line_in};
-ghost use Rattle.gix_ref_transaction.specs.Locks.{lock_of, OthersStay, IsTaken, MayBePut, IsPut};
+ghost use Rattle.gix_ref_way.specs.Ways.{SameFolders};
+ghost use Rattle.gix_ref_transaction.specs.Locks.{lock_of, HasLockPlace, OthersStay, IsTaken, MayBePut, IsPut};
+ghost use Rattle.gix_ref_transaction.specs.declared.packed.Error.TheVariants.{BufferOpen};
 ghost use Rattle.gix_ref_transaction.specs.declared.packed.PrepareError.TheVariants as prepare_case;
 ghost use Rattle.gix_ref_transaction.specs.declared.packed.CommitError.TheVariants as commit_case;
-ghost use Rattle.gix_ref_transaction.specs.PackedErrors.{IsShort, IsUnprepared, as_prepare, as_commit};
+ghost use Rattle.gix_ref_transaction.specs.PackedErrors.{IsShort, IsUnprepared, IsUncommitted, as_prepare, as_commit};
 
 use crate::lock::{Lock, acquire};
 use gix_hash::{Kind, ObjectId};
@@ -130,7 +132,7 @@ pub struct Transaction {
 }
 
 impl Transaction {
-    ghost use Rattle.gix_ref_transaction.specs.PackedEdits.{IsBegun, place_of, lock_path_of};
+    ghost use Rattle.gix_ref_transaction.specs.PackedEdits.{IsBegun, IsReadAt, place_of, lock_path_of};
 
     /// Makes the lock of the file at this place, and reads the file, whose ids are of this kind. `Held` where something stands at the
     /// lock's path already; else the reasons of `Buffer::open`, where the lock has gone again.
@@ -145,6 +147,13 @@ impl Transaction {
             (F.history files.old).tree (F.history files.new).tree) }
         ensures moments { Passes F.is_honest F.history files.old files.new
             (OthersStay (lock_of place.now)) }
+        ensures folders { Passes F.is_honest F.history files.old files.new SameFolders }
+        ensures failed { F.is_honest files.old
+            → HasLockPlace place.now (F.history files.old).tree
+            → IsReadAt kind place.now (F.history files.old).tree → IfErr result (λ error.
+            HasFault F.failures F.reading_may_fail files.old files.new ⊎ IsShort error) }
+        ensures later { F.failures files.old ≤ F.failures files.new }
+        ensures unfailed { OnOk result (F.failures files.new ≡ F.failures files.old) }
         ensures rolled_back { F.is_honest files.old → IfErr result (λ error.
             (is_file_at (F.history files.new).tree (lock_of place.now)
             ≡ is_file_at (F.history files.old).tree (lock_of place.now))
@@ -195,6 +204,13 @@ impl Transaction {
         ensures idle { edits.items ≡ [] → IfOk result (λ t. t.is_written ≡ self.is_written) }
         ensures moments { Passes F.is_honest F.history files.old files.new
             (OthersStay (lock_path_of self)) }
+        ensures folders { Passes F.is_honest F.history files.old files.new SameFolders }
+        ensures failed { F.is_honest files.old
+            → IsTrue (is_file_at (F.history files.old).tree (lock_path_of self))
+            → IfErr result (λ error.
+            HasRisen (F.failures files.old) (F.failures files.new) ⊎ IsUnprepared error) }
+        ensures later { F.failures files.old ≤ F.failures files.new }
+        ensures unfailed { OnOk result (F.failures files.new ≡ F.failures files.old) }
         ensures rolled_back { F.is_honest files.old → IfErr result (λ error.
             (is_file_at (F.history files.new).tree (lock_path_of self) ≡ false)
             ⊎ (HasRisen (F.failures files.old) (F.failures files.new) ⊎ IsUnprepared error)) }
@@ -228,9 +244,17 @@ impl Transaction {
     /// the file as before or with the whole new text. After an error the lock has gone, as far as that succeeds.
     pub fn commit<F: Files>(self, alloc: Global, files: &mut F) -> Result<(), CommitError>
         ensures honest { F.is_honest files.old → F.is_honest files.new }
+        ensures later { F.failures files.old ≤ F.failures files.new }
+        ensures unfailed { OnOk result (F.failures files.new ≡ F.failures files.old) }
         ensures moments { Passes F.is_honest F.history files.old files.new
             (MayBePut (place_of self) (lock_path_of self)
             (bytes_at (F.history files.old).tree (lock_path_of self))) }
+        ensures folders { Passes F.is_honest F.history files.old files.new SameFolders }
+        ensures failed { F.is_honest files.old
+            → IsTrue (is_file_at (F.history files.old).tree (lock_path_of self))
+            → IsTrue (may_hold_file (F.history files.old).tree (place_of self))
+            → IfErr result (λ error.
+            HasRisen (F.failures files.old) (F.failures files.new) ⊎ IsUncommitted error) }
         ensures put { F.is_honest files.old → self.is_written ≡ true → OnOk result
             (IsPut (place_of self) (lock_path_of self)
             (bytes_at (F.history files.old).tree (lock_path_of self)) (F.history files.new).tree) }
@@ -255,8 +279,15 @@ impl Transaction {
     /// Gives the lock back; the file stays.
     pub fn rollback<F: Files>(self, alloc: Global, files: &mut F) -> Result<(), CommitError>
         ensures honest { F.is_honest files.old → F.is_honest files.new }
+        ensures later { F.failures files.old ≤ F.failures files.new }
+        ensures unfailed { OnOk result (F.failures files.new ≡ F.failures files.old) }
         ensures moments { Passes F.is_honest F.history files.old files.new
             (OthersStay (lock_path_of self)) }
+        ensures folders { Passes F.is_honest F.history files.old files.new SameFolders }
+        ensures failed { F.is_honest files.old
+            → IsTrue (is_file_at (F.history files.old).tree (lock_path_of self))
+            → IfErr result (λ error.
+            HasRisen (F.failures files.old) (F.failures files.new) ⊎ IsUncommitted error) }
         ensures gone { F.is_honest files.old → OnOk result
             (node_at (F.history files.new).tree (lock_path_of self) ≡ None) }
     {
@@ -276,11 +307,15 @@ fn take_lock<F: Files>(alloc: Global, files: &mut F, place: &[u8]) -> Result<Loc
     ensures place { IfOk result (λ lock. lock.place.items ≡ place.now) }
     ensures moments { Passes F.is_honest F.history files.old files.new
         (OthersStay (lock_of place.now)) }
+    ensures folders { Passes F.is_honest F.history files.old files.new SameFolders }
     ensures taken { F.is_honest files.old → OnOk result
         (IsTaken (lock_of place.now) (F.history files.old).tree (F.history files.new).tree) }
     ensures rolled_back { F.is_honest files.old → IfErr result (λ error.
         ((F.history files.new).tree ≡ (F.history files.old).tree)
         ⊎ (HasRisen (F.failures files.old) (F.failures files.new) ⊎ IsShort error)) }
+    ensures failed { F.is_honest files.old → HasLockPlace place.now (F.history files.old).tree
+        → IfErr result (λ error. HasRisen (F.failures files.old) (F.failures files.new) ⊎ IsShort error) }
+    ensures later { F.failures files.old ≤ F.failures files.new }
     ensures unfailed { OnOk result (F.failures files.new ≡ F.failures files.old) }
 {
     match acquire(alloc, files, place) {
@@ -294,8 +329,11 @@ fn take_lock<F: Files>(alloc: Global, files: &mut F, place: &[u8]) -> Result<Loc
 // Gives the lock of a file back that couldn't be opened, and tells why.
 fn unopened<F: Files>(alloc: Global, files: &mut F, lock: &Lock, error: buffer::Error) -> Error
     ensures honest { F.is_honest files.old → F.is_honest files.new }
+    ensures later { F.failures files.old ≤ F.failures files.new }
     ensures moments { Passes F.is_honest F.history files.old files.new
         (OthersStay lock.now.path.items) }
+    ensures folders { Passes F.is_honest F.history files.old files.new SameFolders }
+    ensures told { (result ≡ BufferOpen error) ⊎ IsShort result }
     ensures rolled_back { F.is_honest files.old
         → (is_file_at (F.history files.new).tree lock.now.path.items ≡ false)
         ⊎ (HasRisen (F.failures files.old) (F.failures files.new) ⊎ IsShort result) }
@@ -319,6 +357,12 @@ fn write_edited<'a, F: Files>(
     ensures honest { F.is_honest files.old → F.is_honest files.new }
     ensures moments { Passes F.is_honest F.history files.old files.new
         (OthersStay lock.now.path.items) }
+    ensures folders { Passes F.is_honest F.history files.old files.new SameFolders }
+    ensures failed { F.is_honest files.old
+        → IsTrue (is_file_at (F.history files.old).tree lock.now.path.items)
+        → IfErr result (λ error.
+        HasRisen (F.failures files.old) (F.failures files.new) ⊎ IsUnprepared error) }
+    ensures unfailed { OnOk result (F.failures files.new ≡ F.failures files.old) }
     ensures held { F.is_honest files.old → OnOk result (HoldsEdited kind (records_in buffer.now)
         (map line_in edits.now) lock.now.path.items (F.history files.new).tree) }
     ensures later { F.failures files.old ≤ F.failures files.new }
@@ -394,8 +438,11 @@ fn unprepared<F: Files>(
     error: PrepareError,
 ) -> PrepareError
     ensures honest { F.is_honest files.old → F.is_honest files.new }
+    ensures later { F.failures files.old ≤ F.failures files.new }
     ensures moments { Passes F.is_honest F.history files.old files.new
         (OthersStay lock.now.path.items) }
+    ensures folders { Passes F.is_honest F.history files.old files.new SameFolders }
+    ensures told { (result ≡ error) ⊎ IsUnprepared result }
     ensures rolled_back { F.is_honest files.old
         → (is_file_at (F.history files.new).tree lock.now.path.items ≡ false)
         ⊎ (HasRisen (F.failures files.old) (F.failures files.new) ⊎ IsUnprepared result) }
@@ -410,9 +457,17 @@ fn unprepared<F: Files>(
 // Puts the lock in its place, and gives it back where that fails.
 fn replace<F: Files>(alloc: Global, files: &mut F, lock: &Lock) -> Result<(), CommitError>
     ensures honest { F.is_honest files.old → F.is_honest files.new }
+    ensures later { F.failures files.old ≤ F.failures files.new }
+    ensures unfailed { OnOk result (F.failures files.new ≡ F.failures files.old) }
     ensures moments { Passes F.is_honest F.history files.old files.new
         (MayBePut lock.now.place.items lock.now.path.items
         (bytes_at (F.history files.old).tree lock.now.path.items)) }
+    ensures folders { Passes F.is_honest F.history files.old files.new SameFolders }
+    ensures failed { F.is_honest files.old
+        → IsTrue (is_file_at (F.history files.old).tree lock.now.path.items)
+        → IsTrue (may_hold_file (F.history files.old).tree lock.now.place.items)
+        → IfErr result (λ error.
+        HasRisen (F.failures files.old) (F.failures files.new) ⊎ IsUncommitted error) }
     ensures put { F.is_honest files.old → OnOk result
         (IsPut lock.now.place.items lock.now.path.items
         (bytes_at (F.history files.old).tree lock.now.path.items) (F.history files.new).tree) }
@@ -428,8 +483,15 @@ fn replace<F: Files>(alloc: Global, files: &mut F, lock: &Lock) -> Result<(), Co
 
 fn given_back<F: Files>(alloc: Global, files: &mut F, lock: &Lock) -> Result<(), CommitError>
     ensures honest { F.is_honest files.old → F.is_honest files.new }
+    ensures later { F.failures files.old ≤ F.failures files.new }
+    ensures unfailed { OnOk result (F.failures files.new ≡ F.failures files.old) }
     ensures moments { Passes F.is_honest F.history files.old files.new
         (OthersStay lock.now.path.items) }
+    ensures folders { Passes F.is_honest F.history files.old files.new SameFolders }
+    ensures failed { F.is_honest files.old
+        → IsTrue (is_file_at (F.history files.old).tree lock.now.path.items)
+        → IfErr result (λ error.
+        HasRisen (F.failures files.old) (F.failures files.new) ⊎ IsUncommitted error) }
     ensures gone { F.is_honest files.old → OnOk result
         (node_at (F.history files.new).tree lock.now.path.items ≡ None) }
 {

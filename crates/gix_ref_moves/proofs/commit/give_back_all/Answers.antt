@@ -1,4 +1,6 @@
-use Rattle.std.proofs.Common.{refl, subst, List}
+use Rattle.std.proofs.Common.{◌≡◌, refl, sym, ◌∙◌, subst, List, ℕ, arith}
+use Rattle.std.specs.Prelude.{Result, Ok, Err, OnOk}
+use Rattle.gix_ref_file.specs.declared.files.FileError.{FileError}
 use Rattle.gix_ref_file.proofs.Histories.{adds_weaker, adds_joined, adds_nothing}
 use Rattle.gix_ref_transaction.specs.Locks.{OthersStay}
 use Rattle.gix_ref_moves.specs.Contents.{lock_path_of}
@@ -8,9 +10,15 @@ use Rattle.gix_ref_moves.proofs.LockPaths.{locks_joined, one_lock}
 use Rattle.gix_ref_moves.proofs.Givings.{Giving, giving_begun, giving, one_given, giving_ended}
 use Rattle.gix_ref_moves.proofs.commit.give_back_all.Goals as goal
 
+still : (a b c : ℕ) (all earlier later : Result (Unit {0}) FileError) → OnOk all ((earlier ≡ Ok tt) × (later ≡ Ok tt)) → OnOk later (c ≡ b) → OnOk earlier (b ≡ a) → OnOk all (c ≡ a)
+still a b c (Ok done) earlier later both two one = subst (λ o. OnOk o (c ≡ b)) both.1 two ∙ subst (λ o. OnOk o (b ≡ a)) both.0 one
+still a b c (Err error) earlier later both two one = tt
+
 pub moves-init : goal.moves-init
 moves-init g c = record {
   honest = λ honest. honest;
+  later = omega arith;
+  unfailed = refl;
   locks = λ honest. adds_nothing (g.F.Files.history c.args.files.now);
   moments = λ once honest. adds_nothing (g.F.Files.history c.args.files.now);
   given = λ once honest. giving_begun c.args.moves.now (g.F.Files.history c.args.files.now).tree;
@@ -26,6 +34,8 @@ moves-preserved g c =
     let others = c.in-Some.others.now in
     record {
       honest = λ honest. c.give_back.ensures.honest (c.moves.invariant.honest honest);
+      later = omega (arith, c.moves.invariant.later, c.give_back.ensures.later);
+      unfailed = still _ _ _ c.both-outcome.result c.moves.outcome c.give_back.result c.both-outcome.ensures c.give_back.ensures.unfailed c.moves.invariant.unfailed;
       locks = λ honest. locks_joined old mid new (c.moves.invariant.locks honest)
           (adds_weaker mid new (c.give_back.ensures.moments (c.moves.invariant.honest honest)) (one_lock first.lock.place.items first.lock.path.items first.lock.beside mid.tree));
       moments = λ once honest.

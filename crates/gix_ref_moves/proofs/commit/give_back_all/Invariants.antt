@@ -1,4 +1,5 @@
-use Rattle.std.proofs.Common.{length}
+use Rattle.std.proofs.Common.{length, ◌≡◌, ◌≤◌}
+use Rattle.std.specs.Prelude.{OnOk}
 use Rattle.gix_ref_file.specs.History.{Adds}
 use Rattle.gix_ref_moves.specs.Committing.{LocksAlone}
 use Rattle.gix_ref_moves.specs.Moments.{SameButLocks}
@@ -12,6 +13,8 @@ invariant-moves g l =
     let history = g.F.Files.history in
     record {
       honest : g.F.Files.is_honest l.fn.files → g.F.Files.is_honest l.files;
+      later : g.F.Files.failures l.fn.files ≤ g.F.Files.failures l.files;
+      unfailed : OnOk l.outcome (g.F.Files.failures l.files ≡ g.F.Files.failures l.fn.files);
       locks : g.F.Files.is_honest l.fn.files → Adds (SameButLocks (history l.fn.files).tree) (history l.fn.files) (history l.files);
       moments : Once (all_paths l.moves) → g.F.Files.is_honest l.fn.files → Adds (AllMay LocksAlone l.moves (history l.fn.files).tree) (history l.fn.files) (history l.files);
       given : Once (all_paths l.moves) → g.F.Files.is_honest l.fn.files → Giving l.outcome l.moves l.rest (history l.fn.files).tree (history l.files).tree;

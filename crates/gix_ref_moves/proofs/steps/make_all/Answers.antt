@@ -1,4 +1,4 @@
-use Rattle.std.proofs.Common.{subst, List}
+use Rattle.std.proofs.Common.{subst, List, refl, ◌∙◌, arith}
 use Rattle.gix_ref_file.proofs.Histories.{adds_weaker, adds_joined, adds_nothing}
 use Rattle.gix_ref_moves.specs.Moments.{IsMaking, made_by}
 use Rattle.gix_ref_moves.specs.declared.act.Move.{Move}
@@ -9,6 +9,8 @@ use Rattle.gix_ref_moves.proofs.steps.make_all.Goals as goal
 pub moves-init : goal.moves-init
 moves-init g c = record {
   honest = λ honest. honest;
+  later = omega arith;
+  unfailed = refl;
   moments = λ once honest. adds_nothing (g.F.Files.history c.args.files.now);
   made = λ once honest. begun (made_by c.args.step) c.args.moves.now (g.F.Files.history c.args.files.now).tree;
 }
@@ -39,6 +41,8 @@ moves-preserved g c =
     let others = c.in-Some.others.now in
     record {
       honest = λ honest. c.make.ensures.honest (c.moves.invariant.honest honest);
+      later = omega (arith, c.moves.invariant.later, c.make.ensures.later);
+      unfailed = c.in_ok-make.ensures.unfailed ∙ c.moves.invariant.unfailed;
       moments = λ once honest.
           let so_far = subst (λ (rest : List Move). Progress f moves rest old.tree mid.tree) c.in-Some.ensures.cases.0 (c.moves.invariant.made once honest) in
           let apart = apart_now f moves first others old.tree mid.tree so_far once in

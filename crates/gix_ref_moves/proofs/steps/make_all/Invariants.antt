@@ -1,4 +1,4 @@
-use Rattle.std.proofs.Common.{length}
+use Rattle.std.proofs.Common.{length, ◌≡◌, ◌≤◌}
 use Rattle.gix_ref_file.specs.History.{Adds}
 use Rattle.gix_ref_moves.specs.Moments.{IsMaking, made_by}
 use Rattle.gix_ref_moves.specs.Moves.{AllMay, Once, all_paths}
@@ -11,6 +11,8 @@ invariant-moves g l =
     let history = g.F.Files.history in
     record {
       honest : g.F.Files.is_honest l.fn.files → g.F.Files.is_honest l.files;
+      later : g.F.Files.failures l.fn.files ≤ g.F.Files.failures l.files;
+      unfailed : g.F.Files.failures l.files ≡ g.F.Files.failures l.fn.files;
       moments : Once (all_paths l.moves) → g.F.Files.is_honest l.fn.files → Adds (AllMay (IsMaking l.step) l.moves (history l.fn.files).tree) (history l.fn.files) (history l.files);
       made : Once (all_paths l.moves) → g.F.Files.is_honest l.fn.files → Progress (made_by l.step) l.moves l.rest (history l.fn.files).tree (history l.files).tree;
     }

@@ -6,6 +6,7 @@ use Rattle.gix_ref_file.specs.History.{Makes}
 use Rattle.gix_ref_file.proofs.Histories.{adds_weaker}
 use Rattle.gix_ref_transaction.specs.Locks.{lock_of}
 use Rattle.gix_ref_transaction.proofs.LockLemmas.{created_others, created_held, taken_by}
+use Rattle.gix_ref_way.proofs.FoldersStay.{while_created}
 use Rattle.gix_ref_transaction.proofs.lock.acquire.Goals as goal
 
 pub returns-in_err-create_new-clause-moments : goal.returns-in_err-create_new-clause-moments
@@ -58,3 +59,18 @@ returns-else-branch-clause-fresh g c = λ honest.
     let new = g.F.Files.history c.create_new.new.self in
     let change = subst (λ (path : List ℕ). Makes (to_create path) old new c.create_new.result) (c.deref.ensures.value ∙ c.in_ok-path.ensures) (c.create_new.ensures.change honest) in
     adds_weaker old new change.moments (λ x left. created_held (lock_of c.args.place.now) old.tree x left)
+
+pub returns-in_err-create_new-clause-folders : goal.returns-in_err-create_new-clause-folders
+returns-in_err-create_new-clause-folders g c = λ honest.
+    let old = g.F.Files.history c.args.files.now in
+    adds_weaker old (g.F.Files.history c.create_new.new.self) (c.create_new.ensures.change honest).moments (λ x left. while_created c.deref.result.now old.tree x left)
+
+pub returns-then-branch-clause-folders : goal.returns-then-branch-clause-folders
+returns-then-branch-clause-folders g c = λ honest.
+    let old = g.F.Files.history c.args.files.now in
+    adds_weaker old (g.F.Files.history c.create_new.new.self) (c.create_new.ensures.change honest).moments (λ x left. while_created c.deref.result.now old.tree x left)
+
+pub returns-else-branch-clause-folders : goal.returns-else-branch-clause-folders
+returns-else-branch-clause-folders g c = λ honest.
+    let old = g.F.Files.history c.args.files.now in
+    adds_weaker old (g.F.Files.history c.create_new.new.self) (c.create_new.ensures.change honest).moments (λ x left. while_created c.deref.result.now old.tree x left)
