@@ -1,6 +1,6 @@
 -- What the files go through while commands are acted on: the moments between commands, and the pairs that a stop may leave.
 -- The histories of both parts name every tree that stood; ReadingMayFail says that a reading of the files may fail.
-use Rattle.std.specs.Prelude.{◌≡◌, ◌⊎◌, ◌≤◌, ℕ, not, Bool, true, List, [], ◌∷◌, Some, IsTrue, if◌then◌else◌, Contains, slice_get}
+use Rattle.std.specs.Prelude.{◌≡◌, ◌⊎◌, ◌≤◌, ℕ, not, Bool, true, List, [], ◌∷◌, ◌++◌, Some, IsTrue, if◌then◌else◌, Contains, slice_get}
 use Rattle.gix_ref_file.specs.Tree.{Tree}
 use Rattle.gix_ref_file.specs.History.{History, trees, stood_between, HasRisen}
 use Rattle.history_model.specs.Repository.{Repository}
@@ -26,6 +26,10 @@ StoodAt history moment tree = slice_get (trees history) moment ≡ Some tree
 
 abbrev pub StoodBetween : History → ℕ → ℕ → Tree → Type 0
 StoodBetween history from to tree = Contains (stood_between history from to) tree
+
+-- the new history goes on from the old one
+abbrev pub GoesOnFrom : History → History → Type 0
+GoesOnFrom old new = (during : List Tree) × (trees new ≡ trees old ++ during)
 
 -- the pair that stood at a moment
 abbrev pub IsPairAt : History → History → Moment → Pair → Type 0

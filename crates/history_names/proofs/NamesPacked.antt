@@ -22,7 +22,7 @@ use Rattle.history_model.specs.Places.{file_at, head_place, is_lock_file, is_log
 use Rattle.history_model.specs.Repository.{Reference, Repository, id_at, is_tag, is_tag_value, peeled, peeled_value, stands}
 use Rattle.history_model.proofs.IdLemmas.{has_kind}
 use Rattle.history_model.proofs.PlaceLemmas.{one_text, text_itself}
-use Rattle.history_steps.specs.PackSteps.{HasAllNames, HasPacked, PacksAll, PacksNames, PacksOnTheWay, record_for}
+use Rattle.history_steps.specs.PackSteps.{HasAllNames, HasPacked, IsTextOfAll, PacksAll, PacksNames, PacksOnTheWay, record_for}
 use Rattle.history_steps.specs.TreeHalves.{HoldsNames}
 use Rattle.history_steps.proofs.PackedRecords.{all_by_finds}
 use Rattle.history_names.specs.Packed.{AllOfKind, ArePacked, HasPackedText, MayPack, name_texts, record_of_name, records_of}
@@ -160,7 +160,8 @@ module _ (r : Repository) (written : IsWritten r) where
           formed = form_made told.after told.ascend (by_finds (λ (e : Record). is_name e.name ≡ true) (λ e t. t.formed)) (by_finds (λ (e : Record). is_private e.name ≡ false) (λ e t. t.public)) (says_sorted has.text);
           each = λ name. told.each name ∙ each name;
         } in
-        subst (PacksAll r) (sym has.here) (subst (λ o. MatchOption (option_map (λ records. record { sorted = says_sorted has.text; records = records }) o) ⊥ (HasAllNames r)) (sym read) holds)
+        let text : IsTextOfAll r has.text = record { records = told.after; ascend = told.ascend; each = λ name. told.each name ∙ each name; is = told.is } in
+        subst (PacksAll r) (sym has.here) (text, subst (λ o. MatchOption (option_map (λ records. record { sorted = says_sorted has.text; records = records }) o) ⊥ (HasAllNames r)) (sym read) holds)
 
     among : (name : Bytes) (b : Bool) → is_some (record_for r name) ≡ b → is_among (name_texts names) name ≡ b
     among name b is = among_hit names name ∙ ap is_some (each name) ∙ is

@@ -154,7 +154,7 @@ record_says r name = go (is_private name) (id_at r name)
 
 pub all_read : (r : Repository) (name : Bytes) (found : Option Bytes) → PacksAll r found → packed_read r.kind name found ≡ cond (is_private name) Absent (reads_as (id_at r name))
 all_read r name None h = absurd h
-all_read r name (Some text) h = go (packed_file r.kind text) h
+all_read r name (Some text) h = go (packed_file r.kind text) h.1
   where
     go : (o : Option PackedFile) → MatchOption o ⊥ (HasAllNames r) → unwrap_or (option_map (packed_state name) o) Faulty ≡ cond (is_private name) Absent (reads_as (id_at r name))
     go None k = absurd k
@@ -175,7 +175,7 @@ record_agrees r e is = by_id (is_private e.name) (id_at r e.name) is
 
 pub all_agree : (r : Repository) (found : Option Bytes) → PacksAll r found → (text : Bytes) → found ≡ Some text → MatchOption (packed_file r.kind text) ⊥ (PackedAgrees r)
 all_agree r None h text is = absurd h
-all_agree r (Some own) h text is = subst (λ t. MatchOption (packed_file r.kind t) ⊥ (PackedAgrees r)) (same_Some own text is) (go (packed_file r.kind own) h)
+all_agree r (Some own) h text is = subst (λ t. MatchOption (packed_file r.kind t) ⊥ (PackedAgrees r)) (same_Some own text is) (go (packed_file r.kind own) h.1)
   where
     go : (o : Option PackedFile) → MatchOption o ⊥ (HasAllNames r) → MatchOption o ⊥ (PackedAgrees r)
     go None k = absurd k

@@ -8,8 +8,8 @@ use Rattle.history_model.specs.Commands.{Command}
 use Rattle.history_model.specs.Replies.{Reply}
 use Rattle.history_model.specs.Places.{Pair}
 use Rattle.history_model.specs.Steps.{goes_on, some_failed}
-use Rattle.history_model.specs.Moments.{Moment, IsStepPair, ActedOn, ActsOn, last_moment}
-use Rattle.history_steps.specs.Passing.{GoesOnFrom, IsWithin, ActsLater, ActsThen}
+use Rattle.history_model.specs.Moments.{Moment, GoesOnFrom, IsStepPair, ActedOn, ActsOn, last_moment}
+use Rattle.history_steps.specs.Passing.{IsWithin, ActsLater, ActsThen}
 use Rattle.std.proofs.lemmas.Bool.{or_parts, not-false}
 
 got_before : (xs ys : List Tree) (m : ℕ) → m < length xs → slice_get (xs ++ ys) m ≡ slice_get xs m

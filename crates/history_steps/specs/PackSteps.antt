@@ -1,10 +1,12 @@
 -- The steps of a `pack` on the tree of names: `packed-refs` is replaced by one with a record of each name, and then the files of names
 -- go, one after another.
-use Rattle.std.specs.Prelude.{◌≡◌, ◌≢◌, ◌⊎◌, Option, Some, None, MatchOption, option_map, if◌then◌else◌, IsTrue, IsFalse}
+use Rattle.std.specs.Prelude.{◌≡◌, ◌≢◌, ◌⊎◌, List, Option, Some, None, MatchOption, option_map, if◌then◌else◌, IsTrue, IsFalse}
 use Rattle.std.specs.FinMap.{get}
 use Rattle.gix_ref_file.specs.Tree.{Tree, folder}
 use Rattle.gix_ref_format.specs.Packed.{Record}
 use Rattle.gix_ref_format.specs.PackedBuffer.{hit}
+use Rattle.gix_ref_packed.specs.Edited.{Ascend}
+use Rattle.gix_ref_packed.specs.Written.{packed_text}
 use Rattle.history_model.specs.Bytes.{Bytes}
 use Rattle.history_model.specs.Repository.{Repository, id_at, is_tag, peeled, stands}
 use Rattle.history_model.specs.Forms.{is_name, is_private}
@@ -34,10 +36,18 @@ pub record HasAllNames (r : Repository) (packed : PackedFile) : Type 0 where
   pub formed : IsTrue (is_packed_form packed)
   pub each : (name : Bytes) → hit packed.records name ≡ record_for r name
 
+-- The header, and behind it the records of the names that stand and aren't private, ascending.
+pub record IsTextOfAll (r : Repository) (text : Bytes) : Type 0 where
+  pub records : List Record
+  pub ascend : Ascend records
+  pub each : (name : Bytes) → hit records name ≡ record_for r name
+  pub is : text ≡ packed_text records
+
 -- So `packed-refs` is.
 abbrev pub PacksAll : Repository → Option Bytes → Type 0
 PacksAll r None = ⊥
-PacksAll r (Some text) = MatchOption (packed_file r.kind text) ⊥ (HasAllNames r)
+PacksAll r (Some text) =
+    IsTextOfAll r text × MatchOption (packed_file r.kind text) ⊥ (HasAllNames r)
 
 abbrev pub HasPacked : Repository → Tree → Type 0
 HasPacked r tree = PacksAll r (file_at tree packed_place)

@@ -22,10 +22,10 @@ use Rattle.history_steps.specs.TreeSteps.{HasText}
 use Rattle.history_steps.specs.OneNameSteps.{NameMove, MovesOneName, entry_of_move}
 use Rattle.history_model.specs.Recovery.{recovered_objects, recovered_names}
 use Rattle.history_model.specs.Stops.{NameBetween, IsNotLost, deletes, is_changing}
-use Rattle.gix_ref_file.specs.History.{History, trees, moment}
+use Rattle.gix_ref_file.specs.History.{History, moment}
 use Rattle.history_model.specs.Replies.{Reply}
 use Rattle.history_model.specs.Steps.{some_failed}
-use Rattle.history_model.specs.Moments.{LeavesStopped, Moment, ActsOn, last_moment}
+use Rattle.history_model.specs.Moments.{GoesOnFrom, LeavesStopped, Moment, ActsOn, last_moment}
 use Rattle.history_model.specs.Wholeness.{IsSound}
 use Rattle.gix_hash_id.specs.declared.kind.Kind.{Kind}
 
@@ -162,10 +162,6 @@ MovingStops =
     → HoldsBetween old command pair.names → LeavesStopped old command pair
 
 -- ---- moments
-
--- the new history goes on from the old one
-abbrev pub GoesOnFrom : History → History → Type 0
-GoesOnFrom old new = (during : List Tree) × (trees new ≡ trees old ++ during)
 
 -- The moment is one of these histories.
 abbrev pub IsWithin : History → History → Moment → Type 0
