@@ -16,7 +16,9 @@ pub mod RunsAgree
 pub mod RecoveryLemmas
 pub mod FreshLemmas
 pub mod RecoveredLemmas
-mod RoundLemmas
+pub mod RoundLemmas
+pub mod Joining
+pub mod RunsTold
 mod StateLemmas
 pub mod FormatLemmas
 pub mod AfterFirstLemmas
