@@ -30,9 +30,10 @@ use Rattle.history_plans.specs.Plans.{IsMove}
 use Rattle.history_plans.proofs.PartsStand.{commit_sound, move_stands, names_stand, tag_sound}
 use Rattle.history.specs.Moments.{NamesPass}
 use Rattle.history.specs.Moving.{LeavesMoved}
+use Rattle.history.specs.NameFiles.{ChangesNameAlone, LeavesAsAsked}
 use Rattle.history.specs.Storing.{AreMovesOf, HasStored}
 use Rattle.history.proofs.Commits.{commit_fits, moved_is_name, tag_fits, tag_is_name}
-use Rattle.history.proofs.MoveFaults.{leaves_so}
+use Rattle.history.proofs.MoveFaults.{leaves_so, ok_more, where_moved}
 use Rattle.history.specs.declared.moves.Moves.TheVariants as move
 use Rattle.history_model.specs.Repository as plain
 use Rattle.history_plans.specs.declared.planning.Moves as planned
@@ -140,3 +141,19 @@ module _ {F : Type 0} (IsHonest : F → Type 0) (history : F → History) (now :
           one_leaves r (Tag c) s (tag_move r c) (tags_move_one_name r c) (tag_is_name r c are.none) are.none are.free one are.told new
           (tag_sound IsHonest history s.before r c s.stood are.none are.free) kept (honest still.honest) kind C result (records r still fits) (moved r still fits)
       tag_leaves r order s are = absurd are.told
+
+    -- no other files change than those of the name
+    module _ (C : Type 0) (result : Result (Unit {0}) Fault) (moved : WhereItFits (LeavesMoved C (MovesName one.name.items (entry_of one.entry) (names_tree history now) (names_tree history new)) result)) where
+      alone : (to : NameMove) → one.name.items ≡ to.name → LeavesMoved C (MovesName one.name.items (entry_of one.entry) (names_tree history now) (names_tree history new)) result
+          → OnOk result (ChangesNameAlone to.name (names_tree history now) (names_tree history new))
+      alone to is leaves =
+          subst (λ n. OnOk result (ChangesNameAlone n (names_tree history now) (names_tree history new))) is
+          (ok_more result (λ (moved_so : MovesName one.name.items (entry_of one.entry) (names_tree history now) (names_tree history new)). moved_so.others) (where_moved C _ result leaves))
+
+      pub commit_alone : (r : plain.Repository) (order : Command) → HasStored IsHonest history now r order → AreMovesOf r order (move.Commit one) → OnOk result (LeavesAsAsked r order (names_tree history now) (names_tree history new))
+      commit_alone r (Commit c) s are = alone (commit_move r c) (are.told).name (moved r (stand_still r (Commit c) s) (commit_fits r c one s.stood.whole.written s.stood.whole.whole.names are.none are.told))
+      commit_alone r order s are = absurd are.told
+
+      pub tag_alone : (r : plain.Repository) (order : Command) → HasStored IsHonest history now r order → AreMovesOf r order (move.Tag one) → OnOk result (LeavesAsAsked r order (names_tree history now) (names_tree history new))
+      tag_alone r (Tag c) s are = alone (tag_move r c) (are.told).name (moved r (stand_still r (Tag c) s) (tag_fits r c one s.stood.whole.whole.names are.none are.told))
+      tag_alone r order s are = absurd are.told

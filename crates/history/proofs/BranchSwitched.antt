@@ -25,7 +25,7 @@ use Rattle.history_folders.specs.Folders.{SameFolders}
 use Rattle.history_names.specs.References.{head_lock}
 use Rattle.history_objects.specs.Face.{ids_of_objects}
 use Rattle.history_names.specs.Packing.{KeepsRecords}
-use Rattle.history_names.specs.References.{HasHeadRoom, MayBeWritten, PutsBeside}
+use Rattle.history_names.specs.References.{HasHeadRoom, MayBeWritten, PutsBeside, lock_place}
 use Rattle.gix_traverse_commit_known.specs.Told.{rows_of}
 use Rattle.gix_traverse_commit_graph.specs.declared.rows.Row.{Row}
 use Rattle.history_repository.specs.Face.{names_part, rows_in}
@@ -33,6 +33,7 @@ use Rattle.history_repository.specs.KeptRows.{AgreeRows}
 use Rattle.history_plans.specs.Halves.{names_tree, objects_tree}
 use Rattle.history_repository.specs.Stands.{Stands, pair_of}
 use Rattle.history_repository.specs.declared.repository.Repository.{Repository}
+use Rattle.history.specs.NameFiles.{ChangesHeadAlone}
 use Rattle.history_plans.proofs.PartsStand.{name_formed}
 use Rattle.history_plans.proofs.NameWays.{no_lock_stands}
 use Rattle.history_model.specs.Repository as plain
@@ -132,3 +133,9 @@ module _ {F : Type 0} (IsHonest : F → Type 0) (history : F → History) (old :
       records = records;
       rows = subst (λ (rows : Option (List Row)). AgreeRows r.kind r.objects (rows_of rows)) (sym same_rows) h.rows;
     }
+
+-- what is put in HEAD's place changes no other file
+pub head_alone : (text : Bytes) (old new : Tree) → PutsBeside head_place text old new → ChangesHeadAlone old new
+head_alone text old new puts path away unlocked =
+    let locks : is_lock_file (lock_place head_place) ≡ true = refl in
+    puts.others path away (λ same. absurd (cc (unlocked, ap is_lock_file same, locks)))

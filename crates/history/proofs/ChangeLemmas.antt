@@ -18,7 +18,7 @@ use Rattle.history_steps.specs.PackSteps.{PacksNames}
 use Rattle.history_repository.specs.declared.stopped.Stopped.{Stopped}
 use Rattle.history.specs.Acts.{Acts}
 use Rattle.history.specs.Moving.{LeavesMoved}
-use Rattle.history.specs.Packing.{LeavesPacked, PacksAsAsked}
+use Rattle.history.specs.NameFiles.{ChangesHeadAlone, ChangesNameAlone, LeavesFiles, LeavesAsAsked, RenamesAlone, TakesNameAlone}
 use Rattle.history.specs.Replies.{TellsDone, done_word}
 use Rattle.history.specs.Storing.{AreMovesOf, StoresObjects}
 use Rattle.history.specs.declared.moves.Moves.{Moves}
@@ -99,9 +99,14 @@ module _ (C : Type 0) (StandsNow : plain.Repository → Type 0) (r : plain.Repos
       (told.0, after r order, told.2, record { no_cause = are.none; not_taken = are.free; answer = told.1; result = refl }, stands)
 
 -- what is packed, where it isn't done, and where it is
-pub packs_nothing : (r : plain.Repository) (order : Command) (ends : Result (Vec ℕ Global) Stopped) (stopped : Stopped) (old new : Tree) → ends ≡ Err stopped → LeavesPacked r order ends old new
-packs_nothing r order ends stopped old new is_end = subst (λ x. LeavesPacked r order x old new) (sym is_end) (stopped_packs r order stopped old new)
+pub packs_nothing : (r : plain.Repository) (order : Command) (ends : Result (Vec ℕ Global) Stopped) (stopped : Stopped) (old new : Tree) → ends ≡ Err stopped → LeavesFiles r order ends old new
+packs_nothing r order ends stopped old new is_end = subst (λ x. LeavesFiles r order x old new) (sym is_end) (stopped_packs r order stopped old new)
 
-pub packs_done : (r : plain.Repository) (order : Command) (text : Vec ℕ Global) (old mid new : Tree) → mid ≡ old → PacksAsAsked r order mid new → LeavesPacked r order (Ok text) old new
+pub packs_done : (r : plain.Repository) (order : Command) (text : Vec ℕ Global) (old mid new : Tree) → mid ≡ old → LeavesAsAsked r order mid new → LeavesFiles r order (Ok text) old new
 packs_done r Pack text old mid new same h = subst (λ tree. PacksNames r tree new) same h
+packs_done r (Commit c) text old mid new same h = subst (λ tree. ChangesNameAlone (commit_move r c).name tree new) same h
+packs_done r (Tag c) text old mid new same h = subst (λ tree. ChangesNameAlone (tag_move r c).name tree new) same h
+packs_done r (Rename from to) text old mid new same h = subst (λ tree. RenamesAlone from to tree new) same h
+packs_done r (Delete name at) text old mid new same h = subst (λ tree. TakesNameAlone name tree new) same h
+packs_done r (Switch name) text old mid new same h = subst (λ tree. ChangesHeadAlone tree new) same h
 packs_done r order text old mid new same h = tt

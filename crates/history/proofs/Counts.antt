@@ -1,9 +1,10 @@
--- The counts of failed calls, over one step after another.
-use Rattle.std.proofs.Common.{◌≡◌, ◌∙◌, inl, inr, ℕ, ◌≤◌, refl, ap, arith, Result, Ok, Err}
+-- The counts of failed calls, and honesty, over one step after another.
+use Rattle.std.proofs.Common.{◌≡◌, ◌∙◌, inl, inr, ℕ, ◌≤◌, refl, ap, subst, sym, arith, Result, Ok, Err}
 use Rattle.std.specs.Prelude.{OnOk}
 use Rattle.gix_ref_file.specs.History.{HasRisen}
-use Rattle.history.specs.Acts.{CountsFailure, CountsRise, KeepsCounts}
-use Rattle.history_repository.specs.Face.{objects_part, names_part}
+use Rattle.history.specs.Acts.{CountsFailure, CountsRise, KeepsCounts, StaysHonest}
+use Rattle.history_repository.specs.Face.{objects_part, names_part, KeepsAllButObjects, KeepsAllButRows}
+use Rattle.history.specs.Moving.{MovesNamesAlone}
 use Rattle.history_repository.specs.declared.repository.Repository.{Repository}
 
 pub risen_later : (a b c : ℕ) → HasRisen a b → b ≤ c → HasRisen a c
@@ -44,3 +45,21 @@ module _ {F : Type 0} (failures : F → ℕ) where
   failed_before MayFail a b c k (inl h) = inl (risen_before _ _ _ k.objects h)
   failed_before MayFail a b c k (inr (inl h)) = inr (inl (risen_before _ _ _ k.names h))
   failed_before MayFail a b c k (inr (inr h)) = inr (inr h)
+
+module _ {F : Type 0} (IsHonest : F → Type 0) where
+  pub honest_none : (a : Repository F) → StaysHonest IsHonest a a
+  honest_none a = record { objects = λ h. h; names = λ h. h }
+
+  pub honest_then : (a b c : Repository F) → StaysHonest IsHonest a b → StaysHonest IsHonest b c → StaysHonest IsHonest a c
+  honest_then a b c h k = record { objects = λ o. k.objects (h.objects o); names = λ n. k.names (h.names n) }
+
+  pub honest_but_rows : (a b : Repository F) → KeepsAllButRows a b → StaysHonest IsHonest a b
+  honest_but_rows a b kept = record { objects = subst (λ s. IsHonest (objects_part s)) (sym kept); names = subst (λ s. IsHonest (names_part s)) (sym kept) }
+
+  -- objects are put
+  pub honest_stored : (a b : Repository F) → KeepsAllButObjects a b → (IsHonest (objects_part a) → IsHonest (objects_part b)) → StaysHonest IsHonest a b
+  honest_stored a b kept objects = record { objects = objects; names = subst (λ n. IsHonest n.files) (sym kept.names) }
+
+  -- then names move
+  pub honest_moved : (a b c : Repository F) → StaysHonest IsHonest a b → MovesNamesAlone b c → (IsHonest (names_part b) → IsHonest (names_part c)) → StaysHonest IsHonest a c
+  honest_moved a b c h kept names = record { objects = λ o. subst (λ s. IsHonest s.files) (sym kept.objects) (h.objects o); names = λ n. names (h.names n) }

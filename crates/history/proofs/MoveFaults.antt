@@ -39,3 +39,7 @@ leaves_more C M N (Err IdTaken) so m = absurd m
 pub where_moved : (C M : Type 0) (result : Result (Unit {0}) Fault) → LeavesMoved C M result → OnOk result M
 where_moved C M (Ok done) m = m
 where_moved C M (Err fault) m = tt
+
+pub ok_more : {T E P Q : Type 0} (result : Result T E) → (P → Q) → OnOk result P → OnOk result Q
+ok_more (Ok done) more p = more p
+ok_more (Err fault) more p = tt

@@ -24,13 +24,13 @@ use Rattle.history_plans.specs.Halves.{NamesStand, names_tree}
 use Rattle.history_plans.specs.Moving.{AreMoves}
 use Rattle.history_plans.specs.Packing.{AreAllNames}
 use Rattle.history.specs.Moving.{AskedMoves, LeavesMoved, MovesNamesAlone}
-use Rattle.history.specs.Packing.{PacksAsAsked}
+use Rattle.history.specs.NameFiles.{ChangesHeadAlone, LeavesAsAsked, RenamesAlone, TakesNameAlone}
 use Rattle.history.specs.Renaming.{AskedRename}
 use Rattle.history.specs.Storing.{AreMovesOf, HasStored, TellMoves}
 use Rattle.history.specs.declared.moves.Moves.{Moves}
 use Rattle.history.proofs.AfterStoring.{all_still}
 use Rattle.history.proofs.DeleteLemmas.{stand_now, there_now}
-use Rattle.history.proofs.MoveFaults.{leaves_more, leaves_so, where_moved}
+use Rattle.history.proofs.MoveFaults.{leaves_more, leaves_so, ok_more, where_moved}
 use Rattle.history.proofs.NamesAlone.{names_serve, stand_serves}
 use Rattle.history.proofs.RenameLemmas.{asked_so, passes_so, renames_so}
 use Rattle.history.specs.declared.moves.Moves.TheVariants as move
@@ -45,11 +45,11 @@ use Rattle.history.proofs.RenameLemmas as renames
 pub names_alone : {F : Type 0} (old new : Repository F) → KeepsAllButNames old new → MovesNamesAlone old new
 names_alone old new kept = record { objects = kept.objects; rows = kept.rows; failed = kept.failed }
 
--- no other command than `pack` packs
-pub unpacked : {T E : Type 0} (result : Result T E) (moves : Moves) (r : plain.Repository) (order : Command) (old new : Tree) → (TellMoves r Pack moves → ⊥) → AreMovesOf r order moves → OnOk result (PacksAsAsked r order old new)
-unpacked (Ok value) moves r Pack old new other are = absurd (other are.told)
-unpacked (Ok value) moves r order old new other are = tt
-unpacked (Err error) moves r order old new other are = tt
+-- of a `move` no files are told
+pub together_alone : {T E : Type 0} (result : Result T E) (each : Vec planned.Moves Global) (r : plain.Repository) (order : Command) (old new : Tree) → AreMovesOf r order (move.Together each) → OnOk result (LeavesAsAsked r order old new)
+together_alone (Ok value) each r (Move c) old new are = tt
+together_alone (Ok value) each r order old new are = absurd are.told
+together_alone (Err error) each r order old new are = tt
 
 module _ {F : Type 0} (IsHonest : F → Type 0) (history : F → History) (now new : Repository F) where
   abbrev pub Passes : plain.Repository → Command → Type 0
@@ -99,6 +99,13 @@ module _ {F : Type 0} (IsHonest : F → Type 0) (history : F → History) (now n
         (renames_so IsHonest history r from to place (same ∙ are.told.1) C new result (moved r to (asked_rename r from to s are)))
     rename_leaves kept kind C result moved r order s are = absurd are.told
 
+    -- no other files change than those of the two names, and `packed-refs`
+    pub rename_alone : {T E : Type 0} (result : Result T E) → ((r : plain.Repository) (to : Bytes) → AskedRename IsHonest history now made r place to → OnOk result (RenamesAlone place to (names_tree history now) (names_tree history new)))
+        → (r : plain.Repository) (order : Command) → HasStored IsHonest history now r order → AreMovesOf r order (move.Rename made old) → OnOk result (LeavesAsAsked r order (names_tree history now) (names_tree history new))
+    rename_alone result alone r (Rename from to) s are =
+        subst (λ n. OnOk result (RenamesAlone n to (names_tree history now) (names_tree history new))) (same ∙ are.told.1) (alone r to (asked_rename r from to s are))
+    rename_alone result alone r order s are = absurd are.told
+
   -- ---- a deletion
 
   module _ (old : Vec ℕ Global) (place : Bytes) (same : place ≡ old.items) where
@@ -129,6 +136,16 @@ module _ {F : Type 0} (IsHonest : F → Type 0) (history : F → History) (now n
         (moved r stand there)
     delete_leaves kept honest kind C result records moved r order s are = absurd are.told
 
+    -- no other files change than those of the name, and `packed-refs`
+    pub delete_alone : (C : Type 0) (result : Result (Unit {0}) Fault) → WhereItStands (λ r. LeavesMoved C (TakesName r.kind place (names_tree history now) (names_tree history new)) result)
+        → (r : plain.Repository) (order : Command) → HasStored IsHonest history now r order → AreMovesOf r order (move.Delete old) → OnOk result (LeavesAsAsked r order (names_tree history now) (names_tree history new))
+    delete_alone C result moved r (Delete name at) s are =
+        let h = all_still IsHonest history now r (Delete name at) s refl in
+        let is = same ∙ are.told in
+        subst (λ n. OnOk result (TakesNameAlone n (names_tree history now) (names_tree history new))) is
+        (ok_more result (λ (taken : TakesName r.kind place (names_tree history now) (names_tree history new)). taken.others) (where_moved C _ result (moved r (stand_now IsHonest history now r h) (there_now IsHonest history now r h name place at is are.none))))
+    delete_alone C result moved r order s are = absurd are.told
+
   -- ---- a switch
 
   module _ (branch : Vec ℕ Global) where
@@ -149,6 +166,12 @@ module _ {F : Type 0} (IsHonest : F → Type 0) (history : F → History) (now n
     switch_leaves C result moved r (Switch name) s are =
         subst (λ n. Leaves C r (Switch n) result) are.told (moved r (all_still IsHonest history now r (Switch name) s refl) (no_cause r name are))
     switch_leaves C result moved r order s are = absurd are.told
+
+    -- HEAD alone changes
+    pub switch_alone : {T E : Type 0} (result : Result T E) → (IsHonest (names_part now) → OnOk result (ChangesHeadAlone (names_tree history now) (names_tree history new)))
+        → (r : plain.Repository) (order : Command) → HasStored IsHonest history now r order → AreMovesOf r order (move.Switch branch) → OnOk result (LeavesAsAsked r order (names_tree history now) (names_tree history new))
+    switch_alone result alone r (Switch name) s are = alone (all_still IsHonest history now r (Switch name) s refl).honest_names
+    switch_alone result alone r order s are = absurd are.told
 
   -- ---- a pack
 
@@ -177,7 +200,7 @@ module _ {F : Type 0} (IsHonest : F → Type 0) (history : F → History) (now n
       pack_leaves kept honest kind records r order s are = absurd are.told
 
       -- and then all are packed
-      pub pack_packs : (r : plain.Repository) (order : Command) → HasStored IsHonest history now r order → AreMovesOf r order (move.Pack all) → OnOk result (PacksAsAsked r order (names_tree history now) (names_tree history new))
+      pub pack_packs : (r : plain.Repository) (order : Command) → HasStored IsHonest history now r order → AreMovesOf r order (move.Pack all) → OnOk result (LeavesAsAsked r order (names_tree history now) (names_tree history new))
       pack_packs r Pack s are =
           where_moved C (PacksNames r (names_tree history now) (names_tree history new)) result (packed r (all_still IsHonest history now r Pack s refl) (ap records_of same ∙ are.told))
       pack_packs r order s are = absurd are.told

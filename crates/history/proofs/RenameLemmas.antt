@@ -1,10 +1,11 @@
 -- A `rename` on its way, and what it leaves.
 use Rattle.std.proofs.Common.{◌≡◌, inl, inr, Bool, true, false, not, ◌||◌, [], ◌∷◌, refl, sym, ◌∙◌, ap, subst, None, bytes_eq, codes}
 use Rattle.std.specs.Prelude.{OnOk, Result}
+use Rattle.gix_ref_file.specs.Tree.{Tree}
 use Rattle.gix_ref_file.specs.History.{History, Adds}
 use Rattle.gix_ref_file.proofs.Histories.{adds_joined, adds_weaker}
 use Rattle.history_model.specs.Bytes.{Bytes}
-use Rattle.history_model.specs.Repository.{stands}
+use Rattle.history_model.specs.Repository.{LogEntry, stands}
 use Rattle.history_model.specs.Forms.{is_name}
 use Rattle.history_model.specs.Commands.{Rename}
 use Rattle.history_model.specs.Meaning.{after, history_actor}
@@ -32,6 +33,7 @@ use Rattle.history_repository.specs.Face.{names_part}
 use Rattle.history_plans.specs.Halves.{FitsAmong, NamesStand, names_tree}
 use Rattle.history.specs.Moments.{NamesPass}
 use Rattle.history.specs.Moving.{LeavesMoved}
+use Rattle.history.specs.NameFiles.{RenamesAlone}
 use Rattle.history.specs.Renaming.{AskedRename}
 use Rattle.history_plans.specs.Renaming.{MakesName}
 use Rattle.history_repository.specs.Stands.{Stands, pair_of}
@@ -39,7 +41,7 @@ use Rattle.history_plans.specs.declared.planning.Moves.{Moves}
 use Rattle.history_repository.specs.declared.repository.Repository.{Repository}
 use Rattle.history_plans.proofs.PartsStand.{name_formed}
 use Rattle.history.proofs.DeleteLemmas.{stand_now}
-use Rattle.history.proofs.MoveFaults.{leaves_so}
+use Rattle.history.proofs.MoveFaults.{leaves_so, ok_more, where_moved}
 use Rattle.history.proofs.NamesAlone.{ChangesNames}
 use Rattle.history_model.specs.Repository as plain
 
@@ -155,3 +157,10 @@ module _ {F : Type 0} (IsHonest : F → Type 0) (history : F → History) (r : p
 
   pub renames_so : (D : Type 0) (new : Repository F) (result : Result (Unit {0}) Fault) → LeavesMoved D (NamesStand IsHonest history new (after r (Rename place to))) result → LeavesMoved D (NamesStand IsHonest history new (after r (Rename from to))) result
   renames_so D new result h = subst (λ n. LeavesMoved D (NamesStand IsHonest history new (after r (Rename n to))) result) same h
+
+-- no files of others than the two names change, but `packed-refs`
+pub renames_alone : (kind : Kind) (from to : Bytes) (old mid new : Tree) (name : Bytes) (entry : LogEntry) → name ≡ to → MovesName name entry old mid → (C : Type 0) (result : Result (Unit {0}) Fault) → LeavesMoved C (TakesName kind from mid new) result
+    → OnOk result (RenamesAlone from to old new)
+renames_alone kind from to old mid new name entry same moved C result taken =
+    subst (λ n. OnOk result (RenamesAlone from n old new)) same
+    (ok_more result (λ (gone : TakesName kind from mid new). λ path a b c d e. gone.others path c d e ∙ moved.others path a b) (where_moved C _ result taken))

@@ -25,7 +25,7 @@ use Rattle.history_model.specs.Moments.{Moment, Traces, HasFailedCall as Failed}
 use Rattle.gix_traverse_commit_graph.specs.declared.rows.Row.{Row}
 use Rattle.history.specs.Acts.{IsAnswer}
 use Rattle.history.specs.Indexed.{FollowsRows}
-use Rattle.history.specs.Packing.{AllPackAsSaid}
+use Rattle.history.specs.NameFiles.{AllLeaveAsSaid}
 use Rattle.history.specs.Replies.{text_of}
 use Rattle.history.specs.Runs.{EndsRun, EndsHere, GoesOn, Turns}
 use Rattle.history.proofs.ActLemmas.{told_text}
@@ -76,14 +76,14 @@ module _ (objects names : History) (MayFail : Type 0) (StandsNow RecoversNow : R
   failed_so (inr may) = inr (inr may)
 
   abbrev Traced : List Command → List Reply → Repository → Type 0
-  Traced commands replies left = (traces : Traces objects names MayFail r start commands replies finish left) × FollowsRows kept rows r commands replies × AllPackAsSaid names r start commands replies traces.moments
+  Traced commands replies left = (traces : Traces objects names MayFail r start commands replies finish left) × FollowsRows kept rows r commands replies × AllLeaveAsSaid names r start commands replies traces.moments
 
   answer_ran : (taken rest : Bytes) → Spells taken order → Ran CallFailed r (order ∷ []) (a.reply ∷ []) (taken ++ rest) (text_of answer) rest [] failed a.left
   answer_ran taken rest k =
       ran_one CallFailed r a.left (taken ++ rest) (text_of answer) order a.reply rest failed (ap (λ xs. xs ++ rest) k.1) (told_text answer a.reply a.tells) k.0 (a.acted).step (a.fails ∙ only_fails (goes_on order a.reply)) (λ is. failed_so ((a.acted).failure is))
 
   traced : Traced (order ∷ []) (a.reply ∷ []) a.left
-  traced = (record { moments = finish ∷ []; acts = (a.left, a.acted, inr refl, refl); ends = refl }, a.rows_follow, (a.packs, tt))
+  traced = (record { moments = finish ∷ []; acts = (a.left, a.acted, inr refl, refl); ends = refl }, a.rows_follow, (a.leaves, tt))
 
   stands_then : failed ≡ false → StandsNow a.left
   stands_then unfailed = a.stands (goes failed (goes_on order a.reply) a.fails unfailed)

@@ -6,13 +6,13 @@ ghost use Rattle.history_model.specs.Moments.{LeavesStopped};
 ghost use Rattle.history_model.specs.Objects.{hex};
 ghost use Rattle.history_model.specs.Places.{Pair};
 ghost use Rattle.history_model.specs.Spelling.{Line, parts_text};
-ghost use Rattle.history.specs.Acts.{Acts, CountsFailure, CountsRise, KeepsCounts};
+ghost use Rattle.history.specs.Acts.{Acts, CountsFailure, CountsRise, KeepsCounts, StaysHonest};
 ghost use Rattle.history_repository.specs.Face.{has_failed, rows_in};
 ghost use Rattle.history_repository.specs.Faults.{IsRefusal};
 ghost use Rattle.history_repository.specs.Stands.{Stands};
 ghost use Rattle.history_plans.specs.Halves.{names_tree};
 ghost use Rattle.history.specs.Moments.{GoesLater, StoodOnTheWay};
-ghost use Rattle.history.specs.Packing.{LeavesPacked};
+ghost use Rattle.history.specs.NameFiles.{LeavesFiles};
 ghost use Rattle.history.specs.Replies.{TellsDone, done_word};
 ghost use Rattle.history.specs.Storing.{AreMovesOf, AskedChange};
 ghost use Rattle.history_model.specs.Commands as orders;
@@ -89,6 +89,7 @@ pub(crate) fn change<F: Files>(
     ensures refused { IfErr result (λ stopped. IsRefusal stopped → repository.new ≡ repository.old) }
     ensures failed { has_failed repository.new ≡ has_failed repository.old }
     ensures rows { rows_in repository.new ≡ rows_in repository.old }
+    ensures honest { StaysHonest F.is_honest repository.old repository.new }
     ensures counts { CountsRise F.failures repository.old repository.new }
     ensures unfailed { OnOk result (KeepsCounts F.failures repository.old repository.new) }
     ensures later { (r : plain.Repository) (order : orders.Command)
@@ -103,9 +104,9 @@ pub(crate) fn change<F: Files>(
         → AskedChange F.is_honest F.history repository.old command r order
         → Acts (CountsFailure F.failures F.reading_may_fail repository.old repository.new)
         (Stands F.is_honest F.history repository.new) r order result }
-    ensures packs { (r : plain.Repository) (order : orders.Command)
+    ensures leaves { (r : plain.Repository) (order : orders.Command)
         → AskedChange F.is_honest F.history repository.old command r order
-        → LeavesPacked r order result
+        → LeavesFiles r order result
         (names_tree F.history repository.old) (names_tree F.history repository.new) }
 {
     let moves = store_objects(repository, alloc, command)?;

@@ -1,8 +1,8 @@
 //! A version store with Git's ids, names and logs: a repository, and a run of commands over it.
 //!
 //! [`create`] makes a repository of two file trees, [`Repository::open`] opens one, and [`run`] reads commands, acts on
-//! each and writes its reply. [`recover`] makes whole what a stopped or failed call left. A command that changes files is two calls,
-//! [`store_objects`] and [`move_names`], and a run changes files by these alone.
+//! each by [`answer`] and writes its reply. [`recover`] makes whole what a stopped or failed call left. A command that changes files is
+//! two calls, [`store_objects`] and [`move_names`], and a run changes files by these alone.
 #![tactic(auto)]
 
 mod act;
@@ -33,6 +33,7 @@ pub mod commands {
     };
 }
 
+pub use act::answer;
 pub use gix_hash::{Kind, ObjectId, Prefix, oid};
 pub use gix_traverse_commit_graph::{Graph, Row};
 pub use history_model::{Cause, End, Fault, laws};
@@ -41,6 +42,7 @@ pub use history_recovery::{RecoverError, recover};
 pub use history_repository::{Repository, Stopped};
 pub use history_store::{CreateError, Hit, IdIter, Lookup, Object, Objects, PutError, create};
 pub use history_survey::{ObjectsFlaw, Unopened, open_objects};
-pub use history_word::{Broken, Bytes, Collected, Command, Sink, Source, Stream};
+pub use history_word::{Broken, Bytes, Collected, Command, Received, Sink, Source, Stream};
 pub use moves::{Moves, move_names, store_objects};
+pub use reply::Reply;
 pub use running::{RunError, run};

@@ -15,7 +15,7 @@ ghost use Rattle.history_plans.specs.Halves.{names_tree};
 ghost use Rattle.history.specs.Acts.{CountsFailure, CountsRise, KeepsCounts};
 ghost use Rattle.history.specs.Moments.{ObjectsPass};
 ghost use Rattle.history.specs.Moving.{LeavesMoved, MovesNamesAlone};
-ghost use Rattle.history.specs.Packing.{PacksAsAsked};
+ghost use Rattle.history.specs.NameFiles.{LeavesAsAsked};
 ghost use Rattle.history.specs.Runs.{changes_files};
 ghost use Rattle.history.specs.Storing.{AreMovesOf, AskedChange, HasStored, StoresObjects};
 ghost use Rattle.history_model.specs.Commands as orders;
@@ -130,9 +130,9 @@ pub fn move_names<F: Files>(
         → HasStored F.is_honest F.history repository.old r order → AreMovesOf r order moves
         → LeavesMoved (CountsFailure F.failures F.reading_may_fail repository.old repository.new)
         (Stands F.is_honest F.history repository.new (after r order)) result }
-    ensures packs { (r : plain.Repository) (order : orders.Command)
+    ensures leaves { (r : plain.Repository) (order : orders.Command)
         → HasStored F.is_honest F.history repository.old r order → AreMovesOf r order moves
-        → OnOk result (PacksAsAsked r order
+        → OnOk result (LeavesAsAsked r order
         (names_tree F.history repository.old) (names_tree F.history repository.new)) }
 {
     match moves {

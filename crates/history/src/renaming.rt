@@ -9,8 +9,9 @@ ghost use Rattle.history_names.specs.Face.{kind_of_names};
 ghost use Rattle.history_word.specs.Commands.{IsRename};
 ghost use Rattle.history.specs.Acts.{CountsFailure, CountsRise, KeepsCounts};
 ghost use Rattle.history_repository.specs.Face.{KeepsAllButNames, names_part};
-ghost use Rattle.history_plans.specs.Halves.{NamesStand};
+ghost use Rattle.history_plans.specs.Halves.{NamesStand, names_tree};
 ghost use Rattle.history.specs.Moving.{LeavesMoved};
+ghost use Rattle.history.specs.NameFiles.{RenamesAlone};
 ghost use Rattle.history.specs.Renaming.{AskedRename};
 ghost use Rattle.history.specs.Storing.{GivesMoves};
 ghost use Rattle.history_repository.specs.Stands.{Stands};
@@ -56,6 +57,11 @@ pub(crate) fn rename_name<F: Files>(
     ensures kind { kind_of_names repository.new.names ≡ kind_of_names repository.old.names }
     ensures counts { CountsRise F.failures repository.old repository.new }
     ensures unfailed { OnOk result (KeepsCounts F.failures repository.old repository.new) }
+    // Each file of others than these names is as it was, but for `packed-refs`.
+    ensures alone { (r : plain.Repository) (to : Bytes)
+        → AskedRename F.is_honest F.history repository.old moves.now r from.now to
+        → OnOk result (RenamesAlone from.now to
+        (names_tree F.history repository.old) (names_tree F.history repository.new)) }
     // On the way each name, once recovered, is as before or as after, and the old one or the new one holds the id.
     ensures passes { (r : plain.Repository) (to : Bytes)
         → AskedRename F.is_honest F.history repository.old moves.now r from.now to

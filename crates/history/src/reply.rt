@@ -5,11 +5,14 @@ ghost use Rattle.history_model.specs.Replies.{reply_text, RefusedFor, Faulted};
 
 use history_model::{Cause, Fault};
 
-/// What is answered. `Text` has the whole text, made before a byte of it is written.
+/// What a command is answered with.
 #[derive(Debug, Drop)]
-pub(crate) enum Reply {
+pub enum Reply {
+    /// The whole text of the reply to an accepted command, made before a byte of it is written.
     Text(Vec<u8>),
+    /// The first cause that holds.
     Refused(Cause),
+    /// Why a command that isn't refused has no reply.
     Fault(Fault),
 }
 
@@ -62,7 +65,7 @@ impl Reply {
     ghost use Rattle.history.specs.Replies.{text_of, is_fault};
 
     /// The whole text, with its line feeds.
-    pub(crate) fn text(&self) -> &[u8]
+    pub fn text(&self) -> &[u8]
         ensures { result.now ≡ text_of self.now }
     {
         match self {
@@ -72,7 +75,8 @@ impl Reply {
         }
     }
 
-    pub(crate) fn is_fault(&self) -> bool
+    /// Whether a fault is told.
+    pub fn is_fault(&self) -> bool
         ensures { result ≡ is_fault self.now }
     {
         matches!(self, Reply::Fault(_))

@@ -8,7 +8,9 @@ ghost use Rattle.history_steps.specs.Passing.{HoldsBetween};
 ghost use Rattle.history_names.specs.Face.{kind_of_names};
 ghost use Rattle.history.specs.Acts.{CountsFailure, CountsRise, KeepsCounts};
 ghost use Rattle.history.specs.Moving.{LeavesMoved, MovesNamesAlone};
+ghost use Rattle.history.specs.NameFiles.{ChangesHeadAlone};
 ghost use Rattle.history.specs.Storing.{GivesMoves};
+ghost use Rattle.history_plans.specs.Halves.{names_tree};
 ghost use Rattle.history_repository.specs.Face.{names_part};
 ghost use Rattle.history_repository.specs.Stands.{Stands};
 ghost use Rattle.history_model.specs.Commands as orders;
@@ -44,6 +46,9 @@ pub(crate) fn switch_head<F: Files>(
     ensures kind { kind_of_names repository.new.names ≡ kind_of_names repository.old.names }
     ensures counts { CountsRise F.failures repository.old repository.new }
     ensures unfailed { OnOk result (KeepsCounts F.failures repository.old repository.new) }
+    // Each other file is as it was, but for lock files.
+    ensures alone { F.is_honest (names_part repository.old) → OnOk result (ChangesHeadAlone
+        (names_tree F.history repository.old) (names_tree F.history repository.new)) }
     // On the way HEAD, once recovered, names the branch before or after.
     ensures passes { (r : plain.Repository) → Stands F.is_honest F.history repository.old r
         → first_cause r (orders.Switch name.items) ≡ None

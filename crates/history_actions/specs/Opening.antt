@@ -13,9 +13,9 @@ use Rattle.history_model.specs.declared.End.TheVariants.{Input}
 use Rattle.history_opening.specs.Causes.{IsOpenCause, IsOpenFault}
 use Rattle.history_opening.specs.Opened.{trees_of}
 use Rattle.history_opening.specs.declared.error.OpenError.{OpenError}
-use Rattle.history.specs.Acts.{CountsFailure}
+use Rattle.history.specs.Acts.{CountsFailure, StaysHonest}
 use Rattle.history_repository.specs.Face.{has_failed, names_part, objects_part}
-use Rattle.history.specs.Moments.{IsTraced}
+use Rattle.history.specs.Moments.{GoesLater, IsTraced}
 use Rattle.history.specs.Runs.{EndsRun, MadeLastReading, is_fault_end}
 use Rattle.history_repository.specs.Stands.{RecoversTo, Stands}
 use Rattle.history_repository.specs.declared.repository.Repository.{Repository}
@@ -96,6 +96,10 @@ module _ {F R W : Type 0} (IsHonest : F → Type 0) (history : F → History) (f
       pub whole : IsHonest objects → IsHonest names → AreWhole IsHonest history kind objects names
       pub is_it : (r : plain.Repository) → IsHonest objects → IsHonest names
           → StandsWhole kind (trees_of history objects names) r → Stands IsHonest history opened r
+      -- honest parts stay honest, and what stood before stays in their histories
+      pub honest : StaysHonest IsHonest opened ended
+      pub later : (r : plain.Repository) → Stands IsHonest history opened r
+          → GoesLater history failures opened ended
       pub runs : (r : plain.Repository) → Stands IsHonest history opened r
           → RunsFrom r opened ended reader reader' writer writer' end
       -- how the run may end

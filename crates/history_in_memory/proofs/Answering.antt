@@ -1,54 +1,21 @@
 -- What a run over files in memory comes to.
 use Rattle.std.proofs.Common.{◌≡◌, ◌⊎◌, inl, inr, Bool, true, false, List, [], ◌∷◌, ◌++◌, Option, Some, None, sym, subst, arith}
 use Rattle.std.specs.Bool.{⊤}
-use Rattle.std.specs.List.{AllByRecursion}
 use Rattle.std.specs.Io.KnownBytes.{Consumes, Appends, IsAtEnd}
 use Rattle.gix_ref_file.specs.History.{HasRisen}
 use Rattle.history_model.specs.Bytes.{Bytes}
 use Rattle.history_model.specs.Repository.{Repository, fresh}
 use Rattle.history_model.specs.Commands.{Command}
-use Rattle.history_model.specs.Replies.{Reply, Faulted}
-use Rattle.history_model.specs.Runs.{IsNoCommand, Ran, Ends, Runs}
+use Rattle.history_model.specs.Replies.{Reply}
+use Rattle.history_model.specs.Runs.{Runs}
 use Rattle.history_model.specs.Rows.{Gives}
 use Rattle.history_model.proofs.RunsAgree.{runs_give}
+use Rattle.history_model.proofs.RunsTold.{runs_told}
 use Rattle.gix_hash_id.specs.declared.kind.Kind.{Kind}
 use Rattle.gix_hash_id.specs.declared.kind.Kind.TheVariants.{Sha1}
-use Rattle.history_model.specs.declared.Cause.{Cause}
-use Rattle.history_model.specs.declared.Fault.TheVariants.{File}
 use Rattle.history_model.specs.declared.End.{End}
-use Rattle.history_model.specs.declared.End.TheVariants.{Input, Refused as ByRefusal, Fault as ByFault}
+use Rattle.history_model.specs.declared.End.TheVariants.{Input}
 use Rattle.history_in_memory.specs.Answered.{IsAnswered, Answers, IsMeant, AreOrTellFault}
-
--- ---- a run told of less
-
-module _ (AtEnd NowAtEnd Fail NowFail : Type 0) (ends : AtEnd → NowAtEnd) (fails : Fail → NowFail) where
-  faults_told : (replies : List Reply) → AllByRecursion (λ reply. reply ≡ Faulted File → Fail) replies → AllByRecursion (λ reply. reply ≡ Faulted File → NowFail) replies
-  faults_told [] all = tt
-  faults_told (reply ∷ replies) all = (λ faulted. fails (all.0 faulted), faults_told replies all.1)
-
-  none_told : (rest : Bytes) (cause : Cause) → IsNoCommand AtEnd rest cause → IsNoCommand NowAtEnd rest cause
-  none_told rest cause none = record { because = none.because; at_end = λ cut. ends (none.at_end cut) }
-
-  ends_told : (rest last : Bytes) (end : End) (failed : Bool) → Ends AtEnd rest last end failed → Ends NowAtEnd rest last end failed
-  ends_told rest last Input failed told = (told.0, ends told.1, told.2, told.3)
-  ends_told rest last ByRefusal failed told = (told.0, none_told rest told.0 told.1, told.2, told.3)
-  ends_told rest last ByFault true told = told
-  ends_told rest last ByFault false told = (told.0, none_told rest told.0 told.1, told.2)
-
-  pub runs_told : (old new : Repository) (commands : List Command) (replies : List Reply) (input output : Bytes) (end : End) (failed : Bool)
-      → Runs AtEnd Fail old commands replies input output end failed new → Runs NowAtEnd NowFail old commands replies input output end failed new
-  runs_told old new commands replies input output end failed runs = record {
-    rest = runs.rest;
-    last = runs.last;
-    ran = record {
-      splits = runs.ran.splits;
-      steps = runs.ran.steps;
-      fails = runs.ran.fails;
-      written = runs.ran.written;
-      file_faults = faults_told replies runs.ran.file_faults;
-    };
-    ends = ends_told runs.rest runs.last end failed runs.ends;
-  }
 
 -- ---- what is written
 

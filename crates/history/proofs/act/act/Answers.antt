@@ -9,7 +9,7 @@ use Rattle.history.proofs.ActLemmas.{acts_by_reading, read_as, files_read, show_
 use Rattle.history_repository.specs.Face.{rows_in}
 use Rattle.history_plans.specs.Halves.{names_tree}
 use Rattle.history.specs.Indexed.{LeavesRows}
-use Rattle.history.specs.Packing.{LeavesPacked}
+use Rattle.history.specs.NameFiles.{LeavesFiles}
 use Rattle.history.proofs.Acted.{idle_stops, idle_later, unchanged_later, unchanged_stops}
 use Rattle.history.proofs.PackedRuns.{stopped_packs}
 use Rattle.history.proofs.RowsKept.{index_leaves, stopped_leaves}
@@ -163,44 +163,44 @@ returns-in-Index-clause-later g c = λ r order asked. unchanged_later g.F.Files.
 pub returns-in-Index-clause-stops : goal.returns-in-Index-clause-stops
 returns-in-Index-clause-stops g c = λ r order asked. unchanged_stops g.F.Files.is_honest g.F.Files.history g.F.Files.failures c.args.repository.now c.index.new.repository r order c.index.ensures.kept asked.serves
 
-pub returns-in-Files-clause-packs : goal.returns-in-Files-clause-packs
-returns-in-Files-clause-packs g c = λ r order asked.
+pub returns-in-Files-clause-leaves : goal.returns-in-Files-clause-leaves
+returns-in-Files-clause-leaves g c = λ r order asked.
     let arm = c.in-Files in
     let read = files_read arm.word order (read_as _ _ _ order c.in-Command.is arm.is asked.reads) in
-    subst (λ o. LeavesPacked r o c.list_files.result (names_tree g.F.Files.history c.args.repository.now) (names_tree g.F.Files.history c.args.repository.now)) (sym read) tt
+    subst (λ o. LeavesFiles r o c.list_files.result (names_tree g.F.Files.history c.args.repository.now) (names_tree g.F.Files.history c.args.repository.now)) (sym read) tt
 
-pub returns-in-Show-clause-packs : goal.returns-in-Show-clause-packs
-returns-in-Show-clause-packs g c = λ r order asked.
+pub returns-in-Show-clause-leaves : goal.returns-in-Show-clause-leaves
+returns-in-Show-clause-leaves g c = λ r order asked.
     let arm = c.in-Show in
     let read = show_read arm.command order (read_as _ _ _ order c.in-Command.is arm.is asked.reads) in
-    subst (λ o. LeavesPacked r o c.show.result (names_tree g.F.Files.history c.args.repository.now) (names_tree g.F.Files.history c.args.repository.now)) (sym read.1) tt
+    subst (λ o. LeavesFiles r o c.show.result (names_tree g.F.Files.history c.args.repository.now) (names_tree g.F.Files.history c.args.repository.now)) (sym read.1) tt
 
-pub returns-in-Names-clause-packs : goal.returns-in-Names-clause-packs
-returns-in-Names-clause-packs g c = λ r order asked.
+pub returns-in-Names-clause-leaves : goal.returns-in-Names-clause-leaves
+returns-in-Names-clause-leaves g c = λ r order asked.
     let arm = c.in-Names in
     let read = names_read arm.folder order (read_as _ _ _ order c.in-Command.is arm.is asked.reads) in
-    subst (λ o. LeavesPacked r o c.list_names.result (names_tree g.F.Files.history c.args.repository.now) (names_tree g.F.Files.history c.args.repository.now)) (sym read) tt
+    subst (λ o. LeavesFiles r o c.list_names.result (names_tree g.F.Files.history c.args.repository.now) (names_tree g.F.Files.history c.args.repository.now)) (sym read) tt
 
-pub returns-in-Past-clause-packs : goal.returns-in-Past-clause-packs
-returns-in-Past-clause-packs g c = λ r order asked.
+pub returns-in-Past-clause-leaves : goal.returns-in-Past-clause-leaves
+returns-in-Past-clause-leaves g c = λ r order asked.
     let arm = c.in-Past in
     let read = past_read arm.word order (read_as _ _ _ order c.in-Command.is arm.is asked.reads) in
-    subst (λ o. LeavesPacked r o c.past.result (names_tree g.F.Files.history c.args.repository.now) (names_tree g.F.Files.history c.args.repository.now)) (sym read) tt
+    subst (λ o. LeavesFiles r o c.past.result (names_tree g.F.Files.history c.args.repository.now) (names_tree g.F.Files.history c.args.repository.now)) (sym read) tt
 
-pub returns-in-Log-clause-packs : goal.returns-in-Log-clause-packs
-returns-in-Log-clause-packs g c = λ r order asked.
+pub returns-in-Log-clause-leaves : goal.returns-in-Log-clause-leaves
+returns-in-Log-clause-leaves g c = λ r order asked.
     let arm = c.in-Log in
     let read = log_read arm.command order (read_as _ _ _ order c.in-Command.is arm.is asked.reads) in
-    subst (λ o. LeavesPacked r o c.log.result (names_tree g.F.Files.history c.args.repository.now) (names_tree g.F.Files.history c.args.repository.now)) (sym read.1) tt
+    subst (λ o. LeavesFiles r o c.log.result (names_tree g.F.Files.history c.args.repository.now) (names_tree g.F.Files.history c.args.repository.now)) (sym read.1) tt
 
-pub returns-in-Index-clause-packs : goal.returns-in-Index-clause-packs
-returns-in-Index-clause-packs g c = λ r order asked.
+pub returns-in-Index-clause-leaves : goal.returns-in-Index-clause-leaves
+returns-in-Index-clause-leaves g c = λ r order asked.
     let arm = c.in-Index in
     let read = index_read order (read_as _ _ _ order c.in-Command.is arm.is asked.reads) in
-    subst (λ o. LeavesPacked r o c.index.result (names_tree g.F.Files.history c.args.repository.now) (names_tree g.F.Files.history c.index.new.repository)) (sym read) tt
+    subst (λ o. LeavesFiles r o c.index.result (names_tree g.F.Files.history c.args.repository.now) (names_tree g.F.Files.history c.index.new.repository)) (sym read) tt
 
-pub returns-in_default-clause-packs : goal.returns-in_default-clause-packs
-returns-in_default-clause-packs g c = λ r order asked. stopped_packs r order _ (names_tree g.F.Files.history c.args.repository.now) (names_tree g.F.Files.history c.args.repository.now)
+pub returns-in_default-clause-leaves : goal.returns-in_default-clause-leaves
+returns-in_default-clause-leaves g c = λ r order asked. stopped_packs r order _ (names_tree g.F.Files.history c.args.repository.now) (names_tree g.F.Files.history c.args.repository.now)
 
 -- ---- commands that change files
 
@@ -252,10 +252,10 @@ returns-in_default-command-clause-rows g c = λ r order asked.
     let so = sym (received_changes (received.Command c.in-Command.command) order read) ∙ changes in
     leaves_rows r order c.change.result (rows_in c.args.repository.now) (rows_in c.change.new.repository) so c.change.ensures.rows
 
-pub returns-in_default-command-clause-packs : goal.returns-in_default-command-clause-packs
-returns-in_default-command-clause-packs g c = λ r order asked.
+pub returns-in_default-command-clause-leaves : goal.returns-in_default-command-clause-leaves
+returns-in_default-command-clause-leaves g c = λ r order asked.
     let arm = c.in_default-command in
     let changes = changes_some c.in-Command.command arm.not-Index arm.not-Files arm.not-Show arm.not-Names arm.not-Past arm.not-Log in
     let read = subst (λ x. IsReceived x order) c.in-Command.is asked.reads in
     let so = sym (received_changes (received.Command c.in-Command.command) order read) ∙ changes in
-    c.change.ensures.packs r order (record { serves = asked.serves; reads = read; changes = so })
+    c.change.ensures.leaves r order (record { serves = asked.serves; reads = read; changes = so })

@@ -33,7 +33,7 @@ returns-else-is_changing-clause-acted g c = λ r order unfailed asked.
     let same : has_failed c.act.new.repository ≡ false = c.act.ensures.failed ∙ unfailed in
     let kept : stops.is_changing order ≡ false → KeepsAllButRows c.args.repository.now c.act.new.repository = λ n. c.act.ensures.reads (received_changes c.args.received order reads ∙ n) in
     let rows = c.act.ensures.rows r order asked in
-    let packs = c.act.ensures.packs r order asked in
+    let packs = c.act.ensures.leaves r order asked in
     let told : is_changing c.args.received ≡ false → stops.is_changing order ≡ false = λ n. sym (received_changes c.args.received order reads) ∙ n in
     elim c.match-act.branch [
       | in-Ok w ↦ text_acted g.F.Files.is_honest g.F.Files.history g.F.Files.failures g.F.Files.reading_may_fail c.args.repository.now c.act.new.repository r order later stop c.act.ensures.counts

@@ -6,7 +6,7 @@ use Rattle.history.specs.Storing.{HasStored}
 use Rattle.history_plans.specs.Halves.{names_tree}
 use Rattle.history_repository.specs.Stands.{Stands}
 use Rattle.history.proofs.ChangeLemmas.{acts_done, acts_unmoved, acts_unstored, acts_without_memory, packs_done, packs_nothing}
-use Rattle.history.proofs.Counts.{counts_joined, failed_before, stay_joined}
+use Rattle.history.proofs.Counts.{counts_joined, failed_before, honest_moved, honest_stored, stay_joined}
 use Rattle.history.proofs.Stops.{moving_later, stopped_moving, stopped_storing, storing_later}
 use Rattle.history.proofs.changing.change.Goals as goal
 
@@ -18,6 +18,22 @@ returns-clause-counts g c = counts_joined g.F.Files.failures c.args.repository.n
 
 pub returns-clause-unfailed : goal.returns-clause-unfailed
 returns-clause-unfailed g c = stay_joined g.F.Files.failures c.args.repository.now c.store_objects.new.repository c.move_names.new.repository c.in_ok-moves.ensures.unfailed c.in_ok-move_names.ensures.unfailed
+
+-- ---- honest parts
+
+pub returns-in_err-moves-clause-honest : goal.returns-in_err-moves-clause-honest
+returns-in_err-moves-clause-honest g c = honest_stored g.F.Files.is_honest c.args.repository.now c.store_objects.new.repository c.store_objects.ensures.kept c.store_objects.ensures.honest
+
+pub returns-in_err-text-clause-honest : goal.returns-in_err-text-clause-honest
+returns-in_err-text-clause-honest g c = honest_stored g.F.Files.is_honest c.args.repository.now c.store_objects.new.repository c.store_objects.ensures.kept c.store_objects.ensures.honest
+
+pub returns-in_err-move_names-clause-honest : goal.returns-in_err-move_names-clause-honest
+returns-in_err-move_names-clause-honest g c = honest_moved g.F.Files.is_honest c.args.repository.now c.store_objects.new.repository c.move_names.new.repository
+    (honest_stored g.F.Files.is_honest c.args.repository.now c.store_objects.new.repository c.store_objects.ensures.kept c.store_objects.ensures.honest) c.move_names.ensures.kept c.move_names.ensures.honest
+
+pub returns-clause-honest : goal.returns-clause-honest
+returns-clause-honest g c = honest_moved g.F.Files.is_honest c.args.repository.now c.store_objects.new.repository c.move_names.new.repository
+    (honest_stored g.F.Files.is_honest c.args.repository.now c.store_objects.new.repository c.store_objects.ensures.kept c.store_objects.ensures.honest) c.move_names.ensures.kept c.move_names.ensures.honest
 
 -- ---- moments
 
@@ -102,24 +118,24 @@ returns-clause-acts g c = λ r order asked.
 
 -- ---- what it packs
 
-pub returns-in_err-moves-clause-packs : goal.returns-in_err-moves-clause-packs
-returns-in_err-moves-clause-packs g c = λ r order asked.
+pub returns-in_err-moves-clause-leaves : goal.returns-in_err-moves-clause-leaves
+returns-in_err-moves-clause-leaves g c = λ r order asked.
     let stopped = err_from_is_err_and c.from_residual.result c.from_residual.ensures.1 in
     packs_nothing r order c.from_residual.result stopped.0 (names_tree g.F.Files.history c.args.repository.now) (names_tree g.F.Files.history c.store_objects.new.repository) stopped.1
 
-pub returns-in_err-text-clause-packs : goal.returns-in_err-text-clause-packs
-returns-in_err-text-clause-packs g c = λ r order asked.
+pub returns-in_err-text-clause-leaves : goal.returns-in_err-text-clause-leaves
+returns-in_err-text-clause-leaves g c = λ r order asked.
     let stopped = err_from_is_err_and c.from_residual-in_err-text.result c.from_residual-in_err-text.ensures.1 in
     packs_nothing r order c.from_residual-in_err-text.result stopped.0 (names_tree g.F.Files.history c.args.repository.now) (names_tree g.F.Files.history c.store_objects.new.repository) stopped.1
 
-pub returns-in_err-move_names-clause-packs : goal.returns-in_err-move_names-clause-packs
-returns-in_err-move_names-clause-packs g c = λ r order asked.
+pub returns-in_err-move_names-clause-leaves : goal.returns-in_err-move_names-clause-leaves
+returns-in_err-move_names-clause-leaves g c = λ r order asked.
     let stopped = err_from_is_err_and c.from_residual-in_err-move_names.result c.from_residual-in_err-move_names.ensures.1 in
     packs_nothing r order c.from_residual-in_err-move_names.result stopped.0 (names_tree g.F.Files.history c.args.repository.now) (names_tree g.F.Files.history c.move_names.new.repository) stopped.1
 
-pub returns-clause-packs : goal.returns-clause-packs
-returns-clause-packs g c = λ r order asked.
+pub returns-clause-leaves : goal.returns-clause-leaves
+returns-clause-leaves g c = λ r order asked.
     let F = g.F.Files in
     let stores = c.in_ok-moves.ensures.stores r order asked in
     packs_done r order c.in_ok-text.text (names_tree F.history c.args.repository.now) (names_tree F.history c.store_objects.new.repository) (names_tree F.history c.move_names.new.repository)
-    (ap (λ names. (F.history names.files).tree) c.store_objects.ensures.kept.names) (c.in_ok-move_names.ensures.packs r order stores.1 stores.0)
+    (ap (λ names. (F.history names.files).tree) c.store_objects.ensures.kept.names) (c.in_ok-move_names.ensures.leaves r order stores.1 stores.0)

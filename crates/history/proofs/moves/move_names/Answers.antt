@@ -2,8 +2,8 @@ use Rattle.std.proofs.Common.{subst}
 use Rattle.history.specs.Acts.{CountsFailure}
 use Rattle.history.specs.Storing.{AreMovesOf}
 use Rattle.history_plans.specs.Halves.{names_tree}
-use Rattle.history.proofs.AfterStoring.{commit_leaves, commit_passes, tag_leaves, tag_passes}
-use Rattle.history.proofs.NamesMade.{delete_leaves, delete_passes, moves_something, names_alone, pack_leaves, pack_packs, pack_passes, rename_leaves, rename_passes, switch_leaves, switch_passes, together_leaves, together_passes, unpacked}
+use Rattle.history.proofs.AfterStoring.{commit_alone, commit_leaves, commit_passes, tag_alone, tag_leaves, tag_passes}
+use Rattle.history.proofs.NamesMade.{delete_alone, delete_leaves, delete_passes, moves_something, names_alone, pack_leaves, pack_packs, pack_passes, rename_alone, rename_leaves, rename_passes, switch_alone, switch_leaves, switch_passes, together_alone, together_leaves, together_passes}
 use Rattle.history.specs.declared.moves.Moves.TheVariants as move
 use Rattle.history.proofs.moves.move_names.Goals as goal
 
@@ -26,13 +26,13 @@ returns-in-Commit-clause-moves g c = λ r order stored are.
     let arm = c.in-Commit in
     commit_leaves F.is_honest F.history now new arm.one c.move_name.ensures.kept c.move_name.ensures.honest c.move_name.ensures.kind (CountsFailure F.failures F.reading_may_fail now new) c.move_name.result c.move_name.ensures.records c.move_name.ensures.moves r order stored (subst (AreMovesOf r order) arm.is are)
 
-pub returns-in-Commit-clause-packs : goal.returns-in-Commit-clause-packs
-returns-in-Commit-clause-packs g c = λ r order stored are.
+pub returns-in-Commit-clause-leaves : goal.returns-in-Commit-clause-leaves
+returns-in-Commit-clause-leaves g c = λ r order stored are.
     let F = g.F.Files in
     let now = c.args.repository.now in
     let new = c.move_name.new.repository in
     let arm = c.in-Commit in
-    unpacked c.move_name.result (move.Commit arm.one) r order (names_tree F.history now) (names_tree F.history new) (λ told. told) (subst (AreMovesOf r order) arm.is are)
+    commit_alone F.is_honest F.history now new arm.one (CountsFailure F.failures F.reading_may_fail now new) c.move_name.result c.move_name.ensures.moves r order stored (subst (AreMovesOf r order) arm.is are)
 
 pub returns-in-Tag-clause-kept : goal.returns-in-Tag-clause-kept
 returns-in-Tag-clause-kept g c = names_alone c.args.repository.now c.move_name-in-Tag.new.repository c.move_name-in-Tag.ensures.kept
@@ -53,13 +53,13 @@ returns-in-Tag-clause-moves g c = λ r order stored are.
     let arm = c.in-Tag in
     tag_leaves F.is_honest F.history now new arm.one c.move_name-in-Tag.ensures.kept c.move_name-in-Tag.ensures.honest c.move_name-in-Tag.ensures.kind (CountsFailure F.failures F.reading_may_fail now new) c.move_name-in-Tag.result c.move_name-in-Tag.ensures.records c.move_name-in-Tag.ensures.moves r order stored (subst (AreMovesOf r order) arm.is are)
 
-pub returns-in-Tag-clause-packs : goal.returns-in-Tag-clause-packs
-returns-in-Tag-clause-packs g c = λ r order stored are.
+pub returns-in-Tag-clause-leaves : goal.returns-in-Tag-clause-leaves
+returns-in-Tag-clause-leaves g c = λ r order stored are.
     let F = g.F.Files in
     let now = c.args.repository.now in
     let new = c.move_name-in-Tag.new.repository in
     let arm = c.in-Tag in
-    unpacked c.move_name-in-Tag.result (move.Tag arm.one) r order (names_tree F.history now) (names_tree F.history new) (λ told. told) (subst (AreMovesOf r order) arm.is are)
+    tag_alone F.is_honest F.history now new arm.one (CountsFailure F.failures F.reading_may_fail now new) c.move_name-in-Tag.result c.move_name-in-Tag.ensures.moves r order stored (subst (AreMovesOf r order) arm.is are)
 
 pub returns-in-Together-clause-kept : goal.returns-in-Together-clause-kept
 returns-in-Together-clause-kept g c = names_alone c.args.repository.now c.move_each.new.repository c.move_each.ensures.kept
@@ -80,13 +80,13 @@ returns-in-Together-clause-moves g c = λ r order stored are.
     let arm = c.in-Together in
     together_leaves F.is_honest F.history now new arm.each c.deref.result.now c.deref.ensures.value c.move_each.ensures.kept c.move_each.ensures.kind (CountsFailure F.failures F.reading_may_fail now new) c.move_each.result c.move_each.ensures.moves r order stored (subst (AreMovesOf r order) arm.is are)
 
-pub returns-in-Together-clause-packs : goal.returns-in-Together-clause-packs
-returns-in-Together-clause-packs g c = λ r order stored are.
+pub returns-in-Together-clause-leaves : goal.returns-in-Together-clause-leaves
+returns-in-Together-clause-leaves g c = λ r order stored are.
     let F = g.F.Files in
     let now = c.args.repository.now in
     let new = c.move_each.new.repository in
     let arm = c.in-Together in
-    unpacked c.move_each.result (move.Together arm.each) r order (names_tree F.history now) (names_tree F.history new) (λ told. told) (subst (AreMovesOf r order) arm.is are)
+    together_alone c.move_each.result arm.each r order (names_tree F.history now) (names_tree F.history new) (subst (AreMovesOf r order) arm.is are)
 
 pub returns-in-Rename-clause-kept : goal.returns-in-Rename-clause-kept
 returns-in-Rename-clause-kept g c = names_alone c.args.repository.now c.rename_name.new.repository c.rename_name.ensures.kept
@@ -107,13 +107,13 @@ returns-in-Rename-clause-moves g c = λ r order stored are.
     let arm = c.in-Rename in
     rename_leaves F.is_honest F.history now new arm.to arm.from c.deref-in-Rename.result.now c.deref-in-Rename.ensures.value c.rename_name.ensures.kept c.rename_name.ensures.kind (CountsFailure F.failures F.reading_may_fail now new) c.rename_name.result c.rename_name.ensures.renames r order stored (subst (AreMovesOf r order) arm.is are)
 
-pub returns-in-Rename-clause-packs : goal.returns-in-Rename-clause-packs
-returns-in-Rename-clause-packs g c = λ r order stored are.
+pub returns-in-Rename-clause-leaves : goal.returns-in-Rename-clause-leaves
+returns-in-Rename-clause-leaves g c = λ r order stored are.
     let F = g.F.Files in
     let now = c.args.repository.now in
     let new = c.rename_name.new.repository in
     let arm = c.in-Rename in
-    unpacked c.rename_name.result (move.Rename arm.to arm.from) r order (names_tree F.history now) (names_tree F.history new) (λ told. told) (subst (AreMovesOf r order) arm.is are)
+    rename_alone F.is_honest F.history now new arm.to arm.from c.deref-in-Rename.result.now c.deref-in-Rename.ensures.value c.rename_name.result c.rename_name.ensures.alone r order stored (subst (AreMovesOf r order) arm.is are)
 
 pub returns-in-Delete-clause-kept : goal.returns-in-Delete-clause-kept
 returns-in-Delete-clause-kept g c = names_alone c.args.repository.now c.delete_name.new.repository c.delete_name.ensures.kept
@@ -134,13 +134,13 @@ returns-in-Delete-clause-moves g c = λ r order stored are.
     let arm = c.in-Delete in
     delete_leaves F.is_honest F.history now new arm.name c.deref-in-Delete.result.now c.deref-in-Delete.ensures.value c.delete_name.ensures.kept c.delete_name.ensures.honest c.delete_name.ensures.kind (CountsFailure F.failures F.reading_may_fail now new) c.delete_name.result c.delete_name.ensures.records c.delete_name.ensures.deletes r order stored (subst (AreMovesOf r order) arm.is are)
 
-pub returns-in-Delete-clause-packs : goal.returns-in-Delete-clause-packs
-returns-in-Delete-clause-packs g c = λ r order stored are.
+pub returns-in-Delete-clause-leaves : goal.returns-in-Delete-clause-leaves
+returns-in-Delete-clause-leaves g c = λ r order stored are.
     let F = g.F.Files in
     let now = c.args.repository.now in
     let new = c.delete_name.new.repository in
     let arm = c.in-Delete in
-    unpacked c.delete_name.result (move.Delete arm.name) r order (names_tree F.history now) (names_tree F.history new) (λ told. told) (subst (AreMovesOf r order) arm.is are)
+    delete_alone F.is_honest F.history now new arm.name c.deref-in-Delete.result.now c.deref-in-Delete.ensures.value (CountsFailure F.failures F.reading_may_fail now new) c.delete_name.result c.delete_name.ensures.deletes r order stored (subst (AreMovesOf r order) arm.is are)
 
 pub returns-in-Switch-clause-passes : goal.returns-in-Switch-clause-passes
 returns-in-Switch-clause-passes g c = λ r order stored are.
@@ -158,13 +158,13 @@ returns-in-Switch-clause-moves g c = λ r order stored are.
     let arm = c.in-Switch in
     switch_leaves F.is_honest F.history now new arm.branch (CountsFailure F.failures F.reading_may_fail now new) c.switch_head.result c.switch_head.ensures.switches r order stored (subst (AreMovesOf r order) arm.is are)
 
-pub returns-in-Switch-clause-packs : goal.returns-in-Switch-clause-packs
-returns-in-Switch-clause-packs g c = λ r order stored are.
+pub returns-in-Switch-clause-leaves : goal.returns-in-Switch-clause-leaves
+returns-in-Switch-clause-leaves g c = λ r order stored are.
     let F = g.F.Files in
     let now = c.args.repository.now in
     let new = c.switch_head.new.repository in
     let arm = c.in-Switch in
-    unpacked c.switch_head.result (move.Switch arm.branch) r order (names_tree F.history now) (names_tree F.history new) (λ told. told) (subst (AreMovesOf r order) arm.is are)
+    switch_alone F.is_honest F.history now new arm.branch c.switch_head.result c.switch_head.ensures.alone r order stored (subst (AreMovesOf r order) arm.is are)
 
 pub returns-in-Pack-clause-kept : goal.returns-in-Pack-clause-kept
 returns-in-Pack-clause-kept g c = names_alone c.args.repository.now c.pack_names.new.repository c.pack_names.ensures.kept
@@ -185,8 +185,8 @@ returns-in-Pack-clause-moves g c = λ r order stored are.
     let arm = c.in-Pack in
     pack_leaves F.is_honest F.history now new arm.names c.deref-in-Pack.result.now c.deref-in-Pack.ensures.value (CountsFailure F.failures F.reading_may_fail now new) c.pack_names.result c.pack_names.ensures.packs c.pack_names.ensures.kept c.pack_names.ensures.honest c.pack_names.ensures.kind c.pack_names.ensures.records r order stored (subst (AreMovesOf r order) arm.is are)
 
-pub returns-in-Pack-clause-packs : goal.returns-in-Pack-clause-packs
-returns-in-Pack-clause-packs g c = λ r order stored are.
+pub returns-in-Pack-clause-leaves : goal.returns-in-Pack-clause-leaves
+returns-in-Pack-clause-leaves g c = λ r order stored are.
     let F = g.F.Files in
     let now = c.args.repository.now in
     let new = c.pack_names.new.repository in
@@ -199,5 +199,5 @@ returns-in-Nothing-clause-passes g c = λ r order stored are. moves_something r 
 pub returns-in-Nothing-clause-moves : goal.returns-in-Nothing-clause-moves
 returns-in-Nothing-clause-moves g c = λ r order stored are. moves_something r order (subst (AreMovesOf r order) c.in-Nothing.is are)
 
-pub returns-in-Nothing-clause-packs : goal.returns-in-Nothing-clause-packs
-returns-in-Nothing-clause-packs g c = λ r order stored are. moves_something r order (subst (AreMovesOf r order) c.in-Nothing.is are)
+pub returns-in-Nothing-clause-leaves : goal.returns-in-Nothing-clause-leaves
+returns-in-Nothing-clause-leaves g c = λ r order stored are. moves_something r order (subst (AreMovesOf r order) c.in-Nothing.is are)

@@ -10,7 +10,7 @@ use Rattle.history_plans.specs.Halves.{NamesStand, names_tree}
 use Rattle.history.proofs.Counts.{counts_joined, failed_before, ok_joined}
 use Rattle.history.proofs.MoveFaults.{stopped_too}
 use Rattle.history.proofs.MovesMade.{kept_then}
-use Rattle.history.proofs.RenameLemmas.{both_pass, first_passes, fits_first, old_stands, rename_ends, stand_first, stand_second}
+use Rattle.history.proofs.RenameLemmas.{both_pass, first_passes, fits_first, old_stands, rename_ends, renames_alone, stand_first, stand_second}
 use Rattle.history.proofs.renaming.rename_name.Goals as goal
 
 pub returns-in_err-move_name-clause-passes : goal.returns-in_err-move_name-clause-passes
@@ -89,3 +89,21 @@ returns-clause-renames g c = λ r to asked.
     rename_ends F.is_honest F.history old moves r from to asked mid honest kind records moved new (c.delete_name.ensures.honest honest) c.delete_name.ensures.kind
     (CountsFailure F.failures F.reading_may_fail mid new) (CountsFailure F.failures F.reading_may_fail old new) (failed_before F.failures F.reading_may_fail old mid new c.move_name.ensures.counts)
     c.delete_name.result (c.delete_name.ensures.records (with_both r from to) stand_then there) (c.delete_name.ensures.deletes (with_both r from to) stand_then there)
+
+pub returns-clause-alone : goal.returns-clause-alone
+returns-clause-alone g c = λ r to asked.
+    let F = g.F.Files in
+    let old = c.args.repository.now in
+    let mid = c.move_name.new.repository in
+    let moves = c.args.moves.now in
+    let from = c.args.from.now in
+    let stand = stand_first F.is_honest F.history old moves r from to asked in
+    let fits = fits_first F.is_honest F.history old moves r from to asked in
+    let honest = c.move_name.ensures.honest asked.serves.honest_names in
+    let kind = c.move_name.ensures.kind in
+    let records = c.in_ok-move_name.ensures.records r stand fits in
+    let moved = c.in_ok-move_name.ensures.moves r stand fits in
+    let stand_then = stand_second F.is_honest F.history old moves r from to asked mid honest kind records moved in
+    let there = old_stands F.is_honest F.history old moves r from to asked mid honest kind records moved in
+    renames_alone r.kind from to (names_tree F.history old) (names_tree F.history mid) (names_tree F.history c.delete_name.new.repository) moves.name.items (entry_of moves.entry) asked.makes.name moved
+    (CountsFailure F.failures F.reading_may_fail mid c.delete_name.new.repository) c.delete_name.result (c.delete_name.ensures.deletes (with_both r from to) stand_then there)

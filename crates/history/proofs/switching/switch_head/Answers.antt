@@ -6,7 +6,7 @@ use Rattle.history_model.specs.Places.{head_place}
 use Rattle.history_model.specs.StandsFor.{head_text}
 use Rattle.history_names.specs.References.{MayBeWritten, PutsBeside}
 use Rattle.history_repository.specs.Stands.{Stands}
-use Rattle.history.proofs.BranchSwitched.{folders_now, head_room, switch_passes, switch_serves}
+use Rattle.history.proofs.BranchSwitched.{folders_now, head_alone, head_room, switch_passes, switch_serves}
 use Rattle.history.proofs.MoveFaults.{met_fault}
 use Rattle.history.proofs.switching.switch_head.Goals as goal
 
@@ -48,3 +48,9 @@ returns-in-Ok-clause-switches g c = λ r h none.
     (c.switch.ensures.honest honest) c.switch.ensures.kind (c.in-Ok.ensures.keeps honest h.records) refl refl
     (subst (λ n. PutsBeside head_place (head_text n) old.tree new.tree) c.deref.ensures.value (c.in-Ok.ensures.switched honest))
     (folders_now old new (c.switch.ensures.folders honest))
+
+pub returns-in-Ok-clause-alone : goal.returns-in-Ok-clause-alone
+returns-in-Ok-clause-alone g c = λ honest.
+    let old = g.F.Files.history c.args.repository.now.names.files in
+    let new = g.F.Files.history c.switch.new.self.files in
+    head_alone _ old.tree new.tree (c.in-Ok.ensures.switched honest)

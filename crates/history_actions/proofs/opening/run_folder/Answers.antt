@@ -37,6 +37,8 @@ returns g c =
           whole_parts g.F.Files.is_honest g.F.Files.history c.args.kind c.args.objects c.args.names
           c.in-Ok.repository ok.0 ok.1 (c.in-Ok.ensures.stands honest_objects honest_names);
       is_it = λ r honest_objects honest_names stands. c.in-Ok.ensures.same r honest_objects honest_names stands;
+      honest = c.run-end.ensures.honest;
+      later = λ r stands. c.run-end.ensures.later r ok.2 stands;
       runs = λ r stands.
           let ran = c.run-end.ensures.runs r ok.2 stands in
           record {

@@ -1,0 +1,92 @@
+-- What accepted commands do to the files of the names part.
+use Rattle.std.specs.Prelude.{◌≡◌, ◌≢◌, ⊤, ℕ, List, ◌∷◌, Result, Vec, OnOk, IsFalse}
+use Rattle.std.specs.declared.alloc.Global.{Global}
+use Rattle.gix_ref_file.specs.History.{History}
+use Rattle.gix_ref_file.specs.Tree.{Tree}
+use Rattle.history_model.specs.Bytes.{Bytes}
+use Rattle.history_model.specs.Commands.{Command, Commit, Delete, Pack, Rename, Switch, Tag}
+use Rattle.history_model.specs.Moments.{Moment, StoodAt}
+use Rattle.history_model.specs.Places.{file_at, head_place, is_lock_file, log_place, packed_place}
+use Rattle.history_model.specs.Replies.{Committed, Deleted, Packed, Renamed, Reply, Switched, Tagged}
+use Rattle.history_model.specs.Steps.{next}
+use Rattle.history_steps.specs.OneNameSteps.{commit_move, tag_move}
+use Rattle.history_steps.specs.PackSteps.{PacksNames}
+use Rattle.history_repository.specs.declared.stopped.Stopped.{Stopped}
+use Rattle.history_model.specs.Repository as plain
+
+-- each file but HEAD's stands as before; of lock files nothing is said
+abbrev pub ChangesHeadAlone : Tree → Tree → Type 0
+ChangesHeadAlone old new = (path : Bytes) → path ≢ head_place → IsFalse (is_lock_file path)
+    → file_at new path ≡ file_at old path
+
+-- each file but the name's and its log stands as before
+abbrev pub ChangesNameAlone : Bytes → Tree → Tree → Type 0
+ChangesNameAlone name old new = (path : Bytes) → path ≢ name → path ≢ log_place name
+    → file_at new path ≡ file_at old path
+
+-- so does each but these two and `packed-refs`
+abbrev pub TakesNameAlone : Bytes → Tree → Tree → Type 0
+TakesNameAlone name old new = (path : Bytes) → path ≢ name → path ≢ log_place name
+    → path ≢ packed_place → file_at new path ≡ file_at old path
+
+-- so does each but those of two names and `packed-refs`
+abbrev pub RenamesAlone : Bytes → Bytes → Tree → Tree → Type 0
+RenamesAlone from to old new = (path : Bytes) → path ≢ to → path ≢ log_place to → path ≢ from
+    → path ≢ log_place from → path ≢ packed_place → file_at new path ≡ file_at old path
+
+-- A `commit` and a `tag` change the files of the name that they move alone, a `delete` those of its name and `packed-refs`, a `rename`
+-- those of its two names and `packed-refs`, a `switch` HEAD; a `pack` packs all names. Of a `move` nothing is said here.
+abbrev pub LeavesAsAsked : plain.Repository → Command → Tree → Tree → Type 0
+LeavesAsAsked r (Commit c) old new = ChangesNameAlone (commit_move r c).name old new
+LeavesAsAsked r (Tag c) old new = ChangesNameAlone (tag_move r c).name old new
+LeavesAsAsked r (Rename from to) old new = RenamesAlone from to old new
+LeavesAsAsked r (Delete name at) old new = TakesNameAlone name old new
+LeavesAsAsked r (Switch name) old new = ChangesHeadAlone old new
+LeavesAsAsked r Pack old new = PacksNames r old new
+LeavesAsAsked r order old new = ⊤
+
+-- So does an accepted one.
+abbrev pub LeavesFiles : plain.Repository → Command → Result (Vec ℕ Global) Stopped → Tree → Tree
+    → Type 0
+LeavesFiles r (Commit c) result old new =
+    OnOk result (ChangesNameAlone (commit_move r c).name old new)
+LeavesFiles r (Tag c) result old new = OnOk result (ChangesNameAlone (tag_move r c).name old new)
+LeavesFiles r (Rename from to) result old new = OnOk result (RenamesAlone from to old new)
+LeavesFiles r (Delete name at) result old new = OnOk result (TakesNameAlone name old new)
+LeavesFiles r (Switch name) result old new = OnOk result (ChangesHeadAlone old new)
+LeavesFiles r Pack result old new = OnOk result (PacksNames r old new)
+LeavesFiles r order result old new = ⊤
+
+-- ---- in a run
+
+-- The names part went from the tree that stood at one moment to the one at another.
+pub record GoesBetween (names : History) (begin finish : Moment) (Goes : Tree → Tree → Type 0)
+    : Type 0 where
+  pub old : Tree
+  pub new : Tree
+  pub begins : StoodAt names begin.names old
+  pub ends : StoodAt names finish.names new
+  pub goes : Goes old new
+
+-- Between its two moments a command that was answered as accepted did so.
+abbrev pub LeavesAsSaid : History → plain.Repository → Moment → Command → Reply → Moment → Type 0
+LeavesAsSaid names r begin (Commit c) (Committed id) finish =
+    GoesBetween names begin finish (ChangesNameAlone (commit_move r c).name)
+LeavesAsSaid names r begin (Tag c) (Tagged id) finish =
+    GoesBetween names begin finish (ChangesNameAlone (tag_move r c).name)
+LeavesAsSaid names r begin (Rename from to) Renamed finish =
+    GoesBetween names begin finish (RenamesAlone from to)
+LeavesAsSaid names r begin (Delete name at) Deleted finish =
+    GoesBetween names begin finish (TakesNameAlone name)
+LeavesAsSaid names r begin (Switch name) Switched finish =
+    GoesBetween names begin finish ChangesHeadAlone
+LeavesAsSaid names r begin Pack Packed finish = GoesBetween names begin finish (PacksNames r)
+LeavesAsSaid names r begin command reply finish = ⊤
+
+-- So did each of these commands, from this repository on, where each ends and the next begins at these moments.
+abbrev pub AllLeaveAsSaid : History → plain.Repository → Moment → List Command → List Reply
+    → List Moment → Type 0
+AllLeaveAsSaid names r begin (command ∷ commands) (reply ∷ replies) (finish ∷ moments) =
+    LeavesAsSaid names r begin command reply finish
+    × AllLeaveAsSaid names (next r command reply) finish commands replies moments
+AllLeaveAsSaid names r begin _ _ _ = ⊤

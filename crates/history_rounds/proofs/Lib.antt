@@ -1,0 +1,3 @@
+mod Chained
+mod Ends
+mod RoundsMade
