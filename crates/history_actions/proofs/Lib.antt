@@ -1,2 +1,4 @@
+pub mod Foreign
+pub mod Looked
 pub mod Opened
 pub mod Writing

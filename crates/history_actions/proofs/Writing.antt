@@ -5,9 +5,10 @@ use Rattle.std.proofs.lemmas.List.{append-nil}
 use Rattle.std.specs.Io.KnownBytes.{Appends}
 use Rattle.gix_hash_id.specs.Writes.{AppendsFewer}
 use Rattle.gix_object_lines.proofs.Fronts.{front_of, front_then}
+use Rattle.gix_hash_id.specs.declared.kind.Kind.{Kind}
 use Rattle.history_model.specs.Bytes.{Bytes}
 use Rattle.history_model.specs.declared.End.{End}
-use Rattle.history_actions.specs.Told.{Took, Writes, failure_line, status, told, values_text}
+use Rattle.history_actions.specs.Told.{Took, Writes, failure_text, status, told, values_text}
 use Rattle.history_actions.specs.declared.failure.Failure.{Failure}
 use Rattle.history_actions.specs.declared.failure.Failure.TheVariants.{NotEmpty, Unopened, File, Memory, Read, Write, Ended}
 
@@ -52,12 +53,14 @@ one_value v = ap (λ (t : Bytes). 32 ∷ t) (append-nil v)
 pub two_values : (v w : Bytes) → values_text (v ∷ w ∷ []) ≡ values_text (v ∷ []) ++ values_text (w ∷ [])
 two_values v w = ap (λ (t : Bytes). 32 ∷ (t ++ 32 ∷ (w ++ []))) (sym (append-nil v))
 
--- what isn't the end of a run is told, in a line
-pub is_told : {T : Type 0} (answer : Result T Failure) (failure : Failure) → answer ≡ Err failure
-    → ((end : End) → failure ≡ Ended end → ⊥) → told answer ≡ failure_line failure
-is_told {T} answer failure is not_ended = ap told is ∙ its failure not_ended
+-- what isn't the end of a run is told
+pub is_told : {T : Type 0} (kind : Kind) (answer : Result T Failure) (failure : Failure)
+    → answer ≡ Err failure → ((end : End) → failure ≡ Ended end → ⊥)
+    → told kind answer ≡ failure_text kind failure
+is_told {T} kind answer failure is not_ended = ap (told kind) is ∙ its failure not_ended
   where
-    its : (f : Failure) → ((end : End) → f ≡ Ended end → ⊥) → told {T = T} (Err f) ≡ failure_line f
+    its : (f : Failure) → ((end : End) → f ≡ Ended end → ⊥)
+        → told {T = T} kind (Err f) ≡ failure_text kind f
     its (NotEmpty path) other = refl
     its (Unopened cause) other = refl
     its File other = refl
@@ -70,6 +73,6 @@ pub is_failed : {T : Type 0} (answer : Result T Failure) (failure : Failure) →
     → 1 ≡ status answer
 is_failed answer failure is = sym (ap status is)
 
-pub is_loud : (front : Bytes) → front ++ 10 ∷ [] ≡ [] → ⊥
-is_loud [] same = absurd (cc)
-is_loud (x ∷ xs) same = absurd (cc)
+pub is_loud : (front note : Bytes) → (front ++ 10 ∷ []) ++ note ≡ [] → ⊥
+is_loud [] note same = absurd (cc)
+is_loud (x ∷ xs) note same = absurd (cc)

@@ -1,5 +1,6 @@
 pub mod Creating
 pub mod Failures
+pub mod Looking
 pub mod Opening
 pub mod Performing
 pub mod Recovering

@@ -43,6 +43,6 @@ module _ {F R W : Type 0} (IsHonest : F → Type 0) (history : F → History) (f
     pub performs : Performs asked.action asked.kind objects names reader reader' writer writer'
         performed
     pub is_told : Took (told_by errors) (told_by errors') (errors_failed errors')
-        (told performed.answer)
-    pub is_silent : told performed.answer ≡ [] → errors' ≡ errors
+        (told asked.kind performed.answer)
+    pub is_silent : told asked.kind performed.answer ≡ [] → errors' ≡ errors
     pub is_status : answered ≡ status performed.answer

@@ -1,15 +1,18 @@
 -- What is told of an action that isn't done, and the program's status.
-use Rattle.std.specs.Prelude.{◌≡◌, ◌⊎◌, ℕ, Bool, true, List, [], ◌∷◌, ◌++◌, Option, Result, Ok, Err, codes, decimal}
+use Rattle.std.specs.Prelude.{◌≡◌, ◌⊎◌, ℕ, Bool, true, List, [], ◌∷◌, ◌++◌, Option, Result, Ok, Err, codes, decimal, if◌then◌else◌}
 use Rattle.std.specs.List.{flat_map}
 use Rattle.std.specs.Io.KnownBytes.{Appends}
 use Rattle.gix_hash_id.specs.Id.{id_of}
 use Rattle.gix_hash_id.specs.Writes.{AppendsFewer}
+use Rattle.gix_hash_id.specs.declared.kind.Kind.{Kind}
+use Rattle.gix_hash_id.specs.declared.kind.Kind.TheVariants.{Sha1, Sha256}
 use Rattle.history_model.specs.Bytes.{Bytes, line}
 use Rattle.history_model.specs.Objects.{hex}
 use Rattle.history_opening.specs.declared.error.NamedBy.{NamedBy}
 use Rattle.history_opening.specs.declared.error.NamedBy.TheVariants.{Object, Name}
 use Rattle.history_opening.specs.declared.error.OpenError.{OpenError}
 use Rattle.history_opening.specs.declared.error.OpenError.TheVariants as causes
+use Rattle.history_actions.specs.Looking.{is_object_place}
 use Rattle.history_actions.specs.declared.failure.Failure.{Failure}
 use Rattle.history_actions.specs.declared.failure.Failure.TheVariants.{NotEmpty, Unopened, File, Memory, Read, Write, Ended}
 
@@ -97,16 +100,36 @@ values_text values = flat_map (λ value. 32 ∷ value) values
 abbrev pub failure_line : Failure → Bytes
 failure_line failure = line (failure_word failure ++ values_text (failure_values failure))
 
+-- ---- what is noted behind the line
+
+-- where a stray file would be an object's of the other hash function
+abbrev pub stray_note : Kind → Bytes → Bytes
+stray_note Sha1 path = if is_object_place Sha256 path
+    then line (codes "note: is this a SHA-256 repository? (--sha256)") else []
+stray_note Sha256 path = if is_object_place Sha1 path
+    then line (codes "note: is this a SHA-1 repository? (no --sha256)") else []
+
+abbrev pub cause_note : Kind → OpenError → Bytes
+cause_note kind (causes.Stray path) = stray_note kind path.items
+cause_note kind _ = []
+
+abbrev pub failure_note : Kind → Failure → Bytes
+failure_note kind (Unopened cause) = cause_note kind cause
+failure_note kind _ = []
+
+abbrev pub failure_text : Kind → Failure → Bytes
+failure_text kind failure = failure_line failure ++ failure_note kind failure
+
 -- what is told: nothing where it is done or where a run ended, which its replies say
-abbrev pub told : {T : Type 0} → Result T Failure → Bytes
-told (Ok done) = []
-told (Err (Ended end)) = []
-told (Err (NotEmpty path)) = failure_line (NotEmpty path)
-told (Err (Unopened cause)) = failure_line (Unopened cause)
-told (Err File) = failure_line File
-told (Err Memory) = failure_line Memory
-told (Err Read) = failure_line Read
-told (Err Write) = failure_line Write
+abbrev pub told : {T : Type 0} → Kind → Result T Failure → Bytes
+told kind (Ok done) = []
+told kind (Err (Ended end)) = []
+told kind (Err (NotEmpty path)) = failure_text kind (NotEmpty path)
+told kind (Err (Unopened cause)) = failure_text kind (Unopened cause)
+told kind (Err File) = failure_text kind File
+told kind (Err Memory) = failure_text kind Memory
+told kind (Err Read) = failure_text kind Read
+told kind (Err Write) = failure_text kind Write
 
 abbrev pub status : {T : Type 0} → Result T Failure → ℕ
 status (Ok done) = 0

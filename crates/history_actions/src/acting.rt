@@ -14,8 +14,8 @@ use std::alloc::Global;
 /// Does what is asked for with a folder's two parts, one of which holds the objects and the other all else, and answers the program's
 /// status: 0 where it is done, else 1.
 ///
-/// `create` makes a repository of the two parts and writes `created`, `check` opens them and writes `whole`, `recover` recovers them and
-/// writes `recovered`, each with a line feed; `run` opens them and runs commands, from `reader` to `writer`. Why it isn't done is told
+/// `create` makes a repository of the two parts and writes `created`, `check` opens them and writes `whole`, `recover` recovers them, where
+/// they are a repository's, and writes `recovered`, each with a line feed; `run` opens them and runs commands, from `reader` to `writer`. Why it isn't done is told
 /// on `errors`, as [`report`] says.
 pub fn act<F: Files + Drop, R: Source, W: Sink, E: Sink>(
     alloc: Global,
@@ -31,7 +31,7 @@ pub fn act<F: Files + Drop, R: Source, W: Sink, E: Sink>(
         E.contents E.has_failed errors.old errors.new result }
 {
     let performed = perform(alloc, asked, objects, names, reader, writer);
-    report(&performed.answer, errors)
+    report(asked.kind, &performed.answer, errors)
 }
 
 /// The same as [`act`], but for the report: hands back the two parts as they are left, with what came of it.

@@ -8,6 +8,7 @@ mod acting;
 mod answers;
 mod creating;
 mod failure;
+mod looking;
 mod opening;
 mod recovering;
 mod telling;

@@ -1,15 +1,16 @@
 //! Recovering a repository.
-ghost use Rattle.history_actions.specs.Recovering.{Recovers};
+ghost use Rattle.history_actions.specs.Recovering.{Recovers, Restores};
 ghost use Rattle.history_actions.specs.Saying.{Says, recovered};
 
 use crate::failure::Failure;
+use crate::looking::look;
 use gix_hash::Kind;
 use gix_ref_file::Files;
 use history::{Sink, recover};
 use history_word::write_all;
 use std::alloc::Global;
 
-/// Recovers a folder's two parts, and says so.
+/// Recovers a folder's two parts where they are a repository's, and says so.
 pub(crate) fn recover_folder<F: Files, W: Sink>(
     alloc: Global,
     objects: &mut F,
@@ -18,6 +19,24 @@ pub(crate) fn recover_folder<F: Files, W: Sink>(
     writer: &mut W,
 ) -> Result<(), Failure>
     ensures files { Recovers F.is_honest F.history F.failures F.reading_may_fail kind
+        objects.old names.old objects.new names.new result }
+    ensures says { Says W.contents W.has_failed writer.old writer.new recovered result }
+{
+    match look(alloc, &*objects, &*names, kind) {
+        Ok(()) => restore(alloc, objects, names, kind, writer),
+        Err(cause) => Err(Failure::Unopened(cause.into())),
+    }
+}
+
+// Recovers two parts, whatever they hold, and says so.
+fn restore<F: Files, W: Sink>(
+    alloc: Global,
+    objects: &mut F,
+    names: &mut F,
+    kind: Kind,
+    writer: &mut W,
+) -> Result<(), Failure>
+    ensures files { Restores F.is_honest F.history F.failures F.reading_may_fail kind
         objects.old names.old objects.new names.new result }
     ensures says { Says W.contents W.has_failed writer.old writer.new recovered result }
 {

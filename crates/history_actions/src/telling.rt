@@ -1,22 +1,25 @@
 //! What the program tells of an action that isn't done, and its status.
 ghost use Rattle.std.specs.Prelude.{◌≡◌, []};
-ghost use Rattle.history_actions.specs.Told.{Took, Writes, cause_word, failure_line, failure_values, failure_word, status, told, values_text};
+ghost use Rattle.history_actions.specs.Told.{Took, Writes, cause_note, cause_word, failure_line, failure_note, failure_text, failure_values, failure_word, status, stray_note, told, values_text};
 
 use crate::failure::Failure;
+use crate::looking::is_object_place;
 use crate::values::{write_cause_values, write_value};
+use gix_hash::Kind;
 use history::{Broken, OpenError, Sink};
 use history_word::write_all;
 
 /// Tells why an action isn't done, in a line: `refused`, the cause and its values, or `fault` and the cause, with a space between two of
-/// them. Answers the program's status: 0 where it is done, else 1.
+/// them. Where a stray file would be an object's of the other hash function than `kind`, a second line asks for that. Answers the
+/// program's status: 0 where it is done, else 1.
 ///
-/// Nothing is told where it is done, and where a run ended before its input did. Where `errors` fails, a beginning of the line was told,
+/// Nothing is told where it is done, and where a run ended before its input did. Where `errors` fails, a beginning of the lines was told,
 /// and the status is the same. It takes no memory.
-pub fn report<E: Sink>(answer: &Result<(), Failure>, errors: &mut E) -> u8
+pub fn report<E: Sink>(kind: Kind, answer: &Result<(), Failure>, errors: &mut E) -> u8
     ensures status { result ≡ status answer.now }
     ensures told { Took (E.contents errors.old) (E.contents errors.new) (E.has_failed errors.new)
-        (told answer.now) }
-    ensures silent { told answer.now ≡ [] → errors.new ≡ errors.old }
+        (told kind answer.now) }
+    ensures silent { told kind answer.now ≡ [] → errors.new ≡ errors.old }
 {
     let Err(failure) = answer else {
         return 0;
@@ -24,18 +27,94 @@ pub fn report<E: Sink>(answer: &Result<(), Failure>, errors: &mut E) -> u8
     if let Failure::Ended(_) = failure {
         return 1;
     }
-    let _ = tell(failure, errors);
+    let _ = tell(kind, failure, errors);
     1
 }
 
+// Writes the line of a failure, and its note.
+fn tell<E: Sink>(kind: Kind, failure: &Failure, errors: &mut E) -> Result<(), Broken>
+    ensures { Writes (E.contents errors.old) (E.contents errors.new) (E.has_failed errors.new)
+        (failure_text kind failure.now) result }
+{
+    tell_line(failure, errors)?;
+    write_all(errors, note_of(kind, failure))
+}
+
 // Writes the line of a failure.
-fn tell<E: Sink>(failure: &Failure, errors: &mut E) -> Result<(), Broken>
+fn tell_line<E: Sink>(failure: &Failure, errors: &mut E) -> Result<(), Broken>
     ensures { Writes (E.contents errors.old) (E.contents errors.new) (E.has_failed errors.new)
         (failure_line failure.now) result }
 {
     write_all(errors, word_of(failure))?;
     write_values(failure, errors)?;
     write_all(errors, b"\n")
+}
+
+// What is asked where the folder may be one of the other hash function.
+fn note_of(kind: Kind, failure: &Failure) -> &'static [u8]
+    ensures { result.now ≡ failure_note kind failure.now }
+{
+    match failure {
+        Failure::Unopened(cause) => note_of_cause(kind, cause),
+        Failure::NotEmpty(_)
+        | Failure::File
+        | Failure::Memory
+        | Failure::Read
+        | Failure::Write
+        | Failure::Ended(_) => b"",
+    }
+}
+
+fn note_of_cause(kind: Kind, cause: &OpenError) -> &'static [u8]
+    ensures { result.now ≡ cause_note kind cause.now }
+{
+    match cause {
+        OpenError::Stray(path) => note_of_stray(kind, path),
+        OpenError::NoHead
+        | OpenError::BadHead
+        | OpenError::Unfinished(_)
+        | OpenError::BadObject(_)
+        | OpenError::WrongId(_)
+        | OpenError::TooLarge(_)
+        | OpenError::BadTree(_)
+        | OpenError::Missing(..)
+        | OpenError::WrongKind(..)
+        | OpenError::Cycle(_)
+        | OpenError::IdReserved
+        | OpenError::BadName(_)
+        | OpenError::PrivateName(_)
+        | OpenError::Symbolic(_)
+        | OpenError::BadPacked(_)
+        | OpenError::BadPeeled(_)
+        | OpenError::Collides(..)
+        | OpenError::BadLog(..)
+        | OpenError::LongLogLine(..)
+        | OpenError::LogWithoutName(_)
+        | OpenError::File
+        | OpenError::Memory => b"",
+    }
+}
+
+// What is asked of a stray file that would be an object's of the other hash function.
+fn note_of_stray(kind: Kind, path: &[u8]) -> &'static [u8]
+    ensures { result.now ≡ stray_note kind path.now }
+{
+    match kind {
+        Kind::Sha1 => {
+            if is_object_place(Kind::Sha256, path) {
+                b"note: is this a SHA-256 repository? (--sha256)\n"
+            } else {
+                b""
+            }
+        }
+        Kind::Sha256 => {
+            if is_object_place(Kind::Sha1, path) {
+                b"note: is this a SHA-1 repository? (no --sha256)\n"
+            } else {
+                b""
+            }
+        }
+    }
 }
 
 fn word_of(failure: &Failure) -> &'static [u8]

@@ -67,8 +67,8 @@ CHECK = ("check", answer(0, b"whole\n"))
 RECOVER = ("recover", answer(0, b"recovered\n"))
 
 
-def refused(action, *values):
-    return (action, answer(1, b"", b"refused " + b" ".join(values) + b"\n"))
+def refused(action, *values, note=b""):
+    return (action, answer(1, b"", b"refused " + b" ".join(values) + b"\n" + note))
 
 
 def fault(action, cause, written=b""):
@@ -138,15 +138,16 @@ def actions(kind):
 
 
 def flaws(kind, first, log):
+    looks(kind, first, log)
     k = kind.where
 
     def unopened(cause, *steps, then=()):
         row(k, CREATE, first, *steps, refused("check", *cause), refused("run:names%0a", *cause), *then)
 
     back = (RECOVER, CHECK)
-    row(k, refused("check", b"NoHead"), refused("run:names%0a", b"NoHead"), RECOVER)
+    row(k, refused("check", b"NoHead"), refused("run:names%0a", b"NoHead"), refused("recover", b"NoHead"))
     unopened([b"BadHead"], files("names", "write", b"HEAD", kind.commit + b"\n"))
-    unopened([b"Stray", b"README"], files("names", "write", b"README", b"hello"), then=(RECOVER, refused("check", b"Stray", b"README")))
+    unopened([b"Stray", b"README"], files("names", "write", b"README", b"hello"), then=(refused("recover", b"Stray", b"README"), refused("check", b"Stray", b"README")))
     unopened([b"Stray", b"a b\nc"], files("names", "write", b"a b\nc", b""))
     unopened([b"Stray", b"refs/heads/q.lock"], files("names", "folder", b"refs/heads/q.lock"))
     row(k, CREATE, first, files("names", "folder", b"refs/heads/q"), CHECK)
@@ -190,6 +191,48 @@ def flaws(kind, first, log):
     unopened([b"WrongKind", kind.blob, above], *kind.put(b"tree", folder), *kind.put(b"blob", b"hello"))
     unopened([b"Missing", kind.blob, b"refs/heads/x"], files("names", "write", b"refs/heads/x", kind.blob + b"\n"))
     unopened([b"WrongKind", kind.blob, b"refs/heads/x"], files("names", "write", b"refs/heads/x", kind.blob + b"\n"), *kind.put(b"blob", b"hello"))
+
+
+def looks(kind, first, log):
+    """What is recovered and what isn't: a folder that isn't a repository's stays as it is."""
+    k = kind.where
+
+    def there(path, part="names"):
+        return files(part, "kind", path, told="file:5")
+
+    def put(*paths, part="names", made=()):
+        folders = sorted({path[:at] for path in paths for at, byte in enumerate(path) if byte == 47} - {*made})
+        return [*(files(part, "folder", it) for it in folders), *(files(part, "write", it, b"hello") for it in paths)]
+
+    def stays(cause, *paths, head=None):
+        kept = [*put(*paths), *([files("names", "write", b"HEAD", head)] if head is not None else [])]
+        row(k, *kept, refused("recover", *cause), *(there(it) for it in paths))
+
+    branch, made = b"ref: refs/heads/main\n", (b"objects", b"refs", b"refs/heads", b"logs", b"logs/refs", b"logs/refs/heads")
+    # No repository's: any folder, a project, one of git.
+    stays([b"NoHead"], b"logs/x.log")
+    stays([b"NoHead"], b"Cargo.lock", b"Cargo.toml", b"src/main.rs")
+    stays([b"Stray", b"config"], b"config", b"description", b"info/exclude", b"logs/HEAD", head=branch)
+    stays([b"Stray", b"index.lock"], b"index.lock", b"logs/HEAD", head=branch)
+    stays([b"Stray", b"logs/HEAD"], b"logs/HEAD", head=branch)
+    stays([b"Stray", b"logs/x.log"], b"logs/x.log", head=branch)
+    stays([b"Stray", b"Cargo.lock"], b"Cargo.lock", head=branch)
+    stays([b"Stray", b"refs/heads/a..b.lock"], b"refs/heads/a..b.lock", head=branch)
+    for head in (b"", b"hello", branch[:-1], branch + b"\n", b"ref: refs/tags/v\n", b"ref: HEAD\n", kind.commit + b"\n"):
+        stays([b"BadHead"], b"logs/x.log", b"refs/heads/main.lock", head=head)
+    for path in (b"objects/pack/x", b"objects/info", b"objects/" + b"0" * 40, b"objects/0a/" + kind.blob[3:], b"objects/0g/" + kind.blob[2:], b"objects/0A/" + kind.blob[2:]):
+        row(k, CREATE, first, *put(path, part="objects", made=made), refused("recover", b"Stray", path), there(path, "objects"))
+    # A stopped run's.
+    for path in (b"HEAD.lock", b"packed-refs.lock", b"refs/heads/main.lock", b"refs/heads/a/b.lock", b"logs/refs/heads/main.lock", b"logs/refs/heads/gone"):
+        row(k, CREATE, first, *put(path, made=made), RECOVER, files("names", "kind", path, told="absent"), CHECK)
+    row(k, CREATE, first, files("objects", "write", b"objects/unfinished", b"x"), RECOVER, CHECK)
+    # An object's file of the other hash function.
+    other, flag = (64, b"SHA-256 repository? (--sha256)") if kind.name == "sha1" else (40, b"SHA-1 repository? (no --sha256)")
+    path = b"objects/0a/" + b"0" * (other - 2)
+    told = {"note": b"note: is this a " + flag + b"\n"}
+    row(k, CREATE, first, *put(path, part="objects", made=made), *(refused(it, b"Stray", path, **told) for it in ("check", "run:names%0a", "recover")))
+    for path in (path + b"0", path[:-1], path[:-1] + b"g", b"objects/0a-" + b"0" * (other - 2)):
+        row(k, CREATE, first, *put(path, part="objects", made=made), refused("check", b"Stray", path))
 
 
 MORE = "\nFor more information, try '--help'.\n"

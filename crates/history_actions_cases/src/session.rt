@@ -83,7 +83,7 @@ impl Folder {
         } = perform(alloc, &asked, objects, names, reader, writer);
         self.objects = objects;
         self.names = names;
-        Some(report(&answer, errors))
+        Some(report(self.kind, &answer, errors))
     }
 
     // `ACTION`, or `run:STREAM`.

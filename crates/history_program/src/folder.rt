@@ -1,9 +1,12 @@
 //! What the program's words ask for, done with a real folder.
 
+use crate::notes::{note_failure, note_refusal};
+use crate::turn::take_turn;
 use gix_ref_folder::{Folder, Part};
 use history::{Broken, Stream};
-use history_actions::act;
+use history_actions::{perform, report};
 use history_command_line::{AskError, Asked, read_words};
+use history_in_memory::Patient;
 use history_word::write_all;
 use std::alloc::AllocError;
 use std::io::{self, ErrorKind};
@@ -14,7 +17,7 @@ const BAD_LINE: u8 = 2;
 /// Does what the words ask for, and answers the program's status.
 pub fn answer(rt: &HostRuntime, words: &[String]) -> u8 {
     match read_words(rt.alloc(), words) {
-        Ok(asked) => act_on_folder(rt, &asked).unwrap_or_else(|_| tell_memory(rt)),
+        Ok(asked) => act_in_turn(rt, &asked).unwrap_or_else(|_| tell_memory(rt)),
         Err(AskError::Help(text)) => tell_help(rt, text.as_str()),
         Err(AskError::Line(text)) => tell(rt, text.as_bytes(), BAD_LINE),
         Err(AskError::Memory) => tell_memory(rt),
@@ -29,23 +32,33 @@ pub fn refuse(rt: &HostRuntime, error: &io::Error) -> u8 {
     }
 }
 
-// Acts on the two parts of the folder that is named.
+// Acts on the folder that is named, while no other process does.
+fn act_in_turn(rt: &HostRuntime, asked: &Asked) -> Result<u8, AllocError> {
+    // The lock goes with the file, at the end.
+    let _held = match take_turn(rt, asked) {
+        Ok(held) => held,
+        Err(refusal) => {
+            let status = tell(rt, b"fault File\n", 1);
+            note_refusal(rt, asked.folder.as_bytes(), &refusal);
+            return Ok(status);
+        }
+    };
+    act_on_folder(rt, asked)
+}
+
+// Acts on the two parts of the folder.
 fn act_on_folder(rt: &HostRuntime, asked: &Asked) -> Result<u8, AllocError> {
     let objects = Folder::new(rt, copy(rt, asked)?, Part::Objects);
     let names = Folder::new(rt, copy(rt, asked)?, Part::Names);
     // Each reply is written by one call, so no stream needs a buffer of its own.
-    let mut reader = Stream::new(rt.stdin());
+    let mut reader = Stream::new(Patient::new(rt.stdin()));
     let mut writer = Stream::new(rt.stdout());
     let mut errors = Stream::new(rt.stderr());
-    Ok(act(
-        rt.alloc(),
-        asked,
-        objects,
-        names,
-        &mut reader,
-        &mut writer,
-        &mut errors,
-    ))
+    let mut performed = perform(rt.alloc(), asked, objects, names, &mut reader, &mut writer);
+    let status = report(asked.kind, &performed.answer, &mut errors);
+    note_failure(rt, &mut performed.objects);
+    note_failure(rt, &mut performed.names);
+    Ok(status)
 }
 
 // The folder's path.

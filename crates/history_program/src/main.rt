@@ -1,12 +1,15 @@
-//! The program `history`.
+//! The program `wunthavel-history`.
 //!
 //! Without words it runs commands on a new repository in memory, from standard input to standard output; with words it does what they ask for
-//! with a folder.
+//! with a folder. Without words at a terminal it tells how it is called.
 #![tactic(auto)]
 
 mod folder;
+mod notes;
+mod turn;
 
 use history_in_memory::serve;
+use std::io::IsTerminal;
 use std::process::ExitCode;
 use std::{env, io};
 
@@ -17,7 +20,9 @@ fn words(rt: &HostRuntime) -> io::Result<Vec<String>> {
 
 fn main(rt: HostRuntime) -> ExitCode {
     let status = match words(&rt) {
-        Ok(words) if words.len() > 1 => folder::answer(&rt, words.as_slice()),
+        Ok(words) if words.len() > 1 || rt.stdin().is_terminal() => {
+            folder::answer(&rt, words.as_slice())
+        }
         Ok(_) => serve(&rt),
         Err(error) => folder::refuse(&rt, &error),
     };

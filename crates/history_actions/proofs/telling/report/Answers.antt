@@ -5,9 +5,9 @@ use Rattle.history_actions.proofs.telling.report.Goals as goal
 
 pub returns : goal.returns
 returns g c =
-    let text = is_told c.args.answer.now c.in-Err.failure c.in-Err.is c.in_default-failure.not-Ended in
+    let text = is_told c.args.kind c.args.answer.now c.in-Err.failure c.in-Err.is c.in_default-failure.not-Ended in
     record {
       status = is_failed c.args.answer.now c.in-Err.failure c.in-Err.is;
       told = subst (Took (g.E.Sink.contents c.args.errors.now) (g.E.Sink.contents c.tell.new.errors) (g.E.Sink.has_failed c.tell.new.errors)) (sym text) (took _ _ _ _ c.tell.result c.tell.ensures);
-      silent = λ none. absurd (is_loud _ (sym text ∙ none));
+      silent = λ none. absurd (is_loud _ _ (sym text ∙ none));
     }

@@ -1,0 +1,160 @@
+//! Whether a folder is a repository's, which alone is recovered.
+ghost use Rattle.std.specs.Prelude.{◌≡◌, ◌&&◌, IfErr, OnOk};
+ghost use Rattle.std.specs.List.{list_all};
+ghost use Rattle.gix_ref_file.specs.Calls.{Finds};
+ghost use Rattle.history_model.specs.Bytes.{Bytes};
+ghost use Rattle.history_model.specs.Forms.{is_branch, is_name};
+ghost use Rattle.history_model.specs.Places.{is_log_place, is_lower_hex, log_name};
+ghost use Rattle.history_names_survey.specs.Parts.{NamesBranch};
+ghost use Rattle.history_opening.specs.Causes.{cause_of_names};
+ghost use Rattle.history_opening.specs.Opened.{trees_of};
+ghost use Rattle.history_actions.specs.Looking.{AreOwnBelow, IsForeign, IsHeadless, IsRecoverable, IsStrayed, TellsHead, is_lock_of_place, is_names_place, is_object_place, may_have_file};
+
+use gix_hash::Kind;
+use gix_object_lines::cut::{strip_prefix, strip_suffix};
+use gix_ref_file::paths::{is_deeper, joined};
+use gix_ref_file::{Files, Place};
+use history_folders::Part;
+use history_model::names::{HEAD, HEADS};
+use history_names_survey::NamesError;
+use history_texts::is_name;
+use std::alloc::Global;
+
+/// Looks whether a folder's two parts are a repository's of this kind, as a stopped run leaves it: HEAD names a branch, and each file stands
+/// at a place of a repository, or is one that was to be renamed to such a place. Of what the files hold HEAD's text alone is read.
+///
+/// Else the error tells why not: `NoHead` where no file HEAD stands, `BadHead` where that names no branch, `Stray` with the path of another
+/// file; or `File` where a call of the files failed, and `Memory` where a growth was refused.
+pub(crate) fn look<F: Files>(
+    alloc: Global,
+    objects: &F,
+    names: &F,
+    kind: Kind,
+) -> Result<(), NamesError>
+    ensures own { F.is_honest objects.now → F.is_honest names.now → OnOk result
+        (IsRecoverable kind (trees_of F.history objects.now names.now)) }
+    ensures foreign { F.is_honest objects.now → F.is_honest names.now → IfErr result (λ cause.
+        IsForeign F.reading_may_fail kind (trees_of F.history objects.now names.now)
+        (cause_of_names cause)) }
+{
+    look_at_head(alloc, names)?;
+    look_below(alloc, objects, Part::Objects, kind, b"")?;
+    look_below(alloc, names, Part::Names, kind, b"")?;
+    Ok(())
+}
+
+// Looks whether HEAD names a branch.
+fn look_at_head<F: Files>(alloc: Global, names: &F) -> Result<(), NamesError>
+    ensures named { Finds F.is_honest F.history names.now
+        (λ tree. OnOk result ((branch : Bytes) × NamesBranch tree branch)) }
+    ensures wrong { Finds F.is_honest F.history names.now
+        (λ tree. IfErr result (IsHeadless F.reading_may_fail tree)) }
+{
+    let mut text = Vec::new(alloc);
+    if names.read(HEAD, &mut text)?.is_none() {
+        return Err(NamesError::NoHead);
+    }
+    if !names_branch(&text) {
+        return Err(NamesError::BadHead);
+    }
+    Ok(())
+}
+
+// Whether a text is `ref: `, the name of a branch and a line feed.
+fn names_branch(text: &[u8]) -> bool
+    ensures { TellsHead text.now result }
+{
+    let Some(line) = strip_prefix(text, b"ref: ") else {
+        return false;
+    };
+    let Some(branch) = strip_suffix(line, b"\n") else {
+        return false;
+    };
+    is_branch(branch)
+}
+
+fn is_branch(name: &[u8]) -> bool
+    ensures { result ≡ is_branch name.now }
+{
+    is_name(name) && name.starts_with(HEADS)
+}
+
+// Looks whether each file below a folder is one that a repository may have.
+fn look_below<F: Files>(
+    alloc: Global,
+    files: &F,
+    part: Part,
+    kind: Kind,
+    folder: &[u8],
+) -> Result<(), NamesError>
+    ensures own { Finds F.is_honest F.history files.now
+        (λ tree. OnOk result (AreOwnBelow part kind folder.now tree)) }
+    ensures stray { Finds F.is_honest F.history files.now
+        (λ tree. IfErr result (IsStrayed F.reading_may_fail part kind tree)) }
+{
+    for name in &files.list(alloc, folder)? {
+        let path = joined(alloc, folder, name)?;
+        match files.kind_of(&path)? {
+            Place::Folder if is_deeper(&path, folder) => {
+                look_below(alloc, files, part, kind, &path)?;
+            }
+            Place::File(_) if may_have_file(part, kind, &path) => {}
+            // The last two are no path, and a name of nothing: the folder changed while it was read.
+            Place::File(_) => return Err(NamesError::Stray(path)),
+            Place::Folder => return Err(NamesError::Stray(path)),
+            Place::Absent => return Err(NamesError::Stray(path)),
+        }
+    }
+    Ok(())
+}
+
+// Whether a repository of this kind may have a file at this path of the part, whole or unfinished.
+fn may_have_file(part: Part, kind: Kind, path: &[u8]) -> bool
+    ensures { result ≡ may_have_file part kind path.now }
+{
+    match part {
+        Part::Objects => is_object_place(kind, path) || path == b"objects/unfinished".as_slice(),
+        Part::Names => is_names_place(path) || is_lock_of_place(path),
+    }
+}
+
+// Whether it is the place of an object with an id of this kind.
+pub(crate) fn is_object_place(kind: Kind, path: &[u8]) -> bool
+    ensures { result ≡ is_object_place kind path.now }
+{
+    if path.len() != kind.len_in_hex() + 9 {
+        return false;
+    }
+    Part::Objects.may_hold_folder(&path[..10]) && path[10] == b'/' && is_lower_hex(&path[11..])
+}
+
+fn is_lower_hex(digits: &[u8]) -> bool
+    ensures { result ≡ list_all is_lower_hex digits.now }
+{
+    digits
+        .iter()
+        .all(|digit| matches!(*digit, b'0'..=b'9' | b'a'..=b'f'))
+}
+
+// Whether it is the place of HEAD, of packed names, of a name or of its log.
+fn is_names_place(path: &[u8]) -> bool
+    ensures { result ≡ is_names_place path.now }
+{
+    path == HEAD || path == b"packed-refs".as_slice() || is_name(path) || is_log_of_name(path)
+}
+
+fn is_log_of_name(path: &[u8]) -> bool
+    ensures { result ≡ (is_log_place path.now && is_name (log_name path.now)) }
+{
+    if !path.starts_with(b"logs/") {
+        return false;
+    }
+    is_name(&path[5..])
+}
+
+// Whether a file of this path is written before it is renamed to such a place.
+fn is_lock_of_place(path: &[u8]) -> bool
+    ensures { result ≡ is_lock_of_place path.now }
+{
+    path.ends_with(b".lock") && is_names_place(&path[..path.len().saturating_sub(5)])
+}

@@ -1,0 +1,57 @@
+//! What is noted behind a fault: which file, and why.
+
+use crate::turn::Refusal;
+use gix_ref_folder::Folder;
+use history::Stream;
+use history_word::write_all;
+use std::alloc::{AllocError, Global};
+use std::io;
+
+/// Notes why a folder isn't acted on.
+pub fn note_refusal(rt: &HostRuntime, folder: &[u8], refusal: &Refusal) {
+    note(rt, text_of(rt.alloc(), folder, refusal));
+}
+
+/// Notes the last call that failed in a part of a folder, if one did.
+pub fn note_failure(rt: &HostRuntime, part: &mut Folder<&HostRuntime>) {
+    if let Some(failure) = part.last_failure() {
+        note(rt, failure.text(rt.alloc()));
+    }
+}
+
+// Writes a note on standard error. Where memory is refused for it, or that fails, nothing else can be told.
+fn note(rt: &HostRuntime, text: Result<Vec<u8>, AllocError>) {
+    let Ok(text) = text else {
+        return;
+    };
+    if let Ok(line) = line_of(rt.alloc(), &text) {
+        let _ = write_all(&mut Stream::new(rt.stderr()), &line);
+    }
+}
+
+fn line_of(alloc: Global, text: &[u8]) -> Result<Vec<u8>, AllocError> {
+    let mut line = Vec::from_slice(alloc, b"note: ")?;
+    line.extend_from_slice(text)?;
+    line.push(b'\n')?;
+    Ok(line)
+}
+
+// The folder, and why it isn't acted on.
+fn text_of(alloc: Global, folder: &[u8], refusal: &Refusal) -> Result<Vec<u8>, AllocError> {
+    let mut text = Vec::from_slice(alloc, folder)?;
+    text.extend_from_slice(b": ")?;
+    match refusal {
+        Refusal::Busy => text.extend_from_slice(b"another process works there")?,
+        Refusal::File(error) => text.extend_from_slice(reason(alloc, error)?.as_bytes())?,
+    }
+    Ok(text)
+}
+
+// The system's words for an error, without its number.
+fn reason(alloc: Global, error: &io::Error) -> Result<String, AllocError> {
+    let words = format!(in alloc; "{error}")?;
+    match words.split_once(" (os error ") {
+        Some((reason, _)) => String::from_str(alloc, reason),
+        None => Ok(words),
+    }
+}
