@@ -62,14 +62,15 @@ class Git:
         """Finds the repository's folder and its kind of ids. It is the folder itself, or its `.git`, and none above it."""
         self._env["GIT_CEILING_DIRECTORIES"] = os.path.dirname(os.path.realpath(self.folder))
         kind = self.run("rev-parse", "--show-object-format").decode().strip()
-        self.hashing: Hashing = {"sha1": SHA1, "sha256": SHA256}[kind]
+        # A git that knows one kind alone gives the question back.
+        self.hashing: Hashing = SHA256 if kind == "sha256" else SHA1
         self.path = os.path.join(os.fsencode(self.folder), self.run("rev-parse", "--git-common-dir").rstrip(b"\n"))
         self.is_bare = self.run("rev-parse", "--is-bare-repository").strip() == b"true"
 
     def make(self, hashing: Hashing) -> None:
         """Makes a bare repository."""
         os.makedirs(self.folder, exist_ok=True)
-        self.run("init", "--quiet", "--bare", "--template=", f"--object-format={hashing.name}", ".")
+        self.run("init", "--quiet", "--bare", "--template=", *(["--object-format=sha256"] if hashing == SHA256 else []), ".")
 
     def fsck(self) -> List[str]:
         """Returns what `git fsck --strict` complains of; nothing where the repository is whole."""

@@ -341,7 +341,7 @@ class FastImport:
             raise StreamError(f"{title}: the stream has no {shown(word)} before it")
         name = self._full(word)
         id = self._said.get(name, self._now.get(name))
-        if id is None and not re.fullmatch(rb"[0-9a-f]{40}([0-9a-f]{24})?", word):
+        if not id and not re.fullmatch(rb"[0-9a-f]{40}([0-9a-f]{24})?", word):
             raise StreamError(f"{title}: {shown(word)} is no commit")
         return id or word.decode()
 
@@ -349,7 +349,7 @@ class FastImport:
         title = f"commit {it.title}"
         parents = [self._commit_of(word, title) for word in it.parents]
         current = self._said.get(it.name, self._now.get(it.name))
-        if not it.has_from and current is not None:
+        if not it.has_from and current:
             # A commit without `from` follows what its name holds; exports reset the name before a root.
             parents.insert(0, current)
         assert it.committer is not None
