@@ -266,13 +266,14 @@ class Engine:
         """Ends the engine where a reply can't be read, or reading one is interrupted, since what comes then belongs to nothing."""
         try:
             yield
-        except KeyboardInterrupt:
-            if self._busy:
-                self._end("the engine was interrupted", kill=True)
-            raise
         except (ProtocolError, ValueError, IndexError) as error:
             self._end(f"the reply can't be read ({error})", kill=True)
             raise self._over if self._over is not None else error from error
+        except BaseException:
+            # What a signal's handler raises, and most of all a keyboard's interruption.
+            if self._busy:
+                self._end("the engine was interrupted", kill=True)
+            raise
 
     def _write(self) -> None:
         """Writes what the pipe takes."""
