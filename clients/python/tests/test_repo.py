@@ -286,6 +286,13 @@ class Ends(WithRepo):
         with self.assertRaises(wunthavel.EngineError):
             wunthavel.Repo(self.store, engine="/nothing/here")
 
+    def impatient(self, body: str) -> wunthavel.Repo:
+        """Returns a repository over an engine that does this once it is open, and may be silent for a second then."""
+        repo = wunthavel.Repo(self.store, engine=self.fake(body))
+        self.addCleanup(repo.kill)
+        repo._engine.timeout = 1.0
+        return repo
+
     def test_engines_that_misbehave(self) -> None:
         for body, said in [
             ("os.write(1, b'hello\\n'); time.sleep(60)", "can't be read"),
@@ -296,7 +303,7 @@ class Ends(WithRepo):
             ("time.sleep(60)", "didn't answer"),
         ]:
             with self.subTest(body=body):
-                repo = wunthavel.Repo(self.store, engine=self.fake(body), timeout=0.7)
+                repo = self.impatient(body)
                 with self.assertRaises(wunthavel.EngineDied) as met:
                     repo.run(protocol.content("a", "b"))
                 self.assertIn(said, str(met.exception))
@@ -333,6 +340,14 @@ class Ends(WithRepo):
         done = subprocess.run([sys.executable, "-c", code], stdout=subprocess.PIPE, timeout=60, check=True)
         self.assertEqual(done.stdout, b"Page 0\n")
 
+    def test_closing_with_replies_that_came_and_werent_looked_at(self) -> None:
+        self.chain(1)
+        sent = [self.repo.send(protocol.show("HEAD")) for _ in range(200)]
+        time.sleep(0.5)
+        self.assertEqual(sent[0].result().title, "Page 0")
+        self.repo.close()
+        self.assertEqual(sent[-1].result().title, "Page 0")
+
     def test_closing_twice_and_at_the_end_of_a_block(self) -> None:
         with self.repo as repo:
             id = repo.send(repo.commit("Sent and not looked at").command())
@@ -341,8 +356,17 @@ class Ends(WithRepo):
         with wunthavel.Repo(self.store) as repo:
             self.assertEqual(repo.show().title, "Sent and not looked at")
 
+    def test_a_block_that_raises_doesnt_do_what_isnt_sent(self) -> None:
+        with self.assertRaises(KeyError), self.repo as repo:
+            for it in range(30):
+                repo.send(repo.commit(f"{it}").put("a", b"%d" % it + bytes(1 << 17)).command())
+            raise KeyError
+        wunthavel.Repo.check(self.store)
+        with wunthavel.Repo(self.store) as repo:
+            self.assertLess(len(repo.log_ids()) if repo.resolve() else 0, 30)
+
     def test_waiting_takes_no_time_of_the_processor(self) -> None:
-        repo = wunthavel.Repo(self.store, engine=self.fake("time.sleep(60)"), timeout=1.0)
+        repo = self.impatient("time.sleep(60)")
         begun = time.process_time()
         with self.assertRaises(wunthavel.EngineDied):
             repo.pack()

@@ -6,6 +6,9 @@
 ...     [commit.title for commit in repo.log()]
 ['Begin']
 """
+import importlib
+from typing import Any
+
 from . import protocol
 from .engine import Busy, EngineDied, EngineError, Pending, Unfinished, find_engine
 from .protocol import (
@@ -29,6 +32,14 @@ from .protocol import (
 from .repo import Change, CommitBuilder, Entry, Line, Repo, changes
 
 __version__ = "0.1.0"
+
+
+def connect(address: Any, **options: Any) -> Repo:
+    """Returns a repository that `wunthavel serve` answers for, by its socket's path or `HOST:PORT`; see `wunthavel.serve.connect`."""
+    repo: Repo = importlib.import_module("wunthavel.serve").connect(address, **options)
+    return repo
+
+
 __all__ = [
     "ANY",
     "Actor",
@@ -57,6 +68,7 @@ __all__ = [
     "Repo",
     "Unfinished",
     "changes",
+    "connect",
     "find_engine",
     "protocol",
 ]

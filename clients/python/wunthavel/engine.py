@@ -266,13 +266,14 @@ class Engine:
         """Ends the engine where a reply can't be read, or reading one is interrupted, since what comes then belongs to nothing."""
         try:
             yield
-        except KeyboardInterrupt:
-            if self._busy:
-                self._end("the engine was interrupted", kill=True)
-            raise
         except (ProtocolError, ValueError, IndexError) as error:
             self._end(f"the reply can't be read ({error})", kill=True)
             raise self._over if self._over is not None else error from error
+        except BaseException:
+            # What a signal's handler raises, and most of all a keyboard's interruption.
+            if self._busy:
+                self._end("the engine was interrupted", kill=True)
+            raise
 
     def _write(self) -> None:
         """Writes what the pipe takes."""
@@ -411,10 +412,13 @@ class Engine:
     def close(self, send: bool = True) -> None:
         """Sends what waits, unless that isn't wanted, ends the input, and waits for the engine's end. A command is done whole or not at all."""
         with self._lock:
-            while send and self._pending and self._over is None:
+            while send and self._over is None:
                 with self._in_step():
-                    self._transfer()
+                    # Replies that were read together with one that was waited for are here already.
                     self._take_replies()
+                    if not self._pending:
+                        break
+                    self._transfer()
             self._end("the engine was closed")
 
     def kill(self) -> None:

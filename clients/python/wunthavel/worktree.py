@@ -94,7 +94,7 @@ class WorkTree:
             for it in entries:
                 name = text(it.name)
                 path = below + it.name
-                if name.lower() in (".git", OWN) or any(fnmatch.fnmatch(name, one) or fnmatch.fnmatch(text(path), one) for one in patterns):
+                if name.lower() in (".git", OWN) or name.startswith(OWN + "-") or any(fnmatch.fnmatch(name, one) or fnmatch.fnmatch(text(path), one) for one in patterns):
                     continue
                 if it.is_dir(follow_symlinks=False):
                     yield from self._below(path + b"/", patterns)
@@ -191,7 +191,7 @@ class WorkTree:
         if os.path.isdir(place) and not os.path.islink(place):
             os.rmdir(place)
         folder = os.path.dirname(place)
-        beside = os.path.join(folder, b".wunthavel-%d" % os.getpid())
+        beside = os.path.join(folder, os.fsencode(f"{OWN}-{os.getpid()}"))
         with contextlib.suppress(FileNotFoundError):
             os.unlink(beside)
         if file.kind == "link":
