@@ -51,7 +51,7 @@ class WorkTree:
 
     @property
     def sha256(self) -> bool:
-        """Whether the ids of this history are of SHA-256, which a store without objects can't tell."""
+        """Whether the ids of this history are of SHA-256, which a store without objects can't say."""
         return os.path.exists(os.path.join(self.folder, OWN, "sha256"))
 
     def mark_sha256(self) -> None:
@@ -75,7 +75,7 @@ class WorkTree:
         return os.path.join(os.fsencode(self.folder), raw(path))
 
     def path_of(self, given: str) -> str:
-        """Returns the path, from the folder on, of what a person named from where they are; the folder itself is an empty one."""
+        """Returns the path, from the folder on, of what a person named from the current directory; the folder itself is an empty one."""
         place = os.path.normpath(os.path.join(os.getcwd(), given))
         path = os.path.relpath(place, self.folder)
         if path == os.pardir or path.startswith(os.pardir + os.sep):
@@ -123,7 +123,7 @@ class WorkTree:
         yield from self._below(raw(path) + b"/", [])
 
     def _look(self, path: str) -> Optional[os.stat_result]:
-        """Tells what is at a path, or `None` where nothing is."""
+        """Returns what is at a path, or `None` if nothing is."""
         try:
             found = os.lstat(self.place(path))
         except (FileNotFoundError, NotADirectoryError):
@@ -218,7 +218,7 @@ class WorkTree:
         refuse_path(path)
         parts = path.split("/")
         if any(os.path.islink(self.place("/".join(parts[:count]))) for count in range(1, len(parts))):
-            raise WorkError(f"{ascii(path)} isn't removed: it lies behind a link")
+            raise WorkError(f"{ascii(path)} isn't removed: it lies beyond a link")
         with contextlib.suppress(FileNotFoundError, NotADirectoryError):
             os.unlink(self.place(path))
         with contextlib.suppress(OSError):
