@@ -164,6 +164,7 @@ def save(at: Session) -> int:
                 edits.append(protocol.remove(it.path))
         for it in bar.each(found):
             if it.new is not None:
+                refuse_path(it.path, "saved")
                 if here[it.path].size > LARGEST:
                     raise WorkError(f"{shown(it.path)} isn't saved: a file has {LARGEST:,} bytes at most ({IGNORED} can name it)")
                 edits.append(protocol.put(it.path, at.tree.read(here[it.path]), it.new.kind))

@@ -21,13 +21,13 @@ class WorkError(HistoryError):
     """What a person asked can't be done with the files as they are; it says which."""
 
 
-def refuse_path(path: str) -> None:
+def refuse_path(path: str, done: str = "written") -> None:
     """Refuses a path that would lead out of the folder, or into the data of git or of Wunthavel."""
     for part in path.split("/"):
         # The names that some systems take for these two are refused with them.
         plain = part.rstrip(". ").lower()
         if part in ("", ".", "..") or plain in (".git", OWN, "git~1") or "\0" in part or "\\" in part and os.sep == "\\":
-            raise WorkError(f"{ascii(path)} isn't written: a path may not be absolute, and has no part {part!r}")
+            raise WorkError(f"{ascii(path)} isn't {done}: a path may not be absolute, and has no part {part!r}")
 
 
 @dataclass(frozen=True)
