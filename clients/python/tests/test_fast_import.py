@@ -230,7 +230,7 @@ class Streams(Case):
             (head + b"data 1\nm\nN inline :1\n", "a note as such"),
             (b"commit refs/heads/x\ndata 1\nm\n", "no committer"),
             (b"commit refs/heads/x\ncommitter x\ndata 1\nm\n", "isn't 'Name"),
-            (b"feature import-marks=x\n", "the feature"),
+            (b"feature import-marks=x\n", "needs the feature"),
             (b"tag v\nfrom refs/heads/none\ndata 1\nm\n", "no commit"),
         ):
             with self.subTest(why):

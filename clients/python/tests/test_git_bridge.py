@@ -280,9 +280,9 @@ class Increments(Case):
         self.give()
         git(self.source, "branch", "-D", "x")
         git(self.source, "branch", "x/y")
-        self.assertIn("refs/heads/x stands", str(self.bring(status=1)["cannot_hold"]))
+        self.assertIn("refs/heads/x exists", str(self.bring(status=1)["cannot_hold"]))
         self.assertEqual(self.bring("--prune")["deleted"], 1)
-        self.assertIn("refs/heads/x stands", str(self.give(status=1)["cannot_hold"]))
+        self.assertIn("refs/heads/x exists", str(self.give(status=1)["cannot_hold"]))
         self.assertEqual(self.give("--prune")["deleted"], 1)
         self.assertEqual(all_of(self.dest), all_of(self.source))
 
@@ -448,7 +448,7 @@ class NotHeldByAHistory(Case):
 
     def test_symbolic_and_private_names(self) -> None:
         git(self.source, "symbolic-ref", "refs/remotes/origin/HEAD", "refs/heads/main")
-        self.refused("stands for another one, refs/heads/main", "refs/remotes/origin/HEAD")
+        self.refused("the name is symbolic, for refs/heads/main", "refs/remotes/origin/HEAD")
         git(self.source, "update-ref", "refs/bisect/bad", self.first)
         self.refused("private", "refs/bisect/bad")
         said = self.bring("--skip-refs", "refs/remotes", "--skip-refs", "refs/bis*")

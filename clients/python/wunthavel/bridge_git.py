@@ -73,7 +73,7 @@ class Git:
         self.run("init", "--quiet", "--bare", "--template=", *(["--object-format=sha256"] if hashing == SHA256 else []), ".")
 
     def fsck(self) -> List[str]:
-        """Returns what `git fsck --strict` complains of; nothing where the repository is whole."""
+        """Returns what `git fsck --strict` complains of; nothing if the repository is whole."""
         done = self._start(["fsck", "--strict", "--no-dangling", "--no-progress"])
         if not done.returncode:
             return []
@@ -141,7 +141,7 @@ class Git:
                 raise BridgeError(f"git cat-file in {self.folder}: {process.stderr.read().decode(errors='replace').strip()}")
 
     def read(self, ids: Iterable[bytes]) -> Iterator[Tuple[bytes, str, bytes]]:
-        """Returns id, kind and content of these objects, in their order. An object whose bytes have another id is told by a BridgeError."""
+        """Returns id, kind and content of these objects, in their order. A BridgeError names an object whose bytes have another id."""
         with self._process(["cat-file", "--batch", "--buffer"]) as process:
             assert process.stdin and process.stdout
             given, out = process.stdin, process.stdout
@@ -167,7 +167,7 @@ class Git:
                 raise BridgeError(f"git cat-file in {self.folder} ended with status {process.returncode}")
 
     def add(self, count: int, objects: Iterable[Tuple[str, bytes]]) -> None:
-        """Adds so many objects: git tests all of them, and then takes all or none, as one pack, or as files where they are few."""
+        """Adds so many objects: git tests all of them, and then takes all or none, as one pack, or as files if they are few."""
         words = ["unpack-objects", "-q", "--strict"] if count < FEW else ["index-pack", "--stdin", "--strict", "--fix-thin"]
         with self._process(words) as process:
             assert process.stdin and process.stdout and process.stderr
@@ -213,6 +213,6 @@ def entry_head(kind: int, length: int) -> bytes:
 
 
 def symbolic_problems(symbolic: Dict[bytes, bytes]) -> Iterator[Problem]:
-    """Names each name that stands for another one."""
+    """Names each symbolic name."""
     for name, target in sorted(symbolic.items()):
-        yield Problem(shown(name), f"the name stands for another one, {shown(target)}")
+        yield Problem(shown(name), f"the name is symbolic, for {shown(target)}")
