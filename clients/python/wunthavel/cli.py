@@ -156,24 +156,24 @@ def save(at: Session) -> int:
         at.out.say("nothing has changed")
         at.out.tell({"commit": None, "changes": []})
         return 0
-    edits = []
+    # What goes goes first, so that a folder can come to where a file was.
+    edits = [protocol.remove(it.path) for it in found if it.new is None]
     with Progress("saving", len(found)) as bar:
-        # What goes goes first, so that a folder can come to where a file was.
-        for it in found:
-            if it.new is None:
-                edits.append(protocol.remove(it.path))
-        for it in bar.each(found):
-            if it.new is not None:
-                refuse_path(it.path, "saved")
-                if here[it.path].size > LARGEST:
-                    raise WorkError(f"{shown(it.path)} isn't saved: a file has {LARGEST:,} bytes at most ({IGNORED} can name it)")
-                edits.append(protocol.put(it.path, at.tree.read(here[it.path]), it.new.kind))
+        edits += [_put(at, here[it.path], it.new) for it in bar.each(found) if it.new is not None]
         who = author(at.asked.author)
         id = at.repo.run(protocol.commit("HEAD", at.asked.message, who, edits=edits, expect=NEW if tip is None else tip))
     at.out.say(f"{at.out.paint('yellow', id[:10])} {shown(at.asked.message.splitlines()[0])}")
     _say_changes(at.out, found)
     at.out.tell({"commit": id, "changes": [plain_change(it) for it in found]})
     return 0
+
+
+def _put(at: Session, here: Here, file: File) -> bytes:
+    """Returns the edit that saves a file."""
+    refuse_path(here.path, "saved")
+    if here.size > LARGEST:
+        raise WorkError(f"{shown(here.path)} isn't saved: a file has {LARGEST:,} bytes at most ({IGNORED} can name it)")
+    return protocol.put(here.path, at.tree.read(here), file.kind)
 
 
 def _say_changes(out: Output, found: Iterable[Change]) -> None:
@@ -399,8 +399,11 @@ def _parser() -> argparse.ArgumentParser:
     parser = argparse.ArgumentParser("wunthavel", description=ABOUT, parents=[common], formatter_class=argparse.RawDescriptionHelpFormatter)
     parser.add_argument("--version", action="version", version=f"wunthavel {importlib.import_module('wunthavel').__version__}")
     parser.add_argument("-C", dest="directory", metavar="DIR", help="work as if started in this directory")
-    commands = parser.add_subparsers(dest="command", metavar="COMMAND")
+    _add_commands(parser.add_subparsers(dest="command", metavar="COMMAND"), common)
+    return parser
 
+
+def _add_commands(commands: Any, common: argparse.ArgumentParser) -> None:
     def add(name: str, does: Callable[..., int], example: str, *arguments: Tuple[Sequence[str], Dict[str, Any]]) -> None:
         about = (does.__doc__ or "").strip()
         it = commands.add_parser(name, help=about, description=about, epilog=f"example: {example}", parents=[common])
@@ -437,7 +440,6 @@ def _parser() -> argparse.ArgumentParser:
     add("recover", recover, "wunthavel recover")
     for name_apart, module in APART.items():
         commands.add_parser(name_apart, help=f"see wunthavel {name_apart} --help", add_help=False)
-    return parser
 
 
 def _count(word: str) -> int:
