@@ -23,14 +23,33 @@ from wunthavel.git_import import git_import
 from wunthavel.serve import connect
 
 ADA = Actor("Ada", "ada@example.org", 1700000000, "+0000")
-Row = Tuple[str, str, int, float]
+Spent = Tuple[float, float]
+Row = Tuple[str, str, int, Spent]
+# Processes that live on beside a measurement, whose work counts.
+LIVE: List[int] = []
 
 
-def timed(call: Callable[[], Any]) -> float:
-    """Returns how many seconds a call takes."""
-    began = time.monotonic()
+def worked() -> float:
+    """Returns the seconds that processors worked for this process, its children, and those that live on."""
+    seconds = sum(os.times()[:4])
+    for pid in LIVE:
+        for it in [str(pid), *read(f"/proc/{pid}/task/{pid}/children").split()]:
+            fields = read(f"/proc/{it}/stat").rpartition(")")[2].split()
+            seconds += (int(fields[11]) + int(fields[12])) / os.sysconf("SC_CLK_TCK")
+    return seconds
+
+
+def read(path: str) -> str:
+    """Returns a file's text."""
+    with open(path, encoding="ascii", errors="replace") as it:
+        return it.read()
+
+
+def timed(call: Callable[[], Any]) -> Spent:
+    """Returns how many seconds a call takes, and how many of them processors worked for it."""
+    began, before = time.monotonic(), worked()
     call()
-    return time.monotonic() - began
+    return time.monotonic() - began, worked() - before
 
 
 def made(number: int) -> "protocol.Command[str]":
@@ -61,10 +80,10 @@ class Bench:
         """Returns a path in the folder."""
         return os.path.join(self.room, name)
 
-    def add(self, what: str, how: str, count: int, seconds: float) -> None:
+    def add(self, what: str, how: str, count: int, spent: Spent) -> None:
         """Adds a row, and says it."""
-        self.rows.append((what, how, count, seconds))
-        print(f"{what}, {how}: {count / seconds:,.0f} a second", file=sys.stderr, flush=True)
+        self.rows.append((what, how, count, spent))
+        print(f"{what}, {how}: {count / spent[0]:,.0f} a second", file=sys.stderr, flush=True)
 
     def served(self) -> None:
         """Commits and questions through a server, by one client and by many."""
@@ -74,6 +93,7 @@ class Bench:
         server = subprocess.Popen([*program, socket, self.path("served"), "--quiet", "--json"], env=env, stdout=subprocess.PIPE)
         assert server.stdout
         server.stdout.readline()
+        LIVE.append(server.pid)
         count, few = self.commits, max(self.commits // 10, 100)
         try:
             with connect(socket) as repo:
@@ -83,10 +103,11 @@ class Bench:
                 self.add("shows of a content", "serve, one client, batch()", 5 * count, timed(lambda: [None for _ in repo.batch(shows)]))
             self.add("shows of a content", "serve, 8 clients, one after another", count // 8 * 8, self.together(socket, 8, count // 8))
         finally:
+            LIVE.clear()
             server.terminate()
             server.wait()
 
-    def together(self, socket: str, clients: int, each: int) -> float:
+    def together(self, socket: str, clients: int, each: int) -> Spent:
         """Has so many processes ask at once, and returns the seconds from when all are connected."""
         package = os.path.dirname(os.path.abspath(__file__))
         lines = [f"import sys; sys.path.insert(0, {package!r}); from wunthavel.serve import connect", f"with connect({socket!r}) as repo:"]
@@ -131,8 +152,8 @@ class Bench:
         commits = exported.count(b"\noriginal-oid ") - exported.count(b"\nblob\n")
         os.mkdir(self.path("theirs.git"))
         self.run_git("init", "-q", "--bare", folder=self.path("theirs.git"))
-        seconds = timed(lambda: self.run_git("fast-import", "--quiet", "--force", given=exported, folder=self.path("theirs.git")))
-        self.add("commits and tags", "git fast-import", commits, seconds)
+        spent = timed(lambda: self.run_git("fast-import", "--quiet", "--force", given=exported, folder=self.path("theirs.git")))
+        self.add("commits and tags", "git fast-import", commits, spent)
         with open(self.path("stream"), "wb") as it:
             it.write(exported)
         with open(self.path("stream"), "rb") as it:
@@ -140,8 +161,8 @@ class Bench:
 
     def table(self) -> str:
         """Returns the rows as Markdown."""
-        rows = [f"| {what} | {how} | {count:,} | {seconds:.2f} | {count / seconds:,.0f} |" for what, how, count, seconds in self.rows]
-        return "\n".join(["| What | By | How many | Seconds | A second |", "|---|---|---|---|---|", *rows])
+        rows = [f"| {what} | {how} | {count:,} | {count / wall:,.0f} | {count / work:,.0f} |" for what, how, count, (wall, work) in self.rows]
+        return "\n".join(["| What | By | How many | A second | A second of processors' work |", "|---|---|---:|---:|---:|", *rows])
 
 
 def main() -> int:

@@ -25,7 +25,7 @@ class Settings:
         self.repo = repo
 
     def get(self, key: str, at: str = HEAD) -> str:
-        """A setting's value, now or in a commit; `KeyError` where it has none."""
+        """A setting's value, now or in a commit; `KeyError` if it has none."""
         try:
             return self.repo.read(f"{FOLDER}/{key}", at).decode()
         except Refused as error:

@@ -242,6 +242,11 @@ class Commands(AtATerminal):
         self.does("restore", "HEAD")
         self.assertEqual(self.changed(), [])
 
+    def test_what_couldnt_be_restored_isnt_saved(self) -> None:
+        self.does("init")
+        self.write("a/.git./x")
+        self.assertIn("isn't saved", self.does("save", "Begin", status=1))
+
     def test_ignored_files(self) -> None:
         self.does("init")
         self.write(".wunthavelignore", "# what isn't saved\n*.log\nbuild/\n")

@@ -230,7 +230,7 @@ class Streams(Case):
             (head + b"data 1\nm\nN inline :1\n", "a note as such"),
             (b"commit refs/heads/x\ndata 1\nm\n", "no committer"),
             (b"commit refs/heads/x\ncommitter x\ndata 1\nm\n", "isn't 'Name"),
-            (b"feature import-marks=x\n", "the feature"),
+            (b"feature import-marks=x\n", "needs the feature"),
             (b"tag v\nfrom refs/heads/none\ndata 1\nm\n", "no commit"),
         ):
             with self.subTest(why):
@@ -240,8 +240,11 @@ class Streams(Case):
         stream = b"# comment\nfeature done\ncommit HEAD\n" + WHO + b"data <<E\nm\nE\n\nM 644 inline \"q\\303\\251\"\ndata 2\nhi\nM 755 inline x\ndata 0\n\n"
         stream += b"commit refs/heads/main\n" + WHO + b"data 1\nn\nD x\nC \"q\\303\\251\" c d\n\nreset refs/heads/old\nfrom refs/heads/main\n\nprogress here\n"
         stream += b"reset refs/heads/old\nfrom 0000000000000000000000000000000000000000\n\ndone\nrest"
+        stream = stream.replace(b"done\nrest", b"commit refs/heads/old\n" + WHO + b"data 1\no\n\ndone\nrest")
         self.load(stream)
+        self.assertIn(b"parents 0\n", engine(self.store, b"show refs/heads/old\n"))
         self.assertIn("c d\n", engine(self.store, b"files main\n").decode())
+        self.load(b"reset refs/heads/old\nfrom 0000000000000000000000000000000000000000\n")
         self.assertEqual(len(self.names()), 1)
 
     def test_stopped_and_given_again(self) -> None:

@@ -11,7 +11,7 @@ import tempfile
 import time
 import unittest
 from contextlib import redirect_stderr, redirect_stdout, suppress
-from typing import Any, Dict, List, Optional, Sequence
+from typing import Any, Callable, Dict, List, Optional, Sequence
 from unittest import mock
 
 sys.path.insert(0, os.path.dirname(os.path.dirname(os.path.abspath(__file__))))
@@ -280,9 +280,9 @@ class Increments(Case):
         self.give()
         git(self.source, "branch", "-D", "x")
         git(self.source, "branch", "x/y")
-        self.assertIn("refs/heads/x stands", str(self.bring(status=1)["cannot_hold"]))
+        self.assertIn("refs/heads/x exists", str(self.bring(status=1)["cannot_hold"]))
         self.assertEqual(self.bring("--prune")["deleted"], 1)
-        self.assertIn("refs/heads/x stands", str(self.give(status=1)["cannot_hold"]))
+        self.assertIn("refs/heads/x exists", str(self.give(status=1)["cannot_hold"]))
         self.assertEqual(self.give("--prune")["deleted"], 1)
         self.assertEqual(all_of(self.dest), all_of(self.source))
 
@@ -295,8 +295,8 @@ class Increments(Case):
             self.assertIn("another process", self.bring(status=1)["error"])
             self.assertIn("another process", self.give(status=1)["error"])
 
-    def killed(self, module: str, *words: str) -> None:
-        """Kills the command at moments all along its work, and lets it end at last."""
+    def killed(self, look: Callable[[], None], module: str, *words: str) -> None:
+        """Kills the command at moments all along its work, looks at what it left each time, and lets it end at last."""
         call = [sys.executable, "-c", f"import sys; from wunthavel.{module} import main; sys.exit(main(sys.argv[1:]))", *words, "--quiet"]
         env, chance = {**os.environ, "PYTHONPATH": PACKAGE}, random.Random(7)
         began = time.monotonic()
@@ -307,6 +307,7 @@ class Increments(Case):
             time.sleep(whole * (0.4 + 1.2 * chance.random()))
             process.send_signal(signal.SIGKILL)
             process.communicate()
+            look()
         done = subprocess.run(call, env=env, stderr=subprocess.PIPE)
         self.assertEqual(done.returncode, 0, done.stderr)
 
@@ -314,8 +315,18 @@ class Increments(Case):
         self.init()
         for number in range(60):
             self.commit(f"change {number}", **{f"a{number}": str(number)})
-        self.killed("git_import", self.source, self.store)
-        self.killed("git_export", self.store, self.dest)
+
+        def store_is_whole() -> None:
+            if os.path.exists(os.path.join(self.store, "HEAD")):
+                # It recovers, and checks.
+                git_import.Store(self.store, False, None).make()
+
+        def dest_is_whole() -> None:
+            if os.path.exists(os.path.join(self.dest, "HEAD")):
+                self.assertEqual(git(self.dest, "fsck", "--strict", "--no-dangling"), "")
+
+        self.killed(store_is_whole, "git_import", self.source, self.store)
+        self.killed(dest_is_whole, "git_export", self.store, self.dest)
         self.assertEqual(all_of(self.dest), all_of(self.source))
 
 
@@ -437,7 +448,7 @@ class NotHeldByAHistory(Case):
 
     def test_symbolic_and_private_names(self) -> None:
         git(self.source, "symbolic-ref", "refs/remotes/origin/HEAD", "refs/heads/main")
-        self.refused("stands for another one, refs/heads/main", "refs/remotes/origin/HEAD")
+        self.refused("the name is symbolic, for refs/heads/main", "refs/remotes/origin/HEAD")
         git(self.source, "update-ref", "refs/bisect/bad", self.first)
         self.refused("private", "refs/bisect/bad")
         said = self.bring("--skip-refs", "refs/remotes", "--skip-refs", "refs/bis*")

@@ -14,7 +14,7 @@ HEADER = b"# pack-refs with: peeled fully-peeled sorted \n"
 
 
 def read_file(path: bytes) -> Optional[bytes]:
-    """Returns the file's bytes, or None where no file is there."""
+    """Returns the file's bytes, or None if no file is there."""
     try:
         with open(path, "rb") as it:
             return it.read()
@@ -106,7 +106,7 @@ class Store:
                 time.sleep(0.02)
 
     def make(self) -> None:
-        """Makes the folder, and a history in it, where none is there, and takes away what a stop left; else it must be whole."""
+        """Makes the folder, and a history in it, if none is there, and takes away what a stop left; else it must be whole."""
         os.makedirs(self.folder, exist_ok=True)
         if read_file(os.path.join(self.path, b"HEAD")) is None:
             self._act("create")
@@ -132,7 +132,7 @@ class Store:
         return read_logs(self.path)
 
     def write_names(self, names: Dict[bytes, bytes], gone: Set[bytes], peeled: Dict[bytes, bytes]) -> None:
-        """Deletes names with their logs, and gives others these ids: all at once where none of them has a file of its own."""
+        """Deletes names with their logs, and gives others these ids: all at once if none of them has a file of its own."""
         for name in gone:
             self._remove(b"logs/" + name)
         if gone:

@@ -100,7 +100,7 @@ def collisions(names: Iterable[bytes]) -> Iterator[Problem]:
         at = name.find(b"/", 5)
         while at > 0:
             if name[:at] in every:
-                yield Problem(shown(name), f"{shown(name[:at])} stands, of which the name lies below")
+                yield Problem(shown(name), f"{shown(name[:at])} exists, and the name lies below it")
             at = name.find(b"/", at + 1)
 
 
@@ -213,7 +213,7 @@ def _id_in(line: bytes, word: bytes, hashing: Hashing) -> bytes:
 
 def _rest(lines: List[bytes], word: bytes) -> bytes:
     if not lines or not lines[0].startswith(word + b" "):
-        raise ValueError(f"it has no line '{word.decode()}' where one belongs")
+        raise ValueError(f"it has no line '{word.decode()}' at the place of one")
     return lines.pop(0)[len(word) + 1 :]
 
 

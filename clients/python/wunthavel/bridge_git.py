@@ -62,17 +62,18 @@ class Git:
         """Finds the repository's folder and its kind of ids. It is the folder itself, or its `.git`, and none above it."""
         self._env["GIT_CEILING_DIRECTORIES"] = os.path.dirname(os.path.realpath(self.folder))
         kind = self.run("rev-parse", "--show-object-format").decode().strip()
-        self.hashing: Hashing = {"sha1": SHA1, "sha256": SHA256}[kind]
+        # A git that knows one kind alone gives the question back.
+        self.hashing: Hashing = SHA256 if kind == "sha256" else SHA1
         self.path = os.path.join(os.fsencode(self.folder), self.run("rev-parse", "--git-common-dir").rstrip(b"\n"))
         self.is_bare = self.run("rev-parse", "--is-bare-repository").strip() == b"true"
 
     def make(self, hashing: Hashing) -> None:
         """Makes a bare repository."""
         os.makedirs(self.folder, exist_ok=True)
-        self.run("init", "--quiet", "--bare", "--template=", f"--object-format={hashing.name}", ".")
+        self.run("init", "--quiet", "--bare", "--template=", *(["--object-format=sha256"] if hashing == SHA256 else []), ".")
 
     def fsck(self) -> List[str]:
-        """Returns what `git fsck --strict` complains of; nothing where the repository is whole."""
+        """Returns what `git fsck --strict` complains of; nothing if the repository is whole."""
         done = self._start(["fsck", "--strict", "--no-dangling", "--no-progress"])
         if not done.returncode:
             return []
@@ -140,7 +141,7 @@ class Git:
                 raise BridgeError(f"git cat-file in {self.folder}: {process.stderr.read().decode(errors='replace').strip()}")
 
     def read(self, ids: Iterable[bytes]) -> Iterator[Tuple[bytes, str, bytes]]:
-        """Returns id, kind and content of these objects, in their order. An object whose bytes have another id is told by a BridgeError."""
+        """Returns id, kind and content of these objects, in their order. A BridgeError names an object whose bytes have another id."""
         with self._process(["cat-file", "--batch", "--buffer"]) as process:
             assert process.stdin and process.stdout
             given, out = process.stdin, process.stdout
@@ -166,7 +167,7 @@ class Git:
                 raise BridgeError(f"git cat-file in {self.folder} ended with status {process.returncode}")
 
     def add(self, count: int, objects: Iterable[Tuple[str, bytes]]) -> None:
-        """Adds so many objects: git tests all of them, and then takes all or none, as one pack, or as files where they are few."""
+        """Adds so many objects: git tests all of them, and then takes all or none, as one pack, or as files if they are few."""
         words = ["unpack-objects", "-q", "--strict"] if count < FEW else ["index-pack", "--stdin", "--strict", "--fix-thin"]
         with self._process(words) as process:
             assert process.stdin and process.stdout and process.stderr
@@ -212,6 +213,6 @@ def entry_head(kind: int, length: int) -> bytes:
 
 
 def symbolic_problems(symbolic: Dict[bytes, bytes]) -> Iterator[Problem]:
-    """Names each name that stands for another one."""
+    """Names each symbolic name."""
     for name, target in sorted(symbolic.items()):
-        yield Problem(shown(name), f"the name stands for another one, {shown(target)}")
+        yield Problem(shown(name), f"the name is symbolic, for {shown(target)}")

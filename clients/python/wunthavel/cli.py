@@ -28,8 +28,8 @@ wunthavel keeps the history of a folder.
 
   wunthavel init                      begins a history here
   wunthavel save 'First pages'        saves what changed
-  wunthavel diff-names                tells what changed since
-  wunthavel log -n 5 notes            tells who changed something in notes
+  wunthavel diff-names                lists what changed since
+  wunthavel log -n 5 notes            lists who changed something in notes
   wunthavel restore HEAD notes/page   brings back a file as it was saved
 """
 
@@ -46,7 +46,7 @@ class Output:
             reconfigure(errors="surrogateescape")
 
     def paint(self, colour: str, what: str) -> str:
-        """Returns the text in a colour, where colours are shown."""
+        """Returns the text in a colour, if colours are shown."""
         return f"\x1b[{COLOURS[colour]}m{what}\x1b[0m" if self._colours and what else what
 
     def say(self, what: str) -> None:
@@ -55,7 +55,7 @@ class Output:
             print(what)
 
     def tell(self, value: Any) -> None:
-        """Writes a value as a line of JSON, where that is asked."""
+        """Writes a value as a line of JSON, if that is wanted."""
         if self.as_json:
             print(json.dumps(value))
 
@@ -81,7 +81,7 @@ def plain_change(change: Change) -> Dict[str, Any]:
 
 
 def when(commit: Commit, form: str = "%Y-%m-%d %H:%M") -> str:
-    """Returns when a commit was made, or the bare seconds where that is no date."""
+    """Returns when a commit was made, or the bare seconds if that is no date."""
     try:
         return commit.author.when.strftime(form)
     except (ValueError, OverflowError):
@@ -117,7 +117,7 @@ class Session:
         self.repo = Repo(self.tree.store, sha256=self.tree.sha256)
 
     def tip(self) -> Optional[str]:
-        """The commit that HEAD's branch is at, or `None` where it has none yet."""
+        """The commit that HEAD's branch is at, or `None` if it has none yet."""
         return self.repo.resolve("HEAD")
 
     def saved(self, word: Optional[str]) -> List[File]:
@@ -156,23 +156,24 @@ def save(at: Session) -> int:
         at.out.say("nothing has changed")
         at.out.tell({"commit": None, "changes": []})
         return 0
-    edits = []
+    # What goes goes first, so that a folder can come to where a file was.
+    edits = [protocol.remove(it.path) for it in found if it.new is None]
     with Progress("saving", len(found)) as bar:
-        # What goes goes first, so that a folder can come to where a file was.
-        for it in found:
-            if it.new is None:
-                edits.append(protocol.remove(it.path))
-        for it in bar.each(found):
-            if it.new is not None:
-                if here[it.path].size > LARGEST:
-                    raise WorkError(f"{shown(it.path)} isn't saved: a file has {LARGEST:,} bytes at most ({IGNORED} can name it)")
-                edits.append(protocol.put(it.path, at.tree.read(here[it.path]), it.new.kind))
+        edits += [_put(at, here[it.path], it.new) for it in bar.each(found) if it.new is not None]
         who = author(at.asked.author)
         id = at.repo.run(protocol.commit("HEAD", at.asked.message, who, edits=edits, expect=NEW if tip is None else tip))
     at.out.say(f"{at.out.paint('yellow', id[:10])} {shown(at.asked.message.splitlines()[0])}")
     _say_changes(at.out, found)
     at.out.tell({"commit": id, "changes": [plain_change(it) for it in found]})
     return 0
+
+
+def _put(at: Session, here: Here, file: File) -> bytes:
+    """Returns the edit that saves a file."""
+    refuse_path(here.path, "saved")
+    if here.size > LARGEST:
+        raise WorkError(f"{shown(here.path)} isn't saved: a file has {LARGEST:,} bytes at most ({IGNORED} can name it)")
+    return protocol.put(here.path, at.tree.read(here), file.kind)
 
 
 def _say_changes(out: Output, found: Iterable[Change]) -> None:
@@ -191,7 +192,7 @@ def _labels(names: Names) -> Dict[str, List[str]]:
 
 
 def log(at: Session) -> int:
-    """Tells the commits, newest first."""
+    """Lists the commits, newest first."""
     labels = _labels(at.repo.names()) if not at.out.as_json else {}
     paths = [at.tree.path_of(it) for it in at.asked.paths]
     for it in at.repo.log([one for one in paths if one], at.asked.number, words=at.asked.word):
@@ -203,7 +204,7 @@ def log(at: Session) -> int:
 
 
 def show(at: Session) -> int:
-    """Tells a commit, and what it changed."""
+    """Shows a commit, and what it changed."""
     commit = at.repo.show(at.asked.word)
     found = list(at.repo.changed_by(commit.id))
     at.out.tell({**plain(commit), "changes": [plain_change(it) for it in found]})
@@ -219,7 +220,7 @@ def show(at: Session) -> int:
 
 
 def diff_names(at: Session) -> int:
-    """Tells the paths at which a commit differs from the files here, or two commits do."""
+    """Lists the paths at which a commit differs from the files here, or two commits do."""
     asked = at.asked
     old = at.saved(asked.old or at.tip())
     new = at.present()[0] if asked.new is None else at.saved(asked.new)
@@ -292,7 +293,7 @@ def _restore(at: Session, saved: Dict[str, File], wanted: Dict[str, File], force
 
 
 def _refuse_loss(at: Session, files: List[File], saved: Dict[str, File], force: bool) -> None:
-    """Refuses where a content is in no commit: an id that means no stored object is an unknown word."""
+    """Refuses if a content is in no commit: an id that means no stored object is an unknown word."""
     if not force:
         asked = [it for it in files if it != saved.get(it.path)]
         replies = at.repo.results(protocol.show(it.id) for it in asked)
@@ -363,7 +364,7 @@ def tag(at: Session) -> int:
 
 
 def blame(at: Session) -> int:
-    """Tells of each line of a file which commit it is from."""
+    """Shows for each line of a file which commit it is from."""
     for it in at.repo.blame(at.tree.path_of(at.asked.path), at.asked.word):
         line = text(it.data.rstrip(b"\n"))
         at.out.tell({"number": it.number, "commit": it.commit.id, "author": vars(it.commit.author), "line": line})
@@ -373,7 +374,7 @@ def blame(at: Session) -> int:
 
 
 def verify(asked: argparse.Namespace, out: Output) -> int:
-    """Reads all of the history, and tells whether it is whole."""
+    """Reads all of the history, and reports whether it is whole."""
     return _act("check", "whole", asked, out)
 
 
@@ -398,8 +399,11 @@ def _parser() -> argparse.ArgumentParser:
     parser = argparse.ArgumentParser("wunthavel", description=ABOUT, parents=[common], formatter_class=argparse.RawDescriptionHelpFormatter)
     parser.add_argument("--version", action="version", version=f"wunthavel {importlib.import_module('wunthavel').__version__}")
     parser.add_argument("-C", dest="directory", metavar="DIR", help="work as if started in this directory")
-    commands = parser.add_subparsers(dest="command", metavar="COMMAND")
+    _add_commands(parser.add_subparsers(dest="command", metavar="COMMAND"), common)
+    return parser
 
+
+def _add_commands(commands: Any, common: argparse.ArgumentParser) -> None:
     def add(name: str, does: Callable[..., int], example: str, *arguments: Tuple[Sequence[str], Dict[str, Any]]) -> None:
         about = (does.__doc__ or "").strip()
         it = commands.add_parser(name, help=about, description=about, epilog=f"example: {example}", parents=[common])
@@ -436,7 +440,6 @@ def _parser() -> argparse.ArgumentParser:
     add("recover", recover, "wunthavel recover")
     for name_apart, module in APART.items():
         commands.add_parser(name_apart, help=f"see wunthavel {name_apart} --help", add_help=False)
-    return parser
 
 
 def _count(word: str) -> int:
@@ -447,7 +450,7 @@ def _count(word: str) -> int:
 
 
 def main(argv: Optional[Sequence[str]] = None) -> int:
-    """Does what the words say, and returns the exit status: 0, 1 where it can't be done, 2 where the words are none."""
+    """Does what the words say, and returns the exit status: 0, 1 if it can't be done, 2 if the words are none."""
     words = list(sys.argv[1:] if argv is None else argv)
     at = 0
     while at < len(words) and words[at] in ("--json", "-C"):

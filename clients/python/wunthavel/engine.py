@@ -25,7 +25,7 @@ UNSENT = 1 << 20
 PIPE = 1 << 20
 # So many commands are written together.
 TOGETHER = 64
-# What recover mends, where a folder is refused for it.
+# What recover mends, if a folder is refused for it.
 STOPPED = ("Unfinished", "LogWithoutName", "BadLog")
 
 
@@ -263,16 +263,17 @@ class Engine:
 
     @contextlib.contextmanager
     def _in_step(self) -> Any:
-        """Ends the engine where a reply can't be read, or reading one is interrupted, since what comes then belongs to nothing."""
+        """Ends the engine if a reply can't be read, or reading one is interrupted, since what comes then belongs to nothing."""
         try:
             yield
-        except KeyboardInterrupt:
-            if self._busy:
-                self._end("the engine was interrupted", kill=True)
-            raise
         except (ProtocolError, ValueError, IndexError) as error:
             self._end(f"the reply can't be read ({error})", kill=True)
             raise self._over if self._over is not None else error from error
+        except BaseException:
+            # What a signal's handler raises, and most of all a keyboard's interruption.
+            if self._busy:
+                self._end("the engine was interrupted", kill=True)
+            raise
 
     def _write(self) -> None:
         """Writes what the pipe takes."""
@@ -342,7 +343,7 @@ class Engine:
             self._busy = False
 
     def _part(self, need: Need) -> Any:
-        """Returns the next line, the next field of so many bytes, or the next rows; `None` where it isn't there whole."""
+        """Returns the next line, the next field of so many bytes, or the next rows; `None` if it isn't there whole."""
         if isinstance(need, Rows):
             found, at = rows(self._read, self._at, need)
             self._pass(at)
@@ -372,7 +373,7 @@ class Engine:
         self._searched = self._at
 
     def _end(self, why: str, kill: bool = False) -> None:
-        """Ends the process and tells all commands that wait."""
+        """Ends the process, and fails all commands that wait."""
         if self._over is not None:
             return
         if kill:

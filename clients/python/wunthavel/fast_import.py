@@ -1,8 +1,8 @@
 """`wunthavel fast-import FOLDER`: makes the commits and tags of a `git fast-export` stream by the engine's commands, and compares their ids.
 
 The stream is best made with ids, which `--from REPO` does: then commands are sent ahead, what the folder has already is not made again, and the
-first commit or tag whose id isn't the original's ends the import. Each commit is made on the name that the stream says: where that name is
-elsewhere it is moved first, and where a commit without parents comes to a name that exists, it is made under a name of its own.
+first commit or tag whose id isn't the original's ends the import. Each commit is made on the name that the stream says: if that name is
+elsewhere it is moved first, and if a commit without parents comes to a name that exists, it is made under a name of its own.
 """
 import argparse
 import contextlib
@@ -109,7 +109,7 @@ class Stream:
             if len(content) != int(line[5:]):
                 raise StreamError("the stream ends inside data")
         else:
-            raise StreamError(f"'{shown(line[:80])}' where data belongs (line {self.number} of those outside data)")
+            raise StreamError(f"'{shown(line[:80])}' in the place of data (line {self.number} of those outside data)")
         end = self.line()
         if end != b"":
             self.give_back(end)
@@ -155,7 +155,7 @@ class FastImport:
     def __init__(self, repo: Repo, stream: Stream, new_ids: bool = False, bar: Optional[Progress] = None) -> None:
         self.repo, self.stream, self.new_ids, self.bar = repo, stream, new_ids, bar
         self._ahead: Deque[Tuple["Pending[Any]", str, Optional[Callable[[Any], None]]]] = deque()
-        # What a mark stands for: the id of a commit, or, of tags, None; and where a file's content lies in the room.
+        # What a mark means: a commit's id, a tag's name, or the place of a file's content in the room.
         self._ids: Dict[bytes, str] = {}
         self._tags: Dict[bytes, bytes] = {}
         self._blobs: Dict[bytes, Tuple[int, int]] = {}
@@ -196,7 +196,7 @@ class FastImport:
         elif word == b"checkpoint":
             self._settle()
         elif word == b"feature" and rest.split(b"=")[0] not in (b"done", b"date-format", b"force", b"notes", b"relative-marks", b"no-relative-marks"):
-            raise StreamError(f"the stream asks for the feature {shown(rest)}")
+            raise StreamError(f"the stream needs the feature {shown(rest)}")
         elif word not in (b"", b"progress", b"feature", b"option"):
             raise StreamError(f"'{shown(line[:80])}' is no command of an export (line {self.stream.number} of those outside data)")
 
@@ -341,7 +341,7 @@ class FastImport:
             raise StreamError(f"{title}: the stream has no {shown(word)} before it")
         name = self._full(word)
         id = self._said.get(name, self._now.get(name))
-        if id is None and not re.fullmatch(rb"[0-9a-f]{40}([0-9a-f]{24})?", word):
+        if not id and not re.fullmatch(rb"[0-9a-f]{40}([0-9a-f]{24})?", word):
             raise StreamError(f"{title}: {shown(word)} is no commit")
         return id or word.decode()
 
@@ -349,7 +349,7 @@ class FastImport:
         title = f"commit {it.title}"
         parents = [self._commit_of(word, title) for word in it.parents]
         current = self._said.get(it.name, self._now.get(it.name))
-        if not it.has_from and current is not None:
+        if not it.has_from and current:
             # A commit without `from` follows what its name holds; exports reset the name before a root.
             parents.insert(0, current)
         assert it.committer is not None
@@ -427,7 +427,7 @@ class FastImport:
         self.count["names"] += len(names)
 
     def _settle(self) -> None:
-        """Moves each name to where the stream says that it is."""
+        """Moves each name to the commit that the stream says."""
         for name, id in sorted(self._said.items()):
             if id == "" and name in self._now:
                 self._send(protocol.delete(name), f"the end of {shown(name)}")
@@ -496,7 +496,7 @@ class FastImport:
 
 
 def fast_import(folder: str, source: IO[bytes], sha256: bool = False, new_ids: bool = False, head: str = "", engine: Optional[str] = None, bar: Optional[Progress] = None) -> Dict[str, Any]:
-    """Imports a stream into a folder, which is made where there is none, and returns a summary."""
+    """Imports a stream into a folder, which is made if there is none, and returns a summary."""
     if not os.path.exists(os.path.join(folder, "HEAD")):
         os.makedirs(folder, exist_ok=True)
         act("create", folder, sha256, engine)
@@ -517,10 +517,10 @@ def _words() -> argparse.ArgumentParser:
     text = "Makes the commits and tags of a git fast-export stream, and compares their ids with the original ones."
     example = "example:\n  git " + " ".join(EXPORT) + " | wunthavel fast-import store\n  wunthavel fast-import store --from project/.git"
     parser = argparse.ArgumentParser(prog="wunthavel fast-import", description=text, epilog=example, formatter_class=argparse.RawDescriptionHelpFormatter)
-    parser.add_argument("folder", metavar="FOLDER", help="the history's folder, which is made where there is none")
+    parser.add_argument("folder", metavar="FOLDER", help="the history's folder, which is made if there is none")
     parser.add_argument("--from", dest="source", metavar="REPO", help="export this git repository, in place of reading standard input")
-    parser.add_argument("--head", metavar="BRANCH", default="", help="the branch that HEAD is to name, as refs/heads/main; a stream doesn't tell")
-    parser.add_argument("--new-ids", action="store_true", help="go on where an id isn't the original one, and list both")
+    parser.add_argument("--head", metavar="BRANCH", default="", help="the branch that HEAD is to name, as refs/heads/main; a stream doesn't say")
+    parser.add_argument("--new-ids", action="store_true", help="go on after an id that isn't the original one, and list both")
     parser.add_argument("--sha256", action="store_true", help="the ids are of SHA-256, and not of SHA-1")
     parser.add_argument("--engine", metavar="PROGRAM", help="the engine (else WUNTHAVEL_ENGINE, or wunthavel-history on PATH)")
     parser.add_argument("--json", action="store_true", help="a summary as JSON on standard output")

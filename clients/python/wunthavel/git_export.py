@@ -180,7 +180,7 @@ def git_export(
         return {**work.summary(missing, now), "fsck": "whole", "check": "whole"}
 
 
-TEXT = """Gives a history's objects, names and logs to a bare git repository, which is made where there is none. Ids stay.
+TEXT = """Gives a history's objects, names and logs to a bare git repository, which is made if there is none. Ids stay.
 What git can't hold is named with its object, and then nothing is written. Given again, it adds what is new."""
 
 

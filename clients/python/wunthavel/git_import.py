@@ -122,7 +122,7 @@ class Import:
         self.problems.append(Problem(f"{self.kinds[id][0]} {id.hex()}", why + by))
 
     def _holders(self, id: bytes) -> str:
-        """Says so where no name reaches the object: such ones can be left out."""
+        """Says so if no name reaches the object: such ones can be left out."""
         if not hasattr(self, "_reached"):
             self._reached = reached(self._tips(), self.links.get)
         return "" if id in self._reached else " (no name and no log reaches it: --skip-refs with any pattern leaves such objects out)"
@@ -223,7 +223,7 @@ def git_import(
     return {**work.summary(missing, now), **end}
 
 
-TEXT = """Brings a git repository's objects, names and logs into a history's folder, which is made where there is none. Ids stay.
+TEXT = """Brings a git repository's objects, names and logs into a history's folder, which is made if there is none. Ids stay.
 What a history can't hold is named with its object, and then nothing is written. Given again, it brings what is new."""
 
 

@@ -72,7 +72,7 @@ def read_commits(repo: Repo, limit: Optional[int]) -> List[Commit]:
 
 
 def in_order(commits: Dict[str, Commit]) -> List[Commit]:
-    """Returns the commits so that each is before its parents, and newest first where that leaves a choice."""
+    """Returns the commits so that each is before its parents, and newest first if that leaves a choice."""
     children = dict.fromkeys(commits, 0)
     for commit in commits.values():
         for it in commit.parents:
@@ -94,7 +94,7 @@ def lay_out(commits: Sequence[Commit], head: Optional[str] = None) -> Tuple[List
     """Returns the column of each row, and the edges: of each its child's row and column, its parent's row and column.
 
     A column waits for one parent at a time, and children of the same parent share it: an edge goes over to its parent's column right below the
-    child, and then straight down. A parent that isn't shown is in a row behind the last one. The first column is kept for the commit that HEAD is at.
+    child, and then straight down. A parent that isn't shown is in a row after the last one. The first column is kept for the commit that HEAD is at.
     """
     rows = {it.id: row for row, it in enumerate(commits)}
     waiting: List[Optional[str]] = [head] if head in rows else []
@@ -196,7 +196,7 @@ def main(argv: Sequence[str]) -> int:
     parser.add_argument("out", metavar="OUT", help="the folder that the pages are written to")
     parser.add_argument("--limit", type=int, metavar="N", help="show the newest N commits alone")
     parser.add_argument("--title", help="the page's title")
-    parser.add_argument("--json", action="store_true", help="tell what was written as JSON")
+    parser.add_argument("--json", action="store_true", help="report what was written as JSON")
     asked = parser.parse_args(argv)
     own = os.path.join(asked.folder, OWN, "store")
     folder = own if os.path.isdir(own) else asked.folder

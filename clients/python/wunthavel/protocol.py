@@ -45,10 +45,10 @@ def raw(value: Text) -> bytes:
 
 # What each cause of a refusal says, in a few words for a person.
 CAUSES: Dict[str, str] = {
-    "Syntax": "a line isn't one that may stand there",
+    "Syntax": "a line isn't one that is allowed there",
     "Truncated": "the input ended inside a command",
     "LineTooLong": "a line has over 4,096 bytes",
-    "BadName": "this isn't a name that may stand here",
+    "BadName": "this isn't a name that is allowed here",
     "PrivateName": "the name is private to one working tree",
     "NameTwice": "one name is given twice",
     "UnknownWord": "no name and no object's id is meant by this word",
@@ -169,7 +169,7 @@ class Actor:
 
     @property
     def when(self) -> datetime:
-        """The time with its offset. A `ValueError` or `OverflowError` where `datetime` can't hold it."""
+        """The time with its offset. A `ValueError` or `OverflowError` if `datetime` can't hold it."""
         minutes = int(self.offset[1:3]) * 60 + int(self.offset[3:5])
         if self.offset[0] == "-":
             minutes = -minutes
@@ -182,7 +182,7 @@ class Actor:
 
 @dataclass(frozen=True)
 class Commit:
-    """A commit, as `show` tells it."""
+    """A commit, as `show` returns it."""
 
     id: str
     tree: str
@@ -199,7 +199,7 @@ class Commit:
 
 @dataclass(frozen=True)
 class Content:
-    """A file's content, as `show` tells it: its kind (`"file"`, `"exec"` or `"link"`), its id, its bytes."""
+    """A file's content, as `show` returns it: its kind (`"file"`, `"exec"` or `"link"`), its id, its bytes."""
 
     kind: str
     id: str
@@ -251,7 +251,7 @@ class Names(Sequence[Name]):
 
 @dataclass(frozen=True)
 class LogEntry:
-    """A move of a name, as its log has it: the id before (`None` where the name was made) and after, who moved it, and the title."""
+    """A move of a name, as its log has it: the id before (`None` if the name was made) and after, who moved it, and the title."""
 
     before: Optional[str]
     after: str
@@ -417,7 +417,7 @@ def remove(path: Text) -> bytes:
 
 
 def remove_file(path: Text) -> bytes:
-    """An edit of a commit: what is at the path goes, and it is refused where something is below it."""
+    """An edit of a commit: what is at the path goes, and it is refused if something is below it."""
     where = raw(path)
     return b"remove-file %d\n%s\n" % (len(where), where)
 
@@ -588,12 +588,12 @@ def files(word: Text) -> Command[List[File]]:
 
 
 def show(word: Text) -> Command[Commit]:
-    """Tells the word's commit."""
+    """Shows the word's commit."""
     return Command("show", b"show %s\n" % _commit_word(word), _commit)
 
 
 def content(word: Text, path: Text) -> Command[Content]:
-    """Tells the content at a path of the word's commit."""
+    """Shows the content at a path of the word's commit."""
     where = raw(path)
     return Command("show", b"show %s path %d\n%s\n" % (_commit_word(word), len(where), where), _content, about=repr(text(where))[:200])
 

@@ -85,7 +85,7 @@ class CommitBuilder:
         return self
 
     def remove_file(self, path: Text) -> "CommitBuilder":
-        """The file at the path goes, if one is there; `Refused` (`IsFolder`) where the path is a folder."""
+        """The file at the path goes, if one is there; `Refused` (`IsFolder`) if the path is a folder."""
         self._edits.append(protocol.remove_file(path))
         return self
 
@@ -114,9 +114,9 @@ class CommitBuilder:
 class Repo:
     """An open repository. It is a context manager, and may be used by several threads, which take turns.
 
-    `sha256` says that its ids are of SHA-256; by default the ids of its objects tell. `actor` is who makes commits where nobody is named: an
+    `sha256` says that its ids are of SHA-256; by default the ids of its objects say. `actor` is who makes commits if nobody is named: an
     `Actor`, or a text `"Name <email>"` with the time of each call. `recover` recovers a folder that a stopped run left unfinished, which is else
-    refused by `Unfinished`. `wait` is how many seconds to wait for another process that works in the folder, which is then told by `Busy`. `timeout` is
+    refused by `Unfinished`. `wait` is how many seconds to wait for another process that works in the folder, before `Busy` is raised. `timeout` is
     how many seconds the engine may be silent; then it is ended. `engine` is its program (see `find_engine`).
     """
 
@@ -154,7 +154,7 @@ class Repo:
 
     @classmethod
     def check(cls, folder: Folder, *, sha256: Optional[bool] = None, engine: Optional[str] = None) -> None:
-        """Reads all of a repository: returns where it is whole, or raises `Refused` with the cause and the file or object."""
+        """Reads all of a repository: returns if it is whole, or raises `Refused` with the cause and the file or object."""
         act("check", folder, is_sha256(folder) if sha256 is None else sha256, engine)
 
     @classmethod
@@ -163,7 +163,7 @@ class Repo:
         act("recover", folder, is_sha256(folder) if sha256 is None else sha256, engine)
 
     def _open(self, recover: bool) -> Engine:
-        """Starts the engine; where another process works in the folder, again and again until it doesn't, and where it is to be recovered, once more."""
+        """Starts the engine; if another process works in the folder, again and again until it doesn't, and if it is to be recovered, once more."""
         until, pause = time.monotonic() + self._wait, 0.01
         while True:
             try:
@@ -234,7 +234,7 @@ class Repo:
 
     def batch(self, commands: Iterable[Command[T]], *, window: int = WINDOW) -> Iterator[T]:
         """Sends many commands, and gives their replies in order. Commands are taken from the iterable as it goes on, so that neither they nor the
-        replies are ever held as a whole, and nothing is sent before the first reply is asked for. A refusal is raised in its turn; up to `window`
+        replies are ever held as a whole, and nothing is sent before the first reply is wanted. A refusal is raised in its turn; up to `window`
         later commands may have been done then, as if they were sent by hand. `results` gives errors as values.
 
         >>> ids = list(repo.batch(protocol.show(it) for it in words))            # doctest: +SKIP
@@ -283,7 +283,7 @@ class Repo:
     ) -> CommitBuilder:
         """Begins a commit on a name, by default HEAD's branch. Its files are those of the commit that the name holds, changed by the builder's edits.
 
-        `expect` is compared as the commit is made, and nothing is changed where it isn't met: a commit's word, at which the name must be
+        `expect` is compared as the commit is made, and nothing is changed if it isn't met: a commit's word, at which the name must be
         (`Refused` `NotExpected`, or `NoSuchName`), or `NEW` (`Refused` `Taken`).
 
         >>> repo.commit("Greet", expect=seen).put("README", b"Hello.").run()    # doctest: +SKIP
@@ -345,7 +345,7 @@ class Repo:
         return self.run(protocol.names("refs/wunthavel/none")).head
 
     def resolve(self, word: Text = "HEAD") -> Optional[str]:
-        """Returns the id of the word's commit, or `None` where there is none (`UnknownWord`, `UnbornHead`)."""
+        """Returns the id of the word's commit, or `None` if there is none (`UnknownWord`, `UnbornHead`)."""
         try:
             return self.show(word).id
         except Refused as error:
@@ -368,7 +368,7 @@ class Repo:
     def show(self, word: Text, path: Text) -> Content: ...
 
     def show(self, word: Text = "HEAD", path: Optional[Text] = None) -> Union[Commit, Content]:
-        """Tells the word's commit, or the content at a path of it."""
+        """Shows the word's commit, or the content at a path of it."""
         return self.run(protocol.show(word)) if path is None else self.run(protocol.content(word, path))
 
     def read(self, path: Text, word: Text = "HEAD") -> bytes:
@@ -419,7 +419,7 @@ class Repo:
     # On the client's side.
 
     def list(self, folder: Text = b"", word: Text = "HEAD") -> List[Entry]:
-        """Lists what a folder of the word's commit has, its files and folders, by their names. `Refused` (`NoSuchPath`) where there is none."""
+        """Lists what a folder of the word's commit has, its files and folders, by their names. `Refused` (`NoSuchPath`) if there is none."""
         before = text(raw(folder).strip(b"/"))
         if before:
             before += "/"
@@ -446,7 +446,7 @@ class Repo:
         return self.diff_names(commit.parents[0] if commit.parents else None, commit.id)
 
     def blame(self, path: Text, word: Text = "HEAD") -> List[Line]:
-        """Tells of each line of a file which commit it is from, through merges, under this path alone."""
+        """Returns for each line of a file which commit it is from, through merges, under this path alone."""
         return _Blame(self, path).lines(word)
 
 
@@ -473,7 +473,7 @@ class _Blame:
         data = self.repo.show(word, self.path).data.splitlines(keepends=True)
         order = self.repo.log_ids(word, paths=[self.path])
         listed = set(order)
-        # Of a commit: which of its lines are which of the asked ones.
+        # Of a commit: which of its lines are which of the wanted ones.
         suspects: Dict[str, Dict[int, int]] = {self._nearest(self.repo.show(word), listed): {at: at for at in range(len(data))}}
         found: Dict[int, Commit] = {}
         for id in order:
@@ -493,7 +493,7 @@ class _Blame:
         return commit.id
 
     def _pass(self, parent: str, content: List[bytes], lines: Dict[int, int], listed: "set[str]", suspects: Dict[str, Dict[int, int]]) -> None:
-        """Passes the lines that the parent has to where it has them from."""
+        """Passes the lines that the parent has to the commit that it has them from."""
         try:
             before = self.repo.show(parent, self.path).data.splitlines(keepends=True)
         except Refused as error:

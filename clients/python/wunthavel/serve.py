@@ -3,7 +3,7 @@
 One thread passes whole commands on, one of each client in turn, and whole replies back. So commands of two clients are never mixed, and a client
 that stalls, floods or dies holds up nobody: what isn't whole waits with its client, and what it doesn't read does too, up to limits and times.
 
-Where the engine ends (a fault, a kill), the folder is recovered and opened again. Then the engine has written the replies of all commands that it
+If the engine ends (a fault, a kill), the folder is recovered and opened again. Then the engine has written the replies of all commands that it
 did but the first one without a reply: whether that one was done isn't known, so if it changes the repository its client's connection is closed
 without a reply; the others are sent again. What was acknowledged is kept. A lock beside the socket goes with the server and its engine, so that a
 new server waits until a killed one's engine has ended; and an engine that finds another process in the folder is started again.
@@ -90,9 +90,9 @@ class Client:
         self.flying = 0
         # About how large its replies are: they are taken for large until they are known.
         self.usual = limits.unread // 4
-        # Set where nothing more is read of it: then a last line follows its replies, and it is closed.
+        # Set once nothing more is read of it: then a last line follows its replies, and it is closed.
         self.last: Optional[bytes] = None
-        # `cut` is set where a reply ended its run: what it sent after that is not done.
+        # `cut` is set once a reply ended its run: what it sent after that is not done.
         self.closed = self.in_turn = self.cut = False
         self.events = selectors.EVENT_READ
         self.heard = self.wrote = time.monotonic()
@@ -153,7 +153,7 @@ class Keeper:
                     raise ServeError(str(error)) from error
                 time.sleep(0.05)
             except EngineError as error:
-                # As where it was killed.
+                # As if it was killed.
                 self._barren += 1
                 if self._barren > TRIES:
                     raise ServeError(f"the folder isn't recovered: {error}") from error
@@ -197,7 +197,7 @@ class Keeper:
         return some
 
     def read(self) -> Optional[List[Tuple[Flight, Whole]]]:
-        """Returns what was replied, to which command; None where the engine has ended."""
+        """Returns what was replied, to which command; None if the engine has ended."""
         try:
             data = os.read(self.taken, PIPE)
         except BlockingIOError:
@@ -398,7 +398,7 @@ class Server:
             self._queue(client)
 
     def _restart(self, kill: bool) -> None:
-        """Has a new engine go on where one ended."""
+        """Has a new engine go on after one that ended."""
         self._unwatch()
         keeper = self.keeper
         said = keeper.end(kill)
@@ -758,9 +758,9 @@ def _words() -> argparse.ArgumentParser:
         value = getattr(default, name)
         flag = "--engine-time" if name == "engine" else "--folder-time" if name == "folder" else f"--{name}"
         parser.add_argument(flag, dest=f"limit_{name}", metavar="N", type=type(value), default=value, help=f"{what} ({value})")
-    parser.add_argument("--sha256", action="store_true", help="the ids are of SHA-256, also where the folder has none yet")
+    parser.add_argument("--sha256", action="store_true", help="the ids are of SHA-256, also if the folder has none yet")
     parser.add_argument("--engine", metavar="PROGRAM", help="the engine (else WUNTHAVEL_ENGINE, or wunthavel-history on PATH)")
-    parser.add_argument("--json", action="store_true", help="say where it listens, and at the end what it did, as lines of JSON on standard output")
+    parser.add_argument("--json", action="store_true", help="say at which places it listens, and at the end what it did, as lines of JSON on standard output")
     parser.add_argument("--quiet", action="store_true", help="say nothing else")
     return parser
 
@@ -809,7 +809,7 @@ def _serve(asked: argparse.Namespace) -> Dict[str, Any]:
 
 
 def _wait_for_opening(keeper: Keeper) -> None:
-    """Waits until the engine has opened the folder, which it recovers where a stop left something."""
+    """Waits until the engine has opened the folder, which it recovers if a stop left something."""
     keeper.send(Flight(None, Whole(b"names refs/wunthavel/none\n", False)))
     with selectors.DefaultSelector() as waiting:
         while keeper.flying:

@@ -1,4 +1,4 @@
-"""Where a command ends, and where its reply does, in streams of docs/PROTOCOL.md. A server passes both on whole, and looks no further into them."""
+"""The ends of commands and of replies in streams of docs/PROTOCOL.md. A server passes both on whole, and looks no further into them."""
 import re
 from typing import Callable, Generator, List, NamedTuple, Optional, TypeVar
 
@@ -153,7 +153,7 @@ def reply() -> Reading[bool]:
 
 
 class Whole(NamedTuple):
-    """A command or a reply: its bytes, None where they were over the limit, and what its reading returned."""
+    """A command or a reply: its bytes, None if they were over the limit, and what its reading returned."""
 
     data: Optional[bytes]
     value: bool

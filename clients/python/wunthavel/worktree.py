@@ -21,13 +21,13 @@ class WorkError(HistoryError):
     """What a person asked can't be done with the files as they are; it says which."""
 
 
-def refuse_path(path: str) -> None:
+def refuse_path(path: str, done: str = "written") -> None:
     """Refuses a path that would lead out of the folder, or into the data of git or of Wunthavel."""
     for part in path.split("/"):
         # The names that some systems take for these two are refused with them.
         plain = part.rstrip(". ").lower()
         if part in ("", ".", "..") or plain in (".git", OWN, "git~1") or "\0" in part or "\\" in part and os.sep == "\\":
-            raise WorkError(f"{ascii(path)} isn't written: a path may not be absolute, and has no part {part!r}")
+            raise WorkError(f"{ascii(path)} isn't {done}: a path may not be absolute, and has no part {part!r}")
 
 
 @dataclass(frozen=True)
@@ -51,7 +51,7 @@ class WorkTree:
 
     @property
     def sha256(self) -> bool:
-        """Whether the ids of this history are of SHA-256, which a store without objects can't tell."""
+        """Whether the ids of this history are of SHA-256, which a store without objects can't say."""
         return os.path.exists(os.path.join(self.folder, OWN, "sha256"))
 
     def mark_sha256(self) -> None:
@@ -75,7 +75,7 @@ class WorkTree:
         return os.path.join(os.fsencode(self.folder), raw(path))
 
     def path_of(self, given: str) -> str:
-        """Returns the path, from the folder on, of what a person named from where they are; the folder itself is an empty one."""
+        """Returns the path, from the folder on, of what a person named from the current directory; the folder itself is an empty one."""
         place = os.path.normpath(os.path.join(os.getcwd(), given))
         path = os.path.relpath(place, self.folder)
         if path == os.pardir or path.startswith(os.pardir + os.sep):
@@ -123,7 +123,7 @@ class WorkTree:
         yield from self._below(raw(path) + b"/", [])
 
     def _look(self, path: str) -> Optional[os.stat_result]:
-        """Tells what is at a path, or `None` where nothing is."""
+        """Returns what is at a path, or `None` if nothing is."""
         try:
             found = os.lstat(self.place(path))
         except (FileNotFoundError, NotADirectoryError):
@@ -218,7 +218,7 @@ class WorkTree:
         refuse_path(path)
         parts = path.split("/")
         if any(os.path.islink(self.place("/".join(parts[:count]))) for count in range(1, len(parts))):
-            raise WorkError(f"{ascii(path)} isn't removed: it lies behind a link")
+            raise WorkError(f"{ascii(path)} isn't removed: it lies beyond a link")
         with contextlib.suppress(FileNotFoundError, NotADirectoryError):
             os.unlink(self.place(path))
         with contextlib.suppress(OSError):
