@@ -6,10 +6,11 @@ NEWER = find crates.txt crates -name out -prune -o -type f -newer $(PROGRAM) -pr
 SHARE = $(DESTDIR)$(PREFIX)/share
 # The engine that is installed, and what the package is named after.
 ENGINE ?= $(PROGRAM)
+UNPROVED := out/unproved/wunthavel-history
 VERSION = $(shell sed -n 's,.*VERSION: &str = "\([^ ]*\) .*,\1,p' crates/history_command_line/src/version.rt)
 
 .PHONY: help test quick wrong-bodies demo folder-demo clients-test bench faults install install-unproved install-files deb \
-	program
+	program unproved
 
 help: ## lists the targets, each with what it takes
 	@sed -n 's/^\([a-z-]*\):[^#]*## \(.*\)$$/\1	\2/p' $(MAKEFILE_LIST) | while IFS='	' read -r name text; do printf '%-17s %s\n' "$$name" "$$text"; done
@@ -42,7 +43,8 @@ demo: ## the program on a stream of several commands: the proved one where it st
 folder-demo: program ## shows the proved program on real folders, against demo/folder.wanted; seconds once it is proved
 	demo/folder $(PROGRAM)
 
-clients-test: ## the tests of clients/python, over the proved program where it stands, else an unproved one; minutes
+clients-test: ## the tests of clients/python, over the proved program if it is built, else over an unproved one, which is built; minutes
+	@[ -x $(PROGRAM) ] || $(MAKE) --no-print-directory unproved
 	clients/python/run-tests
 
 bench: program ## no test: commits per second as the history grows, and one large content; minutes once all is proved
@@ -54,14 +56,16 @@ faults: program ## refuses each growth of memory of the program's own run in tur
 install: program ## proves the program, and puts it as PREFIX/bin/wunthavel-history, with a link history; hours the first time
 	@$(MAKE) --no-print-directory install-files
 
+install-unproved: unproved ## the same of a program that nothing proves, and that says so; minutes
+	@$(MAKE) --no-print-directory install-files ENGINE=$(UNPROVED)
+	@echo 'Nothing of what was installed is proved: make install installs the proved program.'
+
 # It is built of a copy, in which the version says that it isn't proved.
-install-unproved: ## the same of a program that nothing proves, and that says so; minutes
+unproved: ## compiles the program without a proof, as out/unproved/wunthavel-history; minutes
 	@room=$$(mktemp -d) && trap 'rm -rf "$$room"' EXIT && \
 	find crates.txt HANDLES crates scripts -name out -prune -o -type f -print0 | xargs -0 cp --parents -t "$$room" && \
 	sed -i 's/, proved)/, unproved)/' "$$room/crates/history_command_line/src/version.rt" && \
-	"$$room/scripts/unproved-build" out/unproved/wunthavel-history
-	@$(MAKE) --no-print-directory install-files ENGINE=out/unproved/wunthavel-history
-	@echo 'Nothing of what was installed is proved: make install installs the proved program.'
+	"$$room/scripts/unproved-build" $(UNPROVED)
 
 # `history` alone is a builtin of bash, so the program's own name is another.
 install-files:
