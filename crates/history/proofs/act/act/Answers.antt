@@ -13,7 +13,7 @@ use Rattle.history.specs.NameFiles.{LeavesFiles}
 use Rattle.history.proofs.Acted.{idle_stops, idle_later, unchanged_later, unchanged_stops}
 use Rattle.history.proofs.PackedRuns.{stopped_packs}
 use Rattle.history.proofs.RowsKept.{index_leaves, stopped_leaves}
-use Rattle.history.proofs.Counts.{idle_stays}
+use Rattle.history.proofs.Counts.{honest_but_rows, idle_stays}
 use Rattle.history_word.specs.declared.reader.Received.TheVariants as received
 use Rattle.history.proofs.act.act.Goals as goal
 
@@ -156,6 +156,9 @@ returns-in-Index-clause-acts g c = λ r order asked.
     let read = index_read order (read_as _ _ _ order c.in-Command.is arm.is asked.reads) in
     subst (λ o. Acts (MeetsFailedCall g.F.Files.failures g.F.Files.reading_may_fail o c.args.repository.now c.index.new.repository) (Stands g.F.Files.is_honest g.F.Files.history c.index.new.repository) r o c.index.result)
     (sym read) (acts_by_reading g.F.Files.reading_may_fail _ _ r Index c.index.result (λ may. may) refl refl (c.index.ensures.serves r asked.serves) (c.index.ensures.answers r asked.serves))
+
+pub returns-in-Index-clause-honest : goal.returns-in-Index-clause-honest
+returns-in-Index-clause-honest g c = honest_but_rows g.F.Files.is_honest c.args.repository.now c.index.new.repository c.index.ensures.kept
 
 pub returns-in-Index-clause-later : goal.returns-in-Index-clause-later
 returns-in-Index-clause-later g c = λ r order asked. unchanged_later g.F.Files.history g.F.Files.failures c.args.repository.now c.index.new.repository c.index.ensures.kept

@@ -55,3 +55,9 @@ returns-then-is_fault-clause-later g c = λ r order asked. c.act.ensures.later r
 
 pub returns-else-is_changing-clause-later : goal.returns-else-is_changing-clause-later
 returns-else-is_changing-clause-later g c = λ r order asked. c.act.ensures.later r order asked
+
+pub returns-then-is_fault-clause-honest : goal.returns-then-is_fault-clause-honest
+returns-then-is_fault-clause-honest g c = record { objects = c.act.ensures.honest.objects; names = c.act.ensures.honest.names }
+
+pub returns-else-is_changing-clause-honest : goal.returns-else-is_changing-clause-honest
+returns-else-is_changing-clause-honest g c = record { objects = c.act.ensures.honest.objects; names = c.act.ensures.honest.names }

@@ -14,7 +14,7 @@ returns-then-not-has_failed-clause-round g c = λ r honest_objects honest_names 
     (c.run-ended.ensures.later r same.2 (c.in-Ok.ensures.same r honest_objects honest_names whole)) _ _ c.run-ended.result ran.7 ran.8 _ _ ran.5 ran.6
     c.into_parts.result.0 c.into_parts.result.1 c.into_parts.result.0 c.into_parts.result.1 c.into_parts.ensures.objects c.into_parts.ensures.names
     ([], sym (append-nil (trees (F.history c.into_parts.result.0)))) ([], sym (append-nil (trees (F.history c.into_parts.result.1)))) (omega arith) (omega arith)
-    (sym c.has_failed.ensures ∙ c.if-not-has_failed.true) refl
+    (sym c.has_failed-has_failed.ensures ∙ c.if-not-has_failed.true) refl
 
 pub returns-in-Ok-recover-clause-round : goal.returns-in-Ok-recover-clause-round
 returns-in-Ok-recover-clause-round g c = λ r honest_objects honest_names whole.
@@ -42,6 +42,19 @@ returns-in-Err-recover-clause-round g c = λ r honest_objects honest_names whole
       λ told. failed_recovering F.failures F.reading_may_fail c.in-Ok.repository c.run-ended.new.repository c.args.objects c.args.names c.into_parts.result.0 c.into_parts.result.1 c.recover.new.objects c.recover.new.names same.0 same.1
           c.run-ended.ensures.counts c.into_parts.ensures.objects c.into_parts.ensures.names (recovery.failed left.0 left.1 (c.in-Err-recover.is ∙ ap Err told)),
     )
+
+-- ---- where the parts aren't opened
+
+pub returns-in-Err-clause-round : goal.returns-in-Err-clause-round
+returns-in-Err-clause-round g c = λ r honest_objects honest_names whole. c.in-Err.ensures.accepted r honest_objects honest_names whole
+
+pub returns-in-Err-clause-unopened : goal.returns-in-Err-clause-unopened
+returns-in-Err-clause-unopened g c =
+    let back = c.in-Err.ensures.handed_back in
+    (back.0, back.1, refl, refl)
+
+pub returns-in-Err-clause-refused : goal.returns-in-Err-clause-refused
+returns-in-Err-clause-refused g c = c.in-Err.ensures.refused
 
 -- ---- honest parts
 
