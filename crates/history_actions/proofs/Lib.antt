@@ -1,4 +1,5 @@
 pub mod Foreign
 pub mod Looked
+pub mod Noted
 pub mod Opened
 pub mod Writing

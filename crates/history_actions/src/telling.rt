@@ -54,45 +54,19 @@ fn tell_line<E: Sink>(failure: &Failure, errors: &mut E) -> Result<(), Broken>
 fn note_of(kind: Kind, failure: &Failure) -> &'static [u8]
     ensures { result.now ≡ failure_note kind failure.now }
 {
-    match failure {
-        Failure::Unopened(cause) => note_of_cause(kind, cause),
-        Failure::NotEmpty(_)
-        | Failure::File
-        | Failure::Memory
-        | Failure::Read
-        | Failure::Write
-        | Failure::Ended(_) => b"",
-    }
+    let Failure::Unopened(cause) = failure else {
+        return b"";
+    };
+    note_of_cause(kind, cause)
 }
 
 fn note_of_cause(kind: Kind, cause: &OpenError) -> &'static [u8]
     ensures { result.now ≡ cause_note kind cause.now }
 {
-    match cause {
-        OpenError::Stray(path) => note_of_stray(kind, path),
-        OpenError::NoHead
-        | OpenError::BadHead
-        | OpenError::Unfinished(_)
-        | OpenError::BadObject(_)
-        | OpenError::WrongId(_)
-        | OpenError::TooLarge(_)
-        | OpenError::BadTree(_)
-        | OpenError::Missing(..)
-        | OpenError::WrongKind(..)
-        | OpenError::Cycle(_)
-        | OpenError::IdReserved
-        | OpenError::BadName(_)
-        | OpenError::PrivateName(_)
-        | OpenError::Symbolic(_)
-        | OpenError::BadPacked(_)
-        | OpenError::BadPeeled(_)
-        | OpenError::Collides(..)
-        | OpenError::BadLog(..)
-        | OpenError::LongLogLine(..)
-        | OpenError::LogWithoutName(_)
-        | OpenError::File
-        | OpenError::Memory => b"",
-    }
+    let OpenError::Stray(path) = cause else {
+        return b"";
+    };
+    note_of_stray(kind, path)
 }
 
 // What is asked of a stray file that would be an object's of the other hash function.
