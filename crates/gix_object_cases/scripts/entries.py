@@ -7,6 +7,7 @@ sys.path.append(str(Path(__file__).resolve().parents[3] / "scripts"))
 from families import write
 
 LENGTH = {"sha1": 20, "sha256": 32}
+VARIANTS = {"tree": "Tree", "blob": "Blob", "exe": "BlobExecutable", "link": "Link", "commit": "Commit"}
 rows, seen = [], set()
 
 
@@ -112,6 +113,13 @@ def written(kind, entries):
     return f"tree {len(content)} " + hashlib.new(kind, b"tree %d\0" % len(content) + content).hexdigest()
 
 
+def mode_shown(mode):
+    value, kind = mode[0], kind_name(mode[0])
+    tests = [("tree", kind == "tree"), ("no-tree", kind != "tree"), ("commit", kind == "commit"), ("link", kind == "link"), ("file", value >> 12 == 8), ("executable", kind == "exe"), ("file-or-link", value >> 12 == 8 or kind == "link")]
+    text = mode_text(mode).decode()
+    return f"{value} {text} {text} {kind} {VARIANTS[kind]}" + "".join(f" {word}{'+' if passes else '-'}" for word, passes in tests)
+
+
 BAD = {b"badTree", b"treeNotSorted", b"duplicateEntries", b"emptyName", b"fullPathname"}
 
 
@@ -206,6 +214,17 @@ for (a, a_tree), (b, b_tree) in itertools.product(itertools.product(names, (Fals
     row("order", "sha1", [a, b"d" if a_tree else b"", b, b"d" if b_tree else b""], answer)
 for one, other, answer in [(b"", b"", "Equal"), (b"", b"a", "Less"), (b"a", b"", "Greater")]:
     row("order", "sha1", [one, b"", other, b""], answer)
+
+# ---- modes
+numbers = [0, 1, 0o644, 0o40000, 0o40001, 0o47777, 0o50000, 0o77777, 0o100000, 0o100644, 0o100664, 0o100755, 0o100600, 0o100700, 0o107777, 0o110000, 0o120000, 0o120777, 0o130000, 0o140000, 0o160000, 0o160001, 0o177777]
+for number in numbers:
+    for text in ("%o" % number, "0%o" % number, "00%o" % number):
+        for text in (text.encode(), text.encode() + b" name", text.encode() + b" "):
+            mode = read_mode(text.partition(b" ")[0])
+            row("mode", "sha1", [text], f"{mode_shown(mode)}; {mode_shown(mode)}" if mode else "none; back " + shown(text))
+for text in [b"", b" ", b" 100644", b"8", b"1x", b"100644\n", b"-100644", b"+100644", b"200000", b"777777", b"7777777", b"0000000", b"00000000", b"10064\xb4"]:
+    mode = read_mode(text.partition(b" ")[0])
+    row("mode", "sha1", [text], f"{mode_shown(mode)}; {mode_shown(mode)}" if mode else "none; back " + shown(text))
 
 # ---- trees that no content spells
 for kind, length in LENGTH.items():

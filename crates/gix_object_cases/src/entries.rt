@@ -1,5 +1,7 @@
 //! Cases of `gix_object_entries`.
 
+mod modes;
+
 use case_store::Case;
 use case_words::Page;
 use gix_hash::ObjectId;
@@ -15,6 +17,7 @@ pub fn put_answer(alloc: Global, operation: &str, case: &Case, page: &mut Page) 
         "owned" => put_owned(alloc, case, page),
         "made" => put_made(alloc, case, page),
         "order" => put_order(case, page),
+        "mode" => modes::mode(case, page),
         _ => return None,
     }
     Some(())

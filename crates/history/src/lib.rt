@@ -21,7 +21,7 @@ mod tagging;
 
 /// How a store of objects answers: what stands under an id.
 pub mod lookups {
-    pub use gix_object::{Data, Exists, Find, FindHeader, Header, Kind, Lookup, find};
+    pub use gix_object::{Data, Exists, Find, FindHeader, FindInto, Header, Kind, Lookup, find};
 }
 
 /// What a [`Command`] asks: what it is made of, as it is read.

@@ -2,7 +2,7 @@
 
 use case_words::{Page, read_bytes};
 use gix_ref_file::MemoryFiles;
-use history::lookups::{Exists, Find};
+use history::lookups::{Exists, FindInto};
 use history::{Kind, ObjectsFlaw, PutError, Unopened, lookups, open_objects};
 use std::alloc::Global;
 

@@ -82,7 +82,8 @@ pub fn list(
     asked: &str,
     page: &mut Page,
 ) {
-    let prefix: &[u8] = if asked == "-" { b"" } else { asked.as_bytes() };
+    let prefix = if asked == "-" { "" } else { asked };
+    let prefix = prefix.as_bytes();
     match operation {
         "force_refresh_packed_buffer" => page.text(
             match store.force_refresh_packed_buffer(alloc) {
