@@ -15,8 +15,8 @@ use std::fs::{self, OpenFile, OpenOptions};
 use std::io::{self, ErrorKind, Read, Seek, SeekFrom, Write};
 use std::os::unix::fs::MetadataExt;
 
-/// A part of a real folder. What exists at a path is found out by each call anew, and no link at a path is followed: it is neither a file
-/// nor a folder, and a call that meets one fails.
+/// A part of a real folder. What exists at a path is found out by each call anew. A link there is neither a file nor a folder: nothing is
+/// read or written through it, though one at a folder above the path is followed.
 ///
 /// A call answers `Failed` also for a path that isn't UTF-8, and a listing where a name isn't. The root always counts as a folder. Nothing
 /// exists at a path that is too long for the system, so that only changes fail there.
