@@ -41,12 +41,7 @@ fn play(rt: &HostRuntime, root: &str, line: &str) -> io::Result<String> {
 }
 
 // Calls a part, or shows its last failed call.
-fn act(
-    rt: &HostRuntime,
-    part: &mut RealFolder<'_>,
-    call: &str,
-    page: &mut Page,
-) -> Option<()> {
+fn act(rt: &HostRuntime, part: &mut RealFolder<'_>, call: &str, page: &mut Page) -> Option<()> {
     if call != "last" {
         return call_by(rt.alloc(), part, call, page);
     }
