@@ -1,6 +1,7 @@
 -- A `rename` on its way, and what it leaves.
 use Rattle.std.proofs.Common.{◌≡◌, inl, inr, Bool, true, false, not, ◌||◌, [], ◌∷◌, refl, sym, ◌∙◌, ap, subst, None, bytes_eq, codes}
 use Rattle.std.specs.Prelude.{OnOk, Result}
+use Rattle.gix_hash_id.specs.declared.kind.Kind.{Kind}
 use Rattle.gix_ref_file.specs.Tree.{Tree}
 use Rattle.gix_ref_file.specs.History.{History, Adds}
 use Rattle.gix_ref_file.proofs.Histories.{adds_joined, adds_weaker}
