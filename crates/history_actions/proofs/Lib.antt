@@ -1,3 +1,5 @@
+mod Listed
+mod Walked
 pub mod Foreign
 pub mod Looked
 pub mod Noted

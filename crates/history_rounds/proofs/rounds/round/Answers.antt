@@ -40,7 +40,7 @@ returns-in-Err-recover-clause-round g c = λ r honest_objects honest_names whole
           c.into_parts-objects.result.0 c.into_parts-objects.result.1 c.recover.new.objects c.recover.new.names c.into_parts-objects.ensures.objects c.into_parts-objects.ensures.names
           (grown _ _ (recovery.objects_alike left.0)) (grown _ _ (recovery.names_alike left.1)) recovery.objects_later recovery.names_later (recovery.left left.0 left.1),
       λ told. failed_recovering F.failures F.reading_may_fail c.in-Ok.repository c.run-ended.new.repository c.args.objects c.args.names c.into_parts-objects.result.0 c.into_parts-objects.result.1 c.recover.new.objects c.recover.new.names same.0 same.1
-          c.run-ended.ensures.counts c.into_parts-objects.ensures.objects c.into_parts-objects.ensures.names (recovery.failed left.0 left.1 (c.in-Err-recover.is ∙ ap Err told)),
+          c.run-ended.ensures.counts c.into_parts-objects.ensures.objects c.into_parts-objects.ensures.names (recovery.failed left.0 left.1 (ap Err told)),
     )
 
 -- ---- where the parts aren't opened
