@@ -108,9 +108,15 @@ fn at_path(alloc: Global, editor: &mut Editor<Trees>, word: &str, page: &mut Pag
     let call = read_call(word)?;
     let names = read_path(alloc, call.path)?;
     let path = lent(alloc, names.as_slice())?;
-    make_call(alloc, editor, call, path.as_slice(), page)
+    let path = path.as_slice();
+    if call.what == "get" {
+        show_entry(editor.get(path), page);
+        return Some(());
+    }
+    make_call(alloc, editor, call, path, page)
 }
 
+// An edit.
 fn make_call(
     alloc: Global,
     editor: &mut Editor<Trees>,
@@ -119,7 +125,6 @@ fn make_call(
     page: &mut Page,
 ) -> Option<()> {
     match (call.what, call.entry) {
-        ("get", _) => show_entry(editor.get(path), page),
         ("remove", _) => show_done(editor.remove(alloc, path), page),
         ("remove_leaf", _) => show_done(editor.remove_leaf(alloc, path), page),
         ("upsert", Some((kind, id))) => show_done(editor.upsert(alloc, path, kind, id), page),
@@ -142,16 +147,23 @@ fn at_cursor(
     let base = read_path(alloc, base)?;
     let names = read_path(alloc, call.path)?;
     let path = lent(alloc, names.as_slice())?;
+    let path = path.as_slice();
     let folder = lent(alloc, base.as_slice())?;
-    match cursor_of(alloc, kind, editor, folder.as_slice()) {
-        Ok(mut cursor) => make_call_at(alloc, kind, &mut cursor, call, path.as_slice(), page),
+    let mut cursor = match cursor_of(alloc, kind, editor, folder.as_slice()) {
+        Ok(cursor) => cursor,
         Err(error) => {
             show_done(Err(error), page);
-            Some(())
+            return Some(());
         }
+    };
+    if call.what == "get" {
+        show_entry(cursor.get(path), page);
+        return Some(());
     }
+    make_call_at(alloc, kind, &mut cursor, call, path, page)
 }
 
+// An edit below a cursor, or what is written there.
 fn make_call_at(
     alloc: Global,
     kind: Kind,
@@ -161,7 +173,6 @@ fn make_call_at(
     page: &mut Page,
 ) -> Option<()> {
     match (call.what, call.entry) {
-        ("get", _) => show_entry(cursor.get(path), page),
         ("remove", _) => show_done(cursor.remove(alloc, path), page),
         ("remove_leaf", _) => show_done(cursor.remove_leaf(alloc, path), page),
         ("upsert", Some((kind, id))) => show_done(cursor.upsert(alloc, path, kind, id), page),
