@@ -47,7 +47,7 @@ clients-test: ## the tests of clients/python, over the proved program if it is b
 	@[ -x $(PROGRAM) ] || $(MAKE) --no-print-directory unproved
 	clients/python/run-tests
 
-bench: program ## no test: commits per second as the history grows, and one large content; minutes once all is proved
+bench: program ## no test: the program's workloads on real folders beside git's, with ratios; SIZE=small for a quick one; minutes once all is proved
 	bench/report $(PROGRAM)
 
 faults: program ## refuses each growth of memory of the program's own run in turn; minutes, and a C compiler
