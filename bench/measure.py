@@ -1,4 +1,5 @@
 """Runs ways to do a workload on folders of their own, and keeps the least of three runs' processor time."""
+import functools
 import os
 import shutil
 import subprocess
@@ -44,7 +45,7 @@ class Way:
 @dataclass
 class Workload:
     name: str
-    size: str
+    size: int
     ours: Way
     peers: List[Way] = field(default_factory=list)
 
@@ -57,17 +58,21 @@ class Room:
         self._held = tempfile.TemporaryDirectory(prefix="bench-", dir=place)
         self.path = Path(self._held.name)
         self._bases = {}
-        if not self.compiled("spent"):
-            raise Wrong("there is no C compiler")
 
     def close(self):
         self._held.cleanup()
 
     def compiled(self, name, *flags):
-        """A program of bench/, or None if it can't be compiled here."""
+        """A program of bench/, compiled."""
         command = ["cc", "-O2", "-o", self.path / name, HERE / f"{name}.c", *flags]
-        done = subprocess.run(command, stdout=subprocess.DEVNULL, stderr=subprocess.DEVNULL)
-        return str(self.path / name) if done.returncode == 0 else None
+        if subprocess.run(command, stdout=subprocess.DEVNULL, stderr=subprocess.DEVNULL).returncode:
+            raise Wrong(f"not compiled: {' '.join(map(str, command))}")
+        return str(self.path / name)
+
+    @functools.cached_property
+    def spent(self):
+        """The program that measures."""
+        return self.compiled("spent")
 
     def copy(self, start):
         """A folder for a run: a copy of `start`, or empty."""
@@ -83,7 +88,7 @@ class Room:
         """Runs a command so often, and returns what it left and took."""
         stream, output, told = self.path / "given", self.path / "output", self.path / "told"
         stream.write_bytes(given)
-        words = [str(self.path / "spent"), str(times), *(word.replace("FOLDER", str(folder)) for word in command)]
+        words = [self.spent, str(times), *(word.replace("FOLDER", str(folder)) for word in command)]
         script = 'told=$1; shift; exec "$@" 3> "$told"'
         with stream.open("rb") as reader, output.open("wb") as writer:
             subprocess.run(["sh", "-c", script, "sh", told, *words], stdin=reader, stdout=writer, cwd=folder, env=ENVIRONMENT, check=True)

@@ -84,7 +84,10 @@ class Others:
 
     def __init__(self, room):
         self.bare = room.compiled("bare", "-lcrypto")
-        self.libgit2 = room.compiled("libgit2", "-lgit2")
+        try:
+            self.libgit2 = room.compiled("libgit2", "-lgit2")
+        except Wrong:
+            self.libgit2 = None
 
     def bare_way(self, action, start, says, given):
         return Way(f"bare {action}", [self.bare, action, "FOLDER"], says, given, start)
