@@ -18,12 +18,12 @@ use Rattle.history_model.specs.Answers.{counted, generation, row_of, rows_of}
 use Rattle.history_model.specs.Objects.{CommitValue, folder_id}
 use Rattle.history_model.specs.Repository.{Repository, commit_at}
 use Rattle.history_model.proofs.WholeLists.{In, in_map, of_map}
-use Rattle.history_rows.specs.Rows.{AreTheRows, SaysRow}
-use Rattle.history_rows.specs.Telling.{AreAllTold, AreInOrder, IsTold, TellsStored}
-use Rattle.history_rows.specs.declared.told.Told.{Told}
-use Rattle.history_rows.proofs.Members.{AreApart, contains_from_in, in_from_contains, no_longer}
-use Rattle.history_rows.proofs.Generations.{attained, below_greatest, bounded, map_same, one_more, told_parents}
-use Rattle.history_rows.proofs.Counted.{counted_apart, counted_told, fewer, in_counted, same_object, stored_in}
+use Rattle.history_walks.specs.Rows.{AreTheRows, SaysRow}
+use Rattle.history_walks.specs.Telling.{AreAllTold, AreInOrder, IsTold, TellsStored}
+use Rattle.history_walks.specs.declared.told.Told.{Told}
+use Rattle.history_walks.proofs.Members.{AreApart, contains_from_in, in_from_contains, no_longer}
+use Rattle.history_walks.proofs.Generations.{attained, below_greatest, bounded, map_same, one_more, told_parents}
+use Rattle.history_walks.proofs.Counted.{counted_apart, counted_told, fewer, in_counted, same_object, stored_in}
 
 -- the row of what is told, with its generation
 pub record IsRowOf (r : Repository) (row : Row) (told : Told) : Type 0 where

@@ -13,9 +13,9 @@ use Rattle.history_model.specs.Answers.{counted, generation, is_counted}
 use Rattle.history_model.specs.Objects.{CommitValue, Value, by_id}
 use Rattle.history_model.specs.Repository.{Repository, HoldsCommit, as_commit, commit_at}
 use Rattle.history_model.proofs.WholeLists.{In, clash, in_map, of_map}
-use Rattle.history_rows.specs.Telling.{AreAllTold, AreInOrder, IsTold, TellsStored}
-use Rattle.history_rows.specs.declared.told.Told.{Told}
-use Rattle.history_rows.proofs.Members.{AreApart, contains_from_in, filter_apart, in_filter, in_from_contains, in_keys, keys_apart, no_longer, of_filter}
+use Rattle.history_walks.specs.Telling.{AreAllTold, AreInOrder, IsTold, TellsStored}
+use Rattle.history_walks.specs.declared.told.Told.{Told}
+use Rattle.history_walks.proofs.Members.{AreApart, contains_from_in, filter_apart, in_filter, in_from_contains, in_keys, keys_apart, no_longer, of_filter}
 
 pub same_object : (a b : ObjectId) → id_of a ≡ id_of b → a ≡ b
 same_object a b same = sym (object_id_of-id_of a) ∙ ap object_id_of same ∙ object_id_of-id_of b

@@ -1,9 +1,9 @@
 use Rattle.std.proofs.Common.{◌≡◌, List, ◌++◌, length}
 use Rattle.history_model.specs.Repository.{Repository}
-use Rattle.history_rows.specs.Telling.{AreAllTold}
-use Rattle.history_rows.specs.declared.told.Told.{Told}
-use Rattle.history_rows.proofs.RowsMade.{AreMade}
-use Rattle.history_rows.proofs.making.rows_of.Given as goal
+use Rattle.history_walks.specs.Telling.{AreAllTold}
+use Rattle.history_walks.specs.declared.told.Told.{Told}
+use Rattle.history_walks.proofs.RowsMade.{AreMade}
+use Rattle.history_walks.proofs.rows.rows_of.Given as goal
 
 -- the commits that were taken from the back have rows, where they are counted
 abbrev pub invariant-commits : goal.invariant-commits

@@ -9,9 +9,9 @@ use Rattle.history_model.specs.Answers.{generation, generation_within, parents_a
 use Rattle.history_model.specs.Objects.{CommitValue}
 use Rattle.history_model.specs.Repository.{Repository}
 use Rattle.history_model.proofs.WholeLists.{In, of_map}
-use Rattle.history_rows.specs.Telling.{AreInOrder, IsTold, TellsStored}
-use Rattle.history_rows.specs.declared.told.Told.{Told}
-use Rattle.history_rows.proofs.Members.{contains_from_in, in_from_contains}
+use Rattle.history_walks.specs.Telling.{AreInOrder, IsTold, TellsStored}
+use Rattle.history_walks.specs.declared.told.Told.{Told}
+use Rattle.history_walks.proofs.Members.{contains_from_in, in_from_contains}
 
 -- ---- the greatest of some numbers
 

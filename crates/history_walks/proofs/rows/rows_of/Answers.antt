@@ -9,9 +9,9 @@ use Rattle.gix_hash_id.specs.declared.object_id.ObjectId.{ObjectId}
 use Rattle.gix_traverse_commit_graph.specs.Numbered.{same_id}
 use Rattle.gix_traverse_commit_graph.specs.declared.rows.Row.{Row}
 use Rattle.history_model.specs.Answers.{generation}
-use Rattle.history_rows.specs.declared.told.Told.{Told}
-use Rattle.history_rows.proofs.RowsMade.{AreMade, are_the_rows, counted_is, is_new, make_a_graph, none_left, none_made, passed, row_pushed, taken}
-use Rattle.history_rows.proofs.making.rows_of.Goals as goal
+use Rattle.history_walks.specs.declared.told.Told.{Told}
+use Rattle.history_walks.proofs.RowsMade.{AreMade, are_the_rows, counted_is, is_new, make_a_graph, none_left, none_made, passed, row_pushed, taken}
+use Rattle.history_walks.proofs.rows.rows_of.Goals as goal
 
 pub commits-init : goal.commits-init
 commits-init c = ([], sym (append-nil c.args.commits.items), λ r all. subst (λ (rows : List Row). AreMade r [] rows c.new-generations.result) (sym c.new-rows.ensures.items) (none_made r c.new-generations.result))

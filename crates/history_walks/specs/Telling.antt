@@ -4,7 +4,7 @@ use Rattle.gix_hash_id.specs.Id.{Id, id_of}
 use Rattle.gix_hash_id.specs.declared.object_id.ObjectId.{ObjectId}
 use Rattle.history_model.specs.Objects.{CommitValue, folder_id}
 use Rattle.history_model.specs.Repository.{Repository, HoldsCommit, commit_at}
-use Rattle.history_rows.specs.declared.told.Told.{Told}
+use Rattle.history_walks.specs.declared.told.Told.{Told}
 
 -- this is told of a stored commit, as it is stored
 pub record TellsStored (r : Repository) (told : Told) : Type 0 where

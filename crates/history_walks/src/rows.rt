@@ -6,8 +6,8 @@ ghost use Rattle.gix_traverse_commit_graph.specs.Numbered.{same_id};
 ghost use Rattle.gix_traverse_commit_graph.specs.Rows.{AreRows};
 ghost use Rattle.history_model.specs.Answers as model;
 ghost use Rattle.history_model.specs.Repository.{Repository};
-ghost use Rattle.history_rows.specs.Rows.{AreTheRows};
-ghost use Rattle.history_rows.specs.Telling.{AreAllTold};
+ghost use Rattle.history_walks.specs.Rows.{AreTheRows};
+ghost use Rattle.history_walks.specs.Telling.{AreAllTold};
 
 use crate::told::Told;
 use gix_hash::ObjectId;
