@@ -37,7 +37,7 @@ pub use act::answer;
 pub use gix_hash::{Kind, ObjectId, Prefix, oid};
 pub use gix_traverse_commit_graph::{Graph, Row};
 pub use history_model::{Cause, End, Fault, laws};
-pub use history_opening::{NamedBy, OpenError, OpenRefusal};
+pub use history_repository::{NamedBy, OpenError, OpenRefusal};
 pub use history_recovery::{RecoverError, recover};
 pub use history_repository::{Repository, Stopped};
 pub use history_store::{CreateError, Hit, IdIter, Lookup, Object, Objects, PutError, create};

@@ -5,7 +5,7 @@ ghost use Rattle.history_model.specs.Repository.{fresh};
 ghost use Rattle.history_repository.specs.Face.{has_failed};
 ghost use Rattle.history_repository.specs.Stands.{Stands};
 ghost use Rattle.history_in_memory.specs.declared.opened.NewError.TheVariants as why;
-ghost use Rattle.history_opening.specs.declared.error.OpenRefusal.{OpenRefusal};
+ghost use Rattle.history_repository.specs.declared.open_error.OpenRefusal.{OpenRefusal};
 
 use gix_hash::Kind;
 use gix_ref_file::{Files, MemoryFiles};

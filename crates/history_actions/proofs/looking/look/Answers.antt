@@ -1,5 +1,5 @@
 use Rattle.std.proofs.lemmas.Result.{err_from_is_err_and}
-use Rattle.history_opening.specs.Opened.{trees_of}
+use Rattle.history_repository.specs.Opened.{trees_of}
 use Rattle.history_actions.proofs.Foreign.{foreign_head, foreign_objects, foreign_names, is_recoverable}
 use Rattle.history_actions.proofs.Looked.{all_at}
 use Rattle.history_folders.specs.declared.parts.Part.TheVariants.{Objects, Names}

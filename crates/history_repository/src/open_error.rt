@@ -1,7 +1,7 @@
 //! Why a folder isn't opened.
 
 ghost use Rattle.std.specs.Prelude.{◌≡◌};
-ghost use Rattle.history_opening.specs.Causes.{cause_of_flaw, cause_of_names};
+ghost use Rattle.history_repository.specs.Causes.{cause_of_flaw, cause_of_names};
 
 use gix_hash::ObjectId;
 use gix_ref_file::Files;

@@ -12,10 +12,10 @@ ghost use Rattle.history_names_survey.specs.Causes.{HasCause, IsFault};
 ghost use Rattle.history_names_survey.specs.Parts.{IsNamesPart, StandsNames};
 ghost use Rattle.history_names_survey.specs.Stored.{AreFactsOf, facts_in};
 ghost use Rattle.history_survey.specs.Opened.{IsOpened};
-ghost use Rattle.history_opening.specs.Causes.{IsOpenCause, IsOpenFault};
-ghost use Rattle.history_opening.specs.Opened.{IsOpenedAs, trees_of};
+ghost use Rattle.history_repository.specs.Causes.{IsOpenCause, IsOpenFault};
+ghost use Rattle.history_repository.specs.Opened.{IsOpenedAs, trees_of};
 
-use crate::error::OpenRefusal;
+use crate::open_error::OpenRefusal;
 use gix_hash::Kind;
 use gix_ref_file::Files;
 use gix_ref_format::packed::buffer as packed;

@@ -22,7 +22,7 @@ use Rattle.history_model.proofs.WholeRoots.{HasAll}
 use Rattle.history_texts.specs.Written.{AreCommitParts, NamesByCommit, NamesByParts, NamesByTag, NamesByTree, NamesObjects, Naming, commit_parts, named_by_item}
 use Rattle.history_texts.proofs.CommitTexts.{ids_tell, plain_spelled, value_forms, value_parts, value_spelled}
 use Rattle.history_survey.specs.Opened.{store_of}
-use Rattle.history_opening.proofs.Items.{entry_value, item_is}
+use Rattle.history_repository.proofs.Items.{entry_value, item_is}
 
 module _ (kind : Kind) (stored : Values) (whole : IsWholeStore (store_of kind stored)) where
   abbrev r : Repository

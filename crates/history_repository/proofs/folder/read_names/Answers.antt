@@ -1,5 +1,5 @@
-use Rattle.history_opening.proofs.Unread.{unread}
-use Rattle.history_opening.proofs.folder.read_names.Goals as goal
+use Rattle.history_repository.proofs.Unread.{unread}
+use Rattle.history_repository.proofs.folder.read_names.Goals as goal
 
 pub returns-in-Err-Iter-clause-wrong : goal.returns-in-Err-Iter-clause-wrong
 returns-in-Err-Iter-clause-wrong g c = λ objects honest.

@@ -38,10 +38,10 @@ use Rattle.history_names_survey.specs.Parts.{IsNamesPart, StandsNames}
 use Rattle.history_names_survey.specs.Stored.{AreFactsOf, Fact, Facts, fact_of, fact_told, is_of_wrong_kind, is_tag_of, target_in}
 use Rattle.history_names_survey.specs.declared.error.NamesError.{NamesError}
 use Rattle.history_names_survey.specs.declared.error.NamesError.TheVariants.{NoHead, BadHead, Stray, Unfinished, BadName, PrivateName, Symbolic, Missing, WrongKind, BadPacked, BadPeeled, Collides, BadLog, LongLogLine, LogWithoutName, File, Memory}
-use Rattle.history_opening.specs.Causes.{IsOpenCause, IsOpenFault, cause_of_flaw, cause_of_names, facts_of}
-use Rattle.history_opening.specs.Opened.{IsOpenedAs}
-use Rattle.history_opening.specs.declared.folder.OpenedFolder.{OpenedFolder}
-use Rattle.history_opening.proofs.NoFlaws.{fault_alone}
+use Rattle.history_repository.specs.Causes.{IsOpenCause, IsOpenFault, cause_of_flaw, cause_of_names, facts_of}
+use Rattle.history_repository.specs.Opened.{IsOpenedAs}
+use Rattle.history_repository.specs.declared.folder.OpenedFolder.{OpenedFolder}
+use Rattle.history_repository.proofs.NoFlaws.{fault_alone}
 
 -- ---- HEAD's text tells the branch
 

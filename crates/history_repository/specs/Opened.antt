@@ -9,7 +9,7 @@ use Rattle.history_model.specs.Repository.{Repository}
 use Rattle.history_model.specs.StandsFor.{StandsWhole}
 use Rattle.history_objects.specs.Face.{ids_of_objects}
 use Rattle.history_names.specs.Packing.{KeepsRecords}
-use Rattle.history_opening.specs.declared.folder.OpenedFolder.{OpenedFolder}
+use Rattle.history_repository.specs.declared.folder.OpenedFolder.{OpenedFolder}
 
 -- the trees that stand in two parts
 abbrev pub trees_of : {F : Type 0} → (F → History) → F → F → Pair

@@ -3,10 +3,10 @@ use Rattle.gix_hash_id.specs.declared.kind.Kind.{Kind}
 use Rattle.history_model.specs.Repository.{Repository}
 use Rattle.history_objects.specs.Face.{ids_of_objects, kind_of_objects}
 use Rattle.history_survey.specs.Opened.{IsOpened}
-use Rattle.history_opening.specs.Causes.{IsOpenFault}
-use Rattle.history_opening.specs.Opened.{IsOpenedAs, trees_of}
-use Rattle.history_opening.proofs.Joined.{fault_of_objects}
-use Rattle.history_opening.proofs.folder.open_folder.Goals as goal
+use Rattle.history_repository.specs.Causes.{IsOpenFault}
+use Rattle.history_repository.specs.Opened.{IsOpenedAs, trees_of}
+use Rattle.history_repository.proofs.Joined.{fault_of_objects}
+use Rattle.history_repository.proofs.folder.open_folder.Goals as goal
 
 pub open_names-requires-clause-whole : goal.open_names-requires-clause-whole
 open_names-requires-clause-whole g c = λ honest.

@@ -3,10 +3,10 @@ use Rattle.history_names_survey.specs.Parts.{StandsNames}
 use Rattle.history_names_survey.specs.Stored.{AreFactsOf}
 use Rattle.history_objects.specs.Face.{ids_of_objects}
 use Rattle.history_names.specs.Packing.{KeepsRecords}
-use Rattle.history_opening.specs.Causes.{IsOpenCause, IsOpenFault}
-use Rattle.history_opening.specs.Opened.{trees_of}
-use Rattle.history_opening.proofs.Joined.{cause_of, facts_as, names_cause, names_fault, of_kind, opened_as, opened_as_one, part_of, stands_names, told_facts}
-use Rattle.history_opening.proofs.folder.open_names.Goals as goal
+use Rattle.history_repository.specs.Causes.{IsOpenCause, IsOpenFault}
+use Rattle.history_repository.specs.Opened.{trees_of}
+use Rattle.history_repository.proofs.Joined.{cause_of, facts_as, names_cause, names_fault, of_kind, opened_as, opened_as_one, part_of, stands_names, told_facts}
+use Rattle.history_repository.proofs.folder.open_names.Goals as goal
 
 pub returns-in-Ok-clause-stands : goal.returns-in-Ok-clause-stands
 returns-in-Ok-clause-stands g c = λ objects names.

@@ -13,9 +13,9 @@ use Rattle.history_names_survey.specs.declared.error.NamesError.TheVariants as n
 use Rattle.history_survey.specs.Flaws.{IsObjectsFlaw}
 use Rattle.history_survey.specs.declared.flaw.ObjectsFlaw.{ObjectsFlaw}
 use Rattle.history_survey.specs.declared.flaw.ObjectsFlaw.TheVariants as flaws
-use Rattle.history_opening.specs.declared.error.NamedBy.TheVariants.{Object, Name}
-use Rattle.history_opening.specs.declared.error.OpenError.{OpenError}
-use Rattle.history_opening.specs.declared.error.OpenError.TheVariants.{NoHead, BadHead, Stray, Unfinished, BadObject, WrongId, TooLarge, BadTree, Missing, WrongKind, Cycle, IdReserved, BadName, PrivateName, Symbolic, BadPacked, BadPeeled, Collides, BadLog, LongLogLine, LogWithoutName, File, Memory}
+use Rattle.history_repository.specs.declared.open_error.NamedBy.TheVariants.{Object, Name}
+use Rattle.history_repository.specs.declared.open_error.OpenError.{OpenError}
+use Rattle.history_repository.specs.declared.open_error.OpenError.TheVariants.{NoHead, BadHead, Stray, Unfinished, BadObject, WrongId, TooLarge, BadTree, Missing, WrongKind, Cycle, IdReserved, BadName, PrivateName, Symbolic, BadPacked, BadPeeled, Collides, BadLog, LongLogLine, LogWithoutName, File, Memory}
 
 -- ---- what the two surveys tell, as one error
 

@@ -36,8 +36,8 @@ use Rattle.history_survey.specs.Opened.{IsSoundStore, store_of}
 use Rattle.history_survey.specs.declared.flaw.ObjectsFlaw.{ObjectsFlaw}
 use Rattle.history_survey.specs.declared.flaw.ObjectsFlaw.TheVariants as flaws
 use Rattle.history_survey.proofs.Empties.{root-empty}
-use Rattle.history_opening.proofs.Items.{IsItem, are_written, bytes_stored, folder_stored, item_is, of_file, of_folder, same_files}
-use Rattle.history_opening.proofs.Named.{IsNamed, named_value}
+use Rattle.history_repository.proofs.Items.{IsItem, are_written, bytes_stored, folder_stored, item_is, of_file, of_folder, same_files}
+use Rattle.history_repository.proofs.Named.{IsNamed, named_value}
 use Rattle.std.proofs.lemmas.Bool.{and_parts, or_cases}
 use Rattle.std.proofs.lemmas.Option.{same_Some}
 
