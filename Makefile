@@ -7,7 +7,7 @@ SHARE = $(DESTDIR)$(PREFIX)/share
 # The engine that is installed, and what the package is named after.
 ENGINE ?= $(PROGRAM)
 UNPROVED := out/unproved/wunthavel-history
-VERSION = $(shell sed -n 's,.*VERSION: &str = "\([^ ]*\) .*,\1,p' crates/history_command_line/src/version.rt)
+VERSION = $(shell sed -n 's,.*VERSION: &str = "\([^ ]*\) .*,\1,p' crates/history_actions/src/command_line/version.rt)
 
 .PHONY: help test quick wrong-bodies demo folder-demo clients-test bench faults install install-unproved install-files deb \
 	program unproved
@@ -64,7 +64,7 @@ install-unproved: unproved ## the same of a program that nothing proves, and tha
 unproved: ## compiles the program without a proof, as out/unproved/wunthavel-history; minutes
 	@room=$$(mktemp -d) && trap 'rm -rf "$$room"' EXIT && \
 	find crates.txt HANDLES crates scripts -name out -prune -o -type f -print0 | xargs -0 cp --parents -t "$$room" && \
-	sed -i 's/, proved)/, unproved)/' "$$room/crates/history_command_line/src/version.rt" && \
+	sed -i 's/, proved)/, unproved)/' "$$room/crates/history_actions/src/command_line/version.rt" && \
 	"$$room/scripts/unproved-build" $(UNPROVED)
 
 # `history` alone is a builtin of bash, so the program's own name is another.

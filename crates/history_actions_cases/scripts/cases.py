@@ -1,5 +1,5 @@
 #!/usr/bin/env python3
-"""Writes the cases of history_actions and history_command_line, and the answers that are wanted.
+"""Writes the cases of history_actions and its command line, and the answers that are wanted.
 
 Texts and statuses are those of docs/PROTOCOL.md, ids those of Git's object format by hashlib, and what stands on a bad line is what
 clap 4 prints. No answer is taken from the program.
