@@ -1,5 +1,6 @@
 pub mod Above
 pub mod Clearings
+pub mod FilesBelow
 pub mod FoldersKept
 pub mod FoldersMade
 pub mod FoldersStay

@@ -2,7 +2,7 @@
 use Rattle.std.proofs.Common.{inl, inr}
 use Rattle.gix_hash_id.specs.declared.kind.Kind.{Kind}
 use Rattle.gix_ref_file.specs.Tree.{Tree}
-use Rattle.history_folders.specs.declared.parts.Part.TheVariants.{Objects, Names}
+use Rattle.history_texts.specs.declared.parts.Part.TheVariants.{Objects, Names}
 use Rattle.history_model.specs.Bytes.{Bytes}
 use Rattle.history_model.specs.Places.{Pair}
 use Rattle.history_names_survey.specs.Parts.{NamesBranch}

@@ -16,8 +16,8 @@ use Rattle.gix_ref_file.proofs.Moved.{some_of_folder}
 use Rattle.history_model.specs.Bytes.{Bytes}
 use Rattle.history_model.specs.Forms.{is_name}
 use Rattle.history_model.specs.Places.{file_at}
-use Rattle.history_folders.specs.Parts.{above}
-use Rattle.history_folders.specs.Folders.{IsAbove}
+use Rattle.history_texts.specs.Parts.{above}
+use Rattle.gix_ref_way.specs.Ways.{IsAbove}
 
 -- a folder's path is shorter than those in it
 pub deeper : (place name : Bytes) → IsTrue (is_path (under place name)) → length place < length (under place name)

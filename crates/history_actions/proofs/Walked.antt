@@ -8,7 +8,7 @@ use Rattle.gix_ref_file.specs.declared.files.Place.TheVariants as places
 use Rattle.gix_ref_file.proofs.Listings.{in_folder, names_in, found}
 use Rattle.gix_ref_file.proofs.Moved.{some_of_folder}
 use Rattle.history_model.specs.Bytes.{Bytes}
-use Rattle.history_folders.specs.Parts.{above}
+use Rattle.history_texts.specs.Parts.{above}
 use Rattle.history_actions.proofs.Listed.{folder_above, above_all}
 
 module _ (tree : Tree) (rooted : IsRooted tree) (P : Bytes → Option Node → Type 0) (nothing : (path : Bytes) → P path None) where

@@ -14,10 +14,9 @@ use gix_hash::Kind;
 use gix_object_lines::cut::{strip_prefix, strip_suffix};
 use gix_ref_file::paths::{is_deeper, joined};
 use gix_ref_file::{Files, Place};
-use history_folders::Part;
 use history_model::names::{HEAD, HEADS};
 use history_names_survey::NamesError;
-use history_texts::is_name;
+use history_texts::{Part, is_name};
 use std::alloc::Global;
 
 /// Looks whether a folder's two parts are a repository's of this kind, as a stopped run leaves it: HEAD names a branch, and each file stands

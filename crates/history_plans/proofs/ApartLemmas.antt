@@ -18,7 +18,7 @@ use Rattle.history_model.specs.Commands.{Move, MoveCommand, To}
 use Rattle.history_model.specs.FileMap.{is_below}
 use Rattle.history_model.specs.Repository.{stands}
 use Rattle.history_model.proofs.WholeLists.{In, one_passes, passes_one}
-use Rattle.history_folders.specs.Folders.{IsAbove}
+use Rattle.gix_ref_way.specs.Ways.{IsAbove}
 use Rattle.history_plans.specs.Apart.{HaveAll, do_lines_collide, is_made, made_names, names_in, reaches}
 use Rattle.history_plans.specs.Moving.{AreLines, bars, line_name}
 use Rattle.history_plans.specs.declared.moving.Line.{Line}

@@ -21,8 +21,8 @@ use Rattle.history_model.proofs.IdLemmas.{hex_tells, length-hex}
 use Rattle.history_model.proofs.PlaceLemmas.{id_length}
 use Rattle.history_model.proofs.WholeLists.{in_either, in_left, in_right}
 use Rattle.history_model.proofs.WholeSteps.{contains_in, in_contains}
-use Rattle.history_folders.specs.Parts.{above}
-use Rattle.history_folders.proofs.Surveys.{one_more}
+use Rattle.history_texts.specs.Parts.{above}
+use Rattle.gix_ref_way.proofs.Surveys.{one_more}
 use Rattle.gix_hash_id.specs.Kind.{hex_len}
 use Rattle.gix_hash_id.specs.declared.kind.Kind.TheVariants as digests
 use Rattle.history_survey.specs.Flaws.{IsObjectsFlaw, IsStray, stray_file, stray_folder}
