@@ -85,7 +85,7 @@ not_empty [] some = absurd (some refl)
 not_empty (b ∷ p) some = omega arith
 
 -- what a path stands below is its folder, or stands above that
-under_folder : (place path : Bytes) → place ≢ [] → IsAbove place path → (parent path ≡ place) ⊎ IsAbove place (parent path)
+pub under_folder : (place path : Bytes) → place ≢ [] → IsAbove place path → (parent path ≡ place) ⊎ IsAbove place (parent path)
 under_folder place path some (rest, is) =
     let long : length place ≤ length (parent path) = subst (λ p. length place ≤ length (parent p)) (sym is) (parent_behind place rest) in
     two_fronts place (parent path) rest (after_last is_slash path) (sym is ∙ path_in_folder path (omega (arith, long, not_empty place some))) long

@@ -7,3 +7,4 @@ pub mod FoldersStay
 pub mod Rooms
 pub mod Stored
 pub mod Surveys
+pub mod Walked

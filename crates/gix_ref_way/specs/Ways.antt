@@ -1,7 +1,7 @@
 -- The way of a file: the folders that it stands in, and what stands in its place.
-use Rattle.std.specs.Prelude.{ℕ, ◌≡◌, ◌⊎◌, Bool, true, false, List, ◌∷◌, ◌++◌, Option, Some, None, Contains, IsTrue}
+use Rattle.std.specs.Prelude.{ℕ, zero, suc, ◌≡◌, ◌⊎◌, Bool, true, false, List, ◌∷◌, ◌++◌, Option, Some, None, Contains, IsTrue}
 use Rattle.std.specs.FinMap.{get}
-use Rattle.gix_ref_file.specs.Tree.{Tree, folder, node_at, bytes_of, is_folder}
+use Rattle.gix_ref_file.specs.Tree.{Tree, folder, parent, node_at, bytes_of, is_folder}
 use Rattle.gix_ref_file.specs.Changes.{is_file_at}
 
 abbrev pub Bytes : Type 0
@@ -22,6 +22,11 @@ SameFolders old new = (path : Bytes) → is_folder (get new path) ≡ is_folder 
 -- the path stands below this one: a slash follows it there
 abbrev pub IsAbove : Bytes → Bytes → Type 0
 IsAbove place path = (rest : Bytes) × (path ≡ place ++ 47 ∷ rest)
+
+-- the folder so many folders above a path
+abbrev pub above : ℕ → Bytes → Bytes
+above zero path = path
+above (suc n) path = parent (above n path)
 
 -- no file stands where the path needs a folder
 abbrev pub NoFileAbove : Bytes → Tree → Type 0

@@ -6,7 +6,7 @@ use Rattle.gix_hash_id.specs.Kind.{hex_len}
 use Rattle.gix_hash_id.specs.declared.kind.Kind.{Kind}
 use Rattle.gix_ref_file.specs.Changes.{is_file_at}
 use Rattle.gix_ref_file.specs.Tree.{Tree, Node, file, folder}
-use Rattle.history_texts.specs.Parts.{above}
+use Rattle.gix_ref_way.specs.Ways.{above}
 use Rattle.history_texts.specs.declared.parts.Part.{Part}
 use Rattle.history_texts.specs.declared.parts.Part.TheVariants.{Objects, Names}
 use Rattle.history_model.specs.Bytes.{Bytes}

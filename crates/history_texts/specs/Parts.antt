@@ -1,8 +1,9 @@
 -- What may stand in a part that holds no names and no objects.
-use Rattle.std.specs.Prelude.{◌≡◌, ◌≢◌, ⊤, ℕ, zero, suc, Bool, Option, Some, None, IsTrue, IsFalse}
+use Rattle.std.specs.Prelude.{◌≡◌, ◌≢◌, ⊤, ℕ, suc, Bool, Option, Some, None, IsTrue, IsFalse}
 use Rattle.std.specs.FinMap.{get}
-use Rattle.gix_ref_file.specs.Tree.{Tree, Node, file, folder, parent, is_folder}
+use Rattle.gix_ref_file.specs.Tree.{Tree, Node, file, folder, is_folder}
 use Rattle.gix_ref_file.specs.Changes.{is_file_at}
+use Rattle.gix_ref_way.specs.Ways.{above}
 use Rattle.history_model.specs.Bytes.{Bytes}
 use Rattle.history_model.specs.Places.{is_object_folder, is_name_folder}
 use Rattle.history_texts.specs.declared.parts.Part.{Part}
@@ -41,11 +42,6 @@ abbrev pub IsStrayAt : Part → Bytes → Bytes → Tree → Type 0
 IsStrayAt part permitted path tree = ¬ IsClearAt part permitted path (get tree path)
 
 -- ---- below a folder
-
--- the folder so many folders above a path
-abbrev pub above : ℕ → Bytes → Bytes
-above zero path = path
-above (suc n) path = parent (above n path)
 
 -- `IsClear` for all that stands below a folder
 abbrev pub IsClearBelow : Part → Bytes → Bytes → Tree → Type 0

@@ -1,15 +1,42 @@
 -- What a walk over all folders finds.
-use Rattle.std.proofs.Common.{◌≡◌, ℕ, zero, suc, ◌<◌, true, cond, List, [], ◌∷◌, length, Option, Some, None, refl, sym, ◌∙◌, ap, subst}
+use Rattle.std.proofs.Common.{◌≡◌, ℕ, zero, suc, ◌-◌, ◌<◌, ◌≤◌, true, cond, List, [], ◌∷◌, length, Option, Some, None, refl, sym, ◌∙◌, ap, subst, arith}
 use Rattle.std.specs.Prelude.{IsTrue, IsSome}
+use Rattle.std.specs.List.{suffix_len}
 use Rattle.std.specs.FinMap.{keys, get, contains_key-keys}
 use Rattle.std.proofs.Math.ListN.{get_or}
+use Rattle.std.proofs.lemmas.List.{length-take-le}
 use Rattle.gix_ref_file.specs.Tree.{Tree, Node, file, folder, parent, names_at, node_at, place_of, is_folder, IsRooted, under}
 use Rattle.gix_ref_file.specs.declared.files.Place.TheVariants as places
+use Rattle.gix_ref_file.proofs.Below.{inside}
 use Rattle.gix_ref_file.proofs.Listings.{in_folder, names_in, found}
 use Rattle.gix_ref_file.proofs.Moved.{some_of_folder}
-use Rattle.history_model.specs.Bytes.{Bytes}
-use Rattle.history_texts.specs.Parts.{above}
-use Rattle.history_actions.proofs.Listed.{folder_above, above_all}
+use Rattle.gix_ref_way.specs.Ways.{Bytes, above}
+
+-- ---- what stands above
+
+parent_of_folder : (tree : Tree) (path : Bytes) → IsRooted tree → IsTrue (is_folder (node_at tree path)) → IsTrue (is_folder (node_at tree (parent path)))
+parent_of_folder tree [] rooted is = refl
+parent_of_folder tree (b ∷ path) rooted is = (rooted (b ∷ path) (some_of_folder (get tree (b ∷ path)) is)).1
+
+folder_above : (tree : Tree) (n : ℕ) (path : Bytes) → IsRooted tree → IsSome (get tree path) → IsTrue (is_folder (node_at tree (above (suc n) path)))
+folder_above tree zero path rooted there = (rooted path there).1
+folder_above tree (suc n) path rooted there = parent_of_folder tree (above (suc n) path) rooted (folder_above tree n path rooted there)
+
+pub shorter : (path : Bytes) → length (parent path) ≤ length path - 1
+shorter path = omega (arith, length-take-le (length path - suffix_len inside path - 1) path (omega arith))
+
+rises : (n : ℕ) (path : Bytes) → length (above n path) ≤ length path - n
+rises zero path = omega arith
+rises (suc n) path = omega (arith, shorter (above n path), rises n path)
+
+empty : (path : Bytes) → length path ≤ 0 → path ≡ []
+empty [] short = refl
+empty (b ∷ path) short = absurd (omega (arith, short))
+
+pub above_all : (path : Bytes) → above (suc (length path)) path ≡ []
+above_all path = empty _ (omega (arith, rises (suc (length path)) path))
+
+-- ---- what a walk meets, if P holds of what stands at each path
 
 module _ (tree : Tree) (rooted : IsRooted tree) (P : Bytes → Option Node → Type 0) (nothing : (path : Bytes) → P path None) where
   -- so is all that stands below a folder
@@ -33,7 +60,7 @@ module _ (tree : Tree) (rooted : IsRooted tree) (P : Bytes → Option Node → T
       let same : under place (get_or names r.0 []) ≡ path = (λ j. under (sym here j) ((ap (λ (ns : List Bytes). get_or ns r.0 []) names_are ∙ r.2) j)) ∙ sym (in_folder path (rooted path there).0) in
       subst (λ p. IsFrom p) same (all r.0 (subst (λ (ns : List Bytes). r.0 < length ns) (sym names_are) r.1))
 
-  below : (place : Bytes) → ((path : Bytes) → IsSome (get tree path) → parent path ≡ place → IsFrom path)
+  pub below : (place : Bytes) → ((path : Bytes) → IsSome (get tree path) → parent path ≡ place → IsFrom path)
       → (n : ℕ) (path : Bytes) → above (suc n) path ≡ place → IsSome (get tree path) → P path (get tree path)
   below place child zero path under there = (child path there under).0
   below place child (suc n) path under there = by_case (above (suc n) path) refl (below place child n path)
