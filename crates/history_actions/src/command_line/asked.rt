@@ -27,7 +27,7 @@ pub enum Action {
 }
 
 /// What a command line asks for.
-#[derive(Debug, Drop, PartialEq, Eq)]
+#[derive(Drop)]
 pub struct Asked {
     pub action: Action,
     pub folder: String,
@@ -35,7 +35,7 @@ pub struct Asked {
 }
 
 /// Why a command line asks for nothing.
-#[derive(Debug, Drop, PartialEq, Eq)]
+#[derive(Drop)]
 pub enum AskError {
     /// It asks for help or for the version: this text.
     Help(String),
