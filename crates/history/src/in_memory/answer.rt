@@ -14,14 +14,14 @@ use std::alloc::Global;
 use thiserror::Error;
 
 /// How a run over a stream ended, and what it wrote.
-#[derive(Debug, Drop)]
+#[derive(Drop)]
 pub struct Answer {
     pub end: End,
     pub written: Collected,
 }
 
 /// Why a stream isn't answered.
-#[derive(Drop, PartialEq, Eq, Debug, Error)]
+#[derive(Debug, Drop, Error)]
 pub enum AnswerError {
     /// No repository stands.
     #[error("no repository")]

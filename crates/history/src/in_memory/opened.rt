@@ -15,7 +15,7 @@ use std::alloc::Global;
 use thiserror::Error;
 
 /// Why no new repository stands in memory.
-#[derive(Drop, PartialEq, Eq, Debug, Error)]
+#[derive(Debug, Drop, Error)]
 pub enum NewError {
     /// Its files weren't made.
     #[error("no repository is made")]
