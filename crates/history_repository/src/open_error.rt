@@ -11,7 +11,7 @@ use thiserror::Error;
 
 /// Why a folder isn't opened: a cause that holds of its two parts. Paths and names are in bytes, whole from the part's root; lines
 /// count from 1.
-#[derive(Debug, Drop, PartialEq, Eq, Error)]
+#[derive(Debug, Drop, Error)]
 pub enum OpenError {
     #[error("no HEAD stands")]
     NoHead,
@@ -85,7 +85,7 @@ pub enum OpenError {
 }
 
 /// What names an object.
-#[derive(Debug, Drop, PartialEq, Eq)]
+#[derive(Debug, Drop)]
 pub enum NamedBy {
     /// A stored object.
     Object(ObjectId),
