@@ -12,7 +12,7 @@ use gix_ref_file::{FileError, Files, Place};
 use std::alloc::Global;
 
 /// One of the two parts that a repository is kept in.
-#[derive(Clone, Copy, PartialEq, Eq, Debug)]
+#[derive(Clone, Copy)]
 pub enum Part {
     /// `objects` and all below it.
     Objects,
@@ -34,7 +34,7 @@ impl Part {
 }
 
 /// Something that doesn't belong into a part that holds no names and no objects: the path of a file or a folder.
-#[derive(Drop, PartialEq, Eq, Debug)]
+#[derive(Drop)]
 pub enum Stray {
     File(Vec<u8>),
     Folder(Vec<u8>),

@@ -10,7 +10,7 @@ use std::alloc::{AllocError, Global};
 use thiserror::Error;
 
 /// Why a folder isn't opened. A path is in bytes, whole from the part's root.
-#[derive(Debug, Drop, PartialEq, Eq, Error)]
+#[derive(Debug, Drop, Error)]
 pub enum OpenError {
     #[error("no HEAD stands")]
     NoHead,
