@@ -4,7 +4,7 @@ use gix_hash::ObjectId;
 use gix_traverse_commit_graph::ParentIds;
 
 /// What is told of a stored commit, of which its row is made.
-#[derive(Debug, Drop)]
+#[derive(Drop)]
 pub struct Told {
     /// The commit's id.
     pub id: ObjectId,
