@@ -7,9 +7,10 @@ ghost use Rattle.history_repository.specs.Stands.{Stands};
 ghost use Rattle.history.specs.declared.in_memory.opened.NewError.TheVariants as why;
 ghost use Rattle.history_repository.specs.declared.open_error.OpenRefusal.{OpenRefusal};
 
+use crate::repository::Repository;
 use gix_hash::Kind;
 use gix_ref_file::{Files, MemoryFiles};
-use history_repository::{OpenError, OpenRefusal, Repository};
+use history_repository::{OpenError, OpenRefusal};
 use history_store::{CreateError, create};
 use std::alloc::Global;
 use thiserror::Error;
