@@ -7,7 +7,7 @@ SHARE = $(DESTDIR)$(PREFIX)/share
 # The engine that is installed, and what the package is named after.
 ENGINE ?= $(PROGRAM)
 UNPROVED := out/unproved/wunthavel-history
-VERSION = $(shell sed -n 's,.*VERSION: &str = "\([^ ]*\) .*,\1,p' crates/history_command_line/src/version.rt)
+VERSION = $(shell sed -n 's,.*VERSION: &str = "\([^ ]*\) .*,\1,p' crates/history_actions/src/command_line/version.rt)
 
 .PHONY: help test quick wrong-bodies demo folder-demo clients-test bench faults install install-unproved install-files deb \
 	program unproved
@@ -23,21 +23,21 @@ test: ## the merge gate: documents, proofs, wrong bodies of must-fail/, tests, p
 	else echo 'The clients are not tested: Python 3.9 or later is not here.'; fi
 
 # Each program on its own stream, against what it must write; as many side by side as .ci/lanes says.
-quick: ## the demo and the programs of cases by rt try, without a proof; some minutes. It proves nothing
+quick: ## the example and the programs of cases by rt try, without a proof; some minutes. It proves nothing
 	@echo 'Nothing of this is proved: rt try runs the sources as they are.'
-	@for it in history_demo $(notdir $(wildcard crates/*_cases)); do echo $$it; done | xargs -P "$$(.ci/lanes)" -I{} sh -c \
-	  'cd crates/{} && if rt try --steps 1 --seconds 600 < stdin 2> /dev/null | cmp -s - stdout; then echo "{}: as wanted"; else echo "{}: NOT as wanted"; exit 1; fi'
+	@for it in example $(notdir $(wildcard crates/*_cases)); do echo $$it; done | xargs -P "$$(.ci/lanes)" -I{} sh -c \
+	  'cd crates/{} && if rt try --steps 1 --seconds 600 $$([ -f args ] && echo "-- $$(cat args)") < stdin 2> /dev/null | cmp -s - stdout; then echo "{}: as wanted"; else echo "{}: NOT as wanted"; exit 1; fi'
 
 wrong-bodies: ## tries the wrong bodies of planted/ and must-fail/; CRATES="gix_hash_id history" those of some crates, NAMED=1 the named; many hours for all
 	planted/try $(CRATES)
 
-# The proved program where it stands and is of these sources, else the sources of the program without words, by rt try.
+# The proved program where it stands and is of these sources, else the sources of the program to copy, by rt try.
 demo: ## the program on a stream of several commands: the proved one where it stands, else the sources without a proof; a minute
 	@if [ -x $(PROGRAM) ] && [ -z "$$($(NEWER))" ]; then \
 	  $(PROGRAM) < demo/first.stream; \
 	else \
 	  echo 'This run is not the proved build, which make program makes.' >&2; \
-	  cd crates/history_demo && rt try --steps 60000000 < ../../demo/first.stream; \
+	  cd crates/example && rt try --steps 60000000 < ../../demo/first.stream; \
 	fi
 
 folder-demo: program ## shows the proved program on real folders, against demo/folder.wanted; seconds once it is proved
@@ -47,7 +47,7 @@ clients-test: ## the tests of clients/python, over the proved program if it is b
 	@[ -x $(PROGRAM) ] || $(MAKE) --no-print-directory unproved
 	clients/python/run-tests
 
-bench: program ## no test: commits per second as the history grows, and one large content; minutes once all is proved
+bench: program ## no test: the program's workloads on real folders beside git's, with ratios; SIZE=small for a quick one; minutes once all is proved
 	bench/report $(PROGRAM)
 
 faults: program ## refuses each growth of memory of the program's own run in turn; minutes, and a C compiler
@@ -64,7 +64,7 @@ install-unproved: unproved ## the same of a program that nothing proves, and tha
 unproved: ## compiles the program without a proof, as out/unproved/wunthavel-history; minutes
 	@room=$$(mktemp -d) && trap 'rm -rf "$$room"' EXIT && \
 	find crates.txt HANDLES crates scripts -name out -prune -o -type f -print0 | xargs -0 cp --parents -t "$$room" && \
-	sed -i 's/, proved)/, unproved)/' "$$room/crates/history_command_line/src/version.rt" && \
+	sed -i 's/, proved)/, unproved)/' "$$room/crates/history_actions/src/command_line/version.rt" && \
 	"$$room/scripts/unproved-build" $(UNPROVED)
 
 # `history` alone is a builtin of bash, so the program's own name is another.

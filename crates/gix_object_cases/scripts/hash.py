@@ -73,7 +73,7 @@ def blobs_of_git(name, count):
             case("blob", name, content, answer=id)
             case("read_id", id, answer=shown(bytes.fromhex(id)))
             case("prefix", bytes.fromhex(id), len(short), answer=prefix_of(short, name))
-        for content in [b"", b"hello", b"\0", b"x" * 1000, bytes(range(256)), "Ž".encode()]:
+        for content in [b"", b"hello", b"\0", b"x" * 1000, bytes(range(256)), "Ž".encode(), bytes(70000)]:
             case("blob", name, content, answer=git(folder, "hash-object", "--stdin", given=content))
         ascending = sorted(ids)
         case("list", *map(bytes.fromhex, ascending), answer=f"{count} ids")
@@ -195,6 +195,8 @@ def digests():
             case("digest", name, *pieces, answer=digest(name, text).hex())
             case("write", name, *pieces, answer=f"{quoted(text)} {digest(name, text).hex()}")
         case("write", name, b"blob 0\0", answer=f"{quoted(b'blob 0%c' % 0)} {EMPTY[name][0].hex()}")
+        for fed, text in itertools.product([b"", b"blob 5\0", bytes(63), b"x" * 130], [b"", b"h", b"hello", b"hello\0"]):
+            case("digest", name, fed, text, answer=digest(name, fed + text).hex())
 
 
 def stream_of(name, count, number, stream):

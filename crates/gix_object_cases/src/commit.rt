@@ -1,6 +1,7 @@
 //! Cases of `gix_object_commit`, `gix_object_commit_lines`, `gix_object_commit_tokens` and `gix_object_hash`.
 
 mod edits;
+mod fields;
 mod hashing;
 mod messages;
 mod signing;
@@ -34,6 +35,7 @@ fn put_of_commit<'a>(
     page: &mut Page,
 ) {
     match operation {
+        "read" => fields::show_fields(&commit, page),
         "write" => show_object(alloc, case.kind, &commit, page),
         "own" => put_owned(alloc, case.kind, commit, page),
         "message" => messages::parts(&commit, page),

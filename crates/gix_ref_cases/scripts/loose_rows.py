@@ -124,7 +124,7 @@ def rows():
             lines, accepted, after = update_ref(repository, edits)
             assert not accepted and after == before, edits
             found.append(row("loose", "", before, lines, f"{told}; {shown(before)}"))
-    found += symbolic() + locked() + packing() + private() + tags() + alone()
+    found += symbolic() + locked() + packing() + private() + tags() + alone() + unhit()
     return found
 
 
@@ -226,6 +226,22 @@ def alone():
     found.append(packing_row("pack", "", before, objects, edit, f"made 1; {shown(after)}"))
     return found
 
+
+def unhit():
+    """No record is of a deleted name: the file of records stays as it is, also one that git wouldn't write so."""
+    found = []
+    for others in [[], [("update", "refs/heads/main", "two", "one")]]:
+        repository = Repository(True)
+        git(repository.room, "update-ref", "-m", "m", "refs/heads/new", repository.id("three"))
+        records = repository.files()["packed-refs"].splitlines(keepends=True)[1:]
+        text = b"".join([b"# pack-refs with: peeled \n", *reversed(records)])
+        open(os.path.join(repository.room, ".git", "packed-refs"), "wb").write(text)
+        before = repository.files()
+        edits = [("delete", "refs/heads/new", None, "three"), *others]
+        lines, accepted, after = update_ref(repository, edits)
+        assert accepted and after["packed-refs"] == text and "refs/heads/new" not in after
+        found.append(row("loose", "", before, lines, f"made {len(edits)}; {shown(after)}"))
+    return found
 
 def symbolic():
     """HEAD and the branch that it leads to: by HEAD, and each by itself."""

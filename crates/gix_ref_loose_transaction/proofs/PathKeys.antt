@@ -91,3 +91,29 @@ home_key b name k key = by_main (begins (codes "main-worktree/") name) refl
 -- so two names that a record may stand for have one place
 pub one_place : (b : Base) (name other k : Bytes) → packed_key name ≡ Some k → packed_key other ≡ Some k → place b name ≡ place b other
 one_place b name other k one two = ap place_in (home_key b name k one ∙ sym (home_key b other k two))
+
+-- ---- a record's name is its own key
+refs_parts : (name : Bytes) → begins (codes "refs/") name ≡ true → name ≡ codes "refs/" ++ drop 5 name
+refs_parts name is = taken_apart 5 name ∙ ap (λ t. t ++ drop 5 name) (sym ((bytes_eq-Decides (codes "refs/") (take 5 name)).0 is))
+
+refs_key : (name : Bytes) → is_own name ≡ false → begins (codes "refs/") name ≡ true → packed_key name ≡ Some name
+refs_key name own refs = ap (key_by name) (ap in_worktree (refs_parts name refs)) ∙ ap (λ o. cond o None (Some name)) own
+
+pub key_again : (name k : Bytes) → packed_key name ≡ Some k → packed_key k ≡ Some k
+key_again name k key = by_front (in_worktree name) refl key
+  where
+    itself : name ≡ k → packed_key k ≡ Some k
+    itself same = subst (λ n. packed_key n ≡ Some k) same key
+
+    plain : (own : Bool) → cond own None (Some name) ≡ Some k → packed_key k ≡ Some k
+    plain true is = cc
+    plain false is = itself (inner is)
+
+    inside : (rest : Bytes) (own below : Bool) → is_own rest ≡ own → begins (codes "refs/") rest ≡ below → cond own None (cond below (Some rest) (Some name)) ≡ Some k → packed_key k ≡ Some k
+    inside rest true below is_o is_b is = cc
+    inside rest false true is_o is_b is = subst (λ n. packed_key n ≡ Some n) (inner is) (refs_key rest is_o is_b)
+    inside rest false false is_o is_b is = itself (inner is)
+
+    by_front : (front : Option Bytes) → in_worktree name ≡ front → key_by name front ≡ Some k → packed_key k ≡ Some k
+    by_front None at is = plain (is_own name) is
+    by_front (Some rest) at is = inside rest (is_own rest) (begins (codes "refs/") rest) refl refl is

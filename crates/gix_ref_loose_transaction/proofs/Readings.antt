@@ -4,6 +4,7 @@ use Rattle.std.specs.Prelude.{is_some, IsSome, option_map, option_and_then, unwr
 use Rattle.std.specs.List.{list_any}
 use Rattle.std.specs.declared.alloc.Global.{Global}
 use Rattle.std.proofs.lemmas.Bool.{and_parts, or_parts}
+use Rattle.std.proofs.lemmas.Slice.Eq.{bytes_eq-Decides}
 use Rattle.gix_hash_id.specs.Id.{Id}
 use Rattle.gix_hash_id.specs.declared.kind.Kind.{Kind}
 use Rattle.gix_object_lookup.specs.Table.{Table}
@@ -37,8 +38,9 @@ use Rattle.gix_ref_moves.specs.declared.act.Move.{Move}
 use Rattle.gix_ref_moves.specs.declared.act.Act.TheVariants.{Put, Note, Pack, Remove, Forget}
 use Rattle.gix_ref_loose_transaction.specs.Plans.{HoldsText, IsActOf, IsPlanOf, IsUpdateBy, IsDeletionBy, IsPut, is_packed_alone}
 use Rattle.gix_ref_loose_transaction.specs.Reads.{ReadsChanged, ReadsUpdated, ReadsDeleted, IsPeeledOf, IsReadBack}
-use Rattle.gix_ref_repacking.specs.Repacking.{SaysOfRecord, SaysByKey, ChangesRecord, UpdatesRecord, HoldsRecords, changes_records, removal_line}
+use Rattle.gix_ref_repacking.specs.Repacking.{SaysOfRecord, SaysByKey, ChangesRecord, UpdatesRecord, HoldsRecords, changes_record, changes_records, changes_tree, removal_line}
 use Rattle.gix_ref_loose_transaction.proofs.KeyLines.{IsSaid}
+use Rattle.gix_ref_loose_transaction.proofs.PathKeys.{key_again}
 
 inner : {A : Type 0} {r s : A} → Some r ≡ Some s → r ≡ s
 inner e = cc
@@ -119,16 +121,25 @@ quiet p (l ∷ lines) k line found none = by_name (bytes_eq l.name k) refl (λ l
     by_name true is later = ap p (sym (inner (sym (ap (λ c. cond c (Some l) (line_at lines k)) is) ∙ found))) ∙ (or_parts (p l) (list_any p lines) none).0
     by_name false is later = later (sym (ap (λ c. cond c (Some l) (line_at lines k)) is) ∙ found)
 
-pub none_told : (b : Base) (before x : Tree) (name : Bytes) (lines : List Line) (own : Option Line) → changes_records (is_some (packed_text_in b before)) lines ≡ false → packed_text_in b x ≡ packed_text_in b before
+-- the line that stands first for a name has that name
+line_named : (lines : List Line) (k : Bytes) (line : Line) → line_at lines k ≡ Some line → line.name ≡ k
+line_named [] k line found = cc
+line_named (l ∷ lines) k line found = by_name (bytes_eq l.name k) refl
+  where
+    by_name : (same : Bool) → bytes_eq l.name k ≡ same → line.name ≡ k
+    by_name true is = ap (λ (o : Line). o.name) (sym (inner (sym (ap (λ c. cond c (Some l) (line_at lines k)) is) ∙ found))) ∙ (bytes_eq-Decides l.name k).0 is
+    by_name false is = line_named lines k line (sym (ap (λ c. cond c (Some l) (line_at lines k)) is) ∙ found)
+
+pub none_told : (b : Base) (before x : Tree) (name : Bytes) (lines : List Line) (own : Option Line) → changes_tree b before lines ≡ false → packed_text_in b x ≡ packed_text_in b before
     → IsSaid lines (packed_key name) own → NewTold own (told b before name) (told b x name)
 none_told b before x name lines own none here said = by_key (packed_key name) refl own said
   where
     still : told b x name ≡ told b before name
     still = ap (λ o. told_by (records_of b.kind o) name) here
 
-    absent : (text : Option Bytes) (k : Bytes) → packed_key name ≡ Some k → is_some text ≡ false → told_by (records_of b.kind text) name ≡ Absent
-    absent None k key is = ap (λ o. packed_state (option_and_then (hit []) o)) key
-    absent (Some text) k key is = cc
+    no_record : (o : Option Record) → is_some o ≡ false → packed_state o ≡ Absent
+    no_record None is = refl
+    no_record (Some r) is = cc
 
     removed : (line : Line) → is_some line.says ≡ false → packed_state line.says ≡ Absent
     removed line is = by_says line.says is
@@ -140,8 +151,15 @@ none_told b before x name lines own none here said = by_key (packed_key name) re
     by_line : (k : Bytes) (own : Option Line) → packed_key name ≡ Some k → line_at lines k ≡ own → NewTold own (told b before name) (told b x name)
     by_line k None key is = still
     by_line k (Some line) key is =
-        let parts = or_parts (is_some (packed_text_in b before)) (is_some line.says) (quiet (λ l. is_some (packed_text_in b before) || is_some l.says) lines k line is none) in
-        still ∙ absent (packed_text_in b before) k key parts.0 ∙ sym (removed line parts.1)
+        still ∙ by_records (records_of b.kind (packed_text_in b before)) none
+      where
+        by_records : (records : Option (List Record)) → changes_records records lines ≡ false → told_by records name ≡ packed_state line.says
+        by_records None changes = cc
+        by_records (Some rs) changes =
+            let parts = or_parts (is_some line.says) (is_some (packed_hit rs line.name)) (quiet (changes_record rs) lines k line is changes) in
+            let one = ap (option_and_then (hit rs)) key in
+            let other = ap (packed_hit rs) (line_named lines k line is) ∙ ap (option_and_then (hit rs)) (key_again name k key) in
+            no_record (packed_hit rs name) (ap is_some (one ∙ sym other) ∙ parts.1) ∙ sym (removed line parts.0)
 
     by_key : (key : Option Bytes) → packed_key name ≡ key → (own : Option Line) → IsSaid lines key own → NewTold own (told b before name) (told b x name)
     by_key None is own said = subst (λ (o : Option Line). NewTold o (told b before name) (told b x name)) (sym said) still

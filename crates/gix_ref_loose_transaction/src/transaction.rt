@@ -1,11 +1,13 @@
 //! Transactions: prepared, and then committed or rolled back.
 
-ghost use Rattle.std.specs.Prelude.{◌≡◌, ◌⊎◌, [], Bool, true, false, is_some, Option, option_map, Ok, IfErr, IfOk, IfSome, OnOk};
+ghost use Rattle.std.specs.Prelude.{◌≡◌, ◌⊎◌, [], Bool, true, false, Option, option_map, Ok, IfErr, IfOk, IfSome, OnOk};
 ghost use Rattle.gix_object_lookup.specs.Table.{Table};
 ghost use Rattle.gix_ref_file.specs.History.{Adds};
 ghost use Rattle.gix_ref_file.specs.Tree.{Tree};
 ghost use Rattle.gix_ref_file.specs.Calls.{Achieves, Passes};
 ghost use Rattle.gix_ref_edit.specs.Names.{AllOnce, names_of};
+ghost use Rattle.gix_ref_format.specs.PackedBuffer.{KeepsFile};
+ghost use Rattle.gix_ref_format.specs.PackedKept.{kept};
 ghost use Rattle.gix_ref_store.specs.Lookups.{reads_with};
 ghost use Rattle.gix_ref_store.specs.Places.{Base};
 ghost use Rattle.gix_ref_store.specs.RefStates.{packed_text_in, ref_state};
@@ -203,7 +205,7 @@ fn locked<F: Files, O: FindInto>(
         AllGiveKind kind t.edits.items → AllReadBack kind t.edits.items) }
     ensures repacked { F.is_honest store.old.files → IfSome (objects_in packed_refs.now) O.is_honest
         → let b = base_of store.old in let old = (F.history store.old.files).tree in
-        is_some packed.entry ≡ is_some (packed_text_in b old)
+        KeepsFile b.kind (packed_text_in b old) (option_map (λ buffer. kept buffer.now) packed.entry)
         → IfOk result (λ t. AreRepacked b (option_map O.table (objects_in packed_refs.now)) old
         (F.history store.new.files).tree t.edits.items t.packed) }
     ensures causes { F.is_honest store.old.files → let tree = (F.history store.old.files).tree in

@@ -2,7 +2,7 @@
 use Rattle.std.proofs.Common.{◌≡◌, ◌⊎◌, inl, inr, refl, sym, ◌∙◌, subst}
 use Rattle.gix_ref_moves.specs.Contents.{Contents, noted, updated, moved, MayBeNoted, MayBeLogged, IsBetween}
 use Rattle.gix_ref_moves.specs.Moments.{IsUpdating, IsForgetting, IsRemoving}
-use Rattle.gix_ref_moves.specs.Committing.{Shows, StaysYet, FileStays, LocksAlone, shown}
+use Rattle.gix_ref_moves.specs.Committing.{Shows, StaysYet, FileStays, LogGone, LocksAlone, shown}
 use Rattle.gix_ref_moves.specs.declared.act.Act.{Act}
 use Rattle.gix_ref_moves.specs.declared.act.Act.TheVariants.{Put, Note, Pack, Remove, Forget}
 use Rattle.gix_ref_moves.proofs.StepEnds.{not_noted, all_noted}
@@ -88,6 +88,13 @@ shown_files (Pack line) c = refl
 shown_files Remove c = refl
 shown_files Forget c = refl
 
+pub shown_gone : (act : Act) (c : Contents) → LogGone act c (shown act c)
+shown_gone (Put line) c = tt
+shown_gone (Note line) c = tt
+shown_gone (Pack line) c = tt
+shown_gone Remove c = refl
+shown_gone Forget c = refl
+
 updated_files : (act : Act) (c : Contents) → FileStays act c (updated act c)
 updated_files (Put line) c = tt
 updated_files (Note line) c = tt
@@ -124,6 +131,13 @@ remove_shows (Pack line) c d (file, log) = log
 remove_shows Remove c d going = tt
 remove_shows Forget c d going = tt
 
+pub remove_gone : (act : Act) (c d : Contents) → IsRemoving act (shown act c) d → LogGone act c d
+remove_gone (Put line) c d same = tt
+remove_gone (Note line) c d same = tt
+remove_gone (Pack line) c d going = tt
+remove_gone Remove c d (file, log) = log
+remove_gone Forget c d (file, log) = log
+
 -- ---- locks alone
 pub still_between : (act : Act) (c d e : Contents) → LocksAlone act d e → IsBetween act c d → IsBetween act c e
 still_between act c d e (file, log) between = record {
@@ -155,3 +169,10 @@ still_files (Note line) c d e locks stays = tt
 still_files (Pack line) c d e (file, log) old = file ∙ old
 still_files Remove c d e (file, log) old = file ∙ old
 still_files Forget c d e (file, log) old = file ∙ old
+
+pub still_gone : (act : Act) (c d e : Contents) → LocksAlone act d e → LogGone act c d → LogGone act c e
+still_gone (Put line) c d e locks gone = tt
+still_gone (Note line) c d e locks gone = tt
+still_gone (Pack line) c d e locks gone = tt
+still_gone Remove c d e (file, log) gone = log ∙ gone
+still_gone Forget c d e (file, log) gone = log ∙ gone

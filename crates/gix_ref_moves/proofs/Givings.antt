@@ -1,8 +1,9 @@
 -- Locks that are given back, one after another.
 use Rattle.std.proofs.Common.{◌≡◌, ◌≢◌, refl, sym, ◌∙◌, ap, subst, List, [], ◌∷◌, ◌++◌, append_assoc, append-nil, None, length, arith}
-use Rattle.std.specs.Prelude.{Result, Ok, Err, OnOk}
+use Rattle.std.specs.Prelude.{IsTrue, is_some, Result, Ok, Err, OnOk}
 use Rattle.std.specs.List.{AllByRecursion}
 use Rattle.gix_ref_file.specs.Tree.{Tree, node_at, bytes_of}
+use Rattle.gix_ref_file.specs.Changes.{is_file_at}
 use Rattle.gix_ref_file.specs.declared.files.FileError.{FileError}
 use Rattle.gix_ref_transaction.specs.Locks.{OthersStay}
 use Rattle.gix_ref_way.specs.Ways.{Bytes, file_at}
@@ -10,13 +11,14 @@ use Rattle.gix_ref_moves.specs.Contents.{contents, place_of, lock_path_of, log_p
 use Rattle.gix_ref_moves.specs.Moves.{all_paths, IsNone, Once, AllMay}
 use Rattle.gix_ref_moves.specs.Committing.{LocksAlone, NoneLocked}
 use Rattle.gix_ref_moves.specs.declared.act.Move.{Move}
-use Rattle.gix_ref_moves.proofs.PathLists.{Clear, Among, among, none_of_one, StaysBut, all_same, all_append, all_weaker, all_both}
+use Rattle.gix_ref_moves.proofs.PathLists.{Clear, Among, among, none_of_one, StaysBut, AllSame, all_same, all_append, all_weaker, all_both, all_of, all_at}
 
 -- The first locks are given back, as far as that succeeded; files and logs are as before.
 pub record Giving (outcome : Result (Unit {0}) FileError) (moves rest : List Move) (old now : Tree) : Type 0 where
   pub done : List Move
   pub split : moves ≡ done ++ rest
   pub may : AllMay LocksAlone moves old now
+  pub left : AllSame rest old now
   pub gone : OnOk outcome (AllByRecursion (λ m. file_at now (lock_path_of m) ≡ None) done)
 
 none_changed : (moves : List Move) (tree : Tree) → AllByRecursion (λ m. LocksAlone m.act (contents m tree) (contents m tree)) moves
@@ -24,7 +26,7 @@ none_changed [] tree = tt
 none_changed (m ∷ moves) tree = ((refl, refl), none_changed moves tree)
 
 pub giving_begun : (moves : List Move) (tree : Tree) → Giving (Ok tt) moves moves tree tree
-giving_begun moves tree = record { done = []; split = refl; may = record { each = none_changed moves tree; others = λ path none. refl }; gone = tt }
+giving_begun moves tree = record { done = []; split = refl; may = record { each = none_changed moves tree; others = λ path none. refl }; left = all_of (λ m. contents m tree ≡ contents m tree) moves (λ m. refl); gone = tt }
 
 turned : {p q : Bytes} → p ≢ q → q ≢ p
 turned apart e = apart (sym e)
@@ -32,6 +34,10 @@ turned apart e = apart (sym e)
 module _ (outcome : Result (Unit {0}) FileError) (moves : List Move) (m : Move) (rest : List Move) (old now : Tree) (so_far : Giving outcome moves (m ∷ rest) old now) (once : Once (all_paths moves)) where
   place : Among so_far.done m rest
   place = among so_far.done m rest (subst (λ ms. Once (all_paths ms)) so_far.split once)
+
+  -- the next one's lock is held still
+  pub next_held : AllByRecursion (λ n. IsTrue (is_file_at old (lock_path_of n))) moves → IsTrue (is_file_at now (lock_path_of m))
+  next_held held = ap (λ c. is_some c.lock) so_far.left.0 ∙ all_at (λ n. IsTrue (is_file_at old (lock_path_of n))) so_far.done m rest (subst (AllByRecursion (λ n. IsTrue (is_file_at old (lock_path_of n)))) so_far.split held)
 
   module _ (x : Tree) (stay : OthersStay (lock_path_of m) now x) where
     stays_but : StaysBut m now x
@@ -60,6 +66,7 @@ module _ (outcome : Result (Unit {0}) FileError) (moves : List Move) (m : Move) 
       done = so_far.done ++ m ∷ [];
       split = so_far.split ∙ sym (append_assoc so_far.done (m ∷ []) rest);
       may = giving;
+      left = all_both (λ n. contents n now ≡ contents n old) (λ n. contents n x ≡ contents n now) (λ n. contents n x ≡ contents n old) rest (λ n first second. second ∙ first) so_far.left.1 (all_same m rest now x place.behind stays_but);
       gone = by_outcome after both;
     }
       where

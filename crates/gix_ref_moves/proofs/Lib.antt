@@ -7,4 +7,5 @@ mod ActWays
 pub mod OnWays
 mod Givings
 mod PackedMoves
+mod Needed
 pub mod LockPaths

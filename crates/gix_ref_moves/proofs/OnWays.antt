@@ -9,11 +9,11 @@ use Rattle.gix_ref_way.specs.Ways.{Bytes, file_at}
 use Rattle.gix_ref_moves.specs.Contents.{Contents, contents, updated, forgotten, removed, moved, IsBetween, place_of, lock_path_of, log_path_of}
 use Rattle.gix_ref_moves.specs.Moments.{IsUpdating, IsForgetting, IsRemoving}
 use Rattle.gix_ref_moves.specs.Moves.{all_paths, IsNone, Once, AllHave, AllMay}
-use Rattle.gix_ref_moves.specs.Committing.{packed_paths, commit_paths, packed_end, PackedStays, PackedIsNew, Shows, StaysYet, FileStays, EachOf, UpdatesFirst, RecordsFirst, IsShowing, OnTheWay, IsCommitted, shown, LocksAlone, MayReplace, Replaces, KeepsPacked}
+use Rattle.gix_ref_moves.specs.Committing.{packed_paths, commit_paths, packed_end, PackedStays, PackedIsNew, PackedUnlocked, Shows, StaysYet, FileStays, LogGone, EachOf, UpdatesFirst, RecordsFirst, LogsFirst, IsShowing, OnTheWay, IsCommitted, shown, LocksAlone, MayReplace, Replaces, KeepsPacked}
 use Rattle.gix_ref_moves.specs.declared.act.Act.{Act}
 use Rattle.gix_ref_moves.specs.declared.act.Move.{Move}
 use Rattle.gix_ref_moves.proofs.PathLists.{AllSame, all_both, all_of, all_weaker}
-use Rattle.gix_ref_moves.proofs.ActWays.{begin_between, begin_stays, begin_files, up_between, up_stays, up_files, forget_between, forget_shows, forget_files, shown_between, shown_shows, shown_files, remove_between, remove_shows, still_between, still_shows, still_stays, still_files}
+use Rattle.gix_ref_moves.proofs.ActWays.{begin_between, begin_stays, begin_files, up_between, up_stays, up_files, forget_between, forget_shows, forget_files, shown_between, shown_shows, shown_files, shown_gone, remove_between, remove_shows, remove_gone, still_between, still_shows, still_stays, still_files, still_gone}
 
 abbrev Related : Type 1
 Related = Act → Contents → Contents → Type 0
@@ -50,6 +50,7 @@ way_begins t ms tree = record {
   each = all_of (λ m. IsBetween m.act (contents m tree) (contents m tree)) ms (λ m. begin_between m.act (contents m tree));
   order = inl (all_of (λ m. StaysYet m.act (contents m tree) (contents m tree)) ms (λ m. begin_stays m.act (contents m tree)), packed_begins t);
   records = inl (all_of (λ m. FileStays m.act (contents m tree) (contents m tree)) ms (λ m. begin_files m.act (contents m tree)));
+  logs_first = inl (packed_begins t);
   packed = inl (packed_begins t);
   others = λ path none. refl;
 }
@@ -65,6 +66,7 @@ updating ms old x may = record {
     each = each_weaker IsUpdating IsBetween ms old x up_between may.each;
     order = inl (each_weaker IsUpdating StaysYet ms old x up_stays may.each, tt);
     records = inr tt;
+    logs_first = inl tt;
     packed = inl tt;
     others = may.others;
   };
@@ -77,6 +79,7 @@ forgetting ms old mid made x may = record {
     each = each_after updated IsForgetting IsBetween ms old mid x forget_between made.each may.each;
     order = inr (each_after updated IsForgetting Shows ms old mid x forget_shows made.each may.each);
     records = inr tt;
+    logs_first = inl tt;
     packed = inl tt;
     others = λ path none. may.others path none ∙ made.others path none;
   };
@@ -94,7 +97,7 @@ is_shown ms old mid new made gone = record {
 packed_apart : (t : Transaction) (ms : List Move) → Once (commit_paths (Some t) ms) → IsNone (packed.place_of t) (all_paths ms)
 packed_apart t ms once = once.0.1
 
-packed_lock_apart : (t : Transaction) (ms : List Move) → Once (commit_paths (Some t) ms) → IsNone (packed.lock_path_of t) (all_paths ms)
+pub packed_lock_apart : (t : Transaction) (ms : List Move) → Once (commit_paths (Some t) ms) → IsNone (packed.lock_path_of t) (all_paths ms)
 packed_lock_apart t ms once = once.1.0
 
 -- where the moves' files alone changed, the packed ones are the same
@@ -115,6 +118,10 @@ stays_on (Some t) old mid x first second = second ∙ first
 new_on : (t : Option Transaction) (old mid x : Tree) → PackedIsNew t old mid → PackedStays t mid x → PackedIsNew t old x
 new_on None old mid x first second = tt
 new_on (Some t) old mid x first second = second ∙ first
+
+unlocked_on : (t : Option Transaction) (ms : List Move) (mid new : Tree) → Once (commit_paths t ms) → PackedUnlocked t mid → ((path : Bytes) → IsNone path (all_paths ms) → file_at new path ≡ file_at mid path) → PackedUnlocked t new
+unlocked_on None ms mid new once gone others = tt
+unlocked_on (Some t) ms mid new once gone others = others (packed.lock_path_of t) (packed_lock_apart t ms once) ∙ gone
 
 new_after : (t : Option Transaction) (ms : List Move) (old mid x : Tree) → Once (commit_paths t ms) → ((path : Bytes) → IsNone path (all_paths ms) → file_at mid path ≡ file_at old path) → PackedIsNew t mid x → PackedIsNew t old x
 new_after None ms old mid x once others new = tt
@@ -162,12 +169,17 @@ records_on : (t : Option Transaction) (ms : List Move) (old mid x : Tree) → Re
 records_on t ms old mid x (inl files) locks second = inl (each_still FileStays ms old mid x still_files files locks)
 records_on t ms old mid x (inr new) locks second = inr (new_on t old mid x new second)
 
+logs_on : (t : Option Transaction) (ms : List Move) (old mid x : Tree) → LogsFirst t ms old mid → EachOf LocksAlone ms mid x → PackedStays t mid x → LogsFirst t ms old x
+logs_on t ms old mid x (inl packed) locks second = inl (stays_on t old mid x packed second)
+logs_on t ms old mid x (inr (shows, gone)) locks second = inr (each_still Shows ms old mid x still_shows shows locks, each_still LogGone ms old mid x still_gone gone locks)
+
 -- locks that go
 pub way_goes_on : (t : Option Transaction) (ms : List Move) (old mid x : Tree) → OnTheWay t ms old mid → EachOf LocksAlone ms mid x → PackedStays t mid x → ((path : Bytes) → IsNone path (commit_paths t ms) → file_at x path ≡ file_at mid path) → OnTheWay t ms old x
 way_goes_on t ms old mid x way locks second others = record {
   each = each_still IsBetween ms old mid x still_between way.each locks;
   order = order_on t ms old mid x way.order locks second;
   records = records_on t ms old mid x way.records locks second;
+  logs_first = logs_on t ms old mid x way.logs_first locks second;
   packed = either_on t old mid x way.packed second;
   others = λ path none. others path none ∙ way.others path none;
 }
@@ -186,6 +198,7 @@ wider t ms old x once showing = record {
   each = showing.way.each;
   order = by_order showing.way.order;
   records = inl showing.files;
+  logs_first = inl packed_is;
   packed = inl packed_is;
   others = λ path none. showing.way.others path (none_of_moves t ms path none);
 }
@@ -206,10 +219,14 @@ module _ (t : Option Transaction) (ms : List Move) (old mid : Tree) (once : Once
   replacing x may = record {
     each = all_weaker (λ m. contents m x ≡ shown m.act (contents m old)) (λ m. IsBetween m.act (contents m old) (contents m x)) ms
         (λ m is. subst (IsBetween m.act (contents m old)) (sym is) (shown_between m.act (contents m old))) (same_shown x same);
-    order = inr (all_weaker (λ m. contents m x ≡ shown m.act (contents m old)) (λ m. Shows m.act (contents m old) (contents m x)) ms
-        (λ m is. subst (Shows m.act (contents m old)) (sym is) (shown_shows m.act (contents m old))) (same_shown x same));
+    order = inr shows;
     records = inl (all_weaker (λ m. contents m x ≡ shown m.act (contents m old)) (λ m. FileStays m.act (contents m old) (contents m x)) ms
         (λ m is. subst (FileStays m.act (contents m old)) (sym is) (shown_files m.act (contents m old))) (same_shown x same));
+    logs_first = inr (
+      shows,
+      all_weaker (λ m. contents m x ≡ shown m.act (contents m old)) (λ m. LogGone m.act (contents m old) (contents m x)) ms
+          (λ m is. subst (LogGone m.act (contents m old)) (sym is) (shown_gone m.act (contents m old))) (same_shown x same),
+    );
     packed = by_case may.packed;
     others = λ path none. may.others path (none_of_packed t ms path none) ∙ made.others path (none_of_moves t ms path none);
   }
@@ -217,13 +234,17 @@ module _ (t : Option Transaction) (ms : List Move) (old mid : Tree) (once : Once
       same : AllSame ms mid x
       same = moves_same t ms mid x once may.others
 
+      shows : EachOf Shows ms old x
+      shows = all_weaker (λ m. contents m x ≡ shown m.act (contents m old)) (λ m. Shows m.act (contents m old) (contents m x)) ms
+          (λ m is. subst (Shows m.act (contents m old)) (sym is) (shown_shows m.act (contents m old))) (same_shown x same)
+
       by_case : PackedStays t mid x ⊎ PackedIsNew t mid x → PackedStays t old x ⊎ PackedIsNew t old x
       by_case (inl stays) = inl (stays_on t old mid x (packed_same t ms old mid once made.others) stays)
       by_case (inr new) = inr (new_after t ms old mid x once made.others new)
 
   -- ---- files that go
   module _ (then : Tree) (replaced : Replaces t mid then) where
-    then_shown : AllByRecursion (λ m. contents m then ≡ shown m.act (contents m old)) ms
+    pub then_shown : AllByRecursion (λ m. contents m then ≡ shown m.act (contents m old)) ms
     then_shown = same_shown then (moves_same t ms mid then once replaced.others)
 
     then_new : PackedIsNew t old then
@@ -235,16 +256,21 @@ module _ (t : Option Transaction) (ms : List Move) (old mid : Tree) (once : Once
     pub removing : (x : Tree) → AllMay IsRemoving ms then x → OnTheWay t ms old x
     removing x may = record {
       each = each_after shown IsRemoving IsBetween ms old then x remove_between then_shown may.each;
-      order = inr (each_after shown IsRemoving Shows ms old then x remove_shows then_shown may.each);
+      order = inr shows;
       records = inr (new_on t old then x then_new (packed_same t ms then x once may.others));
+      logs_first = inr (shows, each_after shown IsRemoving LogGone ms old then x remove_gone then_shown may.each);
       packed = inr (new_on t old then x then_new (packed_same t ms then x once may.others));
       others = λ path none. may.others path (none_of_moves t ms path none) ∙ then_others path none;
     }
+      where
+        shows : EachOf Shows ms old x
+        shows = each_after shown IsRemoving Shows ms old then x remove_shows then_shown may.each
 
     pub is_committed : (new : Tree) → AllHave removed ms then new → IsCommitted t ms old new
     is_committed new gone = record {
       each = all_both (λ m. contents m then ≡ shown m.act (contents m old)) (λ m. contents m new ≡ removed m.act (contents m then)) (λ m. contents m new ≡ moved m.act (contents m old)) ms
           (λ m first second. second ∙ ap (removed m.act) first) then_shown gone.each;
       packed = new_on t old then new then_new (packed_same t ms then new once gone.others);
+      unlocked = unlocked_on t ms then new once replaced.unlocked gone.others;
       others = λ path none. gone.others path (none_of_moves t ms path none) ∙ then_others path none;
     }

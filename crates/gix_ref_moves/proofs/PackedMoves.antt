@@ -1,5 +1,5 @@
 -- What a transaction of packed records leaves.
-use Rattle.std.proofs.Common.{◌≡◌, ◌≢◌, ◌⊎◌, inl, inr, refl, sym, ◌∙◌, ap, Bool, true, false, cond, Some}
+use Rattle.std.proofs.Common.{◌≡◌, ◌≢◌, ◌⊎◌, inl, inr, refl, sym, ◌∙◌, ap, Bool, true, false, cond, Some, None}
 use Rattle.gix_ref_file.specs.Tree.{Tree, file, node_at, bytes_of, bytes_at}
 use Rattle.gix_ref_file.specs.History.{History, Adds}
 use Rattle.gix_ref_file.proofs.Histories.{adds_weaker}
@@ -43,8 +43,9 @@ replacing t old new may idle = by_written t.is_written refl
     by_written false unwritten = adds_weaker old new (idle unwritten) (λ x stay. let keeps = dropping t old.tree x stay in record { packed = inl keeps.packed; others = keeps.others })
 
 pub replaced : (t : Transaction) (old new : History) → Adds (MayBePut (packed.place_of t) (packed.lock_path_of t) (bytes_at old.tree (packed.lock_path_of t)) old.tree) old new
-    → (t.is_written ≡ false → Adds (OthersStay (packed.lock_path_of t) old.tree) old new) → (t.is_written ≡ true → IsPut (packed.place_of t) (packed.lock_path_of t) (bytes_at old.tree (packed.lock_path_of t)) new.tree) → Replaces (Some t) old.tree new.tree
-replaced t old new may idle put = record { packed = by_written t.is_written refl; others = others }
+    → (t.is_written ≡ false → Adds (OthersStay (packed.lock_path_of t) old.tree) old new) → (t.is_written ≡ true → IsPut (packed.place_of t) (packed.lock_path_of t) (bytes_at old.tree (packed.lock_path_of t)) new.tree)
+    → node_at new.tree (packed.lock_path_of t) ≡ None → Replaces (Some t) old.tree new.tree
+replaced t old new may idle put gone = record { packed = by_written t.is_written refl; unlocked = ap bytes_of gone; others = others }
   where
     now : MayBePut (packed.place_of t) (packed.lock_path_of t) (bytes_at old.tree (packed.lock_path_of t)) old.tree new.tree
     now = now_of (MayBePut (packed.place_of t) (packed.lock_path_of t) (bytes_at old.tree (packed.lock_path_of t)) old.tree) old new (record { here = inl refl; others = λ path a b. refl }) may

@@ -97,3 +97,7 @@ all_both P Q R (n ∷ ns) f ps qs = (f n ps.0 qs.0, all_both P Q R ns f ps.1 qs.
 pub all_append : (P : Move → Type 0) (ms ns : List Move) → AllByRecursion P ms → AllByRecursion P ns → AllByRecursion P (ms ++ ns)
 all_append P [] ns first second = second
 all_append P (m ∷ ms) ns first second = (first.0, all_append P ms ns first.1 second)
+
+pub all_at : (P : Move → Type 0) (done : List Move) (m : Move) (rest : List Move) → AllByRecursion P (done ++ m ∷ rest) → P m
+all_at P [] m rest all = all.0
+all_at P (n ∷ done) m rest all = all_at P done m rest all.1

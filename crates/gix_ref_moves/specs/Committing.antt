@@ -37,6 +37,11 @@ abbrev pub PackedIsNew : Option Transaction → Tree → Tree → Type 0
 PackedIsNew None old tree = Unit {0}
 PackedIsNew (Some t) old tree = file_at tree (packed.place_of t) ≡ packed_end t old
 
+-- no file stands at the lock of packed records
+abbrev pub PackedUnlocked : Option Transaction → Tree → Type 0
+PackedUnlocked None tree = Unit {0}
+PackedUnlocked (Some t) tree = file_at tree (packed.lock_path_of t) ≡ None
+
 -- the update shows, with its line in the log; of what is packed the line is there
 abbrev pub Shows : Act → Contents → Contents → Type 0
 Shows (Put line) before now =
@@ -62,6 +67,14 @@ FileStays (Pack line) before now = now.file ≡ before.file
 FileStays Remove before now = now.file ≡ before.file
 FileStays Forget before now = now.file ≡ before.file
 
+-- no log stands of what is removed
+abbrev pub LogGone : Act → Contents → Contents → Type 0
+LogGone (Put line) before now = Unit {0}
+LogGone (Note line) before now = Unit {0}
+LogGone (Pack line) before now = Unit {0}
+LogGone Remove before now = now.log ≡ None
+LogGone Forget before now = now.log ≡ None
+
 abbrev pub EachOf : (Act → Contents → Contents → Type 0) → List Move → Tree → Tree → Type 0
 EachOf Rel moves old tree =
     AllByRecursion (λ m. Rel m.act (contents m old) (contents m tree)) moves
@@ -75,11 +88,17 @@ UpdatesFirst t moves old tree =
 abbrev pub RecordsFirst : Option Transaction → List Move → Tree → Tree → Type 0
 RecordsFirst t moves old tree = EachOf FileStays moves old tree ⊎ PackedIsNew t old tree
 
+-- Packed records change only once all updates show and no log stands of what is removed.
+abbrev pub LogsFirst : Option Transaction → List Move → Tree → Tree → Type 0
+LogsFirst t moves old tree =
+    PackedStays t old tree ⊎ (EachOf Shows moves old tree × EachOf LogGone moves old tree)
+
 -- What stands at each moment of a commit.
 pub record OnTheWay (t : Option Transaction) (moves : List Move) (old tree : Tree) : Type 0 where
   pub each : EachOf IsBetween moves old tree
   pub order : UpdatesFirst t moves old tree
   pub records : RecordsFirst t moves old tree
+  pub logs_first : LogsFirst t moves old tree
   pub packed : PackedStays t old tree ⊎ PackedIsNew t old tree
   pub others : (path : Bytes) → IsNone path (commit_paths t moves)
       → file_at tree path ≡ file_at old path
@@ -88,6 +107,7 @@ pub record OnTheWay (t : Option Transaction) (moves : List Move) (old tree : Tre
 pub record IsCommitted (t : Option Transaction) (moves : List Move) (old new : Tree) : Type 0 where
   pub each : AllByRecursion (λ m. contents m new ≡ moved m.act (contents m old)) moves
   pub packed : PackedIsNew t old new
+  pub unlocked : PackedUnlocked t new
   pub others : (path : Bytes) → IsNone path (commit_paths t moves)
       → file_at new path ≡ file_at old path
 
@@ -119,6 +139,7 @@ pub record MayReplace (t : Option Transaction) (old tree : Tree) : Type 0 where
 
 pub record Replaces (t : Option Transaction) (old new : Tree) : Type 0 where
   pub packed : PackedIsNew t old new
+  pub unlocked : PackedUnlocked t new
   pub others : (path : Bytes) → IsNone path (packed_paths t)
       → file_at new path ≡ file_at old path
 

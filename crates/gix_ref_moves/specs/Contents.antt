@@ -36,6 +36,14 @@ abbrev pub noted : Option (Vec ℕ Global) → Option Bytes → Option Bytes
 noted None log = log
 noted (Some line) log = Some (unwrap_or log [] ++ line.items)
 
+-- the line that an act puts behind the log
+abbrev pub act_line : Act → Option (Vec ℕ Global)
+act_line (Put line) = line
+act_line (Note line) = line
+act_line (Pack line) = line
+act_line Remove = None
+act_line Forget = None
+
 -- ---- one act after another
 
 -- an update's log has its line, the lock's bytes stand in the file's place, and the lock is gone

@@ -2,3 +2,4 @@ pub mod Contents
 pub mod Moves
 pub mod Moments
 pub mod Committing
+pub mod Needs

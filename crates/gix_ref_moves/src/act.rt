@@ -1,6 +1,8 @@
 //! What becomes of a reference's file and of its log, and why it doesn't.
 
-ghost use Rattle.std.specs.Prelude.{◌≡◌, OnOk};
+ghost use Rattle.std.specs.Prelude.{◌≡◌, ◌⊎◌, IfErr, IsErrOf, OnOk};
+ghost use Rattle.gix_ref_file.specs.declared.files.FileError.TheVariants as file_case;
+ghost use Rattle.gix_ref_moves.specs.Needs.{IsOutOfMemory};
 
 use gix_ref_file::FileError;
 use gix_ref_transaction::lock::Lock;
@@ -78,7 +80,9 @@ pub enum CommitError {
 
 // What a call of the files told, as this error where it failed.
 pub(crate) fn told(outcome: Result<(), FileError>, why: CommitError) -> Result<(), CommitError>
-    ensures { OnOk result (outcome ≡ Ok tt) }
+    ensures done { OnOk result (outcome ≡ Ok tt) }
+    ensures failed { IfErr result (λ error.
+        IsOutOfMemory error ⊎ IsErrOf outcome file_case.Failed) }
 {
     match outcome {
         Ok(()) => Ok(()),

@@ -1,10 +1,17 @@
 //! Commits of moves.
 
-ghost use Rattle.std.specs.Prelude.{◌≡◌, OnOk, ◌≤◌};
-ghost use Rattle.gix_ref_file.specs.Calls.{Achieves, Passes};
+ghost use Rattle.std.specs.Prelude.{◌≡◌, ◌≤◌, ◌⊎◌, IfErr, IsErrOf, IsTrue, OnOk};
+ghost use Rattle.std.specs.List.{AllByRecursion};
+ghost use Rattle.gix_ref_file.specs.Changes.{is_file_at};
+ghost use Rattle.gix_ref_file.specs.Calls.{Achieves, HasFault, Passes};
+ghost use Rattle.gix_ref_file.specs.History.{HasRisen};
+ghost use Rattle.gix_ref_file.specs.declared.files.FileError.TheVariants as file_case;
+ghost use Rattle.gix_ref_way.specs.Ways.{FoldersOnlyOf, SameFolders};
+ghost use Rattle.gix_ref_moves.specs.Contents.{lock_path_of};
 ghost use Rattle.gix_ref_moves.specs.Committing.{IsCommitted, IsShowing, KeepsPacked, LocksAlone, MayReplace, NoneLocked, OnTheWay, Replaces, commit_paths, shown};
 ghost use Rattle.gix_ref_moves.specs.Moments.{SameButLocks};
 ghost use Rattle.gix_ref_moves.specs.Moves.{AllHave, AllMay, Once, all_paths};
+ghost use Rattle.gix_ref_moves.specs.Needs.{AreBeside, CanCommit, CanMove, CanReplace, IsOutOfMemory, log_paths};
 
 use crate::act::{CommitError, Move};
 use crate::steps::{Step, make_all};
@@ -32,6 +39,12 @@ pub fn commit<F: Files>(
     ensures done { Once (commit_paths packed moves.now)
         → Achieves F.is_honest F.history files.old files.new result
         (IsCommitted packed moves.now) }
+    ensures folders { Once (commit_paths packed moves.now)
+        → Passes F.is_honest F.history files.old files.new (FoldersOnlyOf (log_paths moves.now)) }
+    ensures failed { Once (commit_paths packed moves.now) → F.is_honest files.old
+        → CanCommit packed moves.now (F.history files.old).tree
+        → IfErr result (λ error.
+        IsOutOfMemory error ⊎ HasFault F.failures F.reading_may_fail files.old files.new) }
 {
     let outcome = make(alloc, files, moves, packed);
     if outcome.is_err() {
@@ -54,6 +67,12 @@ pub fn give_back_all<F: Files>(
         → Passes F.is_honest F.history files.old files.new (AllMay LocksAlone moves.now) }
     ensures gone { Once (all_paths moves.now)
         → Achieves F.is_honest F.history files.old files.new result (NoneLocked moves.now) }
+    ensures folders { Passes F.is_honest F.history files.old files.new SameFolders }
+    ensures failed { Once (all_paths moves.now) → F.is_honest files.old
+        → AllByRecursion (λ m. IsTrue (is_file_at (F.history files.old).tree (lock_path_of m)))
+        moves.now
+        → IsErrOf result file_case.Failed
+        → HasRisen (F.failures files.old) (F.failures files.new) }
 {
     let mut outcome = Ok(());
     let mut rest = moves;
@@ -66,7 +85,8 @@ pub fn give_back_all<F: Files>(
 
 // The error of the later one, where it failed, else what the earlier told.
 fn both(earlier: Result<(), FileError>, later: Result<(), FileError>) -> Result<(), FileError>
-    ensures { OnOk result ((earlier ≡ Ok tt) × (later ≡ Ok tt)) }
+    ensures done { OnOk result ((earlier ≡ Ok tt) × (later ≡ Ok tt)) }
+    ensures told { (result ≡ earlier) ⊎ (result ≡ later) }
 {
     match later {
         Ok(()) => earlier,
@@ -89,6 +109,12 @@ fn make<F: Files>(
     ensures done { Once (commit_paths packed moves.now)
         → Achieves F.is_honest F.history files.old files.new result
         (IsCommitted packed moves.now) }
+    ensures folders { Once (commit_paths packed moves.now)
+        → Passes F.is_honest F.history files.old files.new (FoldersOnlyOf (log_paths moves.now)) }
+    ensures failed { Once (commit_paths packed moves.now) → F.is_honest files.old
+        → CanCommit packed moves.now (F.history files.old).tree
+        → IfErr result (λ error.
+        IsOutOfMemory error ⊎ HasFault F.failures F.reading_may_fail files.old files.new) }
 {
     match show_updates(alloc, files, moves) {
         Ok(()) => {
@@ -111,6 +137,13 @@ fn show_updates<F: Files>(alloc: Global, files: &mut F, moves: &[Move]) -> Resul
         → Passes F.is_honest F.history files.old files.new (IsShowing moves.now) }
     ensures shown { Once (all_paths moves.now)
         → Achieves F.is_honest F.history files.old files.new result (AllHave shown moves.now) }
+    ensures folders { Once (all_paths moves.now)
+        → Passes F.is_honest F.history files.old files.new (FoldersOnlyOf (log_paths moves.now)) }
+    ensures failed { Once (all_paths moves.now) → AreBeside (all_paths moves.now)
+        → F.is_honest files.old
+        → AllByRecursion (λ m. CanMove m (F.history files.old).tree) moves.now
+        → IfErr result (λ error.
+        IsOutOfMemory error ⊎ HasFault F.failures F.reading_may_fail files.old files.new) }
 {
     make_all(alloc, files, Step::Update, moves)?;
     make_all(alloc, files, Step::Forget, moves)
@@ -128,6 +161,10 @@ fn replace_packed<F: Files>(
     ensures moments { Passes F.is_honest F.history files.old files.new (MayReplace packed) }
     ensures replaced { Achieves F.is_honest F.history files.old files.new result
         (Replaces packed) }
+    ensures folders { Passes F.is_honest F.history files.old files.new SameFolders }
+    ensures failed { F.is_honest files.old → CanReplace packed (F.history files.old).tree
+        → IfErr result (λ error.
+        IsOutOfMemory error ⊎ HasFault F.failures F.reading_may_fail files.old files.new) }
 {
     match packed {
         Some(packed) => match packed.commit(alloc, files) {
@@ -143,6 +180,7 @@ fn drop_packed<F: Files>(alloc: Global, files: &mut F, packed: Option<Transactio
     ensures honest { F.is_honest files.old → F.is_honest files.new }
     ensures later { F.failures files.old ≤ F.failures files.new }
     ensures moments { Passes F.is_honest F.history files.old files.new (KeepsPacked packed) }
+    ensures folders { Passes F.is_honest F.history files.old files.new SameFolders }
 {
     if let Some(packed) = packed {
         let _ = packed.rollback(alloc, files);

@@ -1,10 +1,11 @@
 //! Lines for logs.
 
-ghost use Rattle.std.specs.Prelude.{◌≡◌, ◌≤◌, OnOk};
-ghost use Rattle.gix_ref_file.specs.Calls.{Achieves, Passes};
-ghost use Rattle.gix_ref_way.specs.Ways.{file_at};
+ghost use Rattle.std.specs.Prelude.{◌≡◌, ◌≤◌, ◌⊎◌, [], ◌∷◌, Some, IfErr, OnOk};
+ghost use Rattle.gix_ref_file.specs.Calls.{Achieves, HasFault, Passes};
+ghost use Rattle.gix_ref_way.specs.Ways.{FoldersOnlyOf, file_at};
 ghost use Rattle.gix_ref_moves.specs.Contents.{noted};
 ghost use Rattle.gix_ref_moves.specs.Moments.{MayNote, NotesLog};
+ghost use Rattle.gix_ref_moves.specs.Needs.{CanNote, IsOutOfMemory, noted_logs};
 
 use crate::act::{CommitError, LogError, told};
 use gix_ref_file::Files;
@@ -24,6 +25,11 @@ pub(crate) fn note<F: Files>(
     ensures moments { Passes F.is_honest F.history files.old files.new (MayNote line.now log.now) }
     ensures noted { Achieves F.is_honest F.history files.old files.new result
         (NotesLog line.now log.now) }
+    ensures folders { Passes F.is_honest F.history files.old files.new
+        (FoldersOnlyOf (noted_logs line.now log.now)) }
+    ensures failed { F.is_honest files.old → CanNote line.now log.now (F.history files.old).tree
+        → IfErr result (λ error.
+        IsOutOfMemory error ⊎ HasFault F.failures F.reading_may_fail files.old files.new) }
 {
     match line {
         Some(line) => append(alloc, files, log, line),
@@ -44,6 +50,12 @@ fn append<F: Files>(
         (MayNote (Some line.now) log.now) }
     ensures noted { Achieves F.is_honest F.history files.old files.new result
         (NotesLog (Some line.now) log.now) }
+    ensures folders { Passes F.is_honest F.history files.old files.new
+        (FoldersOnlyOf (log.now ∷ [])) }
+    ensures failed { F.is_honest files.old
+        → CanNote (Some line.now) log.now (F.history files.old).tree
+        → IfErr result (λ error.
+        IsOutOfMemory error ⊎ HasFault F.failures F.reading_may_fail files.old files.new) }
 {
     told(
         make_way(alloc, files, log),

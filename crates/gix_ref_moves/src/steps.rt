@@ -1,10 +1,14 @@
 //! The steps in which moves are made: all updates, then the logs go of what is removed, at last its files and those of what is packed.
 
-ghost use Rattle.std.specs.Prelude.{◌≡◌, ◌≤◌, OnOk};
-ghost use Rattle.gix_ref_file.specs.Calls.{Achieves, Passes};
-ghost use Rattle.gix_ref_moves.specs.Contents.{forgotten, gone, removed, updated};
+ghost use Rattle.std.specs.Prelude.{◌≡◌, ◌≤◌, ◌⊎◌, IfErr, IsTrue, OnOk};
+ghost use Rattle.std.specs.List.{AllByRecursion};
+ghost use Rattle.gix_ref_file.specs.Changes.{is_file_at};
+ghost use Rattle.gix_ref_file.specs.Calls.{Achieves, HasFault, Passes};
+ghost use Rattle.gix_ref_way.specs.Ways.{FoldersOnlyOf, SameFolders};
+ghost use Rattle.gix_ref_moves.specs.Contents.{contents, forgotten, gone, lock_path_of, removed, updated};
 ghost use Rattle.gix_ref_moves.specs.Moments.{AreApart, Has, IsForgetting, IsGoing, IsGone, IsMaking, IsRemoving, IsUpdating, MayGo, MayMove, made_by};
-ghost use Rattle.gix_ref_moves.specs.Moves.{AllHave, AllMay, Once, all_paths};
+ghost use Rattle.gix_ref_moves.specs.Moves.{AllHave, AllMay, Once, all_paths, paths_of};
+ghost use Rattle.gix_ref_moves.specs.Needs.{AreBeside, CanMove, IsOutOfMemory, KeepsLock, Needs, log_paths, logs_of};
 
 use crate::act::{Act, CommitError, Move, told};
 use crate::notes::note;
@@ -36,6 +40,13 @@ pub(crate) fn make_all<F: Files>(
     ensures made { Once (all_paths moves.now)
         → Achieves F.is_honest F.history files.old files.new result
         (AllHave (made_by step) moves.now) }
+    ensures folders { Once (all_paths moves.now)
+        → Passes F.is_honest F.history files.old files.new (FoldersOnlyOf (log_paths moves.now)) }
+    ensures failed { Once (all_paths moves.now) → AreBeside (all_paths moves.now)
+        → F.is_honest files.old
+        → AllByRecursion (λ m. Needs step m (F.history files.old).tree) moves.now
+        → IfErr result (λ error.
+        IsOutOfMemory error ⊎ HasFault F.failures F.reading_may_fail files.old files.new) }
 {
     let mut rest = moves;
     'moves: while let Some((first, others)) = rest.split_first() {
@@ -53,6 +64,12 @@ fn make<F: Files>(alloc: Global, files: &mut F, step: Step, made: &Move) -> Resu
         → Passes F.is_honest F.history files.old files.new (MayMove (IsMaking step) made.now) }
     ensures made { AreApart made.now
         → Achieves F.is_honest F.history files.old files.new result (Has (made_by step) made.now) }
+    ensures folders { Passes F.is_honest F.history files.old files.new
+        (FoldersOnlyOf (logs_of made.now)) }
+    ensures failed { AreApart made.now → AreBeside (paths_of made.now) → F.is_honest files.old
+        → Needs step made.now (F.history files.old).tree
+        → IfErr result (λ error.
+        IsOutOfMemory error ⊎ HasFault F.failures F.reading_may_fail files.old files.new) }
 {
     match step {
         Step::Update => update(alloc, files, made),
@@ -69,6 +86,12 @@ fn update<F: Files>(alloc: Global, files: &mut F, made: &Move) -> Result<(), Com
         → Passes F.is_honest F.history files.old files.new (MayMove IsUpdating made.now) }
     ensures made { AreApart made.now
         → Achieves F.is_honest F.history files.old files.new result (Has updated made.now) }
+    ensures folders { Passes F.is_honest F.history files.old files.new
+        (FoldersOnlyOf (logs_of made.now)) }
+    ensures failed { AreApart made.now → AreBeside (paths_of made.now) → F.is_honest files.old
+        → CanMove made.now (F.history files.old).tree
+        → IfErr result (λ error.
+        IsOutOfMemory error ⊎ HasFault F.failures F.reading_may_fail files.old files.new) }
 {
     match &made.act {
         Act::Put(line) => {
@@ -92,6 +115,10 @@ fn forget<F: Files>(alloc: Global, files: &mut F, made: &Move) -> Result<(), Com
         → Passes F.is_honest F.history files.old files.new (MayMove IsForgetting made.now) }
     ensures made { AreApart made.now
         → Achieves F.is_honest F.history files.old files.new result (Has forgotten made.now) }
+    ensures folders { Passes F.is_honest F.history files.old files.new SameFolders }
+    ensures failed { F.is_honest files.old
+        → IfErr result (λ error.
+        IsOutOfMemory error ⊎ HasFault F.failures F.reading_may_fail files.old files.new) }
 {
     match &made.act {
         Act::Put(_) | Act::Note(_) | Act::Pack(_) => Ok(()),
@@ -109,6 +136,11 @@ fn remove<F: Files>(alloc: Global, files: &mut F, made: &Move) -> Result<(), Com
         → Passes F.is_honest F.history files.old files.new (MayMove IsRemoving made.now) }
     ensures made { AreApart made.now
         → Achieves F.is_honest F.history files.old files.new result (Has removed made.now) }
+    ensures folders { Passes F.is_honest F.history files.old files.new SameFolders }
+    ensures failed { AreApart made.now → F.is_honest files.old
+        → KeepsLock made.now.act (contents made.now (F.history files.old).tree)
+        → IfErr result (λ error.
+        IsOutOfMemory error ⊎ HasFault F.failures F.reading_may_fail files.old files.new) }
 {
     match &made.act {
         Act::Put(_) | Act::Note(_) => Ok(()),
@@ -127,6 +159,11 @@ fn remove_locked<F: Files>(alloc: Global, files: &mut F, made: &Move) -> Result<
         → Passes F.is_honest F.history files.old files.new (MayMove IsGoing made.now) }
     ensures made { AreApart made.now
         → Achieves F.is_honest F.history files.old files.new result (Has gone made.now) }
+    ensures folders { Passes F.is_honest F.history files.old files.new SameFolders }
+    ensures failed { AreApart made.now → F.is_honest files.old
+        → IsTrue (is_file_at (F.history files.old).tree (lock_path_of made.now))
+        → IfErr result (λ error.
+        IsOutOfMemory error ⊎ HasFault F.failures F.reading_may_fail files.old files.new) }
 {
     remove_file(alloc, files, &made.lock.place, CommitError::DeleteReference)?;
     told(made.lock.give_back(alloc, files), CommitError::LockCommit)
@@ -144,6 +181,10 @@ fn remove_file<F: Files>(
     ensures unfailed { OnOk result (F.failures files.new ≡ F.failures files.old) }
     ensures moments { Passes F.is_honest F.history files.old files.new (MayGo path.now) }
     ensures gone { Achieves F.is_honest F.history files.old files.new result (IsGone path.now) }
+    ensures folders { Passes F.is_honest F.history files.old files.new SameFolders }
+    ensures failed { F.is_honest files.old
+        → IfErr result (λ error.
+        IsOutOfMemory error ⊎ HasFault F.failures F.reading_may_fail files.old files.new) }
 {
     match files.kind_of(path) {
         Ok(Place::File(_)) => told(files.remove_file(alloc, path), why),

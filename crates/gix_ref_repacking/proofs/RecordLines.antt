@@ -1,6 +1,6 @@
 -- What edits say of packed records.
 use Rattle.std.proofs.Common.{◌≡◌, ◌≢◌, refl, sym, ◌∙◌, ap, subst, Bool, true, false, List, [], ◌∷◌, ◌++◌, append_assoc, append-nil, length, map, ◌||◌, arith, Option, Some, None}
-use Rattle.std.specs.Prelude.{is_some, option_map}
+use Rattle.std.specs.Prelude.{is_some, option_map, option_and_then}
 use Rattle.std.specs.List.{list_any}
 use Rattle.std.specs.Option.{option_to_list}
 use Rattle.gix_hash_id.specs.Id.{Id, id_of}
@@ -17,15 +17,18 @@ use Rattle.gix_ref_edit.specs.declared.change.RefEdit.{RefEdit}
 use Rattle.gix_ref_edit.specs.declared.log.LogChange.{LogChange}
 use Rattle.gix_ref_edit.specs.declared.log.RefLog.{RefLog}
 use Rattle.gix_ref_edit.specs.declared.log.RefLog.TheVariants.{AndReference, Only}
-use Rattle.gix_ref_format.specs.Lookup.{packed_key}
-use Rattle.gix_ref_format.specs.PackedBuffer.{KeepsFile}
+use Rattle.std.specs.Borrow.{Bor}
+use Rattle.gix_ref_format.specs.Lookup.{packed_key, packed_hit}
+use Rattle.gix_ref_format.specs.Packed.{Record}
+use Rattle.gix_ref_format.specs.PackedBuffer.{KeepsFile, Holds, hit}
 use Rattle.gix_ref_format.specs.PackedKept.{kept}
 use Rattle.gix_ref_format.specs.declared.packed.buffer.Buffer.{Buffer}
 use Rattle.gix_ref_packed.specs.Edited.{Line}
 use Rattle.gix_ref_store.specs.Follows.{Ends, follow, follow_from}
 use Rattle.gix_ref_store.specs.Peels.{IsPeeled, PeelsBy, PeelsTo}
 use Rattle.gix_ref_store.specs.Places.{Base, packed_place}
-use Rattle.gix_ref_store.specs.RefStates.{RefState, Stands, packed_text_in}
+use Rattle.gix_ref_store.specs.Finds as finds
+use Rattle.gix_ref_store.specs.RefStates.{RefState, Stands, packed_text_in, records_of}
 use Rattle.gix_ref_store.specs.declared.reference.Reference.{Reference}
 use Rattle.gix_ref_transaction.specs.RecordEdits.{line_in}
 use Rattle.gix_ref_transaction.specs.declared.packed.RecordEdit.{RecordEdit}
@@ -35,7 +38,7 @@ use Rattle.gix_ref_transaction.specs.Records.{records_in, IsTextOf, HoldsEdited}
 use Rattle.gix_ref_transaction.specs.declared.lock.Lock.{Lock}
 use Rattle.gix_ref_transaction.specs.declared.packed.Transaction.{Transaction}
 use Rattle.gix_ref_way.specs.Ways.{Bytes, file_at}
-use Rattle.gix_ref_repacking.specs.Repacking.{SaysOfRecord, SaysByKey, SayOfRecords, UpdatesRecord, WritesRecord, ChangesRecord, removal_line, changes_records, HoldsRecords, AreRepacked}
+use Rattle.gix_ref_repacking.specs.Repacking.{SaysOfRecord, SaysByKey, SayOfRecords, UpdatesRecord, WritesRecord, ChangesRecord, removal_line, changes_record, changes_records, HoldsRecords, AreRepacked}
 
 -- ---- one edit
 pub says_none : (packs : Option Table) (edit : RefEdit) → packed_key edit.name ≡ None → SaysOfRecord packs edit None
@@ -89,8 +92,35 @@ all_said packs edits (e ∷ rest) lines none so_far = absurd (omega (arith, none
 all_said packs edits [] lines none so_far = subst (SayOfRecords packs edits) (append-nil lines) (so_far [] refl)
 
 -- ---- whether records change
-pub some_change : (stands : Bool) (lines : List Line) → changes_records stands lines ≡ true → lines ≢ []
-some_change stands lines changes none = let wrong : true ≡ false = sym changes ∙ ap (changes_records stands) none in cc
+pub some_change : (records : List Record) (lines : List Line) → list_any (changes_record records) lines ≡ true → lines ≢ []
+some_change records lines changes none = let wrong : true ≡ false = sym changes ∙ ap (list_any (changes_record records)) none in cc
+
+pub none_hit : (key : Option Bytes) → is_some (option_and_then (hit []) key) ≡ false
+none_hit None = refl
+none_hit (Some key) = refl
+
+pub found_hit : {X : Type 0} (found : Option X) (record_of : X → Record) (records : List Record) (name : Bytes) → option_map record_of found ≡ packed_hit records name → is_some found ≡ is_some (packed_hit records name)
+found_hit None record_of records name is = ap is_some is
+found_hit (Some x) record_of records name is = ap is_some is
+
+same_hit : (records kept : List Record) (key : Option Bytes) → Holds records kept → option_and_then (hit records) key ≡ option_and_then (hit kept) key
+same_hit records kept None holds = refl
+same_hit records kept (Some key) holds = sym (holds.first key)
+
+same_changes : (records kept : List Record) (lines : List Line) → Holds records kept → list_any (changes_record records) lines ≡ list_any (changes_record kept) lines
+same_changes records kept [] holds = refl
+same_changes records kept (line ∷ lines) holds =
+    let one = same_hit records kept (packed_key line.name) holds in
+    let rest = same_changes records kept lines holds in
+    λ i. (is_some line.says || is_some (one i)) || rest i
+
+-- what was read tells whether the records of the tree change
+pub known_changes : (kind : Kind) (text : Option Bytes) (lent : Option (Bor Buffer)) (lines : List Line) → KeepsFile kind text (option_map (λ (buffer : Bor Buffer). kept buffer.now) lent)
+    → changes_records (records_of kind text) lines ≡ list_any (changes_record (finds.records_in lent)) lines
+known_changes kind None None lines keeps = refl
+known_changes kind (Some text) None lines keeps = absurd keeps
+known_changes kind None (Some buffer) lines keeps = absurd keeps
+known_changes kind (Some text) (Some buffer) lines (records, reads, holds) = ap (λ rs. changes_records rs lines) reads ∙ same_changes records (kept buffer.now) lines holds
 
 -- ---- the lock of packed records
 pub holds_records : (kind : Kind) (place : Bytes) (old mid new : Tree) (lines : List Line) (begun t : Transaction) → IsBegun kind place old mid begun → t.lock ≡ begun.lock → t.buffer ≡ begun.buffer → t.is_written ≡ true
@@ -105,19 +135,21 @@ holds_records kind place old mid new lines begun t is lock buffer written held =
   told = subst (λ (b : Option Buffer). IsTextOf kind (records_in b) lines held.text) (sym buffer) (subst (λ (k : Kind). IsTextOf k (records_in begun.buffer) lines held.text) is.of_kind held.told);
 }
 
-pub changed_records : (b : Base) (packs : Option Table) (kind : Kind) (place : Bytes) (stands : Bool) (old new : Tree) (edits : List RefEdit) (lines : List Line) (t : Transaction) → stands ≡ is_some (packed_text_in b old) → changes_records stands lines ≡ true → kind ≡ b.kind → place ≡ packed_place b
+pub changed_records : (b : Base) (packs : Option Table) (kind : Kind) (place : Bytes) (lent : Option (Bor Buffer)) (old new : Tree) (edits : List RefEdit) (lines : List Line) (t : Transaction)
+    → KeepsFile b.kind (packed_text_in b old) (option_map (λ (buffer : Bor Buffer). kept buffer.now) lent) → list_any (changes_record (finds.records_in lent)) lines ≡ true → kind ≡ b.kind → place ≡ packed_place b
     → SayOfRecords packs edits lines → HoldsRecords kind place old new lines t → AreRepacked b packs old new edits (Some t)
-changed_records b packs kind place stands old new edits lines t known changes of_kind here say holds = (
+changed_records b packs kind place lent old new edits lines t known changes of_kind here say holds = (
   lines,
   say,
   (
-    ap (λ (s : Bool). changes_records s lines) (sym known) ∙ changes,
+    known_changes b.kind (packed_text_in b old) lent lines known ∙ changes,
     subst (λ (k : Kind). HoldsRecords k (packed_place b) old new lines t) of_kind (subst (λ (p : Bytes). HoldsRecords kind p old new lines t) here holds),
   ),
 )
 
-pub unchanged_records : (b : Base) (packs : Option Table) (stands : Bool) (old new : Tree) (edits : List RefEdit) (lines : List Line) → stands ≡ is_some (packed_text_in b old) → changes_records stands lines ≡ false → SayOfRecords packs edits lines → AreRepacked b packs old new edits None
-unchanged_records b packs stands old new edits lines known changes say = (lines, say, ap (λ (s : Bool). changes_records s lines) (sym known) ∙ changes)
+pub unchanged_records : (b : Base) (packs : Option Table) (lent : Option (Bor Buffer)) (old new : Tree) (edits : List RefEdit) (lines : List Line)
+    → KeepsFile b.kind (packed_text_in b old) (option_map (λ (buffer : Bor Buffer). kept buffer.now) lent) → list_any (changes_record (finds.records_in lent)) lines ≡ false → SayOfRecords packs edits lines → AreRepacked b packs old new edits None
+unchanged_records b packs lent old new edits lines known changes say = (lines, say, known_changes b.kind (packed_text_in b old) lent lines known ∙ changes)
 
 pub any_line : (p : Line → Bool) (edits : List RecordEdit) → list_any (λ edit. p (line_in edit)) edits ≡ list_any p (map line_in edits)
 any_line p [] = refl

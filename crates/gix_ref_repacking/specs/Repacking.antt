@@ -13,13 +13,14 @@ use Rattle.gix_ref_edit.specs.declared.change.Change.TheVariants.{Update, Delete
 use Rattle.gix_ref_edit.specs.declared.change.RefEdit.{RefEdit}
 use Rattle.gix_ref_edit.specs.declared.log.RefLog.{RefLog}
 use Rattle.gix_ref_edit.specs.declared.log.RefLog.TheVariants.{AndReference, Only}
-use Rattle.gix_ref_format.specs.Lookup.{packed_key}
+use Rattle.gix_ref_format.specs.Lookup.{packed_key, packed_hit}
+use Rattle.gix_ref_format.specs.Packed.{Record}
 use Rattle.gix_ref_format.specs.PackedBuffer.{KeepsFile}
 use Rattle.gix_ref_format.specs.PackedKept.{kept}
 use Rattle.gix_ref_packed.specs.Edited.{Line}
 use Rattle.gix_ref_store.specs.Peels.{PeelsTo}
 use Rattle.gix_ref_store.specs.Places.{Base, packed_place}
-use Rattle.gix_ref_store.specs.RefStates.{packed_text_in}
+use Rattle.gix_ref_store.specs.RefStates.{packed_text_in, records_of}
 use Rattle.gix_ref_transaction.specs.PackedEdits.{place_of, lock_path_of}
 use Rattle.gix_ref_transaction.specs.Records.{records_in, IsTextOf}
 use Rattle.gix_ref_transaction.specs.declared.packed.Transaction.{Transaction}
@@ -75,9 +76,18 @@ SayOfRecords packs (edit ∷ edits) lines =
     (own : Option Line) × (rest : List Line) × SaysOfRecord packs edit own
     × SayOfRecords packs edits rest × (lines ≡ option_to_list own ++ rest)
 
--- whether records change, given whether a file of them stands: without one nothing is to be removed
-abbrev pub changes_records : Bool → List Line → Bool
-changes_records stands lines = list_any (λ line. stands || is_some line.says) lines
+-- whether a line changes these records: it brings one, or one stands for the name that it takes away
+abbrev pub changes_record : List Record → Line → Bool
+changes_record records line = is_some line.says || is_some (packed_hit records line.name)
+
+-- whether one of these lines does; of records that can't be read nothing is known, so they count as changed
+abbrev pub changes_records : Option (List Record) → List Line → Bool
+changes_records None lines = true
+changes_records (Some records) lines = list_any (changes_record records) lines
+
+-- whether they change the records of this tree
+abbrev pub changes_tree : Base → Tree → List Line → Bool
+changes_tree b tree lines = changes_records (records_of b.kind (packed_text_in b tree)) lines
 
 -- The lock of the records at this place is held, where nothing stood before, and has the text of the old tree's records under these lines.
 pub record HoldsRecords (kind : Kind) (place : Bytes) (old new : Tree) (lines : List Line)
@@ -92,9 +102,9 @@ pub record HoldsRecords (kind : Kind) (place : Bytes) (old new : Tree) (lines : 
 
 -- it is held where records change, and else no record does
 abbrev pub HoldsIf : Base → Tree → Tree → List Line → Option Transaction → Type 0
-HoldsIf b old new lines None = changes_records (is_some (packed_text_in b old)) lines ≡ false
+HoldsIf b old new lines None = changes_tree b old lines ≡ false
 HoldsIf b old new lines (Some t) =
-    (changes_records (is_some (packed_text_in b old)) lines ≡ true)
+    (changes_tree b old lines ≡ true)
     × HoldsRecords b.kind (packed_place b) old new lines t
 
 -- packed records are changed as the edits say

@@ -15,6 +15,13 @@ IsEarly (PackedTransactionPrepare error) = ⊥
 IsEarly (Resolve error) = Unit {0}
 IsEarly Memory = Unit {0}
 
+-- memory was wanting for the lock, or for its text
+abbrev pub WantsMemory : RepackError → Type 0
+WantsMemory (PackedTransactionAcquire error) = IsShort error
+WantsMemory (PackedTransactionPrepare error) = IsUnprepared error
+WantsMemory (Resolve error) = ⊥
+WantsMemory Memory = Unit {0}
+
 -- Its removal may have failed: a failure was counted, or memory was wanting. Of a lock that was held, whether one was counted at all.
 abbrev pub MayStay : ℕ → ℕ → RepackError → Type 0
 MayStay before now (PackedTransactionAcquire error) = HasRisen before now ⊎ IsShort error

@@ -1,20 +1,25 @@
 //! The packed records of references that are removed, and of those that are packed.
 
-ghost use Rattle.std.specs.Prelude.{◌≡◌, ◌≢◌, ◌||◌, ◌++◌, [], is_some, map, option_map, IfErr, IfOk, IfSome, None, OnOk, Some};
+ghost use Rattle.std.specs.Prelude.{◌≡◌, ◌≢◌, ◌⊎◌, ◌++◌, [], is_some, map, option_map, IfErr, IfOk, IfSome, None, OnOk, Some};
 ghost use Rattle.std.specs.List.{list_any};
 ghost use Rattle.std.specs.Option.{option_to_list};
 ghost use Rattle.gix_hash_id.specs.Id.{id_of};
-ghost use Rattle.gix_ref_file.specs.Calls.{Passes};
+ghost use Rattle.gix_ref_file.specs.Calls.{HasFault, Passes};
+ghost use Rattle.gix_ref_format.specs.Lookup.{packed_hit};
+ghost use Rattle.gix_ref_format.specs.PackedBuffer.{KeepsFile};
+ghost use Rattle.gix_ref_format.specs.PackedKept.{kept};
+ghost use Rattle.gix_ref_store.specs.Finds.{records_in};
 ghost use Rattle.gix_ref_store.specs.Places.{packed_place};
 ghost use Rattle.gix_ref_store.specs.RefStates.{packed_text_in};
 ghost use Rattle.gix_ref_store.specs.Stores.{base_of};
 ghost use Rattle.gix_ref_name.specs.Targets.{target_view};
-ghost use Rattle.gix_ref_transaction.specs.Locks.{lock_of, OthersStay};
+ghost use Rattle.gix_ref_transaction.specs.Locks.{lock_of, HasLockPlace, OthersStay};
+ghost use Rattle.gix_ref_transaction.specs.PackedEdits.{IsReadAt};
 ghost use Rattle.gix_ref_transaction.specs.RecordEdits as record_edits;
 ghost use Rattle.gix_ref_repacking.specs.Modes.{objects_in};
 ghost use Rattle.gix_ref_repacking.specs.Repacking as spec;
 ghost use Rattle.gix_ref_repacking.specs.Repacking.{AddsSaid, AreRepacked, HoldsRecords, SaysOfRecord, SayOfRecords, TellsPeeled, UpdatesRecord, removal_line};
-ghost use Rattle.gix_ref_repacking.specs.Rollback.{IsEarly, IsRolledBack};
+ghost use Rattle.gix_ref_repacking.specs.Rollback.{IsEarly, IsRolledBack, WantsMemory};
 
 use crate::error::RepackError;
 use crate::packed_refs::PackedRefs;
@@ -30,8 +35,8 @@ use gix_ref_store::store::file::{ReferenceExt, Store};
 use gix_ref_transaction::packed::{RecordEdit, Transaction};
 use std::alloc::Global;
 
-/// Begins a transaction of the packed references and prepares it, where the edits change records: its lock is then held, and has the new
-/// text. `None` where none changes. `packed` is what the caller has read of the file, `None` where none stands. The records of references
+/// Begins a transaction of the packed references and prepares it, if the edits change records: its lock is then held, and has the new
+/// text. `None` if none changes, as after the deletion of a name without a record. `packed` is what the caller has read of the file, `None` where none stands. The records of references
 /// that are deleted go; where `packed_refs` packs updates, each update to an object gets one, with the id that tags lead to where it is
 /// another. Names of which each worktree has its own have none.
 ///
@@ -57,12 +62,17 @@ pub fn repack<F: Files, O: FindInto>(
         (F.history store.new.files).tree) }
     ensures repacked { F.is_honest store.old.files → IfSome (objects_in packed_refs.now) O.is_honest
         → let old = (F.history store.old.files).tree in let b = base_of store.old in
-        is_some packed.entry ≡ is_some (packed_text_in b old)
+        KeepsFile b.kind (packed_text_in b old) (option_map (λ buffer. kept buffer.now) packed.entry)
         → IfOk result (AreRepacked b (option_map O.table (objects_in packed_refs.now)) old
         (F.history store.new.files).tree edits.now) }
+    // An error that isn't early comes from a fault of the files or want of memory.
+    ensures failed { F.is_honest store.old.files → let tree = (F.history store.old.files).tree in
+        let b = base_of store.old in let place = packed_place b in
+        HasLockPlace place tree → IsReadAt b.kind place tree → IfErr result (λ error. IsEarly error
+        ⊎ (WantsMemory error ⊎ HasFault F.failures F.reading_may_fail store.old.files store.new.files)) }
 {
     let lines = record_edits(alloc, &*store, edits, packed_refs)?;
-    if !change_records(packed.is_some(), &lines) {
+    if !change_records(packed, &lines) {
         return Ok(None);
     }
     let place = store.packed_refs_path(alloc)?;
@@ -89,25 +99,40 @@ fn written<F: Files>(
     ensures held { F.is_honest files.old → lines.items ≢ []
         → IfOk result (HoldsRecords kind place.now (F.history files.old).tree
         (F.history files.new).tree (map record_edits.line_in lines.items)) }
+    ensures failed { F.is_honest files.old → let tree = (F.history files.old).tree in
+        HasLockPlace place.now tree → IsReadAt kind place.now tree → IfErr result (λ error.
+        WantsMemory error ⊎ HasFault F.failures F.reading_may_fail files.old files.new) }
 {
     let begun = Transaction::new(alloc, files, place, kind)?;
     let prepared = begun.prepare(alloc, files, lines)?;
     Ok(prepared)
 }
 
-// Whether one of the edits changes records, given whether a file of them stands.
-fn change_records(stands: bool, lines: &[RecordEdit]) -> bool
-    ensures { result ≡ list_any (λ line. stands || is_some (record_edits.line_in line).says) lines.now }
+// Whether one of the edits changes the records that were read.
+fn change_records(packed: Option<&Buffer>, lines: &[RecordEdit]) -> bool
+    ensures { result ≡ list_any (λ line.
+        spec.changes_record (records_in packed.entry) (record_edits.line_in line)) lines.now }
 {
-    lines.iter().any(|line| changes_records(stands, line))
+    lines.iter().any(|line| changes_records(packed, line))
 }
 
-fn changes_records(stands: bool, line: &RecordEdit) -> bool
-    ensures { result ≡ (stands || is_some (record_edits.line_in line.now).says) }
+fn changes_records(packed: Option<&Buffer>, line: &RecordEdit) -> bool
+    ensures { result
+        ≡ spec.changes_record (records_in packed.entry) (record_edits.line_in line.now) }
 {
     match line {
         RecordEdit::Write { .. } => true,
-        RecordEdit::Remove { .. } => stands,
+        RecordEdit::Remove { name } => has_record(packed, name),
+    }
+}
+
+// Whether one of the records that were read is of this name.
+fn has_record(packed: Option<&Buffer>, name: &FullName) -> bool
+    ensures { result ≡ is_some (packed_hit (records_in packed.entry) name.now) }
+{
+    match packed {
+        Some(records) => records.try_find_full_name(name.as_ref()).is_some(),
+        None => false,
     }
 }
 
@@ -118,7 +143,8 @@ fn record_edits<F: Files, O: FindInto>(
     edits: &[RefEdit],
     packed_refs: &PackedRefs<'_, O>,
 ) -> Result<Vec<RecordEdit>, RepackError>
-    ensures { F.is_honest store.now.files → IfSome (objects_in packed_refs.now) O.is_honest
+    ensures early { IfErr result IsEarly }
+    ensures said { F.is_honest store.now.files → IfSome (objects_in packed_refs.now) O.is_honest
         → let packs = option_map O.table (objects_in packed_refs.now) in
         IfOk result (λ lines. SayOfRecords packs edits.now (map record_edits.line_in lines.items)) }
 {
@@ -139,7 +165,8 @@ fn add_record_edit<F: Files, O: FindInto>(
     packed_refs: &PackedRefs<'_, O>,
     lines: &mut Vec<RecordEdit>,
 ) -> Result<(), RepackError>
-    ensures { F.is_honest store.now.files → IfSome (objects_in packed_refs.now) O.is_honest
+    ensures early { IfErr result IsEarly }
+    ensures said { F.is_honest store.now.files → IfSome (objects_in packed_refs.now) O.is_honest
         → let packs = option_map O.table (objects_in packed_refs.now) in
         OnOk result (AddsSaid packs edit.now (map record_edits.line_in lines.old.items)
         (map record_edits.line_in lines.new.items)) }
@@ -151,7 +178,8 @@ fn add_record_edit<F: Files, O: FindInto>(
 
 // Adds it, where there is one.
 fn push_some(lines: &mut Vec<RecordEdit>, own: Option<RecordEdit>) -> Result<(), RepackError>
-    ensures { OnOk result (map record_edits.line_in lines.new.items
+    ensures early { IfErr result IsEarly }
+    ensures said { OnOk result (map record_edits.line_in lines.new.items
         ≡ map record_edits.line_in lines.old.items
         ++ option_to_list (option_map record_edits.line_in own)) }
 {
@@ -168,7 +196,8 @@ fn record_edit<F: Files, O: FindInto>(
     edit: &RefEdit,
     packed_refs: &PackedRefs<'_, O>,
 ) -> Result<Option<RecordEdit>, RepackError>
-    ensures { F.is_honest store.now.files → IfSome (objects_in packed_refs.now) O.is_honest
+    ensures early { IfErr result IsEarly }
+    ensures said { F.is_honest store.now.files → IfSome (objects_in packed_refs.now) O.is_honest
         → let packs = option_map O.table (objects_in packed_refs.now) in
         IfOk result (λ own. SaysOfRecord packs edit.now (option_map record_edits.line_in own)) }
 {
@@ -183,7 +212,9 @@ fn record_edit<F: Files, O: FindInto>(
 
 // The record goes with the reference.
 fn removal_of(alloc: Global, key: &[u8], log: RefLog) -> Result<Option<RecordEdit>, RepackError>
-    ensures { IfOk result (λ own. option_map record_edits.line_in own ≡ removal_line log key.now) }
+    ensures early { IfErr result IsEarly }
+    ensures said { IfOk result (λ own.
+        option_map record_edits.line_in own ≡ removal_line log key.now) }
 {
     match log {
         RefLog::AndReference => Ok(Some(RecordEdit::Remove {
@@ -202,7 +233,8 @@ fn update_of<F: Files, O: FindInto>(
     new: &Target,
     packed_refs: &PackedRefs<'_, O>,
 ) -> Result<Option<RecordEdit>, RepackError>
-    ensures { F.is_honest store.now.files → IfSome (objects_in packed_refs.now) O.is_honest
+    ensures early { IfErr result IsEarly }
+    ensures said { F.is_honest store.now.files → IfSome (objects_in packed_refs.now) O.is_honest
         → let packs = option_map O.table (objects_in packed_refs.now) in
         IfOk result (λ own. UpdatesRecord packs log.now.mode (target_view new.now) key.now
         (option_map record_edits.line_in own)) }
@@ -230,7 +262,8 @@ fn record_of<F: Files, O: FindInto>(
     id: ObjectId,
     objects: &O,
 ) -> Result<RecordEdit, RepackError>
-    ensures { F.is_honest store.now.files → O.is_honest objects.now
+    ensures early { IfErr result IsEarly }
+    ensures said { F.is_honest store.now.files → O.is_honest objects.now
         → IfOk result (λ own. spec.WritesRecord (O.table objects.now)
         (id_of id) key.now (Some (record_edits.line_in own))) }
 {
@@ -251,7 +284,8 @@ fn peeled<F: Files, O: FindInto>(
     id: ObjectId,
     objects: &O,
 ) -> Result<Option<ObjectId>, RepackError>
-    ensures { F.is_honest store.now.files → O.is_honest objects.now → IfOk result (λ peeled.
+    ensures early { IfErr result IsEarly }
+    ensures said { F.is_honest store.now.files → O.is_honest objects.now → IfOk result (λ peeled.
         TellsPeeled (O.table objects.now) (id_of id) (option_map id_of peeled)) }
 {
     let found = Reference {
@@ -267,7 +301,8 @@ fn peeled<F: Files, O: FindInto>(
 }
 
 fn key_name(alloc: Global, key: &[u8]) -> Result<FullName, RepackError>
-    ensures { IfOk result (λ name. name ≡ key.now) }
+    ensures early { IfErr result IsEarly }
+    ensures said { IfOk result (λ name. name ≡ key.now) }
 {
     match FullName::from_bytes(alloc, key) {
         Ok(name) => Ok(name),

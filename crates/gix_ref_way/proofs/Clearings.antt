@@ -16,10 +16,7 @@ use Rattle.gix_ref_file.proofs.Rooted.{adds_now, both}
 use Rattle.gix_ref_file.proofs.Trees.{get-removed, one_path, same_path_itself}
 use Rattle.gix_ref_file.proofs.Below.{path_in_folder}
 use Rattle.gix_ref_file.proofs.Listings.{in_folder, found, root_is_no_path, node_is}
-use Rattle.gix_ref_way.specs.Ways.{Bytes}
-use Rattle.gix_ref_way.specs.Ways.{file_at}
-use Rattle.gix_ref_way.specs.Ways.{SameFiles, IsAbove, FoldersAbove, HasFoldersAbove}
-use Rattle.gix_ref_way.specs.Ways.{ClearsWay, NoFileBelow}
+use Rattle.gix_ref_way.specs.Ways.{Bytes, file_at, SameFiles, IsAbove, FoldersAbove, HasFoldersAbove, ClearsWay, NoFileBelow}
 use Rattle.gix_ref_way.proofs.FoldersMade.{above_above, above_shorter, may_hold, none_there}
 
 -- ---- what is below

@@ -3,13 +3,14 @@ use Rattle.std.proofs.Common.{◌≡◌, ◌⊎◌, inl, inr, refl, sym, ◌∙�
 use Rattle.std.specs.Prelude.{IsTrue, Option, Some, None}
 use Rattle.std.specs.FinMap.{get}
 use Rattle.gix_ref_file.specs.Tree.{Tree, Node, file, folder, node_at, is_folder}
-use Rattle.gix_ref_file.specs.Changes.{to_make_folder, MayLeave}
+use Rattle.gix_ref_file.specs.Changes.{to_make_folder, to_write, to_append, to_rename, MayLeave}
 use Rattle.gix_ref_file.specs.History.{History, Adds}
 use Rattle.gix_ref_file.proofs.Histories.{adds_weaker, adds_joined}
 use Rattle.gix_ref_file.proofs.Rooted.{adds_now}
 use Rattle.gix_ref_way.specs.Ways.{Bytes, KeepsFolders, ClearsWay, IsAtOrBelow, KeepsOtherFolders}
 use Rattle.gix_ref_way.proofs.Clearings.{way_now}
 use Rattle.gix_ref_way.proofs.FoldersMade.{folder_put}
+use Rattle.gix_ref_way.proofs.FoldersStay as stay
 
 -- ---- all folders
 pub same_keeps : (t x : Tree) → x ≡ t → KeepsFolders t x
@@ -68,3 +69,23 @@ way_stay path old cleared made first second =
 -- a file's folders are there, and no folder is in its place
 pub while_nothing : (path : Bytes) (t x : Tree) → KeepsFolders t x → KeepsOtherFolders path t x
 while_nothing path t x keeps place is = inl (keeps place is)
+
+-- ---- while files come and go
+
+pub while_appended : (path bytes : Bytes) (t x : Tree) → MayLeave (to_append path bytes) t x → KeepsFolders t x
+while_appended path bytes t x left = stay.same_stay t x (stay.while_appended path bytes t x left)
+
+pub while_written : (path bytes : Bytes) (t x : Tree) → MayLeave (to_write path bytes) t x → KeepsFolders t x
+while_written path bytes t x left = stay.same_stay t x (stay.while_written path bytes t x left)
+
+pub while_renamed : (from to : Bytes) (t x : Tree) → MayLeave (to_rename from to) t x → KeepsFolders t x
+while_renamed from to t x left = stay.same_stay t x (stay.while_renamed from to t x left)
+
+-- a change that keeps the folders, behind others that did
+pub then_stay : {P : Tree → Type 0} (old mid new : History) → Adds (KeepsFolders old.tree) old mid → Adds P mid new → ((x : Tree) → P x → KeepsFolders mid.tree x) → Adds (KeepsFolders old.tree) old new
+then_stay old mid new first second keeps = keeps_joined old mid new first (adds_weaker mid new second keeps)
+
+pub file_stay : {P : Tree → Type 0} (path : Bytes) (old made new : History) → Adds (KeepsOtherFolders path old.tree) old made → Adds P made new → ((x : Tree) → P x → KeepsFolders made.tree x)
+    → Adds (KeepsOtherFolders path old.tree) old new
+file_stay path old made new first second keeps =
+    adds_joined old made new first (adds_weaker made new second (λ x p. then_keeps path old.tree made.tree x (others_now path old made first) (keeps x p)))

@@ -13,8 +13,7 @@ use Rattle.gix_ref_file.specs.declared.files.FileError.TheVariants.{Failed}
 use Rattle.gix_ref_file.specs.declared.files.Place.TheVariants as places
 use Rattle.gix_ref_file.proofs.Trees.{get-inserted, get_inserted}
 use Rattle.gix_ref_file.proofs.Below.{path_in_folder}
-use Rattle.gix_ref_way.specs.Ways.{Bytes}
-use Rattle.gix_ref_way.specs.Ways.{IsAbove, HasFoldersAbove, KeepsFolders, FoldersAbove}
+use Rattle.gix_ref_way.specs.Ways.{Bytes, IsAbove, HasFoldersAbove, KeepsFolders, FoldersAbove}
 use Rattle.std.proofs.lemmas.Bool.{and_from, and_parts}
 
 -- ---- counts

@@ -1,8 +1,10 @@
 pub mod Above
 pub mod Clearings
+pub mod FilesBelow
 pub mod FoldersKept
 pub mod FoldersMade
 pub mod FoldersStay
 pub mod Rooms
 pub mod Stored
 pub mod Surveys
+pub mod Walked

@@ -1,16 +1,14 @@
 -- What the changes of folders leave of the files.
 use Rattle.std.proofs.Common.{◌≡◌, ◌≢◌, ◌⊎◌, inl, inr, refl, sym, ◌∙◌, ap, Bool, true, false, cond, [], ◌∷◌}
-use Rattle.std.specs.Prelude.{IsTrue, Option, Some, None, is_none}
-use Rattle.std.specs.FinMap.{get, insert}
+use Rattle.std.specs.Prelude.{IsTrue, Option, Some, None, is_none, Result, Ok, Err, OnOk}
+use Rattle.std.specs.FinMap.{get, insert, remove}
 use Rattle.gix_ref_file.specs.Tree.{Tree, Node, folder, same_path, node_at, bytes_of}
 use Rattle.gix_ref_file.specs.Changes.{to_make_folder, MayLeave}
 use Rattle.gix_ref_file.specs.History.{History, Adds}
 use Rattle.gix_ref_file.proofs.Histories.{adds_weaker, adds_joined}
 use Rattle.gix_ref_file.proofs.Rooted.{adds_now, first}
-use Rattle.gix_ref_file.proofs.Trees.{get-inserted, one_path}
-use Rattle.gix_ref_way.specs.Ways.{Bytes}
-use Rattle.gix_ref_way.specs.Ways.{file_at}
-use Rattle.gix_ref_way.specs.Ways.{SameFiles}
+use Rattle.gix_ref_file.proofs.Trees.{get-inserted, get-removed, one_path}
+use Rattle.gix_ref_way.specs.Ways.{Bytes, file_at, SameFiles}
 
 pub same_then_same : (old mid new : Tree) → SameFiles old mid → SameFiles mid new → SameFiles old new
 same_then_same old mid new first second = λ path. second path ∙ first path
@@ -52,3 +50,11 @@ now_same old new adds = from_now (adds_now _ old new adds)
 pub same_joined : (old mid new : History) → Adds (SameFiles old.tree) old mid → Adds (SameFiles mid.tree) mid new → Adds (SameFiles old.tree) old new
 same_joined old mid new first second =
     adds_joined old mid new first (adds_weaker mid new second (λ x same. same_then_same old.tree mid.tree x (now_same old mid first) same))
+
+pub apart_from_removed : (t : Tree) (k q : Bytes) → q ≢ k → file_at (remove t k) q ≡ file_at t q
+apart_from_removed t k [] apart = refl
+apart_from_removed t k (b ∷ q) apart = ap bytes_of (get-removed t k (b ∷ q) ∙ ap (λ same. cond same None (get t (b ∷ q))) (other_path (b ∷ q) k apart))
+
+pub on_ok_both : {T E A B C : Type 0} (r : Result T E) → (A → B → C) → OnOk r A → OnOk r B → OnOk r C
+on_ok_both (Ok x) f a b = f a b
+on_ok_both (Err e) f a b = tt

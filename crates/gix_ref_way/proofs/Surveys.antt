@@ -1,13 +1,15 @@
 -- Listings of a folder, one name after another.
-use Rattle.std.proofs.Common.{◌≡◌, ℕ, Vec, ◌+◌, ◌<◌, Bool, true, false, ◌&&◌, List, [], ◌∷◌, length, map, refl, sym, ◌∙◌, ap, subst, arith, length-append}
-use Rattle.std.specs.Prelude.{IsTrue, IsSome, nat_le, nat_lt}
+use Rattle.std.proofs.Common.{◌≡◌, ℕ, Vec, ◌+◌, ◌<◌, Bool, true, false, ◌&&◌, List, [], ◌∷◌, length, map, Option, Some, None, refl, sym, ◌∙◌, ap, subst, arith, length-append}
+use Rattle.std.specs.Prelude.{IsTrue, IsSome, is_some, nat_le, nat_lt}
 use Rattle.std.specs.List.{list_all, slice_split}
 use Rattle.std.specs.declared.alloc.Global.{Global}
 use borrow.Author.Tests.{ltb-true, ltb-false}
 use Rattle.std.specs.FinMap.{get}
 use Rattle.std.proofs.Math.ListN.{get_or}
-use Rattle.gix_ref_file.specs.Tree.{Tree, is_slash, is_component, is_path, names_at, IsRooted, under}
-use Rattle.gix_ref_file.proofs.Listings.{root_is_no_path, listed_stands, item_is, map_length}
+use Rattle.gix_ref_file.specs.declared.files.Place.TheVariants as places
+use Rattle.gix_ref_file.specs.Changes.{is_file_at}
+use Rattle.gix_ref_file.specs.Tree.{Tree, Node, file, folder, is_slash, is_component, is_path, names_at, node_at, place_of, bytes_of, is_folder, IsRooted, under}
+use Rattle.gix_ref_file.proofs.Listings.{root_is_no_path, node_is, listed_stands, item_is, map_length}
 use Rattle.gix_ref_way.specs.Ways.{Bytes}
 
 pub deeper : (place name : Bytes) → IsTrue (is_path (under place name)) → length place < length (under place name)
@@ -56,3 +58,29 @@ is_deep place path longer is = ap (λ b. b && nat_le (length path) 4096) (by_tes
     by_test : (b : Bool) → nat_lt (length place) (length path) ≡ b → b ≡ true
     by_test true less = refl
     by_test false more = absurd (omega (arith, longer, ltb-false _ _ more))
+
+-- ---- what a call says of a path
+
+pub folder_stands : (tree : Tree) (path : Bytes) → IsTrue (is_path path) → place_of (node_at tree path) ≡ places.Folder → IsTrue (is_folder (get tree path))
+folder_stands tree path is there = by_case (get tree path) (ap place_of (sym (node_is tree path is)) ∙ there)
+  where
+    by_case : (o : Option Node) → place_of o ≡ places.Folder → IsTrue (is_folder o)
+    by_case None h = cc
+    by_case (Some (file bytes)) h = cc
+    by_case (Some folder) h = refl
+
+pub file_stands : (tree : Tree) (path : Bytes) (size : ℕ) → place_of (node_at tree path) ≡ places.File size → IsTrue (is_file_at tree path)
+file_stands tree path size there = by_case (node_at tree path) there
+  where
+    by_case : (o : Option Node) → place_of o ≡ places.File size → IsTrue (is_some (bytes_of o))
+    by_case None h = cc
+    by_case (Some (file bytes)) h = refl
+    by_case (Some folder) h = cc
+
+pub not_absent : (tree : Tree) (path : Bytes) → IsTrue (is_path path) → IsSome (get tree path) → place_of (node_at tree path) ≡ places.Absent → ⊥
+not_absent tree path is there absent = by_case (get tree path) there (ap place_of (sym (node_is tree path is)) ∙ absent)
+  where
+    by_case : (o : Option Node) → IsSome o → place_of o ≡ places.Absent → ⊥
+    by_case None there h = cc
+    by_case (Some (file bytes)) there h = cc
+    by_case (Some folder) there h = cc

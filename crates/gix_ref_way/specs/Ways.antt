@@ -1,7 +1,8 @@
 -- The way of a file: the folders that it stands in, and what stands in its place.
-use Rattle.std.specs.Prelude.{ℕ, ◌≡◌, ◌⊎◌, List, ◌∷◌, ◌++◌, Option, Some, None, Contains, IsTrue}
+use Rattle.std.specs.Prelude.{ℕ, zero, suc, ◌≡◌, ◌⊎◌, Bool, true, false, List, ◌∷◌, ◌++◌, Option, Some, None, Contains, IsTrue}
 use Rattle.std.specs.FinMap.{get}
-use Rattle.gix_ref_file.specs.Tree.{Tree, folder, node_at, bytes_of, is_folder}
+use Rattle.gix_ref_file.specs.Tree.{Tree, folder, parent, node_at, bytes_of, is_folder}
+use Rattle.gix_ref_file.specs.Changes.{is_file_at}
 
 abbrev pub Bytes : Type 0
 Bytes = List ℕ
@@ -21,6 +22,11 @@ SameFolders old new = (path : Bytes) → is_folder (get new path) ≡ is_folder 
 -- the path stands below this one: a slash follows it there
 abbrev pub IsAbove : Bytes → Bytes → Type 0
 IsAbove place path = (rest : Bytes) × (path ≡ place ++ 47 ∷ rest)
+
+-- the folder so many folders above a path
+abbrev pub above : ℕ → Bytes → Bytes
+above zero path = path
+above (suc n) path = parent (above n path)
 
 -- no file stands where the path needs a folder
 abbrev pub NoFileAbove : Bytes → Tree → Type 0
@@ -84,3 +90,15 @@ pub record FoldersOnlyOf (paths : List Bytes) (old new : Tree) : Type 0 where
       → IsFolderAt place old ⊎ ((path : Bytes) × Contains paths path × IsAbove place path)
   pub went : (place : Bytes) → IsFolderAt place old
       → IsFolderAt place new ⊎ ((path : Bytes) × Contains paths path × IsAtOrBelow path place)
+
+-- ---- files in the way
+
+-- whether a file stands where the path needs a folder
+abbrev pub TellsAbove : Bytes → Tree → Bool → Type 0
+TellsAbove path tree true = (place : Bytes) × IsAbove place path × IsTrue (is_file_at tree place)
+TellsAbove path tree false = NoFileAbove path tree
+
+-- whether a file stands below the path
+abbrev pub TellsBelow : Bytes → Tree → Bool → Type 0
+TellsBelow path tree true = (other : Bytes) × IsAbove path other × IsTrue (is_file_at tree other)
+TellsBelow path tree false = NoFileBelow path tree

@@ -1,8 +1,10 @@
-//! The way of a file: the folders that it stands in, and folders that stand in its place.
+//! The way of a file: the folders that it stands in, folders that stand in its place, and files that are in the way.
 #![tactic(auto)]
 
+mod files;
 mod folders;
 mod way;
 
+pub use crate::files::{has_file_above, has_file_below, is_file};
 pub use crate::folders::make_folders;
 pub use crate::way::make_way;

@@ -136,6 +136,7 @@ def main():
             add_paths(git, root, any_paths(git, root, chance))
         root = git.tree({b"a": {b"shut": {b"x": file}, b"y": file, b"z": file}, b"b": file})
         depth, breadth = git.depth(root), git.breadth(root)
+        add_walks(git, root)
         # copies tell the same: the path `a`, `a/b` that is queued, and the entries; buffers are empty when they are taken
         add("depth-copied", git, root, git.trees(root), "0 0 a a/b" + told(depth, lambda path: path))
         add("breadth-copied", git, root, git.trees(root), "a a/b" + told(breadth, lambda path: path))

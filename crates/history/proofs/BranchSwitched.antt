@@ -21,7 +21,7 @@ use Rattle.history_steps.specs.SwitchSteps.{HeadOnTheWay, NamesBranch}
 use Rattle.history_steps.specs.TreeHalves.{HoldsNames, HoldsValues}
 use Rattle.history_steps.proofs.HeadSwitched.{switches_pass, switches_stand}
 use Rattle.history_steps.proofs.TreePuts.{halves_stand}
-use Rattle.history_folders.specs.Folders.{SameFolders}
+use Rattle.gix_ref_way.specs.Ways.{SameFolders}
 use Rattle.history_names.specs.References.{head_lock}
 use Rattle.history_objects.specs.Face.{ids_of_objects}
 use Rattle.history_names.specs.Packing.{KeepsRecords}

@@ -20,9 +20,9 @@ use Rattle.history_model.specs.Stops.{is_changing}
 use Rattle.history_model.specs.declared.Cause.{Cause}
 use Rattle.history_model.proofs.WholeGrowth.{holds_value}
 use Rattle.history_model.proofs.WholeLists.{of_map}
-use Rattle.history_rows.specs.Rows.{AreTheRows, SaysRow}
-use Rattle.history_rows.proofs.Counted.{counted_holds}
-use Rattle.history_rows.proofs.Members.{in_from_contains, of_filter}
+use Rattle.history_walks.specs.Rows.{AreTheRows, SaysRow}
+use Rattle.history_walks.proofs.Counted.{counted_holds}
+use Rattle.history_walks.proofs.Members.{in_from_contains, of_filter}
 use Rattle.history_repository.specs.Reads.{GivesMeant, IsReadingFault, OnlyAnswers}
 use Rattle.history_repository.specs.Faults.{rows_fault}
 use Rattle.history_repository.specs.KeptRows.{AgreeRows, TellsRow}

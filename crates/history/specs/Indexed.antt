@@ -7,7 +7,7 @@ use Rattle.history_model.specs.Commands.{Command, Index}
 use Rattle.history_model.specs.Replies.{Reply}
 use Rattle.history_model.specs.Repository.{Repository}
 use Rattle.history_model.specs.Steps.{rows_after}
-use Rattle.history_rows.specs.Rows.{AreTheRows}
+use Rattle.history_walks.specs.Rows.{AreTheRows}
 use Rattle.history_repository.specs.declared.stopped.Stopped.{Stopped}
 use Rattle.history_model.specs.Answers as model
 

@@ -1,5 +1,5 @@
 -- What storing a command's objects leaves, and what is then to be done to names.
-use Rattle.std.specs.Prelude.{◌≡◌, ⊤, Some, None, Result, Ok, Err, IsTrue, IsFalse}
+use Rattle.std.specs.Prelude.{◌≡◌, ⊤, Bool, true, false, Some, None, Result, Ok, Err, IsTrue, IsFalse}
 use Rattle.gix_ref_file.specs.History.{History}
 use Rattle.history_model.specs.Causes.{first_cause}
 use Rattle.history_model.specs.Meaning.{after, takes_id}
@@ -85,3 +85,9 @@ StoresObjects CallFailed Stored r order (Err (Refused cause)) = first_cause r or
 StoresObjects CallFailed Stored r order (Err (Fault Memory)) = ⊤
 StoresObjects CallFailed Stored r order (Err (Fault File)) = CallFailed
 StoresObjects CallFailed Stored r order (Err (Fault IdTaken)) = MayTake r order
+
+-- whether a fault is why there is no result
+abbrev pub is_fault_of : {T : Type 0} → Result T Stopped → Bool
+is_fault_of (Ok value) = false
+is_fault_of (Err (Refused cause)) = false
+is_fault_of (Err (Fault fault)) = true

@@ -2,19 +2,22 @@
 //!
 //! [`create`] makes a repository of two file trees, [`Repository::open`] opens one, and [`run`] reads commands, acts on
 //! each by [`answer`] and writes its reply. [`recover`] makes whole what a stopped or failed call left. A command that changes files is
-//! two calls, [`store_objects`] and [`move_names`], and a run changes files by these alone.
+//! two calls, [`Repository::store_objects`] and [`Repository::move_names`], and a run changes files by what these call alone. [`in_memory`]
+//! answers a stream of commands over a new repository.
 #![tactic(auto)]
 
 mod act;
 mod changing;
 mod commit;
 mod deleting;
+pub mod in_memory;
 mod indexing;
 mod moves;
 mod moving;
 mod packing;
 mod renaming;
 mod reply;
+mod repository;
 mod running;
 mod switching;
 mod tagging;
@@ -37,12 +40,12 @@ pub use act::answer;
 pub use gix_hash::{Kind, ObjectId, Prefix, oid};
 pub use gix_traverse_commit_graph::{Graph, Row};
 pub use history_model::{Cause, End, Fault, laws};
-pub use history_opening::{NamedBy, OpenError, OpenRefusal};
 pub use history_recovery::{RecoverError, recover};
-pub use history_repository::{Repository, Stopped};
+pub use history_repository::{NamedBy, OpenError, OpenRefusal, Stopped};
 pub use history_store::{CreateError, Hit, IdIter, Lookup, Object, Objects, PutError, create};
 pub use history_survey::{ObjectsFlaw, Unopened, open_objects};
 pub use history_word::{Broken, Bytes, Collected, Command, Received, Sink, Source, Stream};
-pub use moves::{Moves, move_names, store_objects};
+pub use moves::Moves;
 pub use reply::Reply;
+pub use repository::Repository;
 pub use running::{RunError, run};

@@ -1,6 +1,6 @@
 //! The two halves of a command that changes files: its objects are stored, and then names move.
 //!
-//! A run changes files by these two calls alone, in this order.
+//! A run changes files by these two calls alone, in this order. The methods of `Repository` that have their names make one of them each.
 
 ghost use Rattle.std.specs.Prelude.{◌≡◌, Ok, IsOk, IfErr, OnOk, false};
 ghost use Rattle.gix_ref_file.specs.History.{Adds};
@@ -68,10 +68,8 @@ pub(crate) fn fault_of(error: FileError) -> Fault
 }
 
 /// Answers the first cause that holds of a command that changes files, and then nothing has changed; else puts its objects, and
-/// answers how its names are to move. The names stay as they are. Of a command that changes no file it stores nothing.
-///
-/// It asks for a repository that hasn't failed. After a fault some of the objects may stand: the folder is to be opened again.
-pub fn store_objects<F: Files>(
+/// answers how its names are to move. Whether the repository has failed is left to the callers, which know what else they do.
+pub(crate) fn store_objects<F: Files>(
     repository: &mut Repository<F>,
     alloc: Global,
     command: Command,
@@ -105,12 +103,8 @@ pub fn store_objects<F: Files>(
     }
 }
 
-/// Moves names, once the objects of their command are stored. The objects stay as they are.
-///
-/// It asks for a repository that hasn't failed, and for moves that `store_objects` answered for it: then each id that a name moves to
-/// is stored, no name stands twice or collides, and each holds what is expected of it. After a fault some of the names may have
-/// moved: the folder is to be recovered and opened again.
-pub fn move_names<F: Files>(
+/// Moves names, once the objects of their command are stored. Whether the repository has failed is left to the callers.
+pub(crate) fn move_names<F: Files>(
     repository: &mut Repository<F>,
     alloc: Global,
     moves: Moves,

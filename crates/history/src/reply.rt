@@ -6,7 +6,7 @@ ghost use Rattle.history_model.specs.Replies.{reply_text, RefusedFor, Faulted};
 use history_model::{Cause, Fault};
 
 /// What a command is answered with.
-#[derive(Debug, Drop)]
+#[derive(Drop)]
 pub enum Reply {
     /// The whole text of the reply to an accepted command, made before a byte of it is written.
     Text(Vec<u8>),

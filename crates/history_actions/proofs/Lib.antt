@@ -1,7 +1,7 @@
-mod Listed
-mod Walked
+pub mod Entered
 pub mod Foreign
 pub mod Looked
 pub mod Noted
 pub mod Opened
+pub mod Refused
 pub mod Writing

@@ -8,14 +8,14 @@ use Rattle.gix_hash_id.specs.declared.kind.Kind.{Kind}
 use Rattle.gix_ref_file.specs.Tree.{Tree, Node, file, folder, is_path, node_at, place_of, names_at, under, IsRooted}
 use Rattle.gix_ref_file.specs.declared.files.Place.TheVariants as places
 use Rattle.gix_ref_file.proofs.Listings.{node_is}
-use Rattle.history_folders.specs.declared.parts.Part.{Part}
+use Rattle.history_texts.specs.declared.parts.Part.{Part}
 use Rattle.history_model.specs.Bytes.{Bytes}
 use Rattle.history_model.specs.Forms.{is_branch}
 use Rattle.history_model.specs.Places.{file_at, head_place}
 use Rattle.history_model.specs.StandsFor.{head_text}
 use Rattle.history_names_survey.specs.Causes.{HasBadHead}
 use Rattle.history_names_survey.specs.Parts.{NamesBranch}
-use Rattle.history_actions.proofs.Walked.{all_below, none_below_file, found_all}
+use Rattle.gix_ref_way.proofs.Walked.{all_below, none_below_file, found_all}
 use Rattle.history_actions.specs.Looking.{AreOwn, AreOwnBelow, IsOwnAt, TellsHead, may_have_file}
 
 -- ---- files

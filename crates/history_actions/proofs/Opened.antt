@@ -5,7 +5,7 @@ use Rattle.gix_ref_file.specs.History.{History}
 use Rattle.history_model.specs.Bytes.{Bytes}
 use Rattle.history_model.specs.Repository as plain
 use Rattle.history_model.specs.StandsFor.{StandsWhole}
-use Rattle.history_opening.specs.Opened.{trees_of}
+use Rattle.history_repository.specs.Opened.{trees_of}
 use Rattle.history_repository.specs.Face.{names_part, objects_part}
 use Rattle.history_repository.specs.Stands.{Stands}
 use Rattle.history_repository.specs.declared.repository.Repository.{Repository}

@@ -7,11 +7,11 @@ use Rattle.gix_ref_file.specs.History.{History}
 use Rattle.history_model.specs.Places.{unfinished_place}
 use Rattle.history_model.specs.Repository.{fresh}
 use Rattle.history_model.specs.StandsFor.{StandsFor}
-use Rattle.history_opening.specs.Opened.{trees_of}
+use Rattle.history_repository.specs.Opened.{trees_of}
 use Rattle.history_store.specs.Creation.{IsNew, SameHead}
 use Rattle.history_names.specs.References.{head_lock}
-use Rattle.history_folders.specs.Parts.{IsStrayAt}
-use Rattle.history_folders.specs.declared.parts.Part.TheVariants.{Objects, Names}
+use Rattle.history_texts.specs.Parts.{IsStrayAt}
+use Rattle.history_texts.specs.declared.parts.Part.TheVariants.{Objects, Names}
 use Rattle.history_actions.specs.Failures.{IsDone}
 use Rattle.history_actions.specs.declared.failure.Failure.{Failure}
 use Rattle.history_actions.specs.declared.failure.Failure.TheVariants.{NotEmpty, Unopened, File, Memory, Read, Write, Ended}

@@ -1,8 +1,10 @@
 pub mod Creating
 pub mod Failures
+pub mod Line
 pub mod Looking
 pub mod Opening
 pub mod Performing
 pub mod Recovering
+pub mod Refusals
 pub mod Saying
 pub mod Told

@@ -6,9 +6,9 @@ use Rattle.gix_hash_id.specs.Kind.{hex_len}
 use Rattle.gix_hash_id.specs.declared.kind.Kind.{Kind}
 use Rattle.gix_ref_file.specs.Changes.{is_file_at}
 use Rattle.gix_ref_file.specs.Tree.{Tree, Node, file, folder}
-use Rattle.history_folders.specs.Parts.{above}
-use Rattle.history_folders.specs.declared.parts.Part.{Part}
-use Rattle.history_folders.specs.declared.parts.Part.TheVariants.{Objects, Names}
+use Rattle.gix_ref_way.specs.Ways.{above}
+use Rattle.history_texts.specs.declared.parts.Part.{Part}
+use Rattle.history_texts.specs.declared.parts.Part.TheVariants.{Objects, Names}
 use Rattle.history_model.specs.Bytes.{Bytes}
 use Rattle.history_model.specs.Forms.{is_branch, is_name}
 use Rattle.history_model.specs.Places.{Pair, file_at, head_place, packed_place, unfinished_place, is_lock_file, is_log_place, is_lower_hex, is_object_folder, log_name}
@@ -17,8 +17,8 @@ use Rattle.history_names_survey.specs.Causes.{HasBadHead}
 use Rattle.history_names_survey.specs.Parts.{NamesBranch}
 use Rattle.history_names_survey.specs.declared.error.NamesError.{NamesError}
 use Rattle.history_names_survey.specs.declared.error.NamesError.TheVariants as names
-use Rattle.history_opening.specs.declared.error.OpenError.{OpenError}
-use Rattle.history_opening.specs.declared.error.OpenError.TheVariants.{NoHead, BadHead, Stray, File, Memory}
+use Rattle.history_repository.specs.declared.open_error.OpenError.{OpenError}
+use Rattle.history_repository.specs.declared.open_error.OpenError.TheVariants.{NoHead, BadHead, Stray, File, Memory}
 
 -- ---- places
 

@@ -10,9 +10,9 @@ use Rattle.history_model.specs.Repository as plain
 use Rattle.history_model.specs.StandsFor.{StandsWhole}
 use Rattle.history_model.specs.declared.End.{End}
 use Rattle.history_model.specs.declared.End.TheVariants.{Input}
-use Rattle.history_opening.specs.Causes.{IsOpenCause, IsOpenFault}
-use Rattle.history_opening.specs.Opened.{trees_of}
-use Rattle.history_opening.specs.declared.error.OpenError.{OpenError}
+use Rattle.history_repository.specs.Causes.{IsOpenCause, IsOpenFault}
+use Rattle.history_repository.specs.Opened.{trees_of}
+use Rattle.history_repository.specs.declared.open_error.OpenError.{OpenError}
 use Rattle.history.specs.Acts.{CountsFailure, StaysHonest}
 use Rattle.history_repository.specs.Face.{has_failed, names_part, objects_part}
 use Rattle.history.specs.Moments.{GoesLater, IsTraced}

@@ -2,9 +2,9 @@
 use Rattle.std.specs.Prelude.{◌≡◌, ℕ, Bool, [], Option}
 use Rattle.gix_hash_id.specs.declared.kind.Kind.{Kind}
 use Rattle.gix_ref_file.specs.History.{History}
-use Rattle.history_command_line.specs.declared.asked.Action.{Action}
-use Rattle.history_command_line.specs.declared.asked.Action.TheVariants.{Create, Run, Check, Recover}
-use Rattle.history_command_line.specs.declared.asked.Asked.{Asked}
+use Rattle.history_actions.specs.declared.command_line.asked.Action.{Action}
+use Rattle.history_actions.specs.declared.command_line.asked.Action.TheVariants.{Create, Run, Check, Recover}
+use Rattle.history_actions.specs.declared.command_line.asked.Asked.{Asked}
 use Rattle.history_model.specs.Bytes.{Bytes}
 use Rattle.history_actions.specs.Creating.{Creates}
 use Rattle.history_actions.specs.Opening.{Checks, RunsOn}

@@ -8,10 +8,10 @@ use Rattle.gix_hash_id.specs.declared.kind.Kind.{Kind}
 use Rattle.gix_hash_id.specs.declared.kind.Kind.TheVariants.{Sha1, Sha256}
 use Rattle.history_model.specs.Bytes.{Bytes, line}
 use Rattle.history_model.specs.Objects.{hex}
-use Rattle.history_opening.specs.declared.error.NamedBy.{NamedBy}
-use Rattle.history_opening.specs.declared.error.NamedBy.TheVariants.{Object, Name}
-use Rattle.history_opening.specs.declared.error.OpenError.{OpenError}
-use Rattle.history_opening.specs.declared.error.OpenError.TheVariants as causes
+use Rattle.history_repository.specs.declared.open_error.NamedBy.{NamedBy}
+use Rattle.history_repository.specs.declared.open_error.NamedBy.TheVariants.{Object, Name}
+use Rattle.history_repository.specs.declared.open_error.OpenError.{OpenError}
+use Rattle.history_repository.specs.declared.open_error.OpenError.TheVariants as causes
 use Rattle.history_actions.specs.Looking.{is_object_place}
 use Rattle.history_actions.specs.declared.failure.Failure.{Failure}
 use Rattle.history_actions.specs.declared.failure.Failure.TheVariants.{NotEmpty, Unopened, File, Memory, Read, Write, Ended}

@@ -2,13 +2,13 @@
 ghost use Rattle.history_actions.specs.Performing.{Acts, Performs};
 
 use crate::answers::Performed;
+use crate::command_line::{Action, Asked};
 use crate::creating::create_folder;
 use crate::opening::{check_folder, run_folder};
 use crate::recovering::recover_folder;
 use crate::telling::report;
 use gix_ref_file::Files;
 use history::{Sink, Source};
-use history_command_line::{Action, Asked};
 use std::alloc::Global;
 
 /// Does what is asked for with a folder's two parts, one of which holds the objects and the other all else, and answers the program's

@@ -7,7 +7,7 @@ use history_word::Broken;
 use thiserror::Error;
 
 /// Why an action isn't done.
-#[derive(Drop, PartialEq, Eq, Debug, Error)]
+#[derive(Debug, Drop, Error)]
 pub enum Failure {
     /// The folder that was to be made a repository holds this.
     #[error("not empty: {0:?}")]

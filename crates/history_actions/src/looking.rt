@@ -6,18 +6,17 @@ ghost use Rattle.history_model.specs.Bytes.{Bytes};
 ghost use Rattle.history_model.specs.Forms.{is_branch, is_name};
 ghost use Rattle.history_model.specs.Places.{is_log_place, is_lower_hex, log_name};
 ghost use Rattle.history_names_survey.specs.Parts.{NamesBranch};
-ghost use Rattle.history_opening.specs.Causes.{cause_of_names};
-ghost use Rattle.history_opening.specs.Opened.{trees_of};
+ghost use Rattle.history_repository.specs.Causes.{cause_of_names};
+ghost use Rattle.history_repository.specs.Opened.{trees_of};
 ghost use Rattle.history_actions.specs.Looking.{AreOwnBelow, IsForeign, IsHeadless, IsRecoverable, IsStrayed, TellsHead, is_lock_of_place, is_names_place, is_object_place, may_have_file};
 
 use gix_hash::Kind;
 use gix_object_lines::cut::{strip_prefix, strip_suffix};
 use gix_ref_file::paths::{is_deeper, joined};
 use gix_ref_file::{Files, Place};
-use history_folders::Part;
 use history_model::names::{HEAD, HEADS};
 use history_names_survey::NamesError;
-use history_texts::is_name;
+use history_texts::{Part, is_name};
 use std::alloc::Global;
 
 /// Looks whether a folder's two parts are a repository's of this kind, as a stopped run leaves it: HEAD names a branch, and each file stands

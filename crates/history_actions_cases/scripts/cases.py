@@ -1,5 +1,5 @@
 #!/usr/bin/env python3
-"""Writes the cases of history_actions and history_command_line, and the answers that are wanted.
+"""Writes the cases of history_actions and its command line, and the answers that are wanted.
 
 Texts and statuses are those of docs/PROTOCOL.md, ids those of Git's object format by hashlib, and what stands on a bad line is what
 clap 4 prints. No answer is taken from the program.
@@ -252,6 +252,17 @@ def bad(given, text):
     ROWS.append((f"sha1 {words(*given)}", f"line:{word(text.encode())}"))
 
 
+def unexpected(given, usage, tip=None):
+    """What clap says of an argument that a line may not have there."""
+    return f"error: unexpected argument '{given}' found\n" + (f"\n  tip: {tip}\n" if tip else "") + f"\nUsage: {usage}\n" + MORE
+
+
+# The frame is that of a text in the tests of the kit's clap, if the kit is here; the words of a tip are in none of them.
+CLAP = Path("/opt/rattle/rattle/clap/src/tests/errors.rt")
+FRAMED = unexpected("--verbos", "t --verbose", "a similar argument exists: '--verbose'")
+assert not CLAP.exists() or FRAMED.replace("\n", "\\n") in CLAP.read_text()
+
+
 def lines():
     for action in ("create", "run", "check", "recover"):
         asks((action, "there"), action, "there")
@@ -263,18 +274,18 @@ def lines():
         lacking = "error: the following required arguments were not provided:\n  <folder>\n"
         bad((action,), lacking + f"\nUsage: {NAME} {action} <folder>\n" + MORE)
         bad((action, "--sha256"), lacking + f"\nUsage: {NAME} {action} --sha256 <folder>\n" + MORE)
-        bad((action, "a", "b"), "error: unexpected argument 'b' found\n" + usage)
+        bad((action, "a", "b"), unexpected("b", f"{NAME} {action} [OPTIONS] <folder>"))
         bad((action, "a", "--sha256", "--sha256"), "error: the argument '--sha256' cannot be used multiple times\n" + usage)
         bad((action, "a", "--sha256=x"), "error: unexpected value 'x' for '--sha256' found; no more were expected\n" + f"\nUsage: {NAME} {action} --sha256 <folder>\n" + MORE)
         ROWS.append((f"sha1 {words(action, '-h')}", f"help:{word(help_of(action).encode())}"))
     bad((), f"error: '{NAME}' requires a subcommand but one was not provided\n  [subcommands: create, run, check, recover, help]\n" + WHOLE + MORE)
     bad(("frobnicate",), "error: unrecognized subcommand 'frobnicate'\n" + WHOLE + MORE)
-    bad(("--sha256", "create", "there"), "error: unexpected argument '--sha256' found\n\n  tip: 'create --sha256' exists\n" + WHOLE + MORE)
+    bad(("--sha256", "create", "there"), unexpected("--sha256", f"{NAME} <COMMAND>", "'create --sha256' exists"))
     ROWS.append((f"sha1 {words('--help')}", f"help:{word(HELP.encode())}"))
     ROWS.append((f"sha1 {words('help')}", f"help:{word(HELP.encode())}"))
     for flag in ("-V", "--version"):
         ROWS.append((f"sha1 {words(flag)}", f"help:{word(f'{NAME} {VERSION}'.encode())}"))
-        bad(("check", flag), f"error: unexpected argument '{flag}' found\n\n  tip: to pass '{flag}' as a value, use '-- {flag}'\n\nUsage: {NAME} check [OPTIONS] <folder>\n" + MORE)
+        bad(("check", flag), unexpected(flag, f"{NAME} check [OPTIONS] <folder>", f"to pass '{flag}' as a value, use '-- {flag}'"))
 
 
 ABOUT = {

@@ -1,8 +1,8 @@
-//! Cases of `history_command_line`.
+//! Cases of the program's command line.
 
 use case_words::{Page, read_bytes};
 use history::Kind;
-use history_command_line::{Action, AskError, Asked, read_words};
+use history_actions::command_line::{Action, AskError, Asked, read_words};
 use std::alloc::Global;
 use std::str;
 

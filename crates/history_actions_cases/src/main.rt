@@ -1,4 +1,4 @@
-//! Answers cases of `history_actions` and `history_command_line`, a line each.
+//! Answers cases of `history_actions` and its command line, a line each.
 //!
 //! A line is words of a command line, or a folder in memory or a real one, and what is done with it.
 #![tactic(auto)]

@@ -6,7 +6,7 @@ use case_words::{Page, call_by, read_bytes};
 use gix_ref_folder::{Folder, Part};
 use history::{Bytes, Collected, Kind};
 use history_actions::act;
-use history_command_line::{Action, Asked};
+use history_actions::command_line::{Action, Asked};
 use std::{fs, io};
 
 // A part of the folder at this path.

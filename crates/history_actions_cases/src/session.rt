@@ -6,8 +6,8 @@ use case_drops::Drops;
 use case_words::{Page, Session, Trial, act_on, read_bytes, sound};
 use gix_ref_file::MemoryFiles;
 use history::{Bytes, Collected, Kind, Sink, Source};
+use history_actions::command_line::{Action, Asked};
 use history_actions::{Performed, act, perform, report};
-use history_command_line::{Action, Asked};
 use std::alloc::Global;
 use std::mem;
 

@@ -20,6 +20,7 @@ from logs import indexes, logs, one_time, path_logs
 from names import deletions, moves, of_names, switches
 from openings import opening, reopened_between, reopening
 from packs import pack_stops, packed_delete_stops, packed_rename_stops, packs, reopened_packs
+from printed import printed
 from readings import readers, readings
 from recoveries import recoveries
 from renames import renamed_tags, renames
@@ -32,7 +33,7 @@ BY_HAND = (
     rows, first_causes, two_branches, of_names, moves, renames, deletions, switches, tags, renamed_tags, indexes, logs, path_logs, short_ids,
     removals, nested, limits, times, one_time, opening, reopening, reopened_between, readings, readers, faults, index_faults, reading_faults,
     refused_or_failed, log_faults, move_stops, rename_stops, delete_stops, switch_stops, tag_stops, tag_rename_stops, stops, reopened_stops,
-    packs, pack_stops, packed_delete_stops, packed_rename_stops, reopened_packs, grafts, graft_readings, graft_stops)
+    packs, pack_stops, packed_delete_stops, packed_rename_stops, reopened_packs, grafts, graft_readings, graft_stops, printed)
 
 
 if __name__ == "__main__":

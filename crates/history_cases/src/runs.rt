@@ -3,8 +3,8 @@
 use case_drops::Drops;
 use case_words::{Page, Trial, read_bytes, sound};
 use gix_ref_file::MemoryFiles;
+use history::in_memory::{Answer, AnswerError, answer_stream, rows};
 use history::{Bytes, Collected, End, Kind, Repository, RunError, create};
-use history_in_memory::{Answer, AnswerError, answer_stream, rows};
 use std::alloc::Global;
 
 /// Runs commands on a repository: `STREAM`, or `COUNT:STREAM` through a reader that fails behind so many bytes.

@@ -32,7 +32,7 @@ use history_model::FileKind;
 use std::alloc::{AllocError, Global};
 
 /// What an edit does at its path.
-#[derive(Debug, Clone, Copy, PartialEq, Eq)]
+#[derive(Clone, Copy)]
 pub enum Change {
     /// Puts a file there. All at or below the path goes, and each file above it.
     Put {
@@ -51,7 +51,7 @@ pub enum Change {
 }
 
 /// An edit of files.
-#[derive(Debug, Clone, Copy)]
+#[derive(Clone, Copy)]
 pub struct Edit<'a> {
     /// Where it is made.
     pub path: &'a [u8],
@@ -60,7 +60,7 @@ pub struct Edit<'a> {
 }
 
 /// Why edits aren't made.
-#[derive(Debug, Clone, Copy, PartialEq, Eq, thiserror::Error)]
+#[derive(Debug, Clone, Copy, thiserror::Error)]
 pub enum EditError {
     /// A path has an empty name.
     #[error("a path has an empty name")]

@@ -10,7 +10,7 @@ use gix_object_lookup::find::existing_iter;
 use std::alloc::{AllocError, AllocFailed};
 
 /// Why the trees of files aren't read.
-#[derive(Debug, Clone, Copy, PartialEq, Eq, thiserror::Error)]
+#[derive(Debug, Clone, Copy, thiserror::Error)]
 pub enum ReadError {
     /// The store failed to look a tree up.
     #[error("a tree couldn't be looked up")]

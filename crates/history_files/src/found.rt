@@ -23,7 +23,7 @@ use history_model::FileKind;
 use std::alloc::Global;
 
 /// What stands at a path.
-#[derive(Debug, Clone, Copy, PartialEq, Eq)]
+#[derive(Clone, Copy, PartialEq, Eq)]
 pub enum Found {
     /// A file.
     File {

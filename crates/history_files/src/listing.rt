@@ -21,7 +21,7 @@ use history_model::FileKind;
 use std::alloc::{AllocError, Global};
 
 /// A file below a root.
-#[derive(Debug, Drop)]
+#[derive(Drop)]
 pub struct File {
     /// What the file is.
     pub kind: FileKind,

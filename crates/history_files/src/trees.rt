@@ -5,7 +5,7 @@ ghost use Rattle.history_files.specs.TreeIds.{IsTreeId};
 use gix_hash::ObjectId;
 
 /// A tree of edited files.
-#[derive(Debug, Drop)]
+#[derive(Drop)]
 pub struct EditedTree {
     /// Its id.
     pub id: ObjectId,
@@ -15,7 +15,7 @@ pub struct EditedTree {
 }
 
 /// What edits made of a root's files.
-#[derive(Debug, Drop)]
+#[derive(Drop)]
 pub struct EditedFiles {
     /// The id of the tree of all files.
     pub root: ObjectId,

@@ -2,7 +2,7 @@
 #![tactic(auto)]
 
 /// What a file is.
-#[derive(Clone, Copy, Debug, PartialEq, Eq)]
+#[derive(Clone, Copy, PartialEq, Eq)]
 pub enum FileKind {
     /// A plain file.
     File,
@@ -13,7 +13,7 @@ pub enum FileKind {
 }
 
 /// Why a command is refused, in the order of the tests.
-#[derive(Clone, Copy, Debug, PartialEq, Eq)]
+#[derive(Clone, Copy)]
 pub enum Cause {
     Syntax,
     Truncated,
@@ -44,7 +44,7 @@ pub enum Cause {
 }
 
 /// Why a command that is not refused has no reply.
-#[derive(Clone, Copy, Debug, PartialEq, Eq)]
+#[derive(Clone, Copy)]
 pub enum Fault {
     /// Room was refused.
     Memory,

@@ -13,11 +13,11 @@ use Rattle.gix_ref_file.proofs.Listings.{node_is}
 use Rattle.history_model.specs.Bytes.{Bytes}
 use Rattle.history_model.specs.Forms.{is_name}
 use Rattle.history_model.specs.Places.{file_at, log_place}
-use Rattle.history_folders.specs.Folders.{SameFiles, FoldersAbove, IsAbove}
+use Rattle.gix_ref_way.specs.Ways.{SameFiles, FoldersAbove, IsAbove}
 use Rattle.history_names.specs.References.{HasLockRoom, MayBeWritten, PutsBeside, lock_place}
-use Rattle.history_folders.proofs.Above.{now_above}
+use Rattle.gix_ref_way.proofs.Above.{now_above}
 use Rattle.history_names.proofs.Locks.{lock_beside_name, lock_not_above, lock_not_above_log, lock_path, own_lock}
-use Rattle.history_folders.proofs.FilesKept.{now_same, apart_from_inserted, apart_from_removed}
+use Rattle.gix_ref_way.proofs.Stored.{now_same, apart_from_inserted, apart_from_removed}
 use Rattle.gix_ref_file.proofs.Rooted.{first}
 
 while_locked : (lock text : Bytes) (t x : Tree) → MayLeave (to_write lock text) t x → (other : Bytes) → other ≢ lock → file_at x other ≡ file_at t other

@@ -5,8 +5,7 @@ use Rattle.gix_ref_file.specs.Tree.{Tree}
 use Rattle.gix_ref_file.specs.declared.files.FileError.{FileError}
 use Rattle.history_model.specs.Bytes.{Bytes}
 use Rattle.history_model.specs.Forms.{is_name}
-use Rattle.history_folders.specs.Folders.{NoFileAbove}
-use Rattle.history_folders.specs.Ways.{TellsBelow}
+use Rattle.gix_ref_way.specs.Ways.{NoFileAbove, TellsBelow}
 use Rattle.history_names.specs.References.{TellsCollision}
 
 pub name_not_root : (name : Bytes) → is_name name ≡ true → name ≢ []

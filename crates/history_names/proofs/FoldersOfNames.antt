@@ -7,10 +7,9 @@ use Rattle.gix_ref_file.specs.History.{History, Adds}
 use Rattle.gix_ref_file.proofs.Histories.{adds_weaker, adds_joined}
 use Rattle.history_model.specs.Bytes.{Bytes}
 use Rattle.history_model.specs.Places.{log_place}
-use Rattle.history_folders.specs.Folders.{IsAbove, FoldersAbove}
-use Rattle.history_folders.specs.Ways.{IsAtOrBelow, KeepsOtherFolders}
-use Rattle.history_folders.proofs.Above.{now_above}
-use Rattle.history_folders.proofs.FoldersKept.{others_now}
+use Rattle.gix_ref_way.specs.Ways.{IsAbove, FoldersAbove, IsAtOrBelow, KeepsOtherFolders}
+use Rattle.gix_ref_way.proofs.Above.{now_above}
+use Rattle.gix_ref_way.proofs.FoldersKept.{others_now}
 use Rattle.history_names.specs.References.{FoldersOfName, KeepsFoldersOfOthers}
 
 -- ---- those that come

@@ -27,12 +27,11 @@ use Rattle.history_model.proofs.WholePaths.{below_front, below_parts}
 use Rattle.history_steps.proofs.TreeMoves.{line_read}
 use Rattle.history_names.specs.NameLists.{Gathers, ListsNames, NameIds, held_id, id_below, name_entry, spelled_id}
 use Rattle.history_names.specs.References.{SpellsId, NameHolds}
-use Rattle.history_folders.specs.Ways.{IsAtOrBelow}
-use Rattle.history_folders.specs.Folders.{IsAbove}
+use Rattle.gix_ref_way.specs.Ways.{IsAtOrBelow, IsAbove}
 use Rattle.history_names.specs.declared.listed.NamedId.{NamedId}
-use Rattle.history_folders.proofs.FoldersMade.{above_above}
-use Rattle.history_folders.proofs.FilesBelow.{folder_over, file_there, listed_part}
-use Rattle.history_folders.proofs.Surveys.{one_more}
+use Rattle.gix_ref_way.proofs.FoldersMade.{above_above}
+use Rattle.gix_ref_way.proofs.FilesBelow.{folder_over, file_there, listed_part}
+use Rattle.gix_ref_way.proofs.Surveys.{one_more}
 
 -- ---- one file
 

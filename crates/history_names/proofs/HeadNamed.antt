@@ -10,9 +10,9 @@ use Rattle.gix_ref_file.proofs.Trees.{get_inserted, room_after_insert}
 use Rattle.history_model.specs.Bytes.{Bytes}
 use Rattle.history_model.specs.Places.{head_place}
 use Rattle.history_names.specs.References.{head_lock}
-use Rattle.history_folders.specs.Folders.{SameFolders}
+use Rattle.gix_ref_way.specs.Ways.{SameFolders}
 use Rattle.history_names.specs.References.{HasHeadRoom}
-use Rattle.history_folders.proofs.FoldersStay.{written_folders, renamed_folders, same_twice}
+use Rattle.gix_ref_way.proofs.FoldersStay.{written_folders, renamed_folders, same_twice}
 
 -- ---- folders
 

@@ -10,7 +10,7 @@ use Rattle.gix_ref_file.specs.Tree.{is_slash, is_component, is_path, parent}
 use Rattle.history_model.specs.Bytes.{Bytes}
 use Rattle.history_model.specs.Forms.{is_name, max_name}
 use Rattle.history_model.specs.Places.{log_place, is_lock_file}
-use Rattle.history_folders.specs.Folders.{IsAbove}
+use Rattle.gix_ref_way.specs.Ways.{IsAbove}
 use Rattle.history_names.specs.References.{lock_place}
 use Rattle.history_model.proofs.NameLemmas.{ends_after}
 use Rattle.history_names.proofs.NameFolders.{refs_of}

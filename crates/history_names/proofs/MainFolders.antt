@@ -5,8 +5,8 @@ use Rattle.std.specs.FinMap.{get}
 use Rattle.gix_ref_file.specs.Tree.{Tree, folder}
 use Rattle.history_model.specs.Bytes.{Bytes}
 use Rattle.history_model.specs.Places.{is_name_folder, log_place}
-use Rattle.history_folders.specs.Folders.{IsAbove}
-use Rattle.history_folders.proofs.FirstParts.{Behind, behind, none_above}
+use Rattle.gix_ref_way.specs.Ways.{IsAbove}
+use Rattle.history_texts.proofs.FirstParts.{Behind, behind, none_above}
 use Rattle.history_names.specs.References.{FoldersOfName}
 
 abbrev main : Bytes

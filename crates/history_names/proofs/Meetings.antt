@@ -18,11 +18,10 @@ use Rattle.history_model.proofs.WholePaths.{below_front, below_parts}
 use Rattle.history_names.specs.AllNames.{ListsAll, ReadsAsId, ReadsAsNone, TellsHeldAbove, TellsHeldBelow, TellsMeeting, told_if}
 use Rattle.history_names.specs.NameLists.{name_entry}
 use Rattle.history_names.specs.Packing.{NameReads, told_id}
-use Rattle.history_folders.specs.Ways.{HasWay}
+use Rattle.gix_ref_way.specs.Ways.{HasWay, IsAbove}
 use Rattle.history_names.specs.References.{TellsCollision}
-use Rattle.history_folders.specs.Folders.{IsAbove}
 use Rattle.history_names.specs.declared.listed.NamedId.{NamedId}
-use Rattle.history_folders.proofs.FoldersMade.{above_shorter, front_of}
+use Rattle.gix_ref_way.proofs.FoldersMade.{above_shorter, front_of}
 
 -- ---- above
 

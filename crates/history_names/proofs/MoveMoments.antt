@@ -11,14 +11,14 @@ use Rattle.history_model.specs.Logs.{log_line}
 use Rattle.history_model.specs.Bytes.{Bytes, line}
 use Rattle.history_model.specs.Objects.{hex}
 use Rattle.history_model.specs.Places.{file_at, log_place}
-use Rattle.history_folders.specs.Folders.{SameFiles}
+use Rattle.gix_ref_way.specs.Ways.{SameFiles}
 use Rattle.history_texts.specs.Formats.{entry_of}
 use Rattle.history_names.specs.References.{LogMayGrow, Logs, OthersStay, MayLog, MayMove, MayBeWritten}
 use Rattle.history_texts.specs.declared.log_entry.LogEntry.{LogEntry}
 use Rattle.history_model.specs.Forms.{is_name}
 use Rattle.history_names.proofs.Locks.{log_no_lock}
 use Rattle.history_names.proofs.Moves.{inserted_here, name_apart, same_bytes}
-use Rattle.history_folders.proofs.FilesKept.{now_same, apart_from_inserted}
+use Rattle.gix_ref_way.proofs.Stored.{now_same, apart_from_inserted}
 
 -- ---- one file is written
 while_appended : (path place bytes : Bytes) (t x : Tree) → place ≡ path → MayLeave (to_append place bytes) t x → OthersStay path t x

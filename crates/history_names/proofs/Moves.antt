@@ -12,14 +12,14 @@ use Rattle.history_model.specs.Logs.{log_line}
 use Rattle.history_model.specs.Objects.{hex}
 use Rattle.history_model.specs.Places.{file_at, log_place}
 use Rattle.history_texts.specs.Formats.{entry_of}
-use Rattle.history_folders.specs.Folders.{SameFiles}
+use Rattle.gix_ref_way.specs.Ways.{SameFiles}
 use Rattle.history_names.specs.References.{SpellsId, Logs, HasMoved, PutsBeside}
 use Rattle.history_texts.specs.declared.log_entry.LogEntry.{LogEntry}
 use Rattle.gix_hash_id.specs.declared.object_id.ObjectId.{ObjectId}
 use Rattle.gix_hash_id.specs.declared.kind.Kind.{Kind}
 use Rattle.history_model.specs.Forms.{is_name}
 use Rattle.history_names.proofs.Locks.{log_no_lock}
-use Rattle.history_folders.proofs.FilesKept.{now_same, apart_from_inserted}
+use Rattle.gix_ref_way.proofs.Stored.{now_same, apart_from_inserted}
 use Rattle.gix_hash_id.specs.Id.{id_of}
 
 -- a front and a back that are there are what stands around the rest

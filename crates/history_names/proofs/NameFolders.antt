@@ -13,9 +13,9 @@ use Rattle.gix_object_lines.specs.NameTest.{is_partial_name}
 use Rattle.history_model.proofs.NameLemmas.{ends_cons, ends_parts, no_lock, some_or, partial_of}
 use Rattle.history_model.proofs.NameTests.{components_of}
 use Rattle.history_model.specs.Places.{is_name_folder, log_place}
-use Rattle.history_folders.specs.Folders.{IsAbove}
+use Rattle.gix_ref_way.specs.Ways.{IsAbove}
 use Rattle.history_names.specs.References.{FoldersOfName}
-use Rattle.history_folders.proofs.FirstParts.{Behind, behind}
+use Rattle.history_texts.proofs.FirstParts.{Behind, behind}
 use Rattle.history_model.proofs.WholePaths.{begins_parts}
 use Rattle.std.proofs.lemmas.Bool.{and_parts, or_cases}
 

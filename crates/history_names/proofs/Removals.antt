@@ -12,7 +12,7 @@ use Rattle.history_model.specs.Bytes.{Bytes}
 use Rattle.history_model.specs.Places.{file_at, log_place}
 use Rattle.history_names.specs.References.{SameFolders, LogIsGone, LogMayGo, IsGone, MayGo}
 use Rattle.history_names.proofs.Moves.{name_apart}
-use Rattle.history_folders.proofs.FilesKept.{apart_from_removed}
+use Rattle.gix_ref_way.proofs.Stored.{apart_from_removed}
 
 -- ---- one file goes
 pub removed_here : (t : Tree) (k : Bytes) → file_at (remove t k) k ≡ None

@@ -12,10 +12,10 @@ use Rattle.gix_ref_format.specs.Packed.{Record}
 use Rattle.gix_ref_format.specs.PackedBuffer.{Keeps, KeepsFile}
 use Rattle.history_model.specs.Bytes.{Bytes}
 use Rattle.history_model.specs.Places.{file_at, packed_place}
-use Rattle.history_folders.specs.Folders as made
+use Rattle.gix_ref_way.specs.Ways as made
 use Rattle.history_names.specs.Packing.{HasPackedRoom}
 use Rattle.history_names.specs.References.{PutsBeside, SameFolders}
-use Rattle.history_folders.proofs.FoldersStay.{written_folders, renamed_folders, same_twice}
+use Rattle.gix_ref_way.proofs.FoldersStay.{written_folders, renamed_folders, same_twice}
 
 abbrev pub packed_lock : Bytes
 packed_lock = codes "packed-refs.lock"

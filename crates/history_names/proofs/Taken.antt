@@ -20,7 +20,7 @@ use Rattle.gix_ref_format.specs.PackedKept.{kept}
 use Rattle.history_names.specs.References.{HasMoved, LogIsGone, LogMayGo, MayBeWritten, PutsBeside, SameFolders, lock_place}
 use Rattle.history_names.proofs.Moves.{name_apart}
 use Rattle.history_names.proofs.Removals.{removed_here}
-use Rattle.history_folders.proofs.FilesKept.{apart_from_removed}
+use Rattle.gix_ref_way.proofs.Stored.{apart_from_removed}
 
 abbrev lock : Bytes
 lock = lock_place packed_place

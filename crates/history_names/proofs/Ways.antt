@@ -10,8 +10,7 @@ use Rattle.history_model.specs.Forms.{is_name, max_name}
 use Rattle.gix_object_lines.specs.NameTest.{is_barred}
 use Rattle.history_model.proofs.NameTests.{is_name_component, components_of, unbarred_of}
 use Rattle.history_model.specs.Places.{log_place}
-use Rattle.history_folders.specs.Folders.{IsAbove}
-use Rattle.history_folders.specs.Ways.{HasWay}
+use Rattle.gix_ref_way.specs.Ways.{IsAbove, HasWay}
 use Rattle.history_names.specs.References.{Logs}
 use Rattle.history_texts.specs.declared.log_entry.LogEntry.{LogEntry}
 use Rattle.history_names.proofs.NameFolders.{refs_of}

@@ -14,8 +14,7 @@ use Rattle.history_model.specs.FileMap.{is_below}
 use Rattle.history_model.specs.NameStates.{name_state}
 use Rattle.history_names.specs.NameLists.{NameIds, name_entry}
 use Rattle.history_names.specs.Packing.{told_id}
-use Rattle.history_folders.specs.Ways.{HasWay}
-use Rattle.history_folders.specs.Folders.{IsAbove}
+use Rattle.gix_ref_way.specs.Ways.{HasWay, IsAbove}
 use Rattle.history_names.specs.declared.listed.NamedId.{NamedId}
 
 -- ---- below a folder

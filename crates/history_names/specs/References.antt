@@ -10,11 +10,10 @@ use Rattle.history_model.specs.Logs.{log_line}
 use Rattle.history_model.specs.PackedNames.{id_from_hex}
 use Rattle.gix_hash_id.specs.declared.kind.Kind.{Kind}
 use Rattle.history_texts.specs.Formats.{entry_of}
-use Rattle.history_folders.specs.Folders.{IsAbove}
+use Rattle.gix_ref_way.specs.Ways.{IsAbove, HasWay, IsAtOrBelow}
 use Rattle.gix_hash_id.specs.declared.object_id.ObjectId.{ObjectId}
 use Rattle.history_texts.specs.declared.log_entry.LogEntry.{LogEntry}
 use Rattle.gix_hash_id.specs.Id.{id_of}
-use Rattle.history_folders.specs.Ways.{HasWay, IsAtOrBelow}
 
 -- the text is `ref: <branch>` and a line feed, or is of no branch
 abbrev pub SpellsBranch : Bytes → Option Bytes → Type 0

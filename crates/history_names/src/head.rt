@@ -5,7 +5,7 @@ ghost use Rattle.gix_ref_file.specs.History.{HasRisen};
 ghost use Rattle.gix_ref_file.specs.declared.files.FileError.TheVariants.{Failed};
 ghost use Rattle.history_model.specs.Places.{head_place};
 ghost use Rattle.history_model.specs.StandsFor.{head_text};
-ghost use Rattle.history_folders.specs.Folders.{SameFolders};
+ghost use Rattle.gix_ref_way.specs.Ways.{SameFolders};
 ghost use Rattle.history_names.specs.Packing.{KeepsRecords};
 ghost use Rattle.history_names.specs.References.{HasHeadRoom, MayBeWritten, PutsBeside};
 

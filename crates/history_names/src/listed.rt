@@ -23,7 +23,7 @@ use std::alloc::{AllocError, Global};
 use std::collections::BTreeMap;
 
 /// A name, and the id that its file holds.
-#[derive(Debug, Drop, PartialEq, Eq)]
+#[derive(Drop)]
 pub struct NamedId {
     pub name: Vec<u8>,
     pub id: ObjectId,

@@ -17,7 +17,7 @@ use gix_ref_packed::{Edit, packed_text, written};
 use std::alloc::{AllocError, Global};
 
 /// A name that is packed, and its id.
-#[derive(Debug, Drop, PartialEq, Eq)]
+#[derive(Drop)]
 pub struct PackedName {
     pub name: FullName,
     pub id: ObjectId,

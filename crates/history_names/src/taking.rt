@@ -17,7 +17,7 @@ use gix_ref_format::packed::Buffer;
 use gix_ref_name::FullNameRef;
 use gix_ref_packed::laws::written_records_are_read;
 use gix_ref_packed::{Edit, edited, packed_text};
-use history_folders::is_file;
+use gix_ref_way::is_file;
 use std::alloc::{AllocError, Global};
 
 impl<F: Files> Names<F> {

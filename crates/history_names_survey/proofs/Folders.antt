@@ -1,5 +1,5 @@
 -- The folders of a name, one after another.
-use Rattle.std.proofs.Common.{◌≡◌, inl, inr, ℕ, zero, suc, ◌+◌, ◌<◌, ◌≤◌, Bool, true, false, ◌||◌, [], ◌∷◌, ◌++◌, take, drop, length, get_or, refl, sym, ◌∙◌, ap, subst, append_assoc, arith, codes, length-append}
+use Rattle.std.proofs.Common.{◌≡◌, inl, inr, ℕ, ◌+◌, ◌<◌, ◌≤◌, Bool, true, false, ◌||◌, [], ◌∷◌, ◌++◌, take, drop, length, get_or, refl, sym, ◌∙◌, ap, subst, append_assoc, arith, codes}
 use Rattle.std.specs.Prelude.{nat_le}
 use Rattle.std.proofs.lemmas.Bool.{or_cases, or_parts}
 use Rattle.std.proofs.lemmas.Bool.Decides.{nat_tests}
@@ -8,7 +8,8 @@ use Rattle.history_model.specs.Bytes.{Bytes, begins}
 use Rattle.history_model.specs.FileMap.{is_below}
 use Rattle.history_model.specs.Forms.{is_private}
 use Rattle.history_model.proofs.WholePaths.{begins_front, begins_parts}
-use Rattle.history_folders.specs.Folders.{IsAbove}
+use Rattle.gix_ref_way.specs.Ways.{IsAbove}
+use Rattle.gix_ref_way.proofs.FoldersMade.{above_shorter, front_of}
 
 clash : {A : Type 0} {b : Bool} → b ≡ true → b ≡ false → A
 clash t f = absurd (cc (sym t ∙ f))
@@ -49,30 +50,6 @@ folder_common folder name below common = by_test (is_private folder) refl
     ]
 
 -- ---- all folders of a name
-
-above_shorter : (place path : Bytes) → IsAbove place path → length place < length path
-above_shorter place path (rest, is) = omega (arith, ap length is, length-append place (47 ∷ rest))
-
--- a folder of a name is a front of it, and a slash follows
-front_of : (place path : Bytes) → IsAbove place path → (place ≡ take (length place) path) × (get_or path (length place) 0 ≡ 47)
-front_of place path (rest, is) = (at_front place ∙ ap (take (length place)) (sym is), ap (λ p. get_or p (length place) 0) is ∙ slash place)
-  where
-    at_front : (front : Bytes) → front ≡ take (length front) (front ++ 47 ∷ rest)
-    at_front [] = refl
-    at_front (b ∷ front) = ap (λ t. b ∷ t) (at_front front)
-
-    slash : (front : Bytes) → get_or (front ++ 47 ∷ rest) (length front) 0 ≡ 47
-    slash [] = refl
-    slash (b ∷ front) = slash front
-
--- what stands before a slash is a folder
-pub above_slash : (name : Bytes) (end : ℕ) → end < length name → get_or name end 0 ≡ 47 → IsAbove (take end name) name
-above_slash name end below is = (drop (suc end) name, cut name end below is)
-  where
-    cut : (name : Bytes) (end : ℕ) → end < length name → get_or name end 0 ≡ 47 → name ≡ take end name ++ 47 ∷ drop (suc end) name
-    cut [] end below is = absurd (omega (arith, below))
-    cut (x ∷ name) zero below is = ap (λ y. y ∷ name) is
-    cut (x ∷ name) (suc end) below is = ap (λ t. x ∷ t) (cut name end (omega (arith, below)) is)
 
 -- of each folder that ends before this place in the name this holds
 abbrev pub AreBefore : (Bytes → Type 0) → ℕ → Bytes → Type 0

@@ -10,7 +10,7 @@ use Rattle.history_model.specs.Bytes.{Bytes}
 use Rattle.history_model.specs.Places.{file_at, is_name_folder}
 use Rattle.history_names_survey.specs.Sound.{IsSoundAt, IsSoundBelow, IsSoundFile}
 use Rattle.history_names_survey.specs.Stored.{Facts}
-use Rattle.history_names_survey.proofs.Walked.{all_below, none_below_file, found_all}
+use Rattle.gix_ref_way.proofs.Walked.{all_below, none_below_file, found_all}
 
 -- a path and all below it
 abbrev pub IsSoundFrom : Kind → Facts → Tree → Bytes → Type 0

@@ -13,7 +13,7 @@ use Rattle.history_model.specs.Forms.{is_name, is_private}
 use Rattle.history_model.specs.NameStates as states
 use Rattle.history_model.specs.NameStates.{loose_state}
 use Rattle.history_model.specs.Places.{file_at, head_place, packed_place, is_log_place, log_name, is_name_folder}
-use Rattle.history_folders.specs.Parts.{above}
+use Rattle.gix_ref_way.specs.Ways.{above}
 use Rattle.history_names_survey.specs.Logs.{SpellsLog}
 use Rattle.history_names_survey.specs.Packed.{has_name, is_packed_text, records_at}
 use Rattle.history_names_survey.specs.Stored.{Facts, is_well_peeled, kind_in, may_be_held}

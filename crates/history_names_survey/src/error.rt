@@ -13,7 +13,7 @@ use thiserror::Error;
 
 /// Why a names part isn't a repository's. Paths and names are in bytes, whole from the part's root; lines count
 /// from 1.
-#[derive(Debug, Drop, PartialEq, Eq, Error)]
+#[derive(Debug, Drop, Error)]
 pub enum NamesError {
     #[error("no HEAD stands")]
     NoHead,

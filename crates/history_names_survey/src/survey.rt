@@ -22,10 +22,9 @@ use gix_hash::Kind;
 use gix_object_lookup::{FindHeader, FindInto};
 use gix_ref_file::paths::{is_deeper, joined};
 use gix_ref_file::{Files, Place};
-use history_folders::Part;
 use history_model::names::{HEAD, HEADS};
 use history_names::Names;
-use history_texts::is_name;
+use history_texts::{Part, is_name};
 use std::alloc::Global;
 
 /// HEAD's branch, where the names part is a repository's over this store of objects: HEAD names a branch, each name, in a file of its

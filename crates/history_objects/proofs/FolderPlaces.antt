@@ -16,9 +16,9 @@ use Rattle.gix_hash_id.specs.Spelling.{hex_character, hex_text}
 use Rattle.gix_hash_id.specs.declared.kind.Kind.{Kind}
 use Rattle.gix_hash_id.specs.declared.kind.Kind.TheVariants.{Sha1, Sha256}
 use Rattle.history_model.specs.Places.{object_place, is_lower_hex, is_object_folder}
-use Rattle.history_folders.specs.Folders.{IsAbove, FoldersAbove}
+use Rattle.gix_ref_way.specs.Ways.{IsAbove, FoldersAbove}
 use Rattle.std.proofs.lemmas.Bool.{and_parts}
-use Rattle.history_folders.proofs.FirstParts.{Behind, behind, none_above}
+use Rattle.history_texts.proofs.FirstParts.{Behind, behind, none_above}
 
 -- ---- objects
 lower_digit : (d : ℕ) → d < 16 → is_lower_hex (hex_character d) ≡ true

@@ -7,10 +7,10 @@ use Rattle.gix_ref_file.specs.History.{History, Adds}
 use Rattle.gix_ref_file.proofs.Trees.{get_inserted, room_after_insert}
 use Rattle.history_model.specs.Bytes.{Bytes}
 use Rattle.history_model.specs.Places.{unfinished_place}
-use Rattle.history_folders.specs.Folders.{FoldersAbove, HasFoldersAbove}
+use Rattle.gix_ref_way.specs.Ways.{FoldersAbove, HasFoldersAbove}
 use Rattle.history_objects.specs.Stores.{IsObjectPlace, IsObjectPart}
-use Rattle.history_folders.proofs.Above.{now_above}
-use Rattle.history_folders.proofs.FoldersMade.{may_hold}
+use Rattle.gix_ref_way.proofs.Above.{now_above}
+use Rattle.gix_ref_way.proofs.FoldersMade.{may_hold}
 use Rattle.history_objects.proofs.ObjectParts.{folders_after, no_deep_folder, object_place_length, object_place_is_path, unfinished_above}
 
 module _ (place : Bytes) (old made : History) (part : IsObjectPart old.tree) (placed : IsObjectPlace place) (above : Adds (FoldersAbove place old.tree) old made) (folders : HasFoldersAbove place made.tree) where

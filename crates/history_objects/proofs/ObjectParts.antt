@@ -18,11 +18,11 @@ use Rattle.history_model.specs.Repository.{Values, HaveOwnIds}
 use Rattle.gix_hash_id.specs.declared.kind.Kind.{Kind}
 use Rattle.gix_hash_id.specs.declared.kind.Kind.TheVariants.{Sha1, Sha256}
 use Rattle.history_model.proofs.PlaceLemmas.{id_length, file_has_id}
-use Rattle.history_folders.specs.Folders.{IsAbove, NoFileAbove, HasFoldersAbove, FoldersAbove}
+use Rattle.gix_ref_way.specs.Ways.{IsAbove, NoFileAbove, HasFoldersAbove, FoldersAbove}
 use Rattle.history_objects.specs.Stores.{IsObjectPlace, IsObjectPart}
-use Rattle.history_folders.proofs.FirstParts.{behind, none_above}
+use Rattle.history_texts.proofs.FirstParts.{behind, none_above}
 use Rattle.history_objects.proofs.FolderPlaces.{object_above, two_digits, hex_lower}
-use Rattle.history_folders.proofs.FoldersMade.{split_joined}
+use Rattle.gix_ref_way.proofs.FoldersMade.{split_joined}
 use Rattle.std.proofs.lemmas.Bool.{and_parts}
 use Rattle.history_model.proofs.IdLemmas.{length-hex}
 

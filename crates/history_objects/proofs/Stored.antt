@@ -14,10 +14,10 @@ use Rattle.history_model.specs.Bytes.{Bytes}
 use Rattle.gix_hash_id.specs.Id.{id_of}
 use Rattle.history_model.specs.Places.{file_at, unfinished_place}
 use Rattle.history_texts.specs.ObjectTexts.{is_reserved}
-use Rattle.history_folders.specs.Folders.{SameFiles}
+use Rattle.gix_ref_way.specs.Ways.{SameFiles}
 use Rattle.history_objects.specs.Stores.{KeepsFiles, HoldsFile, MayStand, IsTaken, place_of, text_of}
 use Rattle.history_texts.specs.declared.object.NewObject.{NewObject}
-use Rattle.history_folders.proofs.FilesKept.{apart_from_inserted, apart_from_removed, now_same}
+use Rattle.gix_ref_way.proofs.Stored.{apart_from_inserted, apart_from_removed, now_same}
 
 -- ---- one after another
 pub same_keeps : (old new : Tree) → SameFiles old new → KeepsFiles old new

@@ -17,7 +17,7 @@ use Rattle.history_objects.specs.declared.objects.PutMadeError.TheVariants as er
 use Rattle.history_texts.specs.ObjectTexts.{IsNoObject, is_reserved}
 use Rattle.history_model.specs.Forms.{is_id}
 use Rattle.history_model.specs.Places.{file_at, object_place, unfinished_place, is_object_folder}
-use Rattle.history_folders.specs.Folders.{KeepsFolders, FoldersAbove}
+use Rattle.gix_ref_way.specs.Ways.{KeepsFolders, FoldersAbove}
 
 -- each file stands as before, but for `objects/unfinished`
 abbrev pub KeepsFiles : Tree → Tree → Type 0

@@ -14,7 +14,7 @@ ghost use Rattle.gix_ref_file.specs.Calls.{Achieves, Finds, HasFault, Passes};
 ghost use Rattle.gix_ref_file.specs.Changes.{is_file_at};
 ghost use Rattle.history_texts.specs.ObjectTexts.{is_empty_tree, is_reserved};
 ghost use Rattle.history_objects.specs.Stores.{HoldsFile, Holds, HoldsNone, IsFinished, MayPut, MayStand, KeepsFiles, IsObjectPlace, IsObjectPart, IsTaken, place_of, text_of, put_fault};
-ghost use Rattle.history_folders.specs.Folders.{FoldersAbove, KeepsFolders};
+ghost use Rattle.gix_ref_way.specs.Ways.{FoldersAbove, KeepsFolders};
 ghost use Rattle.gix_hash_id.specs.Id.{Id, id_of};
 ghost use Rattle.history_objects.specs.Ids.{with_id, AreOfKind, IsAscending};
 ghost use Rattle.history_texts.specs.IdLists.{is_one_of};
@@ -29,7 +29,7 @@ use gix_hash::{Kind, ObjectId, Prefix};
 use gix_object_lines::cut::strip_prefix;
 use gix_object_lines::{Kind as ObjectKind, encode};
 use gix_ref_file::{FileError, Files, Place};
-use history_folders::make_folders;
+use gix_ref_way::make_folders;
 use history_texts::{NewObject, hex_digits, parse_header};
 use std::alloc::{AllocError, Global};
 

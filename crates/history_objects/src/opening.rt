@@ -1,13 +1,13 @@
 //! Opening a part as a store of objects: one that holds none yet.
 ghost use Rattle.std.specs.Prelude.{◌≡◌, [], IfOk, OnOk, IfErr};
-ghost use Rattle.history_folders.specs.Parts.{IsClear};
-ghost use Rattle.history_folders.specs.Refusals.{IsWrongPart};
-ghost use Rattle.history_folders.specs.declared.parts.Part.TheVariants as parts;
+ghost use Rattle.history_texts.specs.Parts.{IsClear};
+ghost use Rattle.history_texts.specs.Refusals.{IsWrongPart};
+ghost use Rattle.history_texts.specs.declared.parts.Part.TheVariants as parts;
 
 use crate::objects::Objects;
 use gix_hash::Kind;
 use gix_ref_file::Files;
-use history_folders::{OpenError, Part, refuse_stray};
+use history_texts::{OpenError, Part, refuse_stray};
 use std::alloc::Global;
 
 /// Why objects aren't opened, and their part, as it was handed in.

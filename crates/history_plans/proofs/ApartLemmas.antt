@@ -1,5 +1,5 @@
 -- Names that are looked up by their bytes, and names that collide.
-use Rattle.std.proofs.Common.{◌≡◌, ℕ, ◌+◌, ◌<◌, ◌≤◌, Bool, true, false, cond, not, ◌&&◌, ◌||◌, List, [], ◌∷◌, ◌++◌, map, filter, take, drop, length, get_or, refl, sym, ◌∙◌, ap, subst, bytes_eq, length-append, zero, suc, arith}
+use Rattle.std.proofs.Common.{◌≡◌, ℕ, ◌+◌, ◌<◌, ◌≤◌, Bool, true, false, cond, not, ◌&&◌, ◌||◌, List, [], ◌∷◌, ◌++◌, map, filter, take, length, get_or, refl, sym, ◌∙◌, ap, subst, bytes_eq, arith}
 use Rattle.std.specs.Prelude.{nat_le}
 use Rattle.std.specs.Borrow.{Bor}
 use Rattle.std.specs.List.{list_any}
@@ -18,7 +18,8 @@ use Rattle.history_model.specs.Commands.{Move, MoveCommand, To}
 use Rattle.history_model.specs.FileMap.{is_below}
 use Rattle.history_model.specs.Repository.{stands}
 use Rattle.history_model.proofs.WholeLists.{In, one_passes, passes_one}
-use Rattle.history_folders.specs.Folders.{IsAbove}
+use Rattle.gix_ref_way.specs.Ways.{IsAbove}
+use Rattle.gix_ref_way.proofs.FoldersMade.{above_shorter, front_of}
 use Rattle.history_plans.specs.Apart.{HaveAll, do_lines_collide, is_made, made_names, names_in, reaches}
 use Rattle.history_plans.specs.Moving.{AreLines, bars, line_name}
 use Rattle.history_plans.specs.declared.moving.Line.{Line}
@@ -164,30 +165,6 @@ pub made_first : (rest others : List Line) (line : Line) → rest ≡ line ∷ o
 made_first rest others line cut made = ap made_names cut ∙ ap (λ b. map line_name (cond b (line ∷ filter is_made others) (filter is_made others))) made
 
 -- ---- folders of a name
-
-above_shorter : (place path : Bytes) → IsAbove place path → length place < length path
-above_shorter place path (rest, is) = omega (arith, ap length is, length-append place (47 ∷ rest))
-
--- a folder of a name is a front of it, and a slash follows
-front_of : (place path : Bytes) → IsAbove place path → (place ≡ take (length place) path) × (get_or path (length place) 0 ≡ 47)
-front_of place path (rest, is) = (at_front place ∙ ap (take (length place)) (sym is), ap (λ p. get_or p (length place) 0) is ∙ slash place)
-  where
-    at_front : (front : Bytes) → front ≡ take (length front) (front ++ 47 ∷ rest)
-    at_front [] = refl
-    at_front (b ∷ front) = ap (λ t. b ∷ t) (at_front front)
-
-    slash : (front : Bytes) → get_or (front ++ 47 ∷ rest) (length front) 0 ≡ 47
-    slash [] = refl
-    slash (b ∷ front) = slash front
-
--- what stands before a slash is a folder
-pub above_slash : (name : Bytes) (end : ℕ) → end < length name → get_or name end 0 ≡ 47 → IsAbove (take end name) name
-above_slash name end below is = (drop (suc end) name, cut name end below is)
-  where
-    cut : (name : Bytes) (end : ℕ) → end < length name → get_or name end 0 ≡ 47 → name ≡ take end name ++ 47 ∷ drop (suc end) name
-    cut [] end below is = absurd (omega (arith, below))
-    cut (x ∷ name) zero below is = ap (λ y. y ∷ name) is
-    cut (x ∷ name) (suc end) below is = ap (λ t. x ∷ t) (cut name end (omega (arith, below)) is)
 
 -- none of those kept ends before this place in the name
 abbrev pub NoneBefore : ℕ → Bytes → List (Bor (List ℕ)) → Type 0

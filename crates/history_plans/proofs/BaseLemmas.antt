@@ -20,9 +20,8 @@ use Rattle.history_word.specs.Commands.{IsExpect}
 use Rattle.gix_hash_id.specs.declared.object_id.ObjectId.{ObjectId}
 use Rattle.history_repository.specs.Reads.{IsReadingFault, GivesMeant}
 use Rattle.history_plans.specs.Bases.{IsExpected, expected_meanings, line_word, source_id, held_cause, parents_cause}
-use Rattle.history_repository.specs.Meanings.{words_cause, reads_as}
+use Rattle.history_repository.specs.Meanings.{words_cause, reads_as, commit_in, commit_or_cause, meaning_of}
 use Rattle.history_plans.specs.CommitCauses.{first_among, word_causes, held_causes, parent_causes, IsToldBy, Tests}
-use Rattle.history_repository.specs.Meanings.{commit_in, commit_or_cause, meaning_of}
 use Rattle.history_repository.specs.declared.words.WordMeaning as own
 use Rattle.history_repository.specs.declared.words.WordMeaning.TheVariants as read
 use Rattle.history_repository.specs.Held.{IsHeld, held_commit}

@@ -11,7 +11,7 @@ use Rattle.history_model.specs.Commands.{Commit, CommitCommand}
 use Rattle.history_model.specs.Causes.{do_collide, holds_tag, some_collide}
 use Rattle.history_model.specs.declared.Cause.TheVariants.{Collides, HoldsTag}
 use Rattle.history_steps.proofs.OfferedFiles.{each_key}
-use Rattle.history_folders.specs.Folders.{IsAbove}
+use Rattle.gix_ref_way.specs.Ways.{IsAbove}
 use Rattle.history_plans.specs.CommitCauses.{first_among, place_causes}
 use Rattle.history_plans.specs.Halves.{FitsAmong}
 use Rattle.std.proofs.lemmas.Bool.{not-true, or_from}

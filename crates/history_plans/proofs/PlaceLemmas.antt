@@ -13,9 +13,8 @@ use Rattle.history_model.specs.Causes.{do_collide}
 use Rattle.history_model.specs.NameStates.{name_state}
 use Rattle.history_model.specs.Places.{file_at}
 use Rattle.history_steps.proofs.OfferedFiles.{all_keys}
-use Rattle.history_folders.specs.Folders.{IsAbove}
+use Rattle.gix_ref_way.specs.Ways.{IsAbove, HasWay}
 use Rattle.history_names.specs.AllNames.{TellsMeeting}
-use Rattle.history_folders.specs.Ways.{HasWay}
 use Rattle.history_repository.specs.Face.{names_part}
 use Rattle.history_repository.specs.Stands.{Stands, pair_of}
 use Rattle.history_names.specs.Packing.{told_id}

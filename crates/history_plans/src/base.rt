@@ -56,7 +56,7 @@ pub(crate) struct Base {
 }
 
 /// What is expected of a name, its word read.
-#[derive(Clone, Copy, Debug, PartialEq, Eq)]
+#[derive(Clone, Copy)]
 pub(crate) enum Expected {
     Any,
     New,

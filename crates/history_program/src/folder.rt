@@ -3,10 +3,10 @@
 use crate::notes::{note_failure, note_refusal};
 use crate::turn::take_turn;
 use gix_ref_folder::{Folder, Part};
+use history::in_memory::Patient;
 use history::{Broken, Stream};
+use history_actions::command_line::{AskError, Asked, read_words};
 use history_actions::{perform, report};
-use history_command_line::{AskError, Asked, read_words};
-use history_in_memory::Patient;
 use history_word::write_all;
 use std::alloc::AllocError;
 use std::io::{self, ErrorKind};

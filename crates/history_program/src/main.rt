@@ -8,7 +8,7 @@ mod folder;
 mod notes;
 mod turn;
 
-use history_in_memory::serve;
+use history::in_memory::serve;
 use std::io::IsTerminal;
 use std::process::ExitCode;
 use std::{env, io};

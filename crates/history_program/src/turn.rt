@@ -1,6 +1,6 @@
 //! One process at a time: the system's lock on a folder.
 
-use history_command_line::{Action, Asked};
+use history_actions::command_line::{Action, Asked};
 use std::fs::{self, File, TryLockError};
 use std::io::{self, ErrorKind};
 

@@ -22,9 +22,9 @@ use Rattle.history_model.specs.Repository.{Repository, HoldsCommit, IsWholeStore
 use Rattle.history_model.proofs.IdLemmas.{id_itself, one_id}
 use Rattle.history_model.proofs.WholeGrowth.{holds_value}
 use Rattle.history_model.proofs.WholeLists.{clash}
-use Rattle.history_rows.specs.Telling.{AreAllTold, AreInOrder, IsTold, TellsStored}
-use Rattle.history_rows.specs.declared.told.Told.{Told}
-use Rattle.history_rows.proofs.Counted.{same_object}
+use Rattle.history_walks.specs.Telling.{AreAllTold, AreInOrder, IsTold, TellsStored}
+use Rattle.history_walks.specs.declared.told.Told.{Told}
+use Rattle.history_walks.proofs.Counted.{same_object}
 use Rattle.history_texts.specs.Commits.{SaysCommit}
 use Rattle.history_texts.specs.IdLists.{is_one_of}
 use Rattle.gix_object_commit.specs.declared.commit.owned.Commit.{Commit}

@@ -3,8 +3,8 @@ use Rattle.std.specs.Prelude.{◌≡◌, List, map, Contains}
 use Rattle.gix_hash_id.specs.Id.{Id, id_of}
 use Rattle.gix_hash_id.specs.declared.object_id.ObjectId.{ObjectId}
 use Rattle.history_model.specs.Repository.{Repository, HoldsCommit}
-use Rattle.history_rows.specs.Telling.{TellsStored}
-use Rattle.history_rows.specs.declared.told.Told.{Told}
+use Rattle.history_walks.specs.Telling.{TellsStored}
+use Rattle.history_walks.specs.declared.told.Told.{Told}
 use Rattle.history_queries.specs.Walked.{AllHold}
 
 -- these are the ids of all stored commits

@@ -5,7 +5,7 @@ ghost use Rattle.std.specs.FinMap.{get};
 ghost use Rattle.gix_hash_id.specs.Id.{id_of};
 ghost use Rattle.gix_traverse_commit_graph.specs.Rows.{AreRows};
 ghost use Rattle.history_model.specs.Objects.{Value};
-ghost use Rattle.history_rows.specs.Rows.{AreTheRows};
+ghost use Rattle.history_walks.specs.Rows.{AreTheRows};
 ghost use Rattle.history_repository.specs.Reads.{GivesMeant};
 ghost use Rattle.history_queries.specs.Indexing.{AreTheCommits, AreToldOf};
 ghost use Rattle.history_repository.specs.Stands.{Stands};
@@ -20,8 +20,7 @@ use gix_ref_file::Files;
 use gix_traverse_commit_graph::Row;
 use history_model::Fault;
 use history_repository::{Repository, Stopped};
-use history_rows::{Told, rows_of};
-use history_walks::{Order, Parents, Request};
+use history_walks::{Order, Parents, Request, Told, rows_of};
 use std::alloc::Global;
 
 /// Whether a stored object is a commit, as its header tells.

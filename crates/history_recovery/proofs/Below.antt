@@ -1,44 +1,19 @@
 -- What stands below a folder: what is listed there, and what stands below that.
 use Rattle.std.proofs.Common.{◌≡◌, ◌≢◌, ◌⊎◌, inl, inr, refl, sym, ◌∙◌, ap, subst, ℕ, zero, suc, ◌+◌, ◌-◌, ◌<◌, ◌≤◌, Bool, true, false, cond, List, [], ◌∷◌, ◌++◌, length, arith, length-append, Vec, map, nat_eq, tests}
-use Rattle.std.specs.Prelude.{IsTrue, IsSome, nat_le, nat_lt, not, ◌&&◌, ◌||◌}
-use Rattle.std.specs.List.{after_last, suffix_len, list_all, list_any, slice_split}
+use Rattle.std.specs.Prelude.{IsSome, not, ◌||◌}
+use Rattle.std.specs.List.{list_any}
 use Rattle.std.specs.declared.alloc.Global.{Global}
 use Rattle.std.specs.FinMap.{get, keys, contains_key-keys}
 use Rattle.std.proofs.Math.ListN.{get_or}
-use Rattle.std.proofs.lemmas.List.{length-take-le}
-use borrow.Author.Tests.{ltb-true, ltb-false}
-use Rattle.gix_ref_file.specs.Tree.{Tree, is_slash, is_component, is_path, same_path, parent, names_at, node_at, is_folder, IsRooted, under}
+use Rattle.gix_ref_file.specs.Tree.{Tree, same_path, parent, names_at, node_at, is_folder, IsRooted, under}
 use Rattle.gix_ref_file.specs.Changes.{is_empty_at}
-use Rattle.gix_ref_file.proofs.Below.{inside, path_in_folder, parent_behind}
-use Rattle.gix_ref_file.proofs.Listings.{in_folder, root_is_no_path, names_in, found, listed, listed_stands, item_is, map_length}
-use Rattle.gix_ref_file.proofs.Moved.{some_of_folder}
+use Rattle.gix_ref_file.proofs.Listings.{names_in, found, listed}
 use Rattle.gix_ref_file.proofs.Trees.{one_path, same_path_itself}
 use Rattle.history_model.specs.Bytes.{Bytes}
-use Rattle.history_recovery.specs.Clearing.{above}
-
--- ---- what stands above
-
-parent_of_folder : (tree : Tree) (path : Bytes) → IsRooted tree → IsTrue (is_folder (node_at tree path)) → IsTrue (is_folder (node_at tree (parent path)))
-parent_of_folder tree [] rooted is = refl
-parent_of_folder tree (b ∷ path) rooted is = (rooted (b ∷ path) (some_of_folder (get tree (b ∷ path)) is)).1
-
-folder_above : (tree : Tree) (n : ℕ) (path : Bytes) → IsRooted tree → IsSome (get tree path) → IsTrue (is_folder (node_at tree (above (suc n) path)))
-folder_above tree zero path rooted there = (rooted path there).1
-folder_above tree (suc n) path rooted there = parent_of_folder tree (above (suc n) path) rooted (folder_above tree n path rooted there)
-
-shorter : (path : Bytes) → length (parent path) ≤ length path - 1
-shorter path = omega (arith, length-take-le (length path - suffix_len inside path - 1) path (omega arith))
-
-above_shorter : (n : ℕ) (path : Bytes) → length (above n path) ≤ length path - n
-above_shorter zero path = omega arith
-above_shorter (suc n) path = omega (arith, shorter (above n path), above_shorter n path)
-
-empty : (path : Bytes) → length path ≤ 0 → path ≡ []
-empty [] short = refl
-empty (b ∷ path) short = absurd (omega (arith, short))
-
-pub above_all : (path : Bytes) → above (suc (length path)) path ≡ []
-above_all path = empty _ (omega (arith, above_shorter (suc (length path)) path))
+use Rattle.gix_ref_way.specs.Ways.{above}
+use Rattle.gix_ref_way.proofs.FilesBelow.{under_folder}
+use Rattle.gix_ref_way.proofs.Walked as walked
+use Rattle.gix_ref_way.proofs.Walked.{shorter}
 
 -- ---- what a folder lists
 
@@ -46,60 +21,12 @@ above_all path = empty _ (omega (arith, above_shorter (suc (length path)) path))
 abbrev pub From : (Bytes → Type 0) → Tree → Bytes → Type 0
 From P tree path = (IsSome (get tree path) → P path) × ((n : ℕ) (q : Bytes) → above (suc n) q ≡ path → IsSome (get tree q) → P q)
 
-module _ (P : Bytes → Type 0) (tree : Tree) (rooted : IsRooted tree) where
-  below : (place : Bytes) → ((path : Bytes) → IsSome (get tree path) → parent path ≡ place → From P tree path)
-      → (n : ℕ) (path : Bytes) → above (suc n) path ≡ place → IsSome (get tree path) → P path
-  below place child zero path under there = (child path there under).0 there
-  below place child (suc n) path under there = by_case (above (suc n) path) refl (below place child n path)
-    where
-      by_case : (q : Bytes) → above (suc n) path ≡ q → (above (suc n) path ≡ place → IsSome (get tree path) → P path) → P path
-      by_case [] is rest = rest (is ∙ sym (ap parent is) ∙ under) there
-      by_case (b ∷ q) is rest = (child (b ∷ q) (some_of_folder (get tree (b ∷ q)) (subst (λ p. IsTrue (is_folder (node_at tree p))) is (folder_above tree n path rooted there))) (ap parent (sym is) ∙ under)).1 n path is there
-
-  child_listed : (place : Bytes) (names : List Bytes) → names ≡ names_at tree place → ((i : ℕ) → i < length names → From P tree (under place (get_or names i [])))
-      → (path : Bytes) → IsSome (get tree path) → parent path ≡ place → From P tree path
-  child_listed place names is all path there here =
-      let r = found place (keys tree) path [] (sym (contains_key-keys tree path) ∙ there) here in
-      let in_place : is_folder (node_at tree place) ≡ true = subst (λ p. IsTrue (is_folder (node_at tree p))) here (rooted path there).1 in
-      let names_are : names ≡ names_in place (keys tree) = is ∙ ap (λ b. cond b (names_in place (keys tree)) []) in_place in
-      let same : under place (get_or names r.0 []) ≡ path = (λ j. under (sym here j) ((ap (λ (ns : List Bytes). get_or ns r.0 []) names_are ∙ r.2) j)) ∙ sym (in_folder path (rooted path there).0) in
-      subst (λ p. From P tree p) same (all r.0 (subst (λ (ns : List Bytes). r.0 < length ns) (sym names_are) r.1))
-
-  -- all that stands below the folder
-  pub all_below : (place : Bytes) (names : List Bytes) → names ≡ names_at tree place → ((i : ℕ) → i < length names → From P tree (under place (get_or names i [])))
-      → (n : ℕ) (path : Bytes) → above (suc n) path ≡ place → IsSome (get tree path) → P path
-  all_below place names is all n path under there = below place (child_listed place names is all) n path under there
+-- all that stands below the folder
+pub all_below : (P : Bytes → Type 0) (tree : Tree) → IsRooted tree → (place : Bytes) (names : List Bytes) → names ≡ names_at tree place
+    → ((i : ℕ) → i < length names → From P tree (under place (get_or names i []))) → (n : ℕ) (path : Bytes) → above (suc n) path ≡ place → IsSome (get tree path) → P path
+all_below P tree rooted place names is all = walked.all_below tree rooted (λ path o. IsSome o → P path) (λ path there. absurd (cc there)) place names is all
 
 -- ---- a path behind a folder's is below it
-
-two_fronts : (a b x y : Bytes) → a ++ 47 ∷ x ≡ b ++ 47 ∷ y → length a ≤ length b → (b ≡ a) ⊎ ((rest : Bytes) × (b ≡ a ++ 47 ∷ rest))
-two_fronts [] [] x y e short = inl refl
-two_fronts [] (c ∷ b) x y e short = inr (b, ap (λ d. d ∷ b) (first e))
-  where
-    first : {p q : ℕ} {ps qs : Bytes} → p ∷ ps ≡ q ∷ qs → q ≡ p
-    first e = cc
-two_fronts (c ∷ a) [] x y e short = absurd (omega (arith, short))
-two_fronts (c ∷ a) (d ∷ b) x y e short = go (two_fronts a b x y (rest e) (omega (arith, short)))
-  where
-    first : {p q : ℕ} {ps qs : Bytes} → p ∷ ps ≡ q ∷ qs → q ≡ p
-    first e = cc
-
-    rest : {p q : ℕ} {ps qs : Bytes} → p ∷ ps ≡ q ∷ qs → ps ≡ qs
-    rest e = cc
-
-    go : (b ≡ a) ⊎ ((more : Bytes) × (b ≡ a ++ 47 ∷ more)) → (d ∷ b ≡ c ∷ a) ⊎ ((more : Bytes) × (d ∷ b ≡ c ∷ a ++ 47 ∷ more))
-    go (inl same) = inl (λ i. first e i ∷ same i)
-    go (inr (more, is)) = inr (more, λ i. first e i ∷ is i)
-
-not_empty : (p : Bytes) → p ≢ [] → 0 < length p
-not_empty [] some = absurd (some refl)
-not_empty (b ∷ p) some = omega arith
-
-parent_under : (place rest : Bytes) → place ≢ [] → (parent (place ++ 47 ∷ rest) ≡ place) ⊎ ((more : Bytes) × (parent (place ++ 47 ∷ rest) ≡ place ++ 47 ∷ more))
-parent_under place rest some =
-    let path = place ++ 47 ∷ rest in
-    let long : length place ≤ length (parent path) = parent_behind place rest in
-    two_fronts place (parent path) rest (after_last is_slash path) (path_in_folder path (omega (arith, long, not_empty place some))) long
 
 above_parent : (n : ℕ) (path : Bytes) → above n (parent path) ≡ parent (above n path)
 above_parent zero path = refl
@@ -108,7 +35,7 @@ above_parent (suc n) path = ap parent (above_parent n path)
 -- so many folders above it
 pub so_many : (fuel : ℕ) (place path rest : Bytes) → length path ≤ fuel → place ≢ [] → path ≡ place ++ 47 ∷ rest → (n : ℕ) × (above (suc n) path ≡ place)
 so_many zero place path rest short some is = absurd (omega (arith, short, ap length is, length-append place (47 ∷ rest)))
-so_many (suc fuel) place path rest short some is = go (so_many fuel) (parent_under place rest some)
+so_many (suc fuel) place path rest short some is = go (so_many fuel) (under_folder place (place ++ 47 ∷ rest) some (rest, refl))
   where
     few : length (parent path) ≤ fuel
     few = omega (arith, shorter path, short, ap length is, length-append place (47 ∷ rest))
@@ -145,7 +72,7 @@ pub none_below : (tree : Tree) (place rest : Bytes) → IsRooted tree → place 
 none_below tree place rest rooted some empty there =
     let path = place ++ 47 ∷ rest in
     let r = so_many (length path) place path rest (omega arith) some refl in
-    below (λ _. ⊥) tree rooted place (λ child stands here. absurd (child_none tree place child empty stands here)) r.0 path r.1 there
+    walked.below tree rooted (λ path o. IsSome o → ⊥) (λ path there. absurd (cc there)) place (λ child stands here. absurd (child_none tree place child empty stands here)) r.0 path r.1 there there
 
 -- where a folder lists nothing it is empty
 pub lists_none : (tree : Tree) (place : Bytes) → is_folder (node_at tree place) ≡ true → names_at tree place ≡ [] → is_empty_at tree place ≡ true
@@ -184,55 +111,6 @@ lists_one tree place names rooted is some =
         let all : names ≡ names_in place (keys tree) = is ∙ ap (λ b. cond b (names_in place (keys tree)) []) e in
         let r = listed place (keys tree) 0 [] (subst (λ (ns : List Bytes). 0 < length ns) all some) in
         (r.0, contains_key-keys tree r.0 ∙ r.1, r.2)
-
--- ---- one name of a listing
-
-deeper : (place name : Bytes) → IsTrue (is_path (under place name)) → length place < length (under place name)
-deeper [] [] is = absurd (root_is_no_path is)
-deeper [] (b ∷ name) is = omega arith
-deeper (b ∷ place) name is = omega (arith, length-append (b ∷ place) (47 ∷ name))
-
-pub record IsListed (tree : Tree) (place path : Bytes) (xs : List (Vec ℕ Global)) (i : ℕ) : Type 0 where
-  pub there : IsSome (get tree path)
-  pub is_path : IsTrue (is_path path)
-  pub deeper : length place < length path
-  pub at : path ≡ under place (get_or (map (λ (name : Vec ℕ Global). name.items) xs) i [])
-
-pub is_listed : (tree : Tree) (place : Bytes) (xs : List (Vec ℕ Global)) (i : ℕ) (v : Vec ℕ Global) (path name : Bytes) → IsRooted tree
-    → map (λ (name : Vec ℕ Global). name.items) xs ≡ names_at tree place → i < length xs → v ≡ get_or xs i v → name ≡ v.items → path ≡ under place name → IsListed tree place path xs i
-is_listed tree place xs i v path name rooted names below is name_is path_is =
-    let at : path ≡ under place (get_or (map (λ (name : Vec ℕ Global). name.items) xs) i []) = path_is ∙ ap (under place) (name_is ∙ sym (item_is xs i v below is)) in
-    let r = listed_stands tree place (map (λ (name : Vec ℕ Global). name.items) xs) i rooted names (omega (arith, below, map_length xs)) in
-    record {
-      there = subst (λ p. IsSome (get tree p)) (sym at) r.0;
-      is_path = subst (λ p. IsTrue (is_path p)) (sym at) r.1;
-      deeper = subst (λ p. length place < length p) (sym at) (deeper place (get_or (map (λ (name : Vec ℕ Global). name.items) xs) i []) r.1);
-      at = at;
-    }
-
-pub one_more : (P : Bytes → Type 0) (place path : Bytes) (names : List Bytes) (k : ℕ) → ((i : ℕ) → i < k → P (under place (get_or names i []))) → path ≡ under place (get_or names k []) → P path
-    → (i : ℕ) → i < k + 1 → P (under place (get_or names i []))
-one_more P place path names k before at here i below = by_test (nat_lt i k) refl
-  where
-    by_test : (b : Bool) → nat_lt i k ≡ b → P (under place (get_or names i []))
-    by_test true less = before i (ltb-true _ _ less)
-    by_test false more =
-        let same : k ≡ i = omega (arith, below, ltb-false _ _ more) in
-        subst (λ j. P (under place (get_or names j []))) same (subst P at here)
-
-path_short : (path : Bytes) → IsTrue (is_path path) → nat_le (length path) 4096 ≡ true
-path_short path is = by_case (nat_le (length path) 4096) is
-  where
-    by_case : (b : Bool) → IsTrue (b && list_all is_component (slice_split is_slash path)) → b ≡ true
-    by_case true h = refl
-    by_case false h = cc
-
-pub is_deep : (place path : Bytes) → length place < length path → IsTrue (is_path path) → (nat_lt (length place) (length path) && nat_le (length path) 4096) ≡ true
-is_deep place path longer is = ap (λ b. b && nat_le (length path) 4096) (by_test (nat_lt (length place) (length path)) refl) ∙ path_short path is
-  where
-    by_test : (b : Bool) → nat_lt (length place) (length path) ≡ b → b ≡ true
-    by_test true less = refl
-    by_test false more = absurd (omega (arith, longer, ltb-false _ _ more))
 
 -- ---- how many names a listing has
 

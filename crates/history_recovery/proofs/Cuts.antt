@@ -17,7 +17,8 @@ use Rattle.history_model.specs.Recovery.{is_deserted, recovered_files, recovered
 use Rattle.history_model.proofs.RecoveryLemmas.{get-recovered_names}
 use Rattle.gix_hash_id.specs.declared.kind.Kind.{Kind}
 use Rattle.history_model.proofs.WholePaths.{begins_parts, begins_front}
-use Rattle.history_recovery.specs.Clearing.{lock_place, above, is_over, AreAllKept, IsCut, AreCutBelow, IsLogFolder, Cuts, MayCut, Replaces}
+use Rattle.gix_ref_way.specs.Ways.{above}
+use Rattle.history_recovery.specs.Clearing.{lock_place, is_over, AreAllKept, IsCut, AreCutBelow, IsLogFolder, Cuts, MayCut, Replaces}
 use Rattle.history_recovery.specs.Recovering.{NamesAlike}
 use Rattle.history_recovery.proofs.Below.{all_below}
 use Rattle.history_recovery.proofs.Lines.{whole_itself}

@@ -21,7 +21,8 @@ use Rattle.history_model.proofs.RecoveryLemmas.{get-kept, recovery_ends}
 use Rattle.history_model.proofs.WholePaths.{begins_parts}
 use Rattle.history_recovery.specs.Clearing.{AreKeptBelow, AreAllKept, IsCut, AreCutBelow, Cuts, Clears}
 use Rattle.history_recovery.specs.Recovering.{ObjectsAlike, NamesAlike, AreNamesRecovered}
-use Rattle.history_recovery.proofs.Below.{above_all, so_many}
+use Rattle.gix_ref_way.proofs.Walked.{above_all}
+use Rattle.history_recovery.proofs.Below.{so_many}
 use Rattle.history_recovery.proofs.Cuts.{kept_cut}
 use Rattle.history_recovery.proofs.Recoveries.{recovered_itself}
 

@@ -1,7 +1,7 @@
 -- The words of private contracts: what clearing and cutting make of the names part.
-use Rattle.std.specs.Prelude.{◌≡◌, ◌⊎◌, ℕ, zero, suc, Bool, true, false, ◌&&◌, ◌||◌, ◌∷◌, ◌++◌, [], Some, None, option_map, unwrap_or, is_none, IsSome, IsTrue, codes}
+use Rattle.std.specs.Prelude.{◌≡◌, ◌⊎◌, ℕ, suc, Bool, true, false, ◌&&◌, ◌||◌, ◌∷◌, ◌++◌, [], Some, None, option_map, unwrap_or, is_none, IsSome, IsTrue, codes}
 use Rattle.std.specs.FinMap.{get, insert}
-use Rattle.gix_ref_file.specs.Tree.{Tree, file, parent, bytes_at}
+use Rattle.gix_ref_file.specs.Tree.{Tree, file, bytes_at}
 use Rattle.gix_ref_format.specs.Lookup.{packed_hit}
 use Rattle.gix_ref_format.specs.PackedKept.{kept}
 use Rattle.history_model.specs.Bytes.{Bytes, begins}
@@ -11,6 +11,7 @@ use Rattle.history_model.specs.Places.{file_at, packed_place, is_log_place, log_
 use Rattle.history_model.specs.NameStates.{NameState, Absent, is_absent, name_state, packed_text_state}
 use Rattle.history_model.specs.Recovery.{recovered_names, recovered_node}
 use Rattle.gix_hash_id.specs.declared.kind.Kind.{Kind}
+use Rattle.gix_ref_way.specs.Ways.{above}
 use Rattle.history_recovery.specs.Recovering.{NamesAlike}
 use Rattle.history_recovery.specs.declared.packed.Packed.{Packed}
 use Rattle.history_recovery.specs.declared.packed.Packed.TheVariants as says
@@ -40,11 +41,6 @@ is_over kind tree path =
     is_lock_file path || (is_log_place path && is_absent (name_state kind tree (log_name path)))
 
 -- ---- what is cleared
-
--- the folder so many folders above a path
-abbrev pub above : ℕ → Bytes → Bytes
-above zero path = path
-above (suc n) path = parent (above n path)
 
 -- what stands at the path stays in recovery
 abbrev pub IsKept : Kind → Tree → Bytes → Type 0

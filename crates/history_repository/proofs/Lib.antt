@@ -2,9 +2,13 @@ pub mod Befores
 pub mod Extended
 pub mod FieldLemmas
 pub mod HeldLemmas
+pub mod Items
+pub mod Joined
 pub mod NameLines
 pub mod NameReads
+pub mod Named
 pub mod NamesFormed
+pub mod NoFlaws
 pub mod OpenLemmas
 pub mod ReadingFaults
 pub mod RowsAgree
@@ -12,5 +16,6 @@ pub mod SecondsLemmas
 pub mod ShortIds
 pub mod StoredValues
 pub mod Tables
+mod Unread
 pub mod WordCauses
 pub mod WordReads

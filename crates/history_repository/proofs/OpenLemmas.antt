@@ -7,8 +7,8 @@ use Rattle.gix_traverse_commit_known.specs.Told.{rows_of}
 use Rattle.gix_traverse_commit_graph.specs.declared.rows.Row.{Row}
 use Rattle.history_model.specs.Places.{Pair}
 use Rattle.history_model.specs.StandsFor.{StandsWhole}
-use Rattle.history_opening.specs.Opened.{IsOpenedAs, trees_of}
-use Rattle.history_opening.specs.declared.folder.OpenedFolder.{OpenedFolder}
+use Rattle.history_repository.specs.Opened.{IsOpenedAs, trees_of}
+use Rattle.history_repository.specs.declared.folder.OpenedFolder.{OpenedFolder}
 use Rattle.history_names.specs.Face.{files_of_names, kind_of_names}
 use Rattle.history_objects.specs.Face.{files_of_objects, ids_of_objects, kind_of_objects}
 use Rattle.history_names.specs.Packing.{KeepsRecords}

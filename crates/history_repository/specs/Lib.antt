@@ -1,3 +1,4 @@
+pub mod Causes
 pub mod Face
 pub mod Faults
 pub mod Fields
@@ -6,6 +7,7 @@ pub mod KeptRows
 pub mod Meanings
 pub mod NameForms
 pub mod NamesShown
+pub mod Opened
 pub mod Reads
 pub mod Stands
 pub mod TreesBefore

@@ -18,7 +18,7 @@ use history_model::Fault;
 use std::alloc::Global;
 
 /// The id that a name holds, and the commit that it stands for: that of a tag, else the id itself.
-#[derive(Clone, Copy, Debug, PartialEq, Eq)]
+#[derive(Clone, Copy)]
 pub struct Held {
     pub id: ObjectId,
     pub commit: ObjectId,

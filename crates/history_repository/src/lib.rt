@@ -2,9 +2,11 @@
 #![tactic(auto)]
 
 mod fields;
+mod folder;
 mod held;
 mod naming;
 mod open;
+mod open_error;
 mod repository;
 mod shown;
 mod stopped;
@@ -14,6 +16,7 @@ mod words;
 pub use fields::{into_kept, is_bad_path, is_too_long, kept};
 pub use held::{Held, commit_held, id_before, id_held, read_held};
 pub use naming::{is_private, test_name};
+pub use open_error::{NamedBy, OpenError, OpenRefusal};
 pub use repository::Repository;
 pub use shown::{ALL_NAMES, Shown, read_shown};
 pub use stopped::Stopped;

@@ -2,18 +2,19 @@
 
 ghost use Rattle.std.specs.Prelude.{◌≡◌, false, None, IfOk, IfErr};
 ghost use Rattle.history_model.specs.StandsFor.{StandsWhole};
-ghost use Rattle.history_opening.specs.Causes.{IsOpenCause, IsOpenFault};
-ghost use Rattle.history_opening.specs.Opened.{trees_of};
+ghost use Rattle.history_repository.specs.Causes.{IsOpenCause, IsOpenFault};
+ghost use Rattle.history_repository.specs.Opened.{trees_of};
 ghost use Rattle.history_store.specs.Creation.{IsNew};
 ghost use Rattle.history_model.specs.Repository.{fresh};
 ghost use Rattle.history_repository.specs.Face.{objects_part, names_part, has_failed, rows_in};
 ghost use Rattle.history_repository.specs.Stands.{Stands};
 ghost use Rattle.history_model.specs.Repository as plain;
 
+use crate::folder::{OpenedFolder, open_folder};
+use crate::open_error::OpenRefusal;
 use crate::repository::Repository;
 use gix_hash::Kind;
 use gix_ref_file::Files;
-use history_opening::{OpenRefusal, OpenedFolder, open_folder};
 use std::alloc::Global;
 
 impl<F: Files> Repository<F> {

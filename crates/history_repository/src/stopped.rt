@@ -15,7 +15,7 @@ use history_walks::WalkError;
 use std::alloc::{AllocError, AllocFailed};
 
 /// Why a command isn't done.
-#[derive(Clone, Copy, Debug, PartialEq, Eq)]
+#[derive(Clone, Copy)]
 pub enum Stopped {
     Refused(Cause),
     Fault(Fault),

@@ -26,7 +26,7 @@ use std::alloc::{AllocError, Global};
 use std::str;
 
 /// What a word reads as.
-#[derive(Clone, Copy, Debug, PartialEq, Eq)]
+#[derive(Clone, Copy)]
 pub enum WordMeaning {
     /// The id of a commit.
     Commit(ObjectId),

@@ -13,7 +13,7 @@ use Rattle.history_model.specs.Rounds.{Round, IsRound, AreRounds, last_left}
 use Rattle.history_model.specs.Laws.{stopped_round}
 use Rattle.history_model.specs.Joined.{pair_now}
 use Rattle.history_model.proofs.RoundLemmas.{rounds_join}
-use Rattle.history_opening.specs.Opened.{trees_of}
+use Rattle.history_repository.specs.Opened.{trees_of}
 use Rattle.history_rounds.specs.Joined.{AreExplained, GoesOn, IsOneMore, IsRoundOver, MakesRound}
 use Rattle.history_rounds.specs.declared.rounds.Made.{Made}
 use Rattle.history_rounds.specs.declared.rounds.Unmade.{Unmade}

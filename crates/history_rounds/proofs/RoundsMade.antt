@@ -26,7 +26,7 @@ use Rattle.history.specs.Runs.{EndsRun}
 use Rattle.history.specs.declared.running.RunError.{RunError}
 use Rattle.history.proofs.Counts.{risen_before, risen_later}
 use Rattle.history_model.specs.declared.End.{End}
-use Rattle.history_opening.specs.Opened.{trees_of}
+use Rattle.history_repository.specs.Opened.{trees_of}
 use Rattle.history_model.specs.Repository as plain
 use Rattle.history_rounds.specs.Joined.{IsRoundOver}
 use Rattle.history_rounds.proofs.Ends.{ends_failed, ends_told, ends_written}

@@ -15,9 +15,9 @@ use Rattle.history_model.specs.Laws.{stopped_round}
 use Rattle.history_model.specs.Joined.{pair_now}
 use Rattle.history_model.specs.declared.End.{End}
 use Rattle.history_model.specs.Repository as plain
-use Rattle.history_opening.specs.Causes.{IsOpenFault}
-use Rattle.history_opening.specs.Opened.{trees_of}
-use Rattle.history_opening.specs.declared.error.OpenRefusal.{OpenRefusal}
+use Rattle.history_repository.specs.Causes.{IsOpenFault}
+use Rattle.history_repository.specs.Opened.{trees_of}
+use Rattle.history_repository.specs.declared.open_error.OpenRefusal.{OpenRefusal}
 use Rattle.history_recovery.specs.declared.recovering.RecoverError.TheVariants.{File}
 use Rattle.history.specs.NameFiles.{AllLeaveAsSaid}
 use Rattle.history.specs.Runs.{EndsRun, MadeLastReading}

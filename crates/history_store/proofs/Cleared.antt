@@ -9,9 +9,9 @@ use Rattle.gix_ref_file.proofs.Trees.{get_inserted, room_after_insert}
 use Rattle.history_model.specs.Bytes.{Bytes}
 use Rattle.history_model.specs.Places.{head_place, unfinished_place}
 use Rattle.history_names.specs.References.{head_lock}
-use Rattle.history_folders.specs.Parts.{may_hold_folder, IsClearAt, IsClear}
-use Rattle.history_folders.specs.declared.parts.Part.{Part}
-use Rattle.history_folders.specs.declared.parts.Part.TheVariants.{Objects, Names}
+use Rattle.history_texts.specs.Parts.{may_hold_folder, IsClearAt, IsClear}
+use Rattle.history_texts.specs.declared.parts.Part.{Part}
+use Rattle.history_texts.specs.declared.parts.Part.TheVariants.{Objects, Names}
 
 -- what stands at the leftover's place is a file
 pub may_remove : (tree : Tree) → IsClear Objects unfinished_place tree → place_of (node_at tree unfinished_place) ≢ Absent → allows tree (to_remove_file unfinished_place) ≡ true

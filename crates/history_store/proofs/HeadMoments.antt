@@ -13,13 +13,13 @@ use Rattle.history_model.specs.StandsFor.{head_text}
 use Rattle.history_model.specs.Places.{file_at, head_place, unfinished_place}
 use Rattle.history_names.specs.References.{head_lock}
 use Rattle.history_store.specs.Creation.{HasHead, IsCleared, IsNew, LeftoverMayGo, HeadMayStand}
-use Rattle.history_folders.specs.Folders.{SameFolders}
-use Rattle.history_folders.specs.Parts.{IsClear}
-use Rattle.history_folders.specs.declared.parts.Part.TheVariants.{Objects, Names}
+use Rattle.gix_ref_way.specs.Ways.{SameFolders}
+use Rattle.history_texts.specs.Parts.{IsClear}
+use Rattle.history_texts.specs.declared.parts.Part.TheVariants.{Objects, Names}
 use Rattle.history_store.proofs.Made.{head_written}
 use Rattle.history_store.proofs.News.{new_parts}
-use Rattle.history_folders.proofs.FoldersStay.{written_folders, removed_folders, renamed_folders, same_twice}
-use Rattle.history_folders.proofs.FilesKept.{apart_from_inserted, apart_from_removed}
+use Rattle.gix_ref_way.proofs.FoldersStay.{written_folders, removed_folders, renamed_folders, same_twice}
+use Rattle.gix_ref_way.proofs.Stored.{apart_from_inserted, apart_from_removed}
 
 while_locked : (text : Bytes) (t x : Tree) → MayLeave (to_write head_lock text) t x → HeadMayStand t x
 while_locked text t x (inl same) = record {

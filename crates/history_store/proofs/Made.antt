@@ -12,7 +12,7 @@ use Rattle.history_model.specs.StandsFor.{head_text}
 use Rattle.history_model.specs.Places.{file_at, head_place, unfinished_place}
 use Rattle.history_names.specs.References.{head_lock}
 use Rattle.history_store.specs.Creation.{IsCleared, HasHead}
-use Rattle.history_folders.proofs.FilesKept.{apart_from_inserted, apart_from_removed}
+use Rattle.gix_ref_way.proofs.Stored.{apart_from_inserted, apart_from_removed}
 use Rattle.history_names.proofs.Beside.{file_removed}
 
 no_file : (o : Option Node) → Absent ≡ place_of o → bytes_of o ≡ None

@@ -8,11 +8,11 @@ use Rattle.gix_ref_file.proofs.Trees.{one_path, same_path_itself}
 use Rattle.history_model.specs.Bytes.{Bytes}
 use Rattle.history_model.specs.Places.{file_at, head_place, unfinished_place}
 use Rattle.history_store.specs.Creation.{HasHead, IsCleared, IsNew}
-use Rattle.history_folders.specs.Folders.{SameFolders}
+use Rattle.gix_ref_way.specs.Ways.{SameFolders}
 use Rattle.history_names.specs.References.{head_lock}
-use Rattle.history_folders.specs.Parts.{may_hold_folder, IsClearAt, IsClear, IsStrayAt}
-use Rattle.history_folders.specs.declared.parts.Part.{Part}
-use Rattle.history_folders.specs.declared.parts.Part.TheVariants.{Objects, Names}
+use Rattle.history_texts.specs.Parts.{may_hold_folder, IsClearAt, IsClear, IsStrayAt}
+use Rattle.history_texts.specs.declared.parts.Part.{Part}
+use Rattle.history_texts.specs.declared.parts.Part.TheVariants.{Objects, Names}
 
 apart : (p q : Bytes) → same_path p q ≡ false → p ≢ q
 apart p q is same = cc (sym is ∙ ap (λ x. same_path x q) same ∙ same_path_itself q)

@@ -14,11 +14,11 @@ use Rattle.history_model.specs.StandsFor.{head_text}
 use Rattle.history_model.specs.Repository.{first_branch}
 use Rattle.history_store.specs.Creation.{IsNew}
 use Rattle.history_store.specs.Opening.{HeadIs}
-use Rattle.history_folders.specs.Parts.{IsClear, IsClearAt, may_hold_folder}
+use Rattle.history_texts.specs.Parts.{IsClear, IsClearAt, may_hold_folder}
 use Rattle.history_names.specs.References.{SpellsBranch}
-use Rattle.history_folders.specs.declared.refusal.OpenError.{OpenError}
-use Rattle.history_folders.specs.declared.parts.Part.{Part}
-use Rattle.history_folders.specs.declared.parts.Part.TheVariants.{Objects, Names}
+use Rattle.history_texts.specs.declared.refusal.OpenError.{OpenError}
+use Rattle.history_texts.specs.declared.parts.Part.{Part}
+use Rattle.history_texts.specs.declared.parts.Part.TheVariants.{Objects, Names}
 use Rattle.std.specs.declared.alloc.Global.{Global}
 use Rattle.std.proofs.lemmas.Bool.{and_parts}
 use Rattle.history_model.proofs.WholePaths.{begins_parts}

@@ -11,7 +11,7 @@ use Rattle.history_model.specs.StandsFor.{head_text}
 use Rattle.history_objects.specs.Stores.{KeepsFiles}
 use Rattle.history_store.specs.declared.creation.CreateError.{CreateError}
 use Rattle.history_store.specs.declared.creation.CreateError.TheVariants as errors
-use Rattle.history_folders.specs.Folders.{SameFolders}
+use Rattle.gix_ref_way.specs.Ways.{SameFolders}
 use Rattle.history_names.specs.References.{head_lock}
 
 -- `objects/unfinished` is gone, and each other file as before

@@ -5,10 +5,10 @@ use Rattle.history_model.specs.Bytes.{Bytes}
 use Rattle.history_model.specs.Forms.{heads_front}
 use Rattle.history_model.specs.Places.{file_at, head_place}
 use Rattle.history_model.specs.StandsFor.{head_text}
-use Rattle.history_folders.specs.declared.parts.Part.TheVariants.{Objects, Names}
-use Rattle.history_folders.specs.declared.refusal.OpenError.{OpenError}
-use Rattle.history_folders.specs.declared.refusal.OpenError.TheVariants.{NoHead, BadHead, Stray, NotYet, File, Memory}
-use Rattle.history_folders.specs.Refusals.{IsWrongPart}
+use Rattle.history_texts.specs.declared.parts.Part.TheVariants.{Objects, Names}
+use Rattle.history_texts.specs.declared.refusal.OpenError.{OpenError}
+use Rattle.history_texts.specs.declared.refusal.OpenError.TheVariants.{NoHead, BadHead, Stray, NotYet, File, Memory}
+use Rattle.history_texts.specs.Refusals.{IsWrongPart}
 
 -- HEAD stands, and names this branch
 abbrev pub HeadIs : Tree → Bytes → Type 0

@@ -5,14 +5,14 @@ ghost use Rattle.history_model.specs.Bytes.{begins};
 ghost use Rattle.history_model.specs.Forms.{heads_front};
 ghost use Rattle.history_model.specs.Repository.{first_branch};
 ghost use Rattle.history_names.specs.Face.{files_of_names};
-ghost use Rattle.history_folders.specs.Parts.{OverBoth};
+ghost use Rattle.history_texts.specs.Parts.{OverBoth};
 ghost use Rattle.history_store.specs.Creation.{IsNew};
 ghost use Rattle.history_store.specs.Opening.{HeadIs, IsWrongHead, IsNotNew};
 
 use gix_ref_file::{Files, Place};
-use history_folders::{OpenError, Part, refuse_stray};
 use history_model::names::{FIRST_BRANCH, HEAD, HEADS};
 use history_names::Names;
+use history_texts::{OpenError, Part, refuse_stray};
 use std::alloc::Global;
 
 // Whether the name is a branch's: it lies below `refs/heads/`.

@@ -1,18 +1,14 @@
 -- Listings from the root reach each file.
-use Rattle.std.proofs.Common.{◌≡◌, ℕ, zero, suc, ◌+◌, ◌-◌, ◌<◌, ◌≤◌, true, false, cond, List, [], ◌∷◌, ◌++◌, length, take, drop, Option, Some, None, refl, sym, ◌∙◌, ap, subst, arith, inl, inr, codes, append_assoc, append-nil}
-use Rattle.std.specs.Prelude.{Contains, IsTrue, IsSome, IfErr, Result, Err}
-use Rattle.std.specs.FinMap.{contains_key-keys, get, keys}
+use Rattle.std.proofs.Common.{◌≡◌, ℕ, suc, ◌+◌, ◌-◌, ◌<◌, ◌≤◌, true, false, List, [], ◌∷◌, ◌++◌, length, take, drop, Option, Some, None, refl, sym, ◌∙◌, ap, subst, arith, inl, inr, codes, append_assoc, append-nil}
+use Rattle.std.specs.Prelude.{Contains, IsTrue, IfErr, Result, Err}
+use Rattle.std.specs.FinMap.{get}
 use Rattle.std.proofs.Math.ListN.{get_or}
 use Rattle.gix_hash_id.specs.Id.{Id, id_of}
 use Rattle.gix_hash_id.specs.declared.kind.Kind.{Kind}
 use Rattle.gix_hash_id.specs.declared.object_id.ObjectId.{ObjectId}
 use Rattle.gix_ref_file.specs.declared.files.Place.TheVariants as places
-use Rattle.gix_ref_file.specs.Tree.{Tree, Node, file, folder, is_path, parent, names_at, node_at, place_of, is_folder, bytes_of, IsRooted, under}
-use Rattle.gix_ref_file.proofs.Listings.{in_folder, node_is, names_in, found}
-use Rattle.gix_ref_file.proofs.Below.{inside}
-use Rattle.gix_ref_file.proofs.Moved.{some_of_folder}
-use Rattle.std.proofs.lemmas.List.{length-take-le}
-use Rattle.std.specs.List.{suffix_len}
+use Rattle.gix_ref_file.specs.Tree.{Tree, Node, file, folder, is_path, names_at, node_at, place_of, bytes_of, IsRooted, under}
+use Rattle.gix_ref_file.proofs.Listings.{node_is}
 use Rattle.history_model.specs.Bytes.{Bytes}
 use Rattle.history_model.specs.Forms.{is_id}
 use Rattle.history_model.specs.Objects.{hex}
@@ -21,8 +17,9 @@ use Rattle.history_model.proofs.IdLemmas.{hex_tells, length-hex}
 use Rattle.history_model.proofs.PlaceLemmas.{id_length}
 use Rattle.history_model.proofs.WholeLists.{in_either, in_left, in_right}
 use Rattle.history_model.proofs.WholeSteps.{contains_in, in_contains}
-use Rattle.history_folders.specs.Parts.{above}
-use Rattle.history_folders.proofs.Surveys.{one_more}
+use Rattle.gix_ref_way.specs.Ways.{above}
+use Rattle.gix_ref_way.proofs.Surveys.{one_more}
+use Rattle.gix_ref_way.proofs.Walked.{all_below, none_below_file, found_all}
 use Rattle.gix_hash_id.specs.Kind.{hex_len}
 use Rattle.gix_hash_id.specs.declared.kind.Kind.TheVariants as digests
 use Rattle.history_survey.specs.Flaws.{IsObjectsFlaw, IsStray, stray_file, stray_folder}
@@ -30,75 +27,6 @@ use Rattle.history_survey.specs.Listing.{Gathers, HasObjectFile, IsListedAt, IsN
 use Rattle.history_survey.specs.declared.flaw.ObjectsFlaw.{ObjectsFlaw}
 use Rattle.history_survey.specs.declared.flaw.ObjectsFlaw.TheVariants.{Stray, Unfinished, BadObject, WrongId, TooLarge, BadTree, Missing, WrongKind, Cycle, IdReserved, File, Memory}
 use Rattle.history_survey.specs.Surveying.{AreListed}
-
--- ---- what stands above
-
-parent_of_folder : (tree : Tree) (path : Bytes) → IsRooted tree → IsTrue (is_folder (node_at tree path)) → IsTrue (is_folder (node_at tree (parent path)))
-parent_of_folder tree [] rooted is = refl
-parent_of_folder tree (b ∷ path) rooted is = (rooted (b ∷ path) (some_of_folder (get tree (b ∷ path)) is)).1
-
-folder_above : (tree : Tree) (n : ℕ) (path : Bytes) → IsRooted tree → IsSome (get tree path) → IsTrue (is_folder (node_at tree (above (suc n) path)))
-folder_above tree zero path rooted there = (rooted path there).1
-folder_above tree (suc n) path rooted there = parent_of_folder tree (above (suc n) path) rooted (folder_above tree n path rooted there)
-
-shorter : (path : Bytes) → length (parent path) ≤ length path - 1
-shorter path = omega (arith, length-take-le (length path - suffix_len inside path - 1) path (omega arith))
-
-above_shorter : (n : ℕ) (path : Bytes) → length (above n path) ≤ length path - n
-above_shorter zero path = omega arith
-above_shorter (suc n) path = omega (arith, shorter (above n path), above_shorter n path)
-
-no_bytes : (path : Bytes) → length path ≤ 0 → path ≡ []
-no_bytes [] short = refl
-no_bytes (b ∷ path) short = absurd (omega (arith, short))
-
-above_all : (path : Bytes) → above (suc (length path)) path ≡ []
-above_all path = no_bytes _ (omega (arith, above_shorter (suc (length path)) path))
-
--- ---- what a walk over folders meets, where P holds of what stands at each path
-
-module _ (tree : Tree) (rooted : IsRooted tree) (P : Bytes → Option Node → Type 0) (nothing : (path : Bytes) → P path None) where
-  -- a path and all below it
-  abbrev pub Everywhere : Bytes → Type 0
-  Everywhere path = P path (get tree path) × ((n : ℕ) (q : Bytes) → above (suc n) q ≡ path → P q (get tree q))
-
-  if_stands : (path : Bytes) (o : Option Node) → (IsSome o → P path o) → P path o
-  if_stands path None h = nothing path
-  if_stands path (Some node) h = h refl
-
-  child : (place : Bytes) (names : List Bytes) → names ≡ names_at tree place → ((i : ℕ) → i < length names → Everywhere (under place (get_or names i [])))
-      → (path : Bytes) → IsSome (get tree path) → parent path ≡ place → Everywhere path
-  child place names is all path there here =
-      let r = found place (keys tree) path [] (sym (contains_key-keys tree path) ∙ there) here in
-      let in_place : is_folder (node_at tree place) ≡ true = subst (λ p. IsTrue (is_folder (node_at tree p))) here (rooted path there).1 in
-      let names_are : names ≡ names_in place (keys tree) = is ∙ ap (λ b. cond b (names_in place (keys tree)) []) in_place in
-      let same : under place (get_or names r.0 []) ≡ path = (λ j. under (sym here j) ((ap (λ (ns : List Bytes). get_or ns r.0 []) names_are ∙ r.2) j)) ∙ sym (in_folder path (rooted path there).0) in
-      subst Everywhere same (all r.0 (subst (λ (ns : List Bytes). r.0 < length ns) (sym names_are) r.1))
-
-  below : (place : Bytes) → ((path : Bytes) → IsSome (get tree path) → parent path ≡ place → Everywhere path)
-      → (n : ℕ) (path : Bytes) → above (suc n) path ≡ place → IsSome (get tree path) → P path (get tree path)
-  below place child zero path under there = (child path there under).0
-  below place child (suc n) path under there = by_case (above (suc n) path) refl (below place child n path)
-    where
-      by_case : (q : Bytes) → above (suc n) path ≡ q → (above (suc n) path ≡ place → IsSome (get tree path) → P path (get tree path)) → P path (get tree path)
-      by_case [] is rest = rest (is ∙ sym (ap parent is) ∙ under) there
-      by_case (b ∷ q) is rest = (child (b ∷ q) (some_of_folder (get tree (b ∷ q)) (subst (λ p. IsTrue (is_folder (node_at tree p))) is (folder_above tree n path rooted there))) (ap parent (sym is) ∙ under)).1 n path is
-
-  pub all_below : (place : Bytes) (names : List Bytes) → names ≡ names_at tree place → ((i : ℕ) → i < length names → Everywhere (under place (get_or names i [])))
-      → (n : ℕ) (path : Bytes) → above (suc n) path ≡ place → P path (get tree path)
-  all_below place names is all n path under = if_stands path (get tree path) (below place (child place names is all) n path under)
-
-  -- nothing stands below a file
-  pub of_file : (path : Bytes) (size : ℕ) → place_of (node_at tree path) ≡ places.File size → P path (get tree path) → Everywhere path
-  of_file path size there here = (here, λ n q under. if_stands q (get tree q) (λ some. absurd (no_folder (node_at tree path) there (subst (λ p. IsTrue (is_folder (node_at tree p))) under (folder_above tree n q rooted some)))))
-    where
-      no_folder : (o : Option Node) → place_of o ≡ places.File size → IsTrue (is_folder o) → ⊥
-      no_folder None h is = cc
-      no_folder (Some (file bytes)) h is = cc
-      no_folder (Some folder) h is = cc
-
-  pub from_root : ((n : ℕ) (path : Bytes) → above (suc n) path ≡ [] → P path (get tree path)) → (path : Bytes) → P path (get tree path)
-  from_root all path = all (length path) path (above_all path)
 
 -- ---- lists that grow
 
@@ -161,7 +89,7 @@ module _ (kind : Kind) (tree : Tree) (rooted : IsRooted tree) (place : Bytes) (o
 
   -- the file of an object
   pub file_more : (size : ℕ) (id : ObjectId) → place_of (node_at tree path) ≡ places.File size → IsTrue (is_id kind (id_of id)) → path ≡ object_place (id_of id) → GathersSome kind tree place old (new ++ id ∷ []) names (k + 1)
-  file_more size id there formed is = more_names (id ∷ []) each (of_file tree rooted (IsListedAt (new ++ id ∷ [])) (λ p. tt) path size there (at_file (get tree path) (ap place_of (sym (node_is tree path is_path)) ∙ there)))
+  file_more size id there formed is = more_names (id ∷ []) each (at_file (get tree path) (ap place_of (sym (node_is tree path is_path)) ∙ there), none_below_file tree rooted (IsListedAt (new ++ id ∷ [])) (λ p. tt) path size there)
     where
       bytes_there : (o : Option Node) → place_of o ≡ places.File size → (text : Bytes) × (bytes_of o ≡ Some text)
       bytes_there None h = cc
@@ -200,7 +128,7 @@ root_listed kind tree ids rooted below = record {
     more_is id has = subst (λ (xs : List ObjectId). Contains xs id) below.are has
 
     everywhere : (path : Bytes) → IsListedAt ids path (get tree path)
-    everywhere = from_root tree rooted (IsListedAt ids) (λ p. tt) below.all
+    everywhere = found_all tree rooted (IsListedAt ids) (λ p. tt) below.all
 
     files : (path text : Bytes) → file_at tree path ≡ Some text → IsPlaceIn ids path
     files [] text h = cc

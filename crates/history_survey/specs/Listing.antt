@@ -8,7 +8,7 @@ use Rattle.gix_ref_file.specs.Tree.{Tree, Node, file, folder}
 use Rattle.history_model.specs.Bytes.{Bytes}
 use Rattle.history_model.specs.Forms.{is_id}
 use Rattle.history_model.specs.Places.{file_at, is_object_folder, object_place, unfinished_place}
-use Rattle.history_folders.specs.Parts.{above}
+use Rattle.gix_ref_way.specs.Ways.{above}
 use Rattle.history_survey.specs.declared.flaw.ObjectsFlaw.{ObjectsFlaw}
 use Rattle.history_survey.specs.declared.flaw.ObjectsFlaw.TheVariants.{Stray, Unfinished, BadObject, WrongId, TooLarge, BadTree, Missing, WrongKind, Cycle, IdReserved, File, Memory}
 

@@ -9,7 +9,7 @@ use std::alloc::{AllocError, AllocFailed};
 use thiserror::Error;
 
 /// What is wrong with an objects part: a cause that holds of it. A path is in bytes, whole from the part's root.
-#[derive(Debug, Drop, PartialEq, Eq, Error)]
+#[derive(Debug, Drop, Error)]
 pub enum ObjectsFlaw {
     /// Neither an object's file nor a folder of objects stands there.
     #[error("stray: {0:?}")]

@@ -11,9 +11,8 @@ use crate::flaw::ObjectsFlaw;
 use gix_hash::{Kind, ObjectId};
 use gix_ref_file::paths::{is_deeper, joined};
 use gix_ref_file::{Files, Place};
-use history_folders::Part;
 use history_objects::{UNFINISHED, object_place};
-use history_texts::parse_lower_hex;
+use history_texts::{Part, parse_lower_hex};
 use std::alloc::{AllocError, Global};
 
 /// The ids at whose places files stand, where no other files stand and no folders but those of objects.

@@ -6,6 +6,8 @@ mod common;
 #[cfg(test)]
 mod growth;
 #[cfg(test)]
+mod halves;
+#[cfg(test)]
 mod memory;
 #[cfg(test)]
 mod writers;

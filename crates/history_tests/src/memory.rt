@@ -1,8 +1,8 @@
 //! Where memory is ample each command has its own answer: a body that only gives up for memory is proved under any contract.
 
 use crate::common::{INPUT, KINDS, REPLIES};
+use history::in_memory::answer_stream;
 use history::{End, Kind};
-use history_in_memory::answer_stream;
 use std::alloc::Global;
 
 const FIRST: &[u8] =

@@ -4,9 +4,11 @@ pub mod CommitTexts
 pub mod CommitWrites
 mod Cuts
 mod FirstLine
+pub mod FirstParts
 pub mod LogLines
 pub mod Offsets
 pub mod Spelled
+pub mod Surveys
 mod TagLines
 mod TagTargets
 mod TagWrites

@@ -3,5 +3,7 @@ pub mod Commits
 pub mod Formats
 pub mod IdLists
 pub mod ObjectTexts
+pub mod Parts
+pub mod Refusals
 pub mod Tags
 pub mod Written

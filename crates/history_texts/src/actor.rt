@@ -15,7 +15,7 @@ use std::alloc::{AllocError, Global};
 /// The author or committer of a commit, or whoever moved a name. A name isn't empty; neither it nor the email begins or ends with
 /// a space, has more than 512 bytes or holds `<`, `>`, a zero byte, a tab or an end of line. The time is since 1970, its offset
 /// whole minutes below 100 hours.
-#[derive(Drop, PartialEq, Eq, Debug)]
+#[derive(Drop)]
 pub struct Actor {
     pub name: Vec<u8>,
     pub email: Vec<u8>,

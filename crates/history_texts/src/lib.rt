@@ -1,4 +1,4 @@
-//! What objects and logs have in them: the written forms of actors, commits, trees and tags, the texts of objects, and the lines of logs.
+//! What a repository's files have in them: written forms of actors, commits, trees and tags, texts of objects, lines of logs; and its two parts.
 #![tactic(auto)]
 
 mod actor;
@@ -6,6 +6,8 @@ mod commit;
 mod id_text;
 mod log_entry;
 mod object;
+mod parts;
+mod refusal;
 mod tag;
 mod written;
 
@@ -14,5 +16,7 @@ pub use commit::{commit_bytes, commit_tree, parse_commit, plain_commit};
 pub use id_text::{hex_digits, parse_lower_hex, push_hex};
 pub use log_entry::{LogEntry, log_lines};
 pub use object::{NewObject, parse_header};
+pub use parts::{Part, Stray, survey};
+pub use refusal::{OpenError, refuse_stray};
 pub use tag::{tag_bytes, tag_target};
 pub use written::{Named, has_twice, is_name, is_written_tree, named_by, title};

@@ -12,7 +12,7 @@ use gix_hash::ObjectId;
 use std::alloc::{AllocError, Global};
 
 /// One move of a name. The id before is null where the name was made.
-#[derive(Drop, Debug)]
+#[derive(Drop)]
 pub struct LogEntry {
     pub before: ObjectId,
     pub after: ObjectId,

@@ -9,7 +9,7 @@ use gix_hash::{Kind, ObjectId};
 use gix_object_lines::{Kind as ObjectKind, decode, encode};
 
 /// An object with its id, which is its text's: it is hashed where it is made, and nowhere else.
-#[derive(Drop, Debug)]
+#[derive(Drop)]
 pub struct NewObject {
     pub id: ObjectId,
     pub kind: ObjectKind,

@@ -5,3 +5,7 @@ pub mod Walking
 pub mod Kept
 pub mod Reading
 pub mod Alone
+pub mod Members
+pub mod Generations
+pub mod Counted
+pub mod RowsMade

@@ -10,7 +10,7 @@ use gix_traverse_commit::simple::{self, HiddenGraphError};
 use std::alloc::{AllocError, AllocFailed};
 
 /// Why commits aren't listed.
-#[derive(Debug, Clone, Copy, PartialEq, Eq, thiserror::Error)]
+#[derive(Debug, Clone, Copy, thiserror::Error)]
 pub enum WalkError {
     /// The store failed to look a commit up.
     #[error("a commit couldn't be looked up")]

@@ -18,7 +18,7 @@ use gix_traverse_topo as topo;
 use std::alloc::Global;
 
 /// In which order commits are listed, and along which parents.
-#[derive(Debug, Clone, Copy, PartialEq, Eq)]
+#[derive(Clone, Copy)]
 pub enum Order {
     /// First the tips in their order, then the parents of what came, in their order.
     Breadth(Parents),
@@ -39,7 +39,7 @@ pub enum Order {
 }
 
 /// Which commits are listed: those that the tips reach, past all that the hidden commits reach.
-#[derive(Debug, Drop)]
+#[derive(Drop)]
 pub struct Request {
     /// In which order.
     pub order: Order,

@@ -28,7 +28,7 @@ fn counted(before: u64, reading: u64, count: usize) -> u64
 }
 
 /// Bytes that were read from a source and not taken yet.
-#[derive(Debug, Drop)]
+#[derive(Drop)]
 pub struct Buffer {
     bytes: [u8; ROOM],
     start: usize,

@@ -8,7 +8,7 @@ use std::alloc::{AllocError, Global};
 pub(crate) const MAX_KEPT: usize = MAX_TITLE + 1;
 
 /// A field of a command.
-#[derive(Debug, Drop)]
+#[derive(Drop)]
 pub enum Field {
     /// All of its bytes.
     Whole(Vec<u8>),
@@ -17,7 +17,7 @@ pub enum Field {
 }
 
 /// What a command expects of the name that it moves.
-#[derive(Debug, Drop)]
+#[derive(Drop)]
 pub enum Expect {
     /// Nothing.
     Any,
@@ -28,7 +28,7 @@ pub enum Expect {
 }
 
 /// A file to be put at a path. The path has at most 4,096 bytes, the content at most 16,777,216.
-#[derive(Debug, Drop)]
+#[derive(Drop)]
 pub struct Put {
     pub kind: FileKind,
     pub path: Field,
@@ -37,7 +37,7 @@ pub struct Put {
 
 /// What another commit's files have at or below a source, to be put at a path; an empty source is all of them. The commit is a
 /// word's. The path and the source have at most 4,096 bytes each.
-#[derive(Debug, Drop)]
+#[derive(Drop)]
 pub struct Graft {
     pub path: Field,
     pub word: Vec<u8>,
@@ -45,7 +45,7 @@ pub struct Graft {
 }
 
 /// One change of a commit's files. The path of a removal has at most 4,096 bytes.
-#[derive(Debug, Drop)]
+#[derive(Drop)]
 pub enum Edit {
     Put(Put),
     /// Takes out all at or below the path, also where nothing stands.
@@ -57,7 +57,7 @@ pub enum Edit {
 
 /// Who acts, and when: the words for the seconds and the offset are as they were sent. The name and the email have at
 /// most 512 bytes each.
-#[derive(Debug, Drop)]
+#[derive(Drop)]
 pub struct ActorLine {
     pub name: Field,
     pub email: Field,
@@ -66,7 +66,7 @@ pub struct ActorLine {
 }
 
 /// The parents are words, in their order; the edits are made in order. The message has at most 16,777,216 bytes.
-#[derive(Debug, Drop)]
+#[derive(Drop)]
 pub struct CommitCommand {
     pub name: Vec<u8>,
     pub expect: Expect,
@@ -78,7 +78,7 @@ pub struct CommitCommand {
 }
 
 /// Stores a tag of a word's commit, and moves a name to it. The message has at most 16,777,216 bytes.
-#[derive(Debug, Drop)]
+#[derive(Drop)]
 pub struct TagCommand {
     pub name: Vec<u8>,
     pub expect: Expect,
@@ -88,7 +88,7 @@ pub struct TagCommand {
 }
 
 /// One name of a move: what is expected of it, and the word of the commit where it goes.
-#[derive(Debug, Drop)]
+#[derive(Drop)]
 pub struct To {
     pub name: Vec<u8>,
     pub expect: Expect,
@@ -96,7 +96,7 @@ pub struct To {
 }
 
 /// Moves one or more names, all of them or none. The message has at most 16,777,216 bytes.
-#[derive(Debug, Drop)]
+#[derive(Drop)]
 pub struct MoveCommand {
     pub to: Vec<To>,
     pub actor: ActorLine,
@@ -104,28 +104,28 @@ pub struct MoveCommand {
 }
 
 /// Makes a name at what another holds, and deletes that one with its log.
-#[derive(Debug, Drop)]
+#[derive(Drop)]
 pub struct Rename {
     pub from: Vec<u8>,
     pub to: Vec<u8>,
 }
 
 /// Deletes a name with its log. What is expected of the name is nothing, or that it is at a word's commit.
-#[derive(Debug, Drop)]
+#[derive(Drop)]
 pub struct Delete {
     pub name: Vec<u8>,
     pub expect: Expect,
 }
 
 /// Shows a commit, or what stands at a path of its files. The path has at most 4,096 bytes.
-#[derive(Debug, Drop)]
+#[derive(Drop)]
 pub struct Show {
     pub word: Vec<u8>,
     pub path: Option<Field>,
 }
 
 /// In which order a log lists its commits. The words for the seconds are as they were sent.
-#[derive(Debug, Drop)]
+#[derive(Drop)]
 pub enum Order {
     Breadth,
     Newest,
@@ -139,7 +139,7 @@ pub enum Order {
 }
 
 /// Where a log begins, or what it leaves out.
-#[derive(Debug, Drop)]
+#[derive(Drop)]
 pub enum LogItem {
     /// It begins at this word's commit.
     Tip(Vec<u8>),
@@ -149,7 +149,7 @@ pub enum LogItem {
 
 /// Lists the commits that some commits reach, or those of them that differ at some paths. At least one item is a tip. A path
 /// has at most 4,096 bytes.
-#[derive(Debug, Drop)]
+#[derive(Drop)]
 pub struct LogCommand {
     pub order: Order,
     /// Whether of a commit's parents the first alone is followed.
@@ -160,7 +160,7 @@ pub struct LogCommand {
 }
 
 /// What a client asks. A word is nonempty, without space or line feed, and a line's words have at most 4,096 bytes.
-#[derive(Debug, Drop)]
+#[derive(Drop)]
 pub enum Command {
     Commit(CommitCommand),
     Tag(TagCommand),

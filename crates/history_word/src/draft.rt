@@ -19,7 +19,7 @@ use history_model::FileKind;
 use std::alloc::Global;
 
 /// A commit as far as it has come. A part is `None` before it comes, and where it found no memory.
-#[derive(Debug, Drop)]
+#[derive(Drop)]
 pub(crate) struct CommitDraft {
     name: Option<Vec<u8>>,
     expect: Option<Expect>,
@@ -31,7 +31,7 @@ pub(crate) struct CommitDraft {
 }
 
 /// A tag as far as it has come. A part is `None` before it comes, and where it found no memory.
-#[derive(Debug, Drop)]
+#[derive(Drop)]
 pub(crate) struct TagDraft {
     target: Option<To>,
     tagger: Option<ActorLine>,
@@ -39,7 +39,7 @@ pub(crate) struct TagDraft {
 }
 
 /// A move as far as it has come. A part is `None` before it comes, and where it found no memory.
-#[derive(Debug, Drop)]
+#[derive(Drop)]
 pub(crate) struct MoveDraft {
     to: Option<Vec<To>>,
     actor: Option<ActorLine>,
@@ -47,7 +47,7 @@ pub(crate) struct MoveDraft {
 }
 
 /// A command as far as it has come.
-#[derive(Debug, Drop)]
+#[derive(Drop)]
 pub(crate) enum Draft {
     Empty,
     Commit(CommitDraft),

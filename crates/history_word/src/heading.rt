@@ -20,7 +20,7 @@ use history_model::FileKind;
 use std::alloc::Global;
 
 /// Whose line it is.
-#[derive(Clone, Copy, Debug, PartialEq, Eq)]
+#[derive(Clone, Copy)]
 pub(crate) enum Role {
     Author,
     Committer,
@@ -30,7 +30,7 @@ pub(crate) enum Role {
 }
 
 /// What an edit's line says. A number is the size of a field that follows the line; a word is `None` where it found no memory.
-#[derive(Debug, Drop)]
+#[derive(Drop)]
 pub(crate) enum EditHeading {
     Put {
         kind: FileKind,
@@ -52,7 +52,7 @@ pub(crate) enum EditHeading {
 
 /// What an actor's line says. The name and the email are the sizes of fields that follow the line; a word is `None` where
 /// it found no memory.
-#[derive(Debug, Drop)]
+#[derive(Drop)]
 pub(crate) struct ActorHeading {
     pub(crate) role: Role,
     pub(crate) name: u64,
@@ -63,7 +63,7 @@ pub(crate) struct ActorHeading {
 
 /// What the line says that a command begins with. A path is the size of a field that follows the line; a word is `None`
 /// where it found no memory.
-#[derive(Debug, Drop)]
+#[derive(Drop)]
 pub(crate) enum Opening {
     Commit {
         name: Option<Vec<u8>>,
@@ -106,7 +106,7 @@ pub(crate) enum Opening {
 }
 
 /// What a line says. A number is the size of a field that follows the line; a word is `None` where it found no memory.
-#[derive(Debug, Drop)]
+#[derive(Drop)]
 pub(crate) enum Heading {
     Opening(Opening),
     Parent { word: Option<Vec<u8>> },

@@ -18,7 +18,7 @@ use crate::words::{Words, number};
 use std::alloc::Global;
 
 /// A line of `log`, and the sizes of the paths that follow it. The order or the items are `None` where they found no memory.
-#[derive(Debug, Drop)]
+#[derive(Drop)]
 pub(crate) struct LogLine {
     order: Option<Order>,
     first_parents: bool,

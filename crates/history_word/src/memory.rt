@@ -6,7 +6,7 @@ use crate::streams::{Broken, Sink, Source};
 use std::alloc::Global;
 
 /// A slice, read from its front. It never fails.
-#[derive(Debug, Drop)]
+#[derive(Drop)]
 pub struct Bytes<'a> {
     rest: &'a [u8],
     readings: u64,
@@ -51,7 +51,7 @@ impl<'a> Source for Bytes<'a> {
 }
 
 /// A vector that takes what is written to it. It fails only where a growth is refused.
-#[derive(Debug, Drop)]
+#[derive(Drop)]
 pub struct Collected {
     bytes: Vec<u8>,
     is_broken: bool,

@@ -10,7 +10,7 @@ ghost use Rattle.history_word.specs.Drafts.{place_of, role_of, IsOpening, IsHead
 use crate::heading::{ActorHeading, Heading, Opening, Role};
 
 /// Where the next line of a command stands.
-#[derive(Clone, Copy, Debug, PartialEq, Eq)]
+#[derive(Clone, Copy, PartialEq, Eq)]
 pub(crate) enum Place {
     Start,
     Parents,

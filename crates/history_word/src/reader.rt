@@ -31,7 +31,7 @@ use history_model::limits::{MAX_ACTOR_PART, MAX_CONTENT, MAX_LINE, MAX_PATH};
 use std::alloc::Global;
 
 /// Why no command was read.
-#[derive(Clone, Copy, Debug, PartialEq, Eq)]
+#[derive(Clone, Copy)]
 pub enum Stop {
     /// What came begins with no command: `Syntax`, `Truncated` or `LineTooLong`.
     Refused(Cause),
@@ -48,7 +48,7 @@ impl From<Broken> for Stop {
 }
 
 /// A whole command that was read.
-#[derive(Debug, Drop)]
+#[derive(Drop)]
 pub enum Received {
     Command(Command),
     /// Some part of it found no memory; it was read past all the same.

@@ -7,7 +7,7 @@ ghost use Rattle.history_word.specs.Lines.{max_sizes};
 const MAX_SIZES: usize = 586;
 
 /// Sizes of fields, in their order. They take no memory, so that the fields are read past also where none is left.
-#[derive(Debug, Drop)]
+#[derive(Drop)]
 pub(crate) struct Sizes {
     items: [u64; MAX_SIZES],
     count: usize,

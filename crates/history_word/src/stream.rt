@@ -7,7 +7,7 @@ use std::io::{Read, Write};
 
 /// A reader or a writer of std. It fails at the first error, an interrupted call included, and where a writer takes nothing
 /// of some bytes.
-#[derive(Debug, Drop)]
+#[derive(Drop)]
 pub struct Stream<T> {
     inner: T,
     is_broken: bool,

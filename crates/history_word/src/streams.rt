@@ -7,7 +7,7 @@ ghost use Rattle.gix_hash_id.specs.Writes.{AppendsFewer};
 ghost use Rattle.gix_object_lines.specs.Counts.{one_more};
 
 /// A source or a sink has failed, and fails from then on.
-#[derive(Clone, Copy, Debug, PartialEq, Eq)]
+#[derive(Clone, Copy)]
 pub struct Broken;
 
 /// Where bytes come from.

@@ -11,7 +11,7 @@ use gix_object_lines::decimal::read_unsigned;
 use history_model::FileKind;
 
 /// The words of a line that are still to come, with one space between. The line has at most 4,096 bytes.
-#[derive(Debug, Drop)]
+#[derive(Drop)]
 pub(crate) struct Words<'a> {
     rest: Option<&'a [u8]>,
     ghost short: { words_size (words_left (option_copied rest)) ≤ max_line + 1 },

@@ -1,5 +1,4 @@
-use Rattle.std.proofs.Common.{◌∙◌, inl, inr, sym, ap, subst, ℕ, List, Vec}
-use Rattle.std.specs.Prelude.{is_some}
+use Rattle.std.proofs.Common.{inl, inr, subst, ℕ, List, Vec}
 use Rattle.std.proofs.lemmas.Result.{IfErr-weaker, IfOk-weaker, err_from_is_err_and}
 use Rattle.std.specs.declared.alloc.Global.{Global}
 use Rattle.gix_ref_edit.specs.Names.{AllOnce, names_of}
@@ -10,7 +9,7 @@ use Rattle.gix_ref_store.specs.Stores.{base_of}
 use Rattle.gix_ref_loose_transaction.specs.Causes.{LockFault, ReadyFault}
 use Rattle.gix_ref_loose_transaction.specs.LogLines.{AllLined, logging}
 use Rattle.gix_ref_loose_transaction.specs.Plans.{AreSplit}
-use Rattle.gix_ref_loose_transaction.proofs.Plannings.{given_reads, tested_alike, split_alike, known_records, lent_known}
+use Rattle.gix_ref_loose_transaction.proofs.Plannings.{given_reads, tested_alike, split_alike, lent_keeps}
 use Rattle.gix_ref_loose_transaction.proofs.transaction.prepared.Goals as goal
 
 pub returns-clause-split : goal.returns-clause-split
@@ -44,8 +43,7 @@ pub returns-clause-repacked : goal.returns-clause-repacked
 returns-clause-repacked g c = λ honest told.
     let tree = (g.F.Files.history c.args.store.now.files).tree in
     let b = base_of c.args.store.now in
-    let known = known_records b.kind (packed_text_in b tree) c.in_ok-records.records (c.in_ok-records.ensures.kept honest) in
-    c.locked.ensures.repacked honest told (sym (lent_known c.as_ref-2.result) ∙ ap is_some c.as_ref-2.ensures.value ∙ known)
+    c.locked.ensures.repacked honest told (lent_keeps b.kind (packed_text_in b tree) c.in_ok-records.records c.as_ref-2.result c.as_ref-2.ensures.value (c.in_ok-records.ensures.kept honest))
 
 pub returns-in_err-ready-clause-causes : goal.returns-in_err-ready-clause-causes
 returns-in_err-ready-clause-causes g c = λ honest.

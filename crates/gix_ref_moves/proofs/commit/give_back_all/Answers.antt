@@ -1,27 +1,39 @@
-use Rattle.std.proofs.Common.{◌≡◌, refl, sym, ◌∙◌, subst, List, ℕ, arith}
-use Rattle.std.specs.Prelude.{Result, Ok, Err, OnOk}
+use Rattle.std.proofs.Common.{◌≡◌, ◌≤◌, ◌⊎◌, inl, inr, refl, sym, ◌∙◌, subst, List, ℕ, arith}
+use Rattle.std.specs.Prelude.{Result, Ok, Err, OnOk, IsErrOf}
 use Rattle.gix_ref_file.specs.declared.files.FileError.{FileError}
+use Rattle.gix_ref_file.specs.declared.files.FileError.TheVariants.{Failed}
+use Rattle.gix_ref_file.specs.History.{HasRisen}
 use Rattle.gix_ref_file.proofs.Histories.{adds_weaker, adds_joined, adds_nothing}
 use Rattle.gix_ref_transaction.specs.Locks.{OthersStay}
+use Rattle.gix_ref_transaction.proofs.LockLemmas.{folders_joined}
+use Rattle.gix_ref_way.proofs.FoldersMade.{risen_later}
 use Rattle.gix_ref_moves.specs.Contents.{lock_path_of}
 use Rattle.gix_ref_moves.specs.declared.act.Move.{Move}
 use Rattle.gix_ref_moves.proofs.FileMoves.{now_of}
 use Rattle.gix_ref_moves.proofs.LockPaths.{locks_joined, one_lock}
-use Rattle.gix_ref_moves.proofs.Givings.{Giving, giving_begun, giving, one_given, giving_ended}
+use Rattle.gix_ref_moves.proofs.Givings.{Giving, giving_begun, giving, next_held, one_given, giving_ended}
 use Rattle.gix_ref_moves.proofs.commit.give_back_all.Goals as goal
 
 still : (a b c : ℕ) (all earlier later : Result (Unit {0}) FileError) → OnOk all ((earlier ≡ Ok tt) × (later ≡ Ok tt)) → OnOk later (c ≡ b) → OnOk earlier (b ≡ a) → OnOk all (c ≡ a)
 still a b c (Ok done) earlier later both two one = subst (λ o. OnOk o (c ≡ b)) both.1 two ∙ subst (λ o. OnOk o (b ≡ a)) both.0 one
 still a b c (Err error) earlier later both two one = tt
 
+-- the error that is kept is the earlier one or the later one
+either : (a b c : ℕ) (all earlier later : Result (Unit {0}) FileError) → (all ≡ earlier) ⊎ (all ≡ later) → a ≤ b → b ≤ c → (IsErrOf earlier Failed → HasRisen a b) → (IsErrOf later Failed → HasRisen b c)
+    → IsErrOf all Failed → HasRisen a c
+either a b c all earlier later (inl same) first second one two failed = risen_later a a b c (omega arith) (one (sym same ∙ failed)) second
+either a b c all earlier later (inr same) first second one two failed = risen_later a b c c first (two (sym same ∙ failed)) (omega arith)
+
 pub moves-init : goal.moves-init
 moves-init g c = record {
   honest = λ honest. honest;
   later = omega arith;
   unfailed = refl;
+  folders = λ honest. adds_nothing (g.F.Files.history c.args.files.now);
   locks = λ honest. adds_nothing (g.F.Files.history c.args.files.now);
   moments = λ once honest. adds_nothing (g.F.Files.history c.args.files.now);
   given = λ once honest. giving_begun c.args.moves.now (g.F.Files.history c.args.files.now).tree;
+  failed = λ once honest held failed. cc;
 }
 
 pub moves-preserved : goal.moves-preserved
@@ -35,7 +47,8 @@ moves-preserved g c =
     record {
       honest = λ honest. c.give_back.ensures.honest (c.moves.invariant.honest honest);
       later = omega (arith, c.moves.invariant.later, c.give_back.ensures.later);
-      unfailed = still _ _ _ c.both-outcome.result c.moves.outcome c.give_back.result c.both-outcome.ensures c.give_back.ensures.unfailed c.moves.invariant.unfailed;
+      unfailed = still _ _ _ c.both-outcome.result c.moves.outcome c.give_back.result c.both-outcome.ensures.done c.give_back.ensures.unfailed c.moves.invariant.unfailed;
+      folders = λ honest. folders_joined old mid new (c.moves.invariant.folders honest) (c.give_back.ensures.folders (c.moves.invariant.honest honest));
       locks = λ honest. locks_joined old mid new (c.moves.invariant.locks honest)
           (adds_weaker mid new (c.give_back.ensures.moments (c.moves.invariant.honest honest)) (one_lock first.lock.place.items first.lock.path.items first.lock.beside mid.tree));
       moments = λ once honest.
@@ -45,7 +58,13 @@ moves-preserved g c =
       given = λ once honest.
           let so_far = subst (λ (rest : List Move). Giving c.moves.outcome moves rest old.tree mid.tree) c.in-Some.ensures.cases.0 (c.moves.invariant.given once honest) in
           let stay = now_of (OthersStay (lock_path_of first) mid.tree) mid new (λ path apart. refl) (c.give_back.ensures.moments (c.moves.invariant.honest honest)) in
-          one_given c.moves.outcome moves first others old.tree mid.tree so_far once new.tree stay c.give_back.result c.both-outcome.result c.both-outcome.ensures (c.give_back.ensures.gone (c.moves.invariant.honest honest));
+          one_given c.moves.outcome moves first others old.tree mid.tree so_far once new.tree stay c.give_back.result c.both-outcome.result c.both-outcome.ensures.done (c.give_back.ensures.gone (c.moves.invariant.honest honest));
+      failed = λ once honest held.
+          let so_far = subst (λ (rest : List Move). Giving c.moves.outcome moves rest old.tree mid.tree) c.in-Some.ensures.cases.0 (c.moves.invariant.given once honest) in
+          let there = next_held c.moves.outcome moves first others old.tree mid.tree so_far once held in
+          let f = g.F.Files.failures in
+          either (f c.args.files.now) (f c.moves.files) (f c.give_back.new.files) c.both-outcome.result c.moves.outcome c.give_back.result c.both-outcome.ensures.told c.moves.invariant.later c.give_back.ensures.later
+          (c.moves.invariant.failed once honest held) (c.give_back.ensures.held (c.moves.invariant.honest honest) there);
     }
 
 pub returns-clause-gone : goal.returns-clause-gone

@@ -1,6 +1,11 @@
 use Rattle.std.proofs.Common.{length, ◌≡◌, ◌≤◌}
-use Rattle.std.specs.Prelude.{OnOk}
-use Rattle.gix_ref_file.specs.History.{Adds}
+use Rattle.std.specs.Prelude.{OnOk, IsErrOf, IsTrue}
+use Rattle.std.specs.List.{AllByRecursion}
+use Rattle.gix_ref_file.specs.Changes.{is_file_at}
+use Rattle.gix_ref_file.specs.declared.files.FileError.TheVariants.{Failed}
+use Rattle.gix_ref_way.specs.Ways.{SameFolders}
+use Rattle.gix_ref_moves.specs.Contents.{lock_path_of}
+use Rattle.gix_ref_file.specs.History.{Adds, HasRisen}
 use Rattle.gix_ref_moves.specs.Committing.{LocksAlone}
 use Rattle.gix_ref_moves.specs.Moments.{SameButLocks}
 use Rattle.gix_ref_moves.specs.Moves.{AllMay, Once, all_paths}
@@ -15,9 +20,12 @@ invariant-moves g l =
       honest : g.F.Files.is_honest l.fn.files → g.F.Files.is_honest l.files;
       later : g.F.Files.failures l.fn.files ≤ g.F.Files.failures l.files;
       unfailed : OnOk l.outcome (g.F.Files.failures l.files ≡ g.F.Files.failures l.fn.files);
+      folders : g.F.Files.is_honest l.fn.files → Adds (SameFolders (history l.fn.files).tree) (history l.fn.files) (history l.files);
       locks : g.F.Files.is_honest l.fn.files → Adds (SameButLocks (history l.fn.files).tree) (history l.fn.files) (history l.files);
       moments : Once (all_paths l.moves) → g.F.Files.is_honest l.fn.files → Adds (AllMay LocksAlone l.moves (history l.fn.files).tree) (history l.fn.files) (history l.files);
       given : Once (all_paths l.moves) → g.F.Files.is_honest l.fn.files → Giving l.outcome l.moves l.rest (history l.fn.files).tree (history l.files).tree;
+      failed : Once (all_paths l.moves) → g.F.Files.is_honest l.fn.files → AllByRecursion (λ m. IsTrue (is_file_at (history l.fn.files).tree (lock_path_of m))) l.moves
+          → IsErrOf l.outcome Failed → HasRisen (g.F.Files.failures l.fn.files) (g.F.Files.failures l.files);
     }
 
 abbrev pub decreases-moves : goal.decreases-moves

@@ -1,7 +1,9 @@
 use Rattle.std.proofs.Common.{length, ◌≡◌, ◌≤◌}
 use Rattle.gix_ref_file.specs.History.{Adds}
 use Rattle.gix_ref_moves.specs.Moments.{IsMaking, made_by}
+use Rattle.gix_ref_way.specs.Ways.{FoldersOnlyOf}
 use Rattle.gix_ref_moves.specs.Moves.{AllMay, Once, all_paths}
+use Rattle.gix_ref_moves.specs.Needs.{log_paths}
 use Rattle.gix_ref_moves.proofs.Progress.{Progress}
 use Rattle.gix_ref_moves.proofs.steps.make_all.Given as goal
 
@@ -14,6 +16,7 @@ invariant-moves g l =
       later : g.F.Files.failures l.fn.files ≤ g.F.Files.failures l.files;
       unfailed : g.F.Files.failures l.files ≡ g.F.Files.failures l.fn.files;
       moments : Once (all_paths l.moves) → g.F.Files.is_honest l.fn.files → Adds (AllMay (IsMaking l.step) l.moves (history l.fn.files).tree) (history l.fn.files) (history l.files);
+      folders : Once (all_paths l.moves) → g.F.Files.is_honest l.fn.files → Adds (FoldersOnlyOf (log_paths l.moves) (history l.fn.files).tree) (history l.fn.files) (history l.files);
       made : Once (all_paths l.moves) → g.F.Files.is_honest l.fn.files → Progress (made_by l.step) l.moves l.rest (history l.fn.files).tree (history l.files).tree;
     }
 

@@ -1,8 +1,10 @@
-use Rattle.std.proofs.Common.{refl}
+use Rattle.std.proofs.Common.{refl, inl, subst}
 use Rattle.gix_ref_file.proofs.Histories.{adds_weaker}
 use Rattle.gix_ref_transaction.specs.Locks.{OthersStay}
 use Rattle.std.proofs.lemmas.Result.{on_ok_weaker}
-use Rattle.gix_ref_moves.specs.Contents.{lock_path_of}
+use Rattle.gix_ref_moves.specs.Contents.{contents, lock_path_of}
+use Rattle.gix_ref_moves.specs.Needs.{KeepsLock}
+use Rattle.gix_ref_moves.proofs.Needed.{told_cause}
 use Rattle.gix_ref_moves.proofs.ActMoves.{pack_goes, pack_gone, file_goes, file_gone, giving_forgotten, is_given}
 use Rattle.gix_ref_moves.proofs.FileMoves.{on_told, now_of}
 use Rattle.gix_ref_moves.proofs.steps.remove.Goals as goal
@@ -46,5 +48,23 @@ returns-in-Forget-clause-made g c = λ apart honest.
     let old = g.F.Files.history c.args.files.now in
     let new = g.F.Files.history c.give_back.new.files in
     let stay = now_of (OthersStay (lock_path_of m) old.tree) old new (λ path apart. refl) (c.give_back.ensures.moments honest) in
-    on_told _ c.told.result c.give_back.result tt c.told.ensures
+    on_told _ c.told.result c.give_back.result tt c.told.ensures.done
     (on_ok_weaker c.give_back.result (is_given m apart old.tree c.in-Forget.is new.tree stay) (c.give_back.ensures.gone honest))
+
+pub returns-in-Pack-clause-failed : goal.returns-in-Pack-clause-failed
+returns-in-Pack-clause-failed g c = λ apart honest kept.
+    let m = c.args.made.now in
+    let old = (g.F.Files.history c.args.files.now).tree in
+    c.remove_locked.ensures.failed apart honest (subst (λ act. KeepsLock act (contents m old)) c.in-Pack.is kept)
+
+pub returns-in-Remove-clause-failed : goal.returns-in-Remove-clause-failed
+returns-in-Remove-clause-failed g c = λ apart honest kept.
+    let m = c.args.made.now in
+    let old = (g.F.Files.history c.args.files.now).tree in
+    c.remove_locked-in-Remove.ensures.failed apart honest (subst (λ act. KeepsLock act (contents m old)) c.in-Remove.is kept)
+
+pub returns-in-Forget-clause-failed : goal.returns-in-Forget-clause-failed
+returns-in-Forget-clause-failed g c = λ apart honest kept.
+    let m = c.args.made.now in
+    let old = (g.F.Files.history c.args.files.now).tree in
+    told_cause c.give_back.result c.told.result c.told.ensures.failed (λ failed. inl (c.give_back.ensures.held honest (subst (λ act. KeepsLock act (contents m old)) c.in-Forget.is kept) failed))

@@ -1,8 +1,11 @@
-use Rattle.std.proofs.Common.{refl, subst, List, ℕ}
+use Rattle.std.proofs.Common.{refl, sym, ap, ◌∙◌, inl, subst, List, ℕ}
+use Rattle.std.specs.Prelude.{is_some}
 use Rattle.gix_ref_file.specs.History.{Adds}
 use Rattle.gix_ref_file.proofs.Histories.{adds_weaker, adds_joined}
 use Rattle.gix_ref_transaction.specs.Locks.{OthersStay}
-use Rattle.std.proofs.lemmas.Result.{on_ok_weaker}
+use Rattle.gix_ref_transaction.proofs.LockLemmas.{folders_joined}
+use Rattle.gix_ref_moves.proofs.Needed.{told_cause, since}
+use Rattle.std.proofs.lemmas.Result.{on_ok_weaker, err_from_is_err_and}
 use Rattle.gix_ref_moves.specs.Contents.{lock_path_of}
 use Rattle.gix_ref_moves.specs.Moments.{MayGo, IsGone}
 use Rattle.gix_ref_moves.proofs.ActMoves.{going_file, giving_removed, is_removed}
@@ -36,5 +39,25 @@ returns-clause-made g c = λ apart honest.
     let new = g.F.Files.history c.give_back.new.files in
     let gone = subst (λ (p : List ℕ). IsGone p old.tree mid.tree) c.deref.ensures.value (c.in_ok-remove_file.ensures.gone honest) in
     let stay = now_of (OthersStay (lock_path_of m) mid.tree) mid new (λ path apart. refl) (c.give_back.ensures.moments (c.remove_file.ensures.honest honest)) in
-    on_told _ c.told.result c.give_back.result tt c.told.ensures
+    on_told _ c.told.result c.give_back.result tt c.told.ensures.done
     (on_ok_weaker c.give_back.result (is_removed m apart old.tree mid.tree gone new.tree stay) (c.give_back.ensures.gone (c.remove_file.ensures.honest honest)))
+
+pub returns-clause-folders : goal.returns-clause-folders
+returns-clause-folders g c = λ honest.
+    folders_joined (g.F.Files.history c.args.files.now) (g.F.Files.history c.remove_file.new.files) (g.F.Files.history c.give_back.new.files) (c.remove_file.ensures.folders honest) (c.give_back.ensures.folders (c.remove_file.ensures.honest honest))
+
+pub returns-clause-failed : goal.returns-clause-failed
+returns-clause-failed g c = λ apart honest held.
+    let m = c.args.made.now in
+    let old = (g.F.Files.history c.args.files.now).tree in
+    let mid = (g.F.Files.history c.remove_file.new.files).tree in
+    let f = g.F.Files.failures in
+    let gone = subst (λ (p : List ℕ). IsGone p old mid) c.deref.ensures.value (c.in_ok-remove_file.ensures.gone honest) in
+    let there = ap is_some (gone.others (lock_path_of m) (λ e. apart.lock (sym e))) ∙ held in
+    since g.F.Files.reading_may_fail (f c.args.files.now) (f c.remove_file.new.files) (f c.give_back.new.files) c.told.result c.remove_file.ensures.later
+    (told_cause c.give_back.result c.told.result c.told.ensures.failed (λ failed. inl (c.give_back.ensures.held (c.remove_file.ensures.honest honest) there failed)))
+
+pub returns-in_err-remove_file-clause-failed : goal.returns-in_err-remove_file-clause-failed
+returns-in_err-remove_file-clause-failed g c = λ apart honest held.
+    let p = err_from_is_err_and c.from_residual.result c.from_residual.ensures.1 in
+    rw (p.1, p.2) (c.in_err-remove_file.ensures.failed honest)

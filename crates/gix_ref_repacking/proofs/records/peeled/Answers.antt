@@ -7,8 +7,8 @@ use Rattle.gix_ref_store.specs.Peels.{PeelsTo}
 use Rattle.gix_ref_repacking.proofs.RecordLines.{peels_own}
 use Rattle.gix_ref_repacking.proofs.records.peeled.Goals as goal
 
-pub returns-then-eq : goal.returns-then-eq
-returns-then-eq g c = λ honest told.
+pub returns-then-eq-clause-said : goal.returns-then-eq-clause-said
+returns-then-eq-clause-said g c = λ honest told.
     let end = id_of c.in_ok-end.end in
     let id = id_of c.args.id in
     let table = g.O.Lookup.table c.args.objects.now in

@@ -1,4 +1,9 @@
-use Rattle.std.proofs.Common.{◌∙◌, ap, map, subst, List, ℕ}
+use Rattle.std.proofs.Common.{◌∙◌, ap, map, subst, inl, inr, ⊎_elim, List, ℕ, arith}
+use Rattle.std.specs.Prelude.{is_some}
+use Rattle.std.proofs.lemmas.Result.{err_from_is_err_and}
+use Rattle.gix_ref_file.specs.Tree.{bytes_of}
+use Rattle.gix_ref_file.specs.Changes.{is_file_at}
+use Rattle.gix_ref_way.proofs.FoldersMade.{risen_later}
 use Rattle.gix_ref_file.specs.History.{Adds}
 use Rattle.gix_ref_transaction.specs.Locks.{lock_of, OthersStay}
 use Rattle.gix_ref_transaction.specs.RecordEdits.{line_in}
@@ -32,3 +37,19 @@ returns-clause-held g c = λ honest some.
     let told = c.in_ok-prepared.ensures in
     holds_records c.args.kind c.args.place.now old mid new (map line_in c.args.lines.items) c.in_ok-begun.begun c.in_ok-prepared.prepared (c.in_ok-begun.ensures.begun honest) told.lock told.buffer (told.written some)
     (told.prepared (c.new.ensures.honest honest) some)
+
+pub returns-in_err-begun-clause-failed : goal.returns-in_err-begun-clause-failed
+returns-in_err-begun-clause-failed g c = λ honest place read.
+    let p = err_from_is_err_and c.from_residual.result c.from_residual.ensures.1 in
+    rw (p.1, p.2) (⊎_elim inr inl (c.in_err-begun.ensures.failed honest place read))
+
+pub returns-in_err-prepared-clause-failed : goal.returns-in_err-prepared-clause-failed
+returns-in_err-prepared-clause-failed g c = λ honest place read.
+    let mid = (g.F.Files.history c.new.new.files).tree in
+    let f = g.F.Files.failures in
+    let begun = c.in_ok-begun.ensures.begun honest in
+    let path = c.in_ok-begun.begun.lock.beside ∙ ap lock_of begun.here in
+    let there = ap (is_file_at mid) path ∙ ap (λ o. is_some (bytes_of o)) begun.taken.held in
+    let fails = c.in_err-prepared.ensures.failed (c.new.ensures.honest honest) there in
+    let p = err_from_is_err_and c.from_residual-in_err-prepared.result c.from_residual-in_err-prepared.ensures.1 in
+    rw (p.1, p.2) (⊎_elim (λ risen. inr (inl (risen_later (f c.args.files.now) (f c.new.new.files) (f c.prepare.new.files) (f c.prepare.new.files) c.new.ensures.later risen (omega arith)))) inl fails)

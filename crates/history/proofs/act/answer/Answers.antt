@@ -10,7 +10,7 @@ use Rattle.history.proofs.act.answer.Goals as goal
 use Rattle.history.proofs.act.answer.Goals.{in-Ok, in-Err-Refused, in-Err-Fault, else-is_changing-via-then-is_changing+else-is_fault, else-is_changing-via-else-is_changing}
 
 pub returns-then-is_fault-clause-acted : goal.returns-then-is_fault-clause-acted
-returns-then-is_fault-clause-acted g c = λ r order unfailed asked.
+returns-then-is_fault-clause-acted g c = rw (← c.repository.view_is) (λ r order unfailed asked.
     let stands = asked.serves in
     let reads = asked.reads in
     let faulted : is_fault c.match-act.reply ≡ true = sym c.is_fault.ensures ∙ c.if-is_fault.true in
@@ -18,27 +18,27 @@ returns-then-is_fault-clause-acted g c = λ r order unfailed asked.
     elim c.match-act.branch [
       | in-Ok w ↦ absurd (cc (faulted, ap is_fault w.reply-is))
       | in-Err-Refused w ↦ absurd (cc (faulted, ap is_fault w.reply-is))
-      | in-Err-Fault w ↦ failed_so _ _ _ _ _ _ _ _ _ _ r order c.match-act.reply (fault_acted g.F.Files.is_honest g.F.Files.history g.F.Files.failures g.F.Files.reading_may_fail c.args.repository.now c.act.new.repository r order
+      | in-Err-Fault w ↦ failed_so _ _ _ _ _ _ _ _ _ _ r order c.match-act.reply (fault_acted g.F.Files.is_honest g.F.Files.history g.F.Files.failures g.F.Files.reading_may_fail c.repository.inside.state c.act.new.repository r order
           (c.act.ensures.later r order asked) (c.act.ensures.stops r order asked) c.act.ensures.counts c.act.result w.in-Err-Fault.fault c.match-act.reply true
           (w.in-Err-Fault.is ∙ ap Err w.in-Err-Fault.field-0-is) w.reply-is changing (λ none. absurd (cc (changing, none))) (c.act.ensures.rows r order asked) stands (c.act.ensures.acts r order asked))
-    ]
+    ])
 
 pub returns-else-is_changing-clause-acted : goal.returns-else-is_changing-clause-acted
-returns-else-is_changing-clause-acted g c = λ r order unfailed asked.
+returns-else-is_changing-clause-acted g c = rw (← c.repository.view_is) (λ r order unfailed asked.
     let stands = asked.serves in
     let reads = asked.reads in
     let acts = c.act.ensures.acts r order asked in
     let later = c.act.ensures.later r order asked in
     let stop = c.act.ensures.stops r order asked in
     let same : has_failed c.act.new.repository ≡ false = c.act.ensures.failed ∙ unfailed in
-    let kept : stops.is_changing order ≡ false → KeepsAllButRows c.args.repository.now c.act.new.repository = λ n. c.act.ensures.reads (received_changes c.args.received order reads ∙ n) in
+    let kept : stops.is_changing order ≡ false → KeepsAllButRows c.repository.inside.state c.act.new.repository = λ n. c.act.ensures.reads (received_changes c.args.received order reads ∙ n) in
     let rows = c.act.ensures.rows r order asked in
     let packs = c.act.ensures.leaves r order asked in
     let told : is_changing c.args.received ≡ false → stops.is_changing order ≡ false = λ n. sym (received_changes c.args.received order reads) ∙ n in
     elim c.match-act.branch [
-      | in-Ok w ↦ text_acted g.F.Files.is_honest g.F.Files.history g.F.Files.failures g.F.Files.reading_may_fail c.args.repository.now c.act.new.repository r order later stop c.act.ensures.counts
+      | in-Ok w ↦ text_acted g.F.Files.is_honest g.F.Files.history g.F.Files.failures g.F.Files.reading_may_fail c.repository.inside.state c.act.new.repository r order later stop c.act.ensures.counts
           c.act.result w.in-Ok.text c.match-act.reply _ w.in-Ok.is w.reply-is same w.in-Ok.ensures.unfailed kept rows packs acts
-      | in-Err-Refused w ↦ refusal_acted g.F.Files.is_honest g.F.Files.history g.F.Files.failures g.F.Files.reading_may_fail c.args.repository.now c.act.new.repository r order later stop c.act.ensures.counts
+      | in-Err-Refused w ↦ refusal_acted g.F.Files.is_honest g.F.Files.history g.F.Files.failures g.F.Files.reading_may_fail c.repository.inside.state c.act.new.repository r order later stop c.act.ensures.counts
           c.act.result w.in-Err-Refused.cause c.match-act.reply _ (w.in-Err-Refused.is ∙ ap Err w.in-Err-Refused.field-0-is) w.reply-is same
           (w.in-Err-Refused.ensures.refused (subst IsRefusal (sym w.in-Err-Refused.field-0-is) tt)) rows stands acts
       | in-Err-Fault w ↦
@@ -46,18 +46,18 @@ returns-else-is_changing-clause-acted g c = λ r order unfailed asked.
             | else-is_changing-via-then-is_changing+else-is_fault v ↦ absurd (cc (v.is_fault.ensures, v.if-is_fault.false, ap is_fault w.reply-is))
             | else-is_changing-via-else-is_changing v ↦ sym c.is_changing-is_changing.ensures ∙ v.if-is_changing.false
           ] in
-          fault_acted g.F.Files.is_honest g.F.Files.history g.F.Files.failures g.F.Files.reading_may_fail c.args.repository.now c.act.new.repository r order later stop c.act.ensures.counts
+          fault_acted g.F.Files.is_honest g.F.Files.history g.F.Files.failures g.F.Files.reading_may_fail c.repository.inside.state c.act.new.repository r order later stop c.act.ensures.counts
           c.act.result w.in-Err-Fault.fault c.match-act.reply (has_failed c.act.new.repository) (w.in-Err-Fault.is ∙ ap Err w.in-Err-Fault.field-0-is) w.reply-is (same ∙ sym (told unchanging)) (λ n. w.in-Err-Fault.ensures.unread (received_changes c.args.received order reads ∙ n)) rows stands acts
-    ]
+    ])
 
 pub returns-then-is_fault-clause-later : goal.returns-then-is_fault-clause-later
-returns-then-is_fault-clause-later g c = λ r order asked. c.act.ensures.later r order asked
+returns-then-is_fault-clause-later g c = rw (← c.repository.view_is) (λ r order asked. c.act.ensures.later r order asked)
 
 pub returns-else-is_changing-clause-later : goal.returns-else-is_changing-clause-later
-returns-else-is_changing-clause-later g c = λ r order asked. c.act.ensures.later r order asked
+returns-else-is_changing-clause-later g c = rw (← c.repository.view_is) (λ r order asked. c.act.ensures.later r order asked)
 
 pub returns-then-is_fault-clause-honest : goal.returns-then-is_fault-clause-honest
-returns-then-is_fault-clause-honest g c = record { objects = c.act.ensures.honest.objects; names = c.act.ensures.honest.names }
+returns-then-is_fault-clause-honest g c = rw (← c.repository.view_is) (record { objects = c.act.ensures.honest.objects; names = c.act.ensures.honest.names })
 
 pub returns-else-is_changing-clause-honest : goal.returns-else-is_changing-clause-honest
-returns-else-is_changing-clause-honest g c = record { objects = c.act.ensures.honest.objects; names = c.act.ensures.honest.names }
+returns-else-is_changing-clause-honest g c = rw (← c.repository.view_is) (record { objects = c.act.ensures.honest.objects; names = c.act.ensures.honest.names })

@@ -1,7 +1,7 @@
 use Rattle.std.proofs.Common.{◌∙◌, sym, subst, List}
 use Rattle.gix_traverse_commit_graph.specs.declared.rows.Row.{Row}
 use Rattle.history_model.specs.Answers.{rows_of}
-use Rattle.history_rows.specs.Rows.{AreTheRows}
+use Rattle.history_walks.specs.Rows.{AreTheRows}
 use Rattle.history.proofs.RowsKept.{index_answered, index_stopped, index_unmade, rows_agree, rows_serve}
 use Rattle.history.proofs.indexing.index.Goals as goal
 

@@ -3,7 +3,7 @@ use Rattle.std.specs.Prelude.{nat_lt, nat_le}
 use Rattle.std.specs.declared.alloc.Global.{Global}
 use Rattle.gix_ref_file.specs.Tree.{node_at, place_of}
 use Rattle.gix_ref_file.proofs.Listings.{map_length}
-use Rattle.history_actions.proofs.Listed.{is_listed, file_stands, not_absent, one_more, is_deep}
+use Rattle.gix_ref_way.proofs.Surveys.{is_listed, file_stands, not_absent, one_more, is_deep}
 use Rattle.history_actions.specs.Looking.{AreOwnBelow, may_have_file}
 use Rattle.history_actions.proofs.Looked.{IsOwnFrom, all_own, own_file, own_folder}
 use Rattle.history_actions.proofs.looking.+look_below.Goals as goal

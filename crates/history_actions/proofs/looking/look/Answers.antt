@@ -1,8 +1,8 @@
 use Rattle.std.proofs.lemmas.Result.{err_from_is_err_and}
-use Rattle.history_opening.specs.Opened.{trees_of}
+use Rattle.history_repository.specs.Opened.{trees_of}
 use Rattle.history_actions.proofs.Foreign.{foreign_head, foreign_objects, foreign_names, is_recoverable}
 use Rattle.history_actions.proofs.Looked.{all_at}
-use Rattle.history_folders.specs.declared.parts.Part.TheVariants.{Objects, Names}
+use Rattle.history_texts.specs.declared.parts.Part.TheVariants.{Objects, Names}
 use Rattle.history_actions.proofs.looking.look.Goals as goal
 
 pub returns-in_err-look_at_head-clause-foreign : goal.returns-in_err-look_at_head-clause-foreign

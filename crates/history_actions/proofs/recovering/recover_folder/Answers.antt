@@ -1,5 +1,5 @@
 use Rattle.std.proofs.Common.{inl, inr, refl, subst, sym}
-use Rattle.history_opening.specs.Opened.{trees_of}
+use Rattle.history_repository.specs.Opened.{trees_of}
 use Rattle.history_actions.specs.Looking.{IsForeign}
 use Rattle.history_actions.proofs.recovering.recover_folder.Goals as goal
 

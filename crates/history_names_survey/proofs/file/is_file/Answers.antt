@@ -1,5 +1,6 @@
 use Rattle.std.proofs.Common.{◌∙◌, sym}
-use Rattle.history_names_survey.proofs.Listed.{file_stands, folder_no_file, absent_no_file}
+use Rattle.gix_ref_way.proofs.FilesBelow.{folder_no_file, absent_no_file}
+use Rattle.gix_ref_way.proofs.Surveys.{file_stands}
 use Rattle.history_names_survey.proofs.file.is_file.Goals as goal
 
 pub returns-in-File-clause-found : goal.returns-in-File-clause-found

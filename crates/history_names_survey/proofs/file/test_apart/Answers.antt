@@ -1,6 +1,7 @@
 use Rattle.std.proofs.Common.{◌≡◌, ◌∙◌, arith, false, sym, take}
 use Rattle.history_names_survey.specs.Packed.{has_name}
-use Rattle.history_names_survey.proofs.Folders.{above_slash, all_passed, is_below_it, one_passed}
+use Rattle.gix_ref_way.proofs.Above.{above_slash}
+use Rattle.history_names_survey.proofs.Folders.{all_passed, is_below_it, one_passed}
 use Rattle.history_names_survey.proofs.Told.{collision_of}
 use Rattle.history_names_survey.proofs.file.test_apart.Goals as goal
 use Rattle.history_names_survey.proofs.file.test_apart.Goals.{then-byte-eq47+in_ok-stands+else-branch, else-byte-eq47}

@@ -5,7 +5,7 @@ use Rattle.history_names_survey.specs.Stored.{facts_in}
 use Rattle.gix_ref_file.specs.Tree.{node_at, place_of}
 use Rattle.gix_ref_file.proofs.Listings.{map_length}
 use Rattle.history_model.specs.Places.{is_name_folder}
-use Rattle.history_names_survey.proofs.Listed.{is_listed, folder_stands, not_absent, one_more, is_deep}
+use Rattle.gix_ref_way.proofs.Surveys.{is_listed, folder_stands, not_absent, one_more, is_deep}
 use Rattle.history_names_survey.specs.Sound.{IsSoundBelow}
 use Rattle.history_names_survey.proofs.Found.{IsSoundFrom, all_sound, sound_file, sound_folder}
 use Rattle.history_names_survey.proofs.survey.+test_folder.Goals as goal

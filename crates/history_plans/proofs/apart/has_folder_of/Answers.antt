@@ -1,5 +1,6 @@
 use Rattle.std.proofs.Common.{◌∙◌, arith, sym, take}
-use Rattle.history_plans.proofs.ApartLemmas.{above_slash, all_passed, found_by_bytes, one_found, one_passed}
+use Rattle.gix_ref_way.proofs.Above.{above_slash}
+use Rattle.history_plans.proofs.ApartLemmas.{all_passed, found_by_bytes, one_found, one_passed}
 use Rattle.history_plans.proofs.apart.has_folder_of.Goals as goal
 use Rattle.history_plans.proofs.apart.has_folder_of.Goals.{then-byte-eq47+else-contains, else-byte-eq47}
 

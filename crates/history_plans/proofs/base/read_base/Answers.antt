@@ -9,11 +9,10 @@ use Rattle.history_model.specs.Forms.{is_name}
 use Rattle.history_model.specs.declared.Fault.TheVariants.{Memory}
 use Rattle.gix_hash_id.specs.Id.{id_of}
 use Rattle.history_plans.specs.Bases.{IsCommitBase, IsExpected, line_word, expected_meanings, parents_cause}
-use Rattle.history_repository.specs.Meanings.{words_cause}
+use Rattle.history_repository.specs.Meanings.{words_cause, commit_in, commit_or_cause, meaning_of}
 use Rattle.history_plans.specs.CommitCauses.{IsNamed, name_causes, name_form_causes, word_causes, held_causes, place_causes, parent_causes}
 use Rattle.history_model.specs.Commands.{Commit}
 use Rattle.history_repository.specs.Held.{IsHeld}
-use Rattle.history_repository.specs.Meanings.{commit_in, commit_or_cause, meaning_of}
 use Rattle.history_repository.specs.declared.words.WordMeaning.{WordMeaning}
 use Rattle.history_repository.specs.declared.stopped.Stopped.TheVariants.{Refused, Fault}
 use Rattle.history_plans.proofs.BaseLemmas.{gives_told, others_meant, parent_meanings, source_ids_told, words_so, held_told, parents_told, parents_so}

@@ -4,9 +4,9 @@ use Rattle.gix_hash_id.specs.Id.{id_of}
 use Rattle.gix_hash_id.specs.declared.object_id.ObjectId.{ObjectId}
 use Rattle.gix_traverse_commit_graph.specs.declared.parents.Parents.TheVariants.{All}
 use Rattle.history_model.specs.Answers.{rows_of}
-use Rattle.history_rows.specs.Rows.{AreTheRows}
-use Rattle.history_rows.specs.Telling.{AreAllTold}
-use Rattle.history_rows.specs.declared.told.Told.{Told}
+use Rattle.history_walks.specs.Rows.{AreTheRows}
+use Rattle.history_walks.specs.Telling.{AreAllTold}
+use Rattle.history_walks.specs.declared.told.Told.{Told}
 use Rattle.history_walks.specs.declared.listing.Order.TheVariants.{Topological}
 use Rattle.history_walks.specs.declared.listing.Request.{Request}
 use Rattle.history_queries.specs.Indexing.{AreTheCommits, AreToldOf}

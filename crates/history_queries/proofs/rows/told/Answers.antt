@@ -8,7 +8,7 @@ use Rattle.std.proofs.lemmas.Result.{err_from_is_err_and}
 use mir.Val.{to_z, of_z}
 use Rattle.gix_hash_id.specs.declared.object_id.ObjectId.{ObjectId}
 use Rattle.gix_hash_id.specs.declared.object_id.ObjectId.TheVariants.{Sha1}
-use Rattle.history_rows.specs.declared.told.Told.{Told}
+use Rattle.history_walks.specs.declared.told.Told.{Told}
 use Rattle.history_texts.specs.Commits.{SaysCommit}
 use Rattle.history_queries.specs.Indexing.{AreToldOf}
 use Rattle.history_queries.proofs.AllTold.{held_at, tells_stored, told_added}

@@ -4,7 +4,7 @@ use Rattle.std.specs.declared.alloc.Global.{Global}
 use Rattle.gix_hash_id.specs.declared.kind.Kind.{Kind}
 use Rattle.gix_ref_file.proofs.Listings.{map_length}
 use Rattle.history_recovery.specs.Clearing.{Tells, IsKept, AreKeptBelow}
-use Rattle.history_recovery.proofs.Below.{is_listed, is_deep, one_more}
+use Rattle.gix_ref_way.proofs.Surveys.{is_listed, is_deep, one_more}
 use Rattle.history_recovery.proofs.Recoveries.{AreKeptFrom, clears_now, then_clears, told_later, kept_from_later, kept_later, all_kept}
 use Rattle.history_recovery.proofs.clearing.+clear_below.Goals as goal
 use Rattle.history_recovery.proofs.clearing.+clear_below.Goals.{then-is_deeper+in_ok-clear_below+in_ok-clear_at, else-is_deeper}

@@ -5,7 +5,7 @@ use Rattle.gix_hash_id.specs.declared.kind.Kind.{Kind}
 use Rattle.gix_ref_file.proofs.Listings.{map_length}
 use Rattle.history_model.specs.Places.{is_log_place}
 use Rattle.history_recovery.specs.Clearing.{AreAllKept, AreCutBelow, IsCut, IsLogFolder}
-use Rattle.history_recovery.proofs.Below.{is_listed, is_deep, one_more}
+use Rattle.gix_ref_way.proofs.Surveys.{is_listed, is_deep, one_more}
 use Rattle.history_recovery.proofs.Cuts.{AreCutFrom, alike_now, then_alike, cuts_joined, cut_later, cut_from_later, kept_cut, all_cut, log_in, log_folder, logs_not_root}
 use Rattle.history_recovery.proofs.Recoveries.{later_risen}
 use Rattle.history_recovery.proofs.cutting.+cut_below.Goals as goal

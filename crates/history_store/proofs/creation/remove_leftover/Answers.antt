@@ -2,10 +2,10 @@ use Rattle.std.proofs.Common.{◌∙◌, ⊎_elim, arith}
 use Rattle.std.proofs.lemmas.Result.{on_ok_weaker}
 use Rattle.history_model.specs.Places.{unfinished_place}
 use Rattle.history_store.proofs.Cleared.{may_remove}
-use Rattle.history_folders.proofs.FoldersMade.{caused}
+use Rattle.gix_ref_way.proofs.FoldersMade.{caused}
 use Rattle.history_store.proofs.HeadMoments.{leftover_moments}
 use Rattle.history_store.proofs.Made.{cleared}
-use Rattle.history_folders.proofs.FoldersStay.{removed_ok}
+use Rattle.gix_ref_way.proofs.FoldersStay.{removed_ok}
 use Rattle.history_store.proofs.creation.remove_leftover.Goals as goal
 
 pub returns-in-File-clause-cleared : goal.returns-in-File-clause-cleared

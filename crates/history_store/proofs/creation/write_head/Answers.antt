@@ -4,10 +4,10 @@ use Rattle.gix_ref_file.specs.declared.files.FileError.TheVariants.{Failed}
 use Rattle.history_model.specs.Places.{head_place}
 use Rattle.history_names.specs.References.{head_lock}
 use Rattle.history_store.proofs.Cleared.{head_may_follow, lock_fits}
-use Rattle.history_folders.proofs.FoldersMade.{caused}
+use Rattle.gix_ref_way.proofs.FoldersMade.{caused}
 use Rattle.history_store.proofs.HeadMoments.{lock_moments, head_moments}
 use Rattle.history_store.proofs.Made.{head_written}
-use Rattle.history_folders.proofs.FoldersStay.{renamed_ok}
+use Rattle.gix_ref_way.proofs.FoldersStay.{renamed_ok}
 use Rattle.history_store.proofs.creation.write_head.Goals as goal
 
 pub returns-clause-written : goal.returns-clause-written

@@ -1,7 +1,7 @@
 use Rattle.std.proofs.Common.{subst}
 use Rattle.history_model.specs.Places.{head_place}
-use Rattle.history_folders.specs.Parts.{IsClear}
-use Rattle.history_folders.specs.declared.parts.Part.TheVariants.{Names}
+use Rattle.history_texts.specs.Parts.{IsClear}
+use Rattle.history_texts.specs.declared.parts.Part.TheVariants.{Names}
 use Rattle.history_store.proofs.OpenLemmas.{new_parts, found_first}
 use Rattle.history_store.proofs.opening.new_branch.Goals as goal
 

@@ -5,7 +5,7 @@ use Rattle.gix_hash_id.specs.declared.object_id.ObjectId.{ObjectId}
 use Rattle.gix_ref_file.specs.Tree.{node_at, place_of}
 use Rattle.gix_ref_file.proofs.Listings.{map_length}
 use Rattle.history_model.specs.Places.{is_object_folder}
-use Rattle.history_folders.proofs.Surveys.{is_listed, not_absent, is_deep}
+use Rattle.gix_ref_way.proofs.Surveys.{is_listed, not_absent, is_deep}
 use Rattle.history_survey.specs.Flaws.{IsObjectsFlaw}
 use Rattle.history_survey.specs.Listing.{Gathers}
 use Rattle.history_survey.proofs.Listings.{GathersSome, all_gathered, file_more, folder_is_stray, folder_more, no_place, none_yet, told}

@@ -6,10 +6,10 @@ use Rattle.gix_ref_file.specs.Tree.{names_at}
 use Rattle.gix_ref_file.proofs.Listings.{map_length}
 use Rattle.history_names.specs.NameLists.{Gathers, ids_in}
 use Rattle.history_names.specs.References.{NameHolds}
-use Rattle.history_folders.proofs.Clearings.{below_in}
-use Rattle.history_folders.proofs.FilesBelow.{longer_too}
+use Rattle.gix_ref_way.proofs.Clearings.{below_in}
+use Rattle.gix_ref_way.proofs.FilesBelow.{longer_too}
 use Rattle.history_names.proofs.Gathered.{held_told, get_put, file_gathered, folder_gathered, all_gathered}
-use Rattle.history_folders.proofs.Surveys.{is_listed, is_deep}
+use Rattle.gix_ref_way.proofs.Surveys.{is_listed, is_deep}
 use Rattle.history_names.proofs.names.Names.+gather.Goals as goal
 use Rattle.history_names.proofs.names.Names.+gather.Goals.{in-Some+in_ok-insert, in_default, then-is_deeper+in_ok-gather, else-is_deeper}
 

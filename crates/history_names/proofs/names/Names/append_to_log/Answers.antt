@@ -1,18 +1,17 @@
 use Rattle.std.proofs.Common.{◌≡◌, ◌≢◌, ◌∙◌, sym, subst, rules}
-use Rattle.history_folders.proofs.FilesKept.{on_ok_both}
-use Rattle.history_folders.specs.Folders.{FoldersAbove}
-use Rattle.history_folders.specs.Ways.{HasWay, KeepsOtherFolders}
+use Rattle.gix_ref_way.proofs.Stored.{on_ok_both}
+use Rattle.gix_ref_way.specs.Ways.{FoldersAbove, HasWay, KeepsOtherFolders}
 use Rattle.gix_ref_file.specs.History.{Adds}
 use Rattle.std.specs.Prelude.{IsTrue}
 use Rattle.gix_ref_file.specs.Tree.{is_path}
 use Rattle.gix_ref_file.specs.Changes.{may_hold_file}
 use Rattle.history_model.specs.Places.{log_place}
 use Rattle.history_model.proofs.IdLemmas.{one_id, apart_ids}
-use Rattle.history_folders.proofs.FoldersKept.{file_stay, while_appended}
+use Rattle.gix_ref_way.proofs.FoldersKept.{file_stay, while_appended}
 use Rattle.history_names.proofs.MoveMoments.{way_log_moments, append_moments}
 use Rattle.history_names.proofs.Moves.{appended, not_logged}
-use Rattle.history_folders.proofs.Above.{then_above, appended_brings}
-use Rattle.history_folders.proofs.Clearings.{caused, later_risen}
+use Rattle.gix_ref_way.proofs.Above.{then_above, appended_brings}
+use Rattle.gix_ref_way.proofs.Clearings.{caused, later_risen}
 use Rattle.history_names.proofs.Ways.{log_path}
 use Rattle.history_names.proofs.names.Names.append_to_log.Goals as goal
 use Rattle.gix_hash_id.specs.Id.{id_of}

@@ -1,5 +1,5 @@
 use Rattle.std.proofs.Common.{◌≡◌, sym, subst, inl, inr, true, false, Bool}
-use Rattle.history_folders.specs.Ways.{TellsAbove}
+use Rattle.gix_ref_way.specs.Ways.{TellsAbove}
 use Rattle.history_names.proofs.Collisions.{name_not_root, collision_told}
 use Rattle.history_names.proofs.names.Names.collides.Goals as goal
 

@@ -1,5 +1,5 @@
 use Rattle.std.proofs.Common.{◌∙◌, sym, take, arith}
-use Rattle.history_folders.proofs.Above.{above_slash}
+use Rattle.gix_ref_way.proofs.Above.{above_slash}
 use Rattle.history_names.proofs.Meetings.{one_passed, all_passed, none_reads, some_reads}
 use Rattle.history_names.proofs.names.Names.is_held_above.Goals as goal
 use Rattle.history_names.proofs.names.Names.is_held_above.Goals.{then-byte-eq47+in_ok-find+else-is_some, else-byte-eq47}

@@ -5,7 +5,7 @@ use Rattle.history_names.proofs.MoveMoments.{log_moments, move_moments}
 use Rattle.history_names.proofs.Moves.{moved}
 use Rattle.history_names.proofs.FoldersOfNames.{log_folders, name_folders}
 use Rattle.history_names.proofs.Beside.{room_after}
-use Rattle.history_folders.proofs.Clearings.{later_risen}
+use Rattle.gix_ref_way.proofs.Clearings.{later_risen}
 use Rattle.history_names.proofs.Taken.{keeps_on, move_keeps}
 use Rattle.history_names.proofs.Ways.{way_after_log}
 use Rattle.history_names.proofs.names.Names.move_name.Goals as goal

@@ -1,7 +1,7 @@
 use Rattle.std.proofs.Common.{◌∙◌, ap, sym}
 use Rattle.gix_ref_file.specs.Changes.{is_file_at}
 use Rattle.std.proofs.lemmas.Result.{on_ok_weaker}
-use Rattle.history_folders.proofs.Clearings.{caused}
+use Rattle.gix_ref_way.proofs.Clearings.{caused}
 use Rattle.history_names.proofs.Removals.{file_folders, log_gone, log_moments, no_log_gone}
 use Rattle.history_names.proofs.names.Names.remove_log.Goals as goal
 

@@ -1,7 +1,7 @@
 use Rattle.std.proofs.Common.{◌∙◌, rules}
-use Rattle.history_folders.proofs.Clearings.{caused, later_risen}
+use Rattle.gix_ref_way.proofs.Clearings.{caused, later_risen}
 use Rattle.history_names.proofs.Removals.{first_moments, name_gone, name_moments, still_there, then_folders}
-use Rattle.history_folders.proofs.FilesKept.{on_ok_both}
+use Rattle.gix_ref_way.proofs.Stored.{on_ok_both}
 use Rattle.history_names.proofs.names.Names.remove_name.Goals as goal
 
 pub returns-clause-gone : goal.returns-clause-gone

@@ -1,6 +1,6 @@
 use Rattle.std.proofs.Common.{◌∙◌, sym}
 use Rattle.std.proofs.lemmas.Result.{on_ok_weaker}
-use Rattle.history_folders.proofs.Clearings.{caused}
+use Rattle.gix_ref_way.proofs.Clearings.{caused}
 use Rattle.history_names.proofs.Removals.{file_folders}
 use Rattle.history_names.proofs.Taken.{file_gone, file_moments, none_gone}
 use Rattle.history_names.proofs.names.Names.remove_own_file.Goals as goal

@@ -7,7 +7,7 @@ use Rattle.gix_ref_format.specs.PackedKept.{kept}
 use Rattle.history_model.specs.Places.{packed_place}
 use Rattle.history_names.specs.References.{PutsBeside, MayBeWritten}
 use Rattle.history_names.proofs.Beside.{lock_beside, rename_beside, put_beside, told_error}
-use Rattle.history_folders.proofs.FoldersMade.{caused}
+use Rattle.gix_ref_way.proofs.FoldersMade.{caused}
 use Rattle.history_names.proofs.Replaced.{packed_lock, locked_folders, renamed_all, lock_room, may_follow, keeps_text}
 use Rattle.history_names.proofs.names.Names.replace_packed.Goals as goal
 

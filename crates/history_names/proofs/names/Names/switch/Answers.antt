@@ -7,9 +7,9 @@ use Rattle.history_model.specs.Places.{head_place}
 use Rattle.history_names.specs.References.{head_lock}
 use Rattle.history_names.specs.References.{PutsBeside, MayBeWritten}
 use Rattle.history_names.proofs.Beside.{lock_beside, rename_beside, put_beside, told_error}
-use Rattle.history_folders.proofs.FoldersMade.{caused}
+use Rattle.gix_ref_way.proofs.FoldersMade.{caused}
 use Rattle.history_names.proofs.HeadNamed.{lock_folders, head_folders, lock_room, may_follow}
-use Rattle.history_folders.proofs.FilesKept.{on_ok_both}
+use Rattle.gix_ref_way.proofs.Stored.{on_ok_both}
 use Rattle.history_names.proofs.Taken.{head_keeps, keeps_on}
 use Rattle.history_names.proofs.names.Names.switch.Goals as goal
 

@@ -2,7 +2,7 @@ use Rattle.std.proofs.Common.{subst, rules}
 use Rattle.std.proofs.lemmas.Result.{on_ok_weaker}
 use Rattle.gix_ref_file.specs.History.{Adds}
 use Rattle.history_names.specs.Packing.{LosesRecord, MayLoseRecord}
-use Rattle.history_folders.proofs.Clearings.{later_risen}
+use Rattle.gix_ref_way.proofs.Clearings.{later_risen}
 use Rattle.history_names.proofs.Removals.{folders_joined, same_folders_now}
 use Rattle.history_names.proofs.Taken.{all_taken, formed_on, gone_moments, keeps_on, log_keeps, log_moments, own_keeps, record_moments, room_on}
 use Rattle.history_names.proofs.names.Names.take_name.Goals as goal

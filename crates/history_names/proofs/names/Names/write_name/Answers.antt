@@ -5,11 +5,11 @@ use Rattle.gix_ref_file.specs.Changes.{MayLeave, allows, after, to_rename}
 use Rattle.gix_ref_file.specs.declared.files.FileError.TheVariants.{Failed}
 use Rattle.gix_ref_file.specs.History.{Adds, Makes}
 use Rattle.history_names.specs.References.{PutsBeside, MayBeWritten}
-use Rattle.history_folders.proofs.FilesKept.{on_ok_both}
-use Rattle.history_folders.proofs.FoldersKept.{file_stay, while_written, while_renamed}
-use Rattle.history_folders.proofs.Above.{then_above, written_brings, renamed_brings}
+use Rattle.gix_ref_way.proofs.Stored.{on_ok_both}
+use Rattle.gix_ref_way.proofs.FoldersKept.{file_stay, while_written, while_renamed}
+use Rattle.gix_ref_way.proofs.Above.{then_above, written_brings, renamed_brings}
 use Rattle.history_names.proofs.Beside.{way_beside, lock_beside, rename_beside, put_beside, lock_fits, may_rename, told_error}
-use Rattle.history_folders.proofs.Clearings.{caused, later_risen}
+use Rattle.gix_ref_way.proofs.Clearings.{caused, later_risen}
 use Rattle.history_names.proofs.Ways.{name_path}
 use Rattle.history_names.proofs.names.Names.write_name.Goals as goal
 

@@ -4,7 +4,7 @@ use Rattle.gix_ref_file.specs.declared.files.FileError.{FileError}
 use Rattle.gix_ref_file.specs.declared.files.FileError.TheVariants as files
 use Rattle.history_model.specs.Objects.{object_text}
 use Rattle.history_model.specs.Forms.{is_id}
-use Rattle.history_folders.specs.Folders.{FoldersAbove, KeepsFolders}
+use Rattle.gix_ref_way.specs.Ways.{FoldersAbove, KeepsFolders}
 use Rattle.history_objects.specs.Stores.{IsObjectPlace, MayPut, MayStand, place_of, text_of, put_fault}
 use Rattle.history_texts.specs.declared.object.NewObject.{NewObject}
 use Rattle.history_objects.specs.declared.objects.PutMadeError.TheVariants as errors

@@ -2,16 +2,16 @@ use Rattle.std.proofs.Common.{◌≡◌, Err, arith, subst, sym}
 use Rattle.std.proofs.lemmas.Result.{err_from_is_err_and}
 use Rattle.gix_ref_file.specs.declared.files.FileError.TheVariants.{Failed}
 use Rattle.history_model.specs.Places.{unfinished_place}
-use Rattle.history_folders.proofs.FoldersKept.{while_written, while_appended, while_renamed, then_stay}
-use Rattle.history_folders.proofs.FoldersMade.{caused}
+use Rattle.gix_ref_way.proofs.FoldersKept.{while_written, while_appended, while_renamed, then_stay}
+use Rattle.gix_ref_way.proofs.FoldersMade.{caused}
 use Rattle.history_objects.proofs.ObjectFiles.{fits_when_written, may_rename, unfinished_fits}
 use Rattle.history_objects.proofs.ObjectParts.{no_file_above, object_place_is_path}
 use Rattle.gix_ref_file.specs.History.{History}
 use Rattle.history_objects.specs.Stores.{KeepsFiles}
 use Rattle.history_objects.proofs.Stored.{kept_when_appended, kept_when_written, may_from_same, may_from_write, may_from_append, may_from_rename, on_err_any, on_err_weaker, stored}
-use Rattle.history_folders.proofs.FilesKept.{on_ok_both}
+use Rattle.gix_ref_way.proofs.Stored.{on_ok_both}
 use Rattle.std.proofs.lemmas.Result.{on_ok_weaker}
-use Rattle.history_folders.proofs.Above.{appended_brings, renamed_brings, then_above, written_brings}
+use Rattle.gix_ref_way.proofs.Above.{appended_brings, renamed_brings, then_above, written_brings}
 use Rattle.history_objects.proofs.Stored.{gone}
 use Rattle.history_objects.proofs.objects.Objects.write.Goals as goal
 

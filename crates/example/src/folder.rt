@@ -1,0 +1,15 @@
+//! Repositories in real folders.
+
+use crate::tour::tour;
+use anyhow::Result;
+use gix_ref::{Folder, Part};
+use std::fs;
+
+/// Makes a folder, which must not exist, and takes the tour there. Nobody else may work in it meanwhile.
+pub fn take_tour(rt: &HostRuntime, path: &str) -> Result<()> {
+    let alloc = rt.alloc();
+    fs::create_dir(rt, path)?;
+    let objects = Folder::new(rt, String::from_str(alloc, path)?, Part::Objects);
+    let names = Folder::new(rt, String::from_str(alloc, path)?, Part::Names);
+    tour(rt, objects, names)
+}

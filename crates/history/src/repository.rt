@@ -1,0 +1,192 @@
+//! A repository whose fields no caller writes.
+
+ghost use Rattle.std.specs.Prelude.{◌≡◌, ◌||◌, false, None, Ok, IsOk, IfOk, IfErr, OnOk, is_err, option_map};
+ghost use Rattle.gix_ref_file.specs.History.{Adds};
+ghost use Rattle.history_model.specs.Meaning.{after};
+ghost use Rattle.history_model.specs.Repository.{fresh};
+ghost use Rattle.history_model.specs.StandsFor.{StandsWhole};
+ghost use Rattle.history_steps.specs.Passing.{HoldsBetween};
+ghost use Rattle.history_objects.specs.Face.{kind_of_objects};
+ghost use Rattle.history_names.specs.Face.{kind_of_names};
+ghost use Rattle.history_store.specs.Creation.{IsNew};
+ghost use Rattle.history_repository.specs.Causes.{IsOpenCause, IsOpenFault};
+ghost use Rattle.history_repository.specs.Opened.{trees_of};
+ghost use Rattle.history_repository.specs.Face.{has_failed, names_part, objects_part, rows_in};
+ghost use Rattle.history_repository.specs.Faults.{IsRefusal};
+ghost use Rattle.history_repository.specs.Stands.{Stands};
+ghost use Rattle.history_plans.specs.Halves.{names_tree};
+ghost use Rattle.history.specs.Acts.{CountsFailure, CountsRise, KeepsCounts};
+ghost use Rattle.history.specs.Moments.{ObjectsPass};
+ghost use Rattle.history.specs.Moving.{LeavesMoved};
+ghost use Rattle.history.specs.NameFiles.{LeavesAsAsked};
+ghost use Rattle.history.specs.Runs.{changes_files};
+ghost use Rattle.history.specs.Storing.{AreMovesOf, AskedChange, HasStored, StoresObjects, is_fault_of};
+ghost use Rattle.history_model.specs.Commands as orders;
+ghost use Rattle.history_model.specs.Repository as plain;
+
+use crate::moves::{Moves, move_names, store_objects};
+use gix_hash::Kind;
+use gix_ref_file::Files;
+use gix_traverse_commit_graph::Graph;
+use history_model::Fault;
+use history_repository::{OpenRefusal, Repository as State, Stopped};
+use history_word::Command;
+use std::alloc::Global;
+use std::marker::Model;
+
+/// A repository over two file trees: one holds the objects, the other HEAD, the names and their logs.
+///
+/// Its fields are its own, so that what it keeps in memory stays that of its files, and one that has failed stays so: a later `run`
+/// reads and writes nothing, and its parts are to be recovered and opened again.
+#[derive(Drop)]
+pub struct Repository<F: Files> {
+    pub(crate) state: State<F>,
+}
+
+impl<F: Files> Model for Repository<F> {
+    ghost use Rattle.history_repository.specs.declared.repository.Repository.{Repository as State};
+
+    ghost Value = { State F };
+
+    ghost view = { λ repository. repository.state };
+}
+
+impl<F: Files> Repository<F> {
+    /// Opens a folder whose two parts are those of one repository with ids of this kind: whole, in written form and within the limits,
+    /// with no file and no folder besides. So are those that `create` and `run` leave, and, where a
+    /// call stopped or failed, `recover` behind it. No file is changed.
+    ///
+    /// Else the refusal names a cause that holds of them, and hands both parts back. The objects are surveyed before the names.
+    /// `File` comes where a call of the files failed, `Memory` where a growth was refused.
+    pub fn open(
+        alloc: Global,
+        objects: F,
+        names: F,
+        kind: Kind,
+    ) -> Result<Repository<F>, OpenRefusal<F>>
+        ensures ok { IfOk result (λ opened. (objects_part opened ≡ objects)
+            × (names_part opened ≡ names) × (has_failed opened ≡ false)
+            × (rows_in opened ≡ None)) }
+        // What is opened stands for a repository of this kind, whole and in its written form.
+        ensures stands { F.is_honest objects → F.is_honest names
+            → IfOk result (λ opened. (r : plain.Repository) × (r.kind ≡ kind)
+            × Stands F.is_honest F.history opened r) }
+        // Whichever repository the two parts stand for, it is that one.
+        ensures same { (r : plain.Repository) → F.is_honest objects → F.is_honest names
+            → StandsWhole kind (trees_of F.history objects names) r
+            → IfOk result (λ opened. Stands F.is_honest F.history opened r) }
+        // Of a new folder it is the one without names and objects, on `refs/heads/main`.
+        ensures fresh { F.is_honest objects → F.is_honest names
+            → IsNew (F.history objects).tree (F.history names).tree
+            → IfOk result (λ opened. Stands F.is_honest F.history opened (fresh kind)) }
+        ensures refused { F.is_honest objects → F.is_honest names → IfErr result (λ refusal.
+            IsOpenCause F.reading_may_fail kind (trees_of F.history objects names)
+            refusal.error) }
+        // A repository's parts are refused for a fault alone.
+        ensures accepted { (r : plain.Repository) → F.is_honest objects → F.is_honest names
+            → StandsWhole kind (trees_of F.history objects names) r
+            → IfErr result (λ refusal. IsOpenFault refusal.error) }
+        ensures handed_back { IfErr result (λ refusal. (refusal.objects ≡ objects)
+            × (refusal.names ≡ names)) }
+    {
+        match State::open(alloc, objects, names, kind) {
+            Ok(state) => Ok(Repository { state }),
+            Err(refusal) => Err(refusal),
+        }
+    }
+
+    /// Gives back the objects part and the names part, as they stand.
+    pub fn into_parts(self) -> (F, F)
+        ensures objects { result.0 ≡ objects_part self }
+        ensures names { result.1 ≡ names_part self }
+    {
+        self.state.into_parts()
+    }
+
+    /// The rows of the commits that the last `ok index` counted; none before the first. It takes no memory.
+    pub fn rows(&self) -> Option<&Graph>
+        ensures { option_map (λ rows. rows.now) result ≡ rows_in self.now }
+    {
+        self.state.rows()
+    }
+
+    /// Whether a command that changes files met a fault. The files then hold what a stop may leave, and `run`
+    /// acts on no further command: the parts are to be recovered and opened again.
+    pub fn has_failed(&self) -> bool
+        ensures { result ≡ has_failed self.now }
+    {
+        self.state.has_failed()
+    }
+
+    /// Answers the first cause that holds of a command that changes files, and then nothing has changed; else puts its objects, and
+    /// answers how its names are to move. The names stay as they are. Of a command that changes no file it stores nothing.
+    ///
+    /// It asks for a repository that hasn't failed. After a fault it has, and some of the objects may stand: the folder is to be opened
+    /// again.
+    pub fn store_objects(&mut self, alloc: Global, command: Command) -> Result<Moves, Stopped>
+        ensures refused { IfErr result (λ stopped. IsRefusal stopped → self.new ≡ self.old) }
+        ensures failed { has_failed self.new ≡ (has_failed self.old || is_fault_of result) }
+        ensures kept { (self.new.names ≡ self.old.names) × (self.new.branch ≡ self.old.branch)
+            × (rows_in self.new ≡ rows_in self.old) }
+        ensures honest { F.is_honest (objects_part self.old) → F.is_honest (objects_part self.new) }
+        ensures kind { kind_of_objects self.new.objects ≡ kind_of_objects self.old.objects }
+        ensures counts { CountsRise F.failures self.old self.new }
+        ensures unfailed { OnOk result (KeepsCounts F.failures self.old self.new) }
+        ensures reads { changes_files command ≡ false
+            → (result ≡ Ok Moves.Nothing) × (self.new ≡ self.old) }
+        ensures stores { (r : plain.Repository) (order : orders.Command)
+            → AskedChange F.is_honest F.history self.old command r order
+            → StoresObjects (CountsFailure F.failures F.reading_may_fail self.old self.new)
+            (HasStored F.is_honest F.history self.new r order) r order result }
+        // Where anything is put no cause holds, and each tree on the way holds some of what is stored, and is whole, once recovered.
+        ensures passes { (r : plain.Repository) (order : orders.Command)
+            → AskedChange F.is_honest F.history self.old command r order
+            → ObjectsPass F.history r order self.old self.new }
+    {
+        match store_objects(&mut self.state, alloc, command) {
+            Ok(moves) => Ok(moves),
+            Err(Stopped::Refused(cause)) => Err(Stopped::Refused(cause)),
+            Err(Stopped::Fault(fault)) => {
+                self.state.has_failed = true;
+                Err(Stopped::Fault(fault))
+            }
+        }
+    }
+
+    /// Moves names, once the objects of their command are stored. The objects stay as they are.
+    ///
+    /// It asks for a repository that hasn't failed, and for moves that `store_objects` answered for it: then each id that a name moves to
+    /// is stored, no name stands twice or collides, and each holds what is expected of it. After a fault it has failed, and some of the
+    /// names may have moved: the folder is to be recovered and opened again.
+    pub fn move_names(&mut self, alloc: Global, moves: Moves) -> Result<(), Fault>
+        ensures failed { has_failed self.new ≡ (has_failed self.old || is_err result) }
+        ensures kept { (self.new.objects ≡ self.old.objects)
+            × (rows_in self.new ≡ rows_in self.old) }
+        ensures honest { F.is_honest (names_part self.old) → F.is_honest (names_part self.new) }
+        ensures kind { kind_of_names self.new.names ≡ kind_of_names self.old.names }
+        ensures counts { CountsRise F.failures self.old self.new }
+        ensures unfailed { OnOk result (KeepsCounts F.failures self.old self.new) }
+        ensures nothing { moves ≡ Moves.Nothing → IsOk result × (self.new ≡ self.old) }
+        // On the way each name, once recovered, is as before the command or as after it.
+        ensures passes { (r : plain.Repository) (order : orders.Command)
+            → HasStored F.is_honest F.history self.old r order → AreMovesOf r order moves
+            → Adds (HoldsBetween r order) (F.history (names_part self.old))
+            (F.history (names_part self.new)) }
+        ensures moves { (r : plain.Repository) (order : orders.Command)
+            → HasStored F.is_honest F.history self.old r order → AreMovesOf r order moves
+            → LeavesMoved (CountsFailure F.failures F.reading_may_fail self.old self.new)
+            (Stands F.is_honest F.history self.new (after r order)) result }
+        ensures leaves { (r : plain.Repository) (order : orders.Command)
+            → HasStored F.is_honest F.history self.old r order → AreMovesOf r order moves
+            → OnOk result (LeavesAsAsked r order
+            (names_tree F.history self.old) (names_tree F.history self.new)) }
+    {
+        match move_names(&mut self.state, alloc, moves) {
+            Ok(()) => Ok(()),
+            Err(fault) => {
+                self.state.has_failed = true;
+                Err(fault)
+            }
+        }
+    }
+}

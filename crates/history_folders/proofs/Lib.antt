@@ -1,9 +1,0 @@
-pub mod Above
-pub mod Clearings
-pub mod FilesBelow
-pub mod FilesKept
-pub mod FirstParts
-pub mod FoldersKept
-pub mod FoldersMade
-pub mod FoldersStay
-pub mod Surveys

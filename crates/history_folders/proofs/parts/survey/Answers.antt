@@ -1,5 +1,0 @@
-use Rattle.history_folders.proofs.Surveys.{found_root}
-use Rattle.history_folders.proofs.parts.survey.Goals as goal
-
-pub returns-clause-found : goal.returns-clause-found
-returns-clause-found g c = λ honest. found_root c.args.part c.args.permitted.now (g.F.Files.history c.args.files.now).tree c.survey_folder.result (c.survey_folder.ensures.found honest)

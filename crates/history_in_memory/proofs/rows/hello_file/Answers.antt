@@ -1,6 +1,0 @@
-use Rattle.history_model.specs.Rows.{hello_stream, hello_output}
-use Rattle.history_in_memory.proofs.Answering.{row_meant}
-use Rattle.history_in_memory.proofs.rows.hello_file.Goals as goal
-
-pub returns-clause-meant : goal.returns-clause-meant
-returns-clause-meant c = c.answer_stream.ensures.meant hello_output (row_meant hello_stream hello_output c.hello_file.ensures)

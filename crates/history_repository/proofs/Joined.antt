@@ -1,0 +1,270 @@
+-- The two parts that were surveyed, as one repository.
+use Rattle.std.proofs.Common.{◌≡◌, ◌⊎◌, ℕ, ◌<◌, ◌^◌, ◌&&◌, not, nat_le, length-append, take, unwrap_or, true, cond, [], ◌∷◌, ◌++◌, length, refl, sym, ◌∙◌, ap, subst, arith, inl, inr, codes, Option, Some, None, is_some, option_map}
+use Rattle.std.specs.Prelude.{option_and_then}
+use Rattle.std.specs.FinMap.{contains_key, empty, get}
+use Rattle.std.proofs.lemmas.Bool.{and_parts}
+use Rattle.std.proofs.lemmas.List.{append_cancel_left, append_cancel_right, take-append-le, take_all}
+use Rattle.std.proofs.lemmas.Option.{same_Some}
+use Rattle.gix_hash_id.specs.Id.{Id, id_of}
+use Rattle.gix_hash_id.specs.declared.kind.Kind.{Kind}
+use Rattle.gix_hash_id.specs.Kind.{hex_len}
+use Rattle.gix_object_lines.specs.declared.kind.Kind.TheVariants as kinds
+use Rattle.gix_ref_file.specs.History.{History}
+use Rattle.gix_ref_file.specs.Tree.{Tree}
+use Rattle.history_model.specs.Bytes.{Bytes, is_empty, line}
+use Rattle.history_model.specs.Forms.{IsWrittenValue, is_actor, is_id, is_tag_form, is_tag_name, max_title, title}
+use Rattle.history_model.specs.Objects.{StoredBytes, StoredCommit, StoredFolder, StoredTag, TagValue, Value, actor_text, content_of, hex, object_kind, tag_content, value_text}
+use Rattle.history_model.specs.PackedNames.{id_from_hex}
+use Rattle.history_model.specs.Places.{Pair, object_place}
+use Rattle.history_model.specs.Repository.{HaveOwnIds, Repository, Values, first_branch}
+use Rattle.history_model.specs.StandsFor.{StandsWhole, head_text}
+use Rattle.history_model.proofs.PlaceLemmas.{file_at_id, id_length, values_have_ids}
+use Rattle.history_model.proofs.IdLemmas.{id_from_hex-hex, length-hex}
+use Rattle.history_steps.specs.TreeHalves.{HoldsValues}
+use Rattle.history_steps.proofs.TreePuts.{halves_stand}
+use Rattle.history_objects.specs.Face.{ids_of_objects}
+use Rattle.history_objects.specs.Ids.{IdSet}
+use Rattle.history_objects.specs.KnownObjects.{object_at}
+use Rattle.history_texts.specs.ObjectTexts.{object_in}
+use Rattle.history_names.specs.Packing.{KeepsRecords}
+use Rattle.history_texts.proofs.TextObjects.{object_in-text}
+use Rattle.history_survey.specs.Flaws.{IsObjectsFlaw}
+use Rattle.history_survey.specs.Opened.{IsOpened, IsSoundStore, store_of}
+use Rattle.history_survey.specs.declared.flaw.ObjectsFlaw.{ObjectsFlaw}
+use Rattle.history_survey.proofs.Joins.{whole_on}
+use Rattle.history_names_survey.specs.Causes.{HasCause, IsFault}
+use Rattle.history_names_survey.specs.Joined.{StandsStore}
+use Rattle.history_names_survey.specs.Parts.{IsNamesPart, StandsNames}
+use Rattle.history_names_survey.specs.Stored.{AreFactsOf, Fact, Facts, fact_of, fact_told, is_of_wrong_kind, is_tag_of, target_in}
+use Rattle.history_names_survey.specs.declared.error.NamesError.{NamesError}
+use Rattle.history_names_survey.specs.declared.error.NamesError.TheVariants.{NoHead, BadHead, Stray, Unfinished, BadName, PrivateName, Symbolic, Missing, WrongKind, BadPacked, BadPeeled, Collides, BadLog, LongLogLine, LogWithoutName, File, Memory}
+use Rattle.history_repository.specs.Causes.{IsOpenCause, IsOpenFault, cause_of_flaw, cause_of_names, facts_of}
+use Rattle.history_repository.specs.Opened.{IsOpenedAs}
+use Rattle.history_repository.specs.declared.folder.OpenedFolder.{OpenedFolder}
+use Rattle.history_repository.proofs.NoFlaws.{fault_alone}
+
+-- ---- HEAD's text tells the branch
+
+same_branch : (a b : Bytes) → head_text a ≡ head_text b → a ≡ b
+same_branch a b e = append_cancel_left (codes "ref: ") a b (append_cancel_right (codes "ref: " ++ a) (codes "ref: " ++ b) (10 ∷ []) e)
+
+-- ---- what a tag's first line tells
+
+tag_id : (kind : Kind) (tag : TagValue) → is_tag_form kind tag ≡ true → is_id kind tag.target ≡ true
+tag_id kind tag form =
+    let a = and_parts (is_id kind tag.target && is_tag_name tag.name && is_actor tag.tagger && not (is_empty tag.message)) (nat_le (length (title tag.message)) max_title) form in
+    let b = and_parts (is_id kind tag.target && is_tag_name tag.name && is_actor tag.tagger) (not (is_empty tag.message)) a.0 in
+    let c = and_parts (is_id kind tag.target && is_tag_name tag.name) (is_actor tag.tagger) b.0 in
+    (and_parts (is_id kind tag.target) (is_tag_name tag.name) c.0).0
+
+-- so many bytes from the beginning are those of the first text
+front_taken : (n : ℕ) (h a b c d e f : Bytes) → length h ≡ n → take n (h ++ a ++ b ++ c ++ d ++ e ++ f) ≡ h
+front_taken n h a b c d e f same =
+    take-append-le n (h ++ a ++ b ++ c ++ d ++ e) f (omega (arith, same, length-append (h ++ a ++ b ++ c ++ d) e, length-append (h ++ a ++ b ++ c) d, length-append (h ++ a ++ b) c, length-append (h ++ a) b, length-append h a))
+    ∙ take-append-le n (h ++ a ++ b ++ c ++ d) e (omega (arith, same, length-append (h ++ a ++ b ++ c) d, length-append (h ++ a ++ b) c, length-append (h ++ a) b, length-append h a))
+    ∙ take-append-le n (h ++ a ++ b ++ c) d (omega (arith, same, length-append (h ++ a ++ b) c, length-append (h ++ a) b, length-append h a))
+    ∙ take-append-le n (h ++ a ++ b) c (omega (arith, same, length-append (h ++ a) b, length-append h a))
+    ∙ take-append-le n (h ++ a) b (omega (arith, same, length-append h a))
+    ∙ take-append-le n h a (omega (arith, same))
+    ∙ take_all n h (omega (arith, same))
+
+target_read : (kind : Kind) (tag : TagValue) → is_id kind tag.target ≡ true → target_in kind (tag_content tag) ≡ Some tag.target
+target_read kind tag is =
+    ap (id_from_hex kind) (front_taken (hex_len kind) (hex tag.target) (10 ∷ []) (line (codes "type commit")) (line (codes "tag " ++ tag.name)) (line (codes "tagger " ++ actor_text tag.tagger)) (line []) tag.message
+    (length-hex tag.target ∙ id_length kind tag.target is))
+    ∙ id_from_hex-hex kind tag.target is
+
+-- ---- the files of values tell their ids and facts
+
+same_ids : (kind : Kind) (tree : Tree) (a b : Values) → HoldsValues kind tree a → HoldsValues kind tree b → HaveOwnIds kind a → HaveOwnIds kind b → (id : Id) → contains_key a id ≡ contains_key b id
+same_ids kind tree a b in_a in_b own_a own_b id = go (get a id) refl (get b id) refl
+  where
+    some_text : (o : Option Value) → is_some o ≡ is_some (option_map (value_text kind) o)
+    some_text None = refl
+    some_text (Some v) = refl
+
+    of_id : is_id kind id ≡ true → contains_key a id ≡ contains_key b id
+    of_id formed =
+        some_text (get a id)
+        ∙ ap is_some (sym (file_at_id kind a own_a id formed) ∙ sym (in_a.files (object_place id)) ∙ in_b.files (object_place id) ∙ file_at_id kind b own_b id formed)
+        ∙ sym (some_text (get b id))
+
+    go : (x : Option Value) → get a id ≡ x → (y : Option Value) → get b id ≡ y → contains_key a id ≡ contains_key b id
+    go None e None f = ap is_some e ∙ sym (ap is_some f)
+    go (Some v) e y f = of_id (values_have_ids kind a own_a id v e)
+    go None e (Some w) f = of_id (values_have_ids kind b own_b id w f)
+
+module _ (kind : Kind) (tree : Tree) (values : Values) (holds : HoldsValues kind tree values) (sound : IsSoundStore kind values)
+    (ids : IdSet) (known : (id : Id) → contains_key ids id ≡ contains_key values id) where
+  object_of : (id : Id) (v : Value) → get values id ≡ Some v → object_at tree id ≡ Some (record { kind = object_kind v; content = content_of kind v })
+  object_of id v at =
+      ap (option_and_then object_in) (holds.files (object_place id) ∙ file_at_id kind values (sound.whole).own_ids id (values_have_ids kind values (sound.whole).own_ids id v at) ∙ ap (option_map (value_text kind)) at)
+      ∙ object_in-text (object_kind v) (content_of kind v) small
+    where
+      small : length (content_of kind v) < 2 ^ 64
+      small = let most = (sound.written id v at).1 in omega arith
+
+  -- what the text of a value tells is the value's fact
+  told_so : (v : Value) → IsWrittenValue kind v → fact_told kind (record { kind = object_kind v; content = content_of kind v }) ≡ fact_of v
+  told_so (StoredCommit commit) written = refl
+  told_so (StoredTag tag) written = ap (λ o. record { kind = kinds.Tag; target = o }) (target_read kind tag (tag_id kind tag written.0))
+  told_so (StoredBytes bytes) written = refl
+  told_so (StoredFolder files) written = refl
+
+  facts_told : (id : Id) → option_map (fact_told kind) (cond (contains_key ids id) (object_at tree id) None) ≡ option_map fact_of (get values id)
+  facts_told id = go (get values id) refl
+    where
+      go : (o : Option Value) → get values id ≡ o → option_map (fact_told kind) (cond (contains_key ids id) (object_at tree id) None) ≡ option_map fact_of (get values id)
+      go None e = ap (λ b. option_map (fact_told kind) (cond b (object_at tree id) None)) (known id ∙ ap is_some e) ∙ ap (option_map fact_of) (sym e)
+      go (Some v) e =
+          ap (λ b. option_map (fact_told kind) (cond b (object_at tree id) None)) (known id ∙ ap is_some e)
+          ∙ ap (option_map (fact_told kind)) (object_of id v e)
+          ∙ ap Some (told_so v (sound.written id v e))
+          ∙ ap (option_map fact_of) (sym e)
+
+-- ---- the halves of a pair that stands for a repository
+
+module _ (kind : Kind) (pair : Pair) (r : Repository) (stands : StandsWhole kind pair r) where
+  pub of_kind : r.kind ≡ kind
+  of_kind = ((halves_stand kind pair r).0 stands.stands).0
+
+  holds_values : HoldsValues kind pair.objects r.objects
+  holds_values = subst (λ k. HoldsValues k pair.objects r.objects) of_kind ((halves_stand kind pair r).0 stands.stands).1
+
+  is_sound : IsSoundStore kind r.objects
+  is_sound = subst (λ k. IsSoundStore k r.objects) of_kind (record { whole = whole_on r empty first_branch (stands.whole).store; written = (stands.written).values })
+
+  pub stands_names : StandsNames pair.names r
+  stands_names = record {
+    holds = ((halves_stand kind pair r).0 stands.stands).2;
+    whole = (stands.whole).names;
+    branch = (stands.written).branch;
+    names = (stands.written).names;
+  }
+
+  -- a flaw of its objects part is a fault
+  pub fault_of_objects : (MayFail : Type 0) (flaw : ObjectsFlaw) → IsObjectsFlaw MayFail kind pair.objects flaw → IsOpenFault (cause_of_flaw flaw)
+  fault_of_objects MayFail flaw h = elim (fault_alone kind pair.objects r.objects holds_values is_sound MayFail flaw h) [ inl e ↦ inl (ap cause_of_flaw e) | inr e ↦ inr (ap cause_of_flaw e) ]
+
+-- ---- an opened store, and the names part over it
+
+-- what was found of the names part, by its files and their kind
+pub part_of : {F : Type 0} (history : F → History) (facts : Kind → Facts) (branch : Bytes) (known own : F) (k kind : Kind) → known ≡ own → k ≡ kind
+    → IsNamesPart k (facts k) (history known).tree branch → IsNamesPart kind (facts kind) (history own).tree branch
+part_of history facts branch known own k kind e f h =
+    subst (λ files. IsNamesPart kind (facts kind) (history files).tree branch) e (subst (λ (q : Kind). IsNamesPart q (facts q) (history known).tree branch) f h)
+
+pub cause_of : {F : Type 0} (history : F → History) (MayFail : Type 0) (facts : Kind → Facts) (error : NamesError) (known own : F) (k kind : Kind) → known ≡ own → k ≡ kind
+    → HasCause MayFail k (facts k) (history known).tree error → HasCause MayFail kind (facts kind) (history own).tree error
+cause_of history MayFail facts error known own k kind e f h =
+    subst (λ files. HasCause MayFail kind (facts kind) (history files).tree error) e (subst (λ (q : Kind). HasCause MayFail q (facts q) (history known).tree error) f h)
+
+-- the facts that a store tells of the ids that it knows
+abbrev pub told_facts : Kind → Tree → IdSet → Facts
+told_facts kind tree ids id = option_map (fact_told kind) (cond (contains_key ids id) (object_at tree id) None)
+
+module _ (kind : Kind) (pair : Pair) (ids : IdSet) (whole : IsOpened kind pair.objects ids) where
+  abbrev facts : Facts
+  facts = told_facts kind pair.objects ids
+
+  own_facts : AreFactsOf facts whole.values
+  own_facts = facts_told kind pair.objects whole.values whole.holds whole.sound ids whole.known
+
+  store : StandsStore kind pair.objects whole.values
+  store = record { holds = whole.holds; whole = (whole.sound).whole; written = (whole.sound).written }
+
+  known_as : (r : Repository) → StandsWhole kind pair r → (id : Id) → contains_key ids id ≡ contains_key r.objects id
+  known_as r stands id =
+      whole.known id
+      ∙ same_ids kind pair.objects whole.values r.objects whole.holds (holds_values kind pair r stands) ((whole.sound).whole).own_ids ((is_sound kind pair r stands).whole).own_ids id
+
+  pub facts_as : (r : Repository) → StandsWhole kind pair r → AreFactsOf facts r.objects
+  facts_as r stands = facts_told kind pair.objects r.objects (holds_values kind pair r stands) (is_sound kind pair r stands) ids (known_as r stands)
+
+  module _ {F : Type 0} (opened : OpenedFolder F) (own : ids_of_objects opened.objects ≡ ids) (part : IsNamesPart kind facts pair.names opened.branch.items) (keeps : KeepsRecords opened.names pair.names) where
+    abbrev one : Repository
+    one = record { kind = kind; names = part.names; branch = opened.branch.items; objects = whole.values }
+
+    names_stand : StandsNames pair.names one
+    names_stand = part.stands whole.values own_facts
+
+    one_stands : StandsWhole kind pair one
+    one_stands = record {
+      stands = (halves_stand kind pair one).1 (refl, whole.holds, names_stand.holds);
+      written = record { branch = names_stand.branch; names = names_stand.names; values = (whole.sound).written };
+      whole = record { store = whole_on (store_of kind whole.values) part.names opened.branch.items (whole.sound).whole; names = names_stand.whole };
+    }
+
+    -- whichever repository the pair stands for
+    pub opened_as : (r : Repository) → StandsWhole kind pair r → IsOpenedAs kind pair opened r
+    opened_as r stands = record {
+      stands = stands;
+      records = keeps;
+      branch = same_branch opened.branch.items r.branch (same_Some (head_text opened.branch.items) (head_text r.branch) (sym (names_stand.holds).head ∙ (stands.stands).head));
+      known = λ id. ap (λ (set : IdSet). contains_key set id) own ∙ known_as r stands id;
+    }
+
+    -- and it stands for one
+    pub opened_as_one : (r : Repository) × IsOpenedAs kind pair opened r
+    opened_as_one = (one, opened_as one one_stands)
+
+  -- ---- causes
+
+  carried : (A B : Type 0) → (A → B) → (k l : Facts) → ((id : Id) → k id ≡ l id) → (tree : Tree) (error : NamesError) → HasCause A kind k tree error → HasCause B kind l tree error
+  carried A B f k l same tree NoHead h = h
+  carried A B f k l same tree BadHead h = h
+  carried A B f k l same tree (Stray path) h = h
+  carried A B f k l same tree (Unfinished path) h = h
+  carried A B f k l same tree (BadName path) h = h
+  carried A B f k l same tree (PrivateName name) h = h
+  carried A B f k l same tree (Symbolic name) h = h
+  carried A B f k l same tree (Missing id name) h = (h.0, ap (option_map (λ (fact : Fact). fact.kind)) (sym (same (id_of id))) ∙ h.1)
+  carried A B f k l same tree (WrongKind id name) h = (h.0, ap (λ o. is_of_wrong_kind (option_map (λ (fact : Fact). fact.kind) o)) (sym (same (id_of id))) ∙ h.1)
+  carried A B f k l same tree (BadPacked number) h = h
+  carried A B f k l same tree (BadPeeled name) h = record {
+    entry = h.entry;
+    among = h.among;
+    named = h.named;
+    wrong = ap (λ o. unwrap_or (option_map (λ commit. is_tag_of o commit) h.entry.peeled) true) (sym (same h.entry.target)) ∙ h.wrong;
+  }
+  carried A B f k l same tree (Collides name other) h = h
+  carried A B f k l same tree (BadLog path number) h = h
+  carried A B f k l same tree (LongLogLine path number) h = h
+  carried A B f k l same tree (LogWithoutName path) h = h
+  carried A B f k l same tree File h = f h
+  carried A B f k l same tree Memory h = h
+
+  pub names_cause : (M : Type 0) (error : NamesError) → HasCause (M ⊎ M) kind facts pair.names error → IsOpenCause M kind pair (cause_of_names error)
+  names_cause M error h = inr (record {
+    values = whole.values;
+    store = store;
+    cause = error;
+    told = refl;
+    holds = carried (M ⊎ M) M either facts (facts_of whole.values) own_facts pair.names error h;
+  })
+    where
+      either : M ⊎ M → M
+      either (inl m) = m
+      either (inr m) = m
+
+pub objects_cause : (M : Type 0) (kind : Kind) (pair : Pair) (flaw : ObjectsFlaw) → IsObjectsFlaw M kind pair.objects flaw → IsOpenCause M kind pair (cause_of_flaw flaw)
+objects_cause M kind pair flaw h = inl (record { flaw = flaw; told = refl; holds = h })
+
+pub names_fault : (error : NamesError) → IsFault error → IsOpenFault (cause_of_names error)
+names_fault File h = inl refl
+names_fault Memory h = inr refl
+names_fault NoHead h = absurd h
+names_fault BadHead h = absurd h
+names_fault (Stray path) h = absurd h
+names_fault (Unfinished path) h = absurd h
+names_fault (BadName path) h = absurd h
+names_fault (PrivateName name) h = absurd h
+names_fault (Symbolic name) h = absurd h
+names_fault (Missing id name) h = absurd h
+names_fault (WrongKind id name) h = absurd h
+names_fault (BadPacked number) h = absurd h
+names_fault (BadPeeled name) h = absurd h
+names_fault (Collides name other) h = absurd h
+names_fault (BadLog path number) h = absurd h
+names_fault (LongLogLine path number) h = absurd h
+names_fault (LogWithoutName path) h = absurd h

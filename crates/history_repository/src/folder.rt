@@ -1,0 +1,160 @@
+//! The two parts of a folder, opened.
+
+ghost use Rattle.std.specs.Prelude.{◌≡◌, ◌⊎◌, IfErr, IfOk, OnOk};
+ghost use Rattle.gix_ref_file.specs.Calls.{Finds};
+ghost use Rattle.history_model.specs.Repository.{Repository};
+ghost use Rattle.history_model.specs.StandsFor.{StandsWhole};
+ghost use Rattle.history_names.specs.Face.{files_of_names, kind_of_names};
+ghost use Rattle.history_objects.specs.Face.{files_of_objects, ids_of_objects, kind_of_objects};
+ghost use Rattle.history_objects.specs.KnownObjects.{HoldsKnown, table_of};
+ghost use Rattle.history_names.specs.Packing.{KeepsRecords};
+ghost use Rattle.history_names_survey.specs.Causes.{HasCause, IsFault};
+ghost use Rattle.history_names_survey.specs.Parts.{IsNamesPart, StandsNames};
+ghost use Rattle.history_names_survey.specs.Stored.{AreFactsOf, facts_in};
+ghost use Rattle.history_survey.specs.Opened.{IsOpened};
+ghost use Rattle.history_repository.specs.Causes.{IsOpenCause, IsOpenFault};
+ghost use Rattle.history_repository.specs.Opened.{IsOpenedAs, trees_of};
+
+use crate::open_error::OpenRefusal;
+use gix_hash::Kind;
+use gix_ref_file::Files;
+use gix_ref_format::packed::buffer as packed;
+use history_names::Names;
+use history_names_survey::{NamesError, survey_names};
+use history_objects::Objects;
+use history_survey::{Unopened, open_objects};
+use std::alloc::Global;
+
+/// A folder that was opened: its objects, its names, and the branch that HEAD names.
+#[derive(Drop)]
+pub struct OpenedFolder<F: Files> {
+    pub objects: Objects<F>,
+    pub names: Names<F>,
+    pub branch: Vec<u8>,
+}
+
+/// Opens a folder whose two parts are those of one repository of this kind: whole, in written form and within the limits, with no
+/// file and no folder besides, whoever wrote them. No file is changed; each object is read once, and once more for each name that holds
+/// it; `packed-refs` is read twice, once to be kept.
+///
+/// Else the refusal names a cause that holds of the parts, and hands both back. The objects are surveyed before the names, so a
+/// cause of the names comes only over whole objects.
+pub fn open_folder<F: Files>(
+    alloc: Global,
+    objects: F,
+    names: F,
+    kind: Kind,
+) -> Result<OpenedFolder<F>, OpenRefusal<F>>
+    ensures parts { IfOk result (λ opened. (files_of_objects opened.objects ≡ objects)
+        × (files_of_names opened.names ≡ names)) }
+    ensures kinds { IfOk result (λ opened. (kind_of_objects opened.objects ≡ kind)
+        × (kind_of_names opened.names ≡ kind)) }
+    // The two parts are a repository's, whole.
+    ensures stands { F.is_honest objects → F.is_honest names → IfOk result (λ opened.
+        (r : Repository) × IsOpenedAs kind (trees_of F.history objects names) opened r) }
+    // Whichever repository they stand for, what is opened is that one.
+    ensures same { (r : Repository) → F.is_honest objects → F.is_honest names
+        → StandsWhole kind (trees_of F.history objects names) r
+        → IfOk result (λ opened. IsOpenedAs kind (trees_of F.history objects names) opened r) }
+    ensures refused { F.is_honest objects → F.is_honest names → IfErr result (λ refusal.
+        IsOpenCause F.reading_may_fail kind (trees_of F.history objects names) refusal.error) }
+    // A repository's parts are refused for a fault alone.
+    ensures accepted { (r : Repository) → F.is_honest objects → F.is_honest names
+        → StandsWhole kind (trees_of F.history objects names) r
+        → IfErr result (λ refusal. IsOpenFault refusal.error) }
+    ensures handed_back { IfErr result (λ refusal. (refusal.objects ≡ objects)
+        × (refusal.names ≡ names)) }
+{
+    match open_objects(alloc, objects, kind) {
+        Ok(objects) => open_names(alloc, objects, names),
+        Err(Unopened { flaw, files }) => Err(OpenRefusal {
+            error: flaw.into(),
+            objects: files,
+            names,
+        }),
+    }
+}
+
+// Opens the names part over objects that are whole.
+fn open_names<F: Files>(
+    alloc: Global,
+    objects: Objects<F>,
+    names: F,
+) -> Result<OpenedFolder<F>, OpenRefusal<F>>
+    requires whole { F.is_honest (files_of_objects objects)
+        → IsOpened (kind_of_objects objects) (F.history (files_of_objects objects)).tree
+        (ids_of_objects objects) }
+    requires holds { F.is_honest (files_of_objects objects)
+        → HoldsKnown F.is_honest F.history objects }
+    ensures parts { IfOk result (λ opened. (opened.objects ≡ objects)
+        × (files_of_names opened.names ≡ names)) }
+    ensures kind { IfOk result (λ opened. kind_of_names opened.names ≡ kind_of_objects objects) }
+    ensures stands { F.is_honest (files_of_objects objects) → F.is_honest names
+        → IfOk result (λ opened. (r : Repository) × IsOpenedAs (kind_of_objects objects)
+        (trees_of F.history (files_of_objects objects) names) opened r) }
+    ensures same { (r : Repository) → F.is_honest (files_of_objects objects) → F.is_honest names
+        → StandsWhole (kind_of_objects objects)
+        (trees_of F.history (files_of_objects objects) names) r
+        → IfOk result (λ opened. IsOpenedAs (kind_of_objects objects)
+        (trees_of F.history (files_of_objects objects) names) opened r) }
+    ensures refused { F.is_honest (files_of_objects objects) → F.is_honest names
+        → IfErr result (λ refusal. IsOpenCause F.reading_may_fail (kind_of_objects objects)
+        (trees_of F.history (files_of_objects objects) names) refusal.error) }
+    ensures accepted { (r : Repository) → F.is_honest (files_of_objects objects)
+        → F.is_honest names
+        → StandsWhole (kind_of_objects objects)
+        (trees_of F.history (files_of_objects objects) names) r
+        → IfErr result (λ refusal. IsOpenFault refusal.error) }
+    ensures handed_back { IfErr result (λ refusal. (refusal.objects ≡ files_of_objects objects)
+        × (refusal.names ≡ names)) }
+{
+    let mut names = Names::new(names, objects.kind());
+    match read_names(alloc, &mut names, &objects) {
+        Ok(branch) => Ok(OpenedFolder {
+            objects,
+            names,
+            branch,
+        }),
+        Err(cause) => Err(OpenRefusal {
+            error: cause.into(),
+            objects: objects.into_files(),
+            names: names.into_files(),
+        }),
+    }
+}
+
+// Surveys the names, and keeps the records of those that are packed: HEAD's branch, or why they aren't a repository's.
+fn read_names<F: Files>(
+    alloc: Global,
+    names: &mut Names<F>,
+    objects: &Objects<F>,
+) -> Result<Vec<u8>, NamesError>
+    ensures files { files_of_names names.new ≡ files_of_names names.old }
+    ensures kind { kind_of_names names.new ≡ kind_of_names names.old }
+    ensures stands { HoldsKnown F.is_honest F.history objects.now
+        → Finds F.is_honest F.history (files_of_names names.old) (λ tree. IfOk result (λ branch.
+        IsNamesPart (kind_of_names names.old)
+        (facts_in (kind_of_names names.old) (table_of F.history objects.now)) tree branch.items)) }
+    ensures keeps { HoldsKnown F.is_honest F.history objects.now
+        → Finds F.is_honest F.history (files_of_names names.old)
+        (λ tree. OnOk result (KeepsRecords names.new tree)) }
+    ensures wrong { HoldsKnown F.is_honest F.history objects.now
+        → Finds F.is_honest F.history (files_of_names names.old) (λ tree. IfErr result
+        (HasCause (F.reading_may_fail ⊎ F.reading_may_fail) (kind_of_names names.old)
+        (facts_in (kind_of_names names.old) (table_of F.history objects.now)) tree)) }
+    ensures accepted { (r : Repository) → HoldsKnown F.is_honest F.history objects.now
+        → r.kind ≡ kind_of_names names.old
+        → AreFactsOf (facts_in (kind_of_names names.old) (table_of F.history objects.now)) r.objects
+        → Finds F.is_honest F.history (files_of_names names.old)
+        (λ tree. StandsNames tree r → IfErr result IsFault) }
+{
+    let branch = survey_names(alloc, &*names, objects)?;
+    match names.read_packed(alloc) {
+        Ok(()) => Ok(branch),
+        Err(packed::Error::Memory) => Err(NamesError::Memory),
+        Err(packed::Error::Io) => Err(NamesError::File),
+        // What was surveyed can be read: the file changed meanwhile.
+        Err(packed::Error::Iter { .. }) => Err(NamesError::File),
+        Err(packed::Error::HeaderParsing) => Err(NamesError::File),
+    }
+}

@@ -1,0 +1,149 @@
+//! Why a folder isn't opened.
+
+ghost use Rattle.std.specs.Prelude.{◌≡◌};
+ghost use Rattle.history_repository.specs.Causes.{cause_of_flaw, cause_of_names};
+
+use gix_hash::ObjectId;
+use gix_ref_file::Files;
+use history_names_survey::NamesError;
+use history_survey::ObjectsFlaw;
+use thiserror::Error;
+
+/// Why a folder isn't opened: a cause that holds of its two parts. Paths and names are in bytes, whole from the part's root; lines
+/// count from 1.
+#[derive(Debug, Drop, Error)]
+pub enum OpenError {
+    #[error("no HEAD stands")]
+    NoHead,
+    /// HEAD isn't `ref: `, a branch's name and a line feed.
+    #[error("HEAD doesn't name a branch")]
+    BadHead,
+    /// A file or a folder stands where no repository has one.
+    #[error("stray: {0:?}")]
+    Stray(Vec<u8>),
+    /// A file stands where one is written before it has its place.
+    #[error("unfinished: {0:?}")]
+    Unfinished(Vec<u8>),
+    /// The file's text is no object's, or that of a commit or a tag that isn't in written form within the limits.
+    #[error("no object: {0:?}")]
+    BadObject(Vec<u8>),
+    /// The file's text has another id than its place says.
+    #[error("the id is wrong: {0:?}")]
+    WrongId(Vec<u8>),
+    /// The object has more than 16,777,216 bytes.
+    #[error("too large: {0:?}")]
+    TooLarge(Vec<u8>),
+    /// The tree isn't in written form, or has a path of more than 4,096 bytes.
+    #[error("a bad tree: {0}")]
+    BadTree(ObjectId),
+    /// The object isn't stored, and this names it.
+    #[error("{0} is missing, named by {1:?}")]
+    Missing(ObjectId, NamedBy),
+    /// The object is of another kind than this says, which names it.
+    #[error("{0} is of another kind than {1:?} says")]
+    WrongKind(ObjectId, NamedBy),
+    /// The object reaches itself by what objects name.
+    #[error("a cycle: {0}")]
+    Cycle(ObjectId),
+    /// An object has the null id, or one that isn't the empty tree has that one's.
+    #[error("a reserved id")]
+    IdReserved,
+    /// A file below `refs` whose path is no name, or that holds neither an id of the repository's kind nor a name.
+    #[error("no name: {0:?}")]
+    BadName(Vec<u8>),
+    /// The name belongs to one working tree.
+    #[error("private: {0:?}")]
+    PrivateName(Vec<u8>),
+    /// The name stands for another name.
+    #[error("symbolic: {0:?}")]
+    Symbolic(Vec<u8>),
+    /// This line of `packed-refs` isn't in its form, or its name may not stand behind those before it: no name, one that has a record
+    /// already, or one that descends where the header says that they ascend.
+    #[error("line {0} of the packed names may not stand there")]
+    BadPacked(usize),
+    /// The peeled id in the name's record isn't that of the commit of a tag that the record holds.
+    #[error("the peeled id is wrong: {0:?}")]
+    BadPeeled(Vec<u8>),
+    /// The first name is a folder of the second one.
+    #[error("{0:?} is a folder of {1:?}")]
+    Collides(Vec<u8>, Vec<u8>),
+    /// The line of the log of this path isn't in its form and limits.
+    #[error("{0:?}: line {1} tells no move")]
+    BadLog(Vec<u8>, usize),
+    /// The line of the log of this path has more than 4,096 bytes, its line feed counted.
+    #[error("{0:?}: line {1} is too long")]
+    LongLogLine(Vec<u8>, usize),
+    /// The name of the log of this path doesn't stand.
+    #[error("no name has the log {0:?}")]
+    LogWithoutName(Vec<u8>),
+    /// A call of the files failed.
+    #[error("a call of the files failed")]
+    File,
+    /// A growth was refused.
+    #[error("a growth was refused")]
+    Memory,
+}
+
+/// What names an object.
+#[derive(Debug, Drop)]
+pub enum NamedBy {
+    /// A stored object.
+    Object(ObjectId),
+    /// A name, which holds the object's id.
+    Name(Vec<u8>),
+}
+
+/// Why a folder isn't opened, and its two parts, as they were handed in.
+#[derive(Drop)]
+pub struct OpenRefusal<F: Files> {
+    pub error: OpenError,
+    pub objects: F,
+    pub names: F,
+}
+
+impl From<ObjectsFlaw> for OpenError {
+    ghost from_gives = { λ flaw error. error ≡ cause_of_flaw flaw };
+
+    fn from(flaw: ObjectsFlaw) -> OpenError {
+        match flaw {
+            ObjectsFlaw::Stray(path) => OpenError::Stray(path),
+            ObjectsFlaw::Unfinished(path) => OpenError::Unfinished(path),
+            ObjectsFlaw::BadObject(path) => OpenError::BadObject(path),
+            ObjectsFlaw::WrongId(path) => OpenError::WrongId(path),
+            ObjectsFlaw::TooLarge(path) => OpenError::TooLarge(path),
+            ObjectsFlaw::BadTree(id) => OpenError::BadTree(id),
+            ObjectsFlaw::Missing(id, by) => OpenError::Missing(id, NamedBy::Object(by)),
+            ObjectsFlaw::WrongKind(id, by) => OpenError::WrongKind(id, NamedBy::Object(by)),
+            ObjectsFlaw::Cycle(id) => OpenError::Cycle(id),
+            ObjectsFlaw::IdReserved => OpenError::IdReserved,
+            ObjectsFlaw::File => OpenError::File,
+            ObjectsFlaw::Memory => OpenError::Memory,
+        }
+    }
+}
+
+impl From<NamesError> for OpenError {
+    ghost from_gives = { λ cause error. error ≡ cause_of_names cause };
+
+    fn from(cause: NamesError) -> OpenError {
+        match cause {
+            NamesError::NoHead => OpenError::NoHead,
+            NamesError::BadHead => OpenError::BadHead,
+            NamesError::Stray(path) => OpenError::Stray(path),
+            NamesError::Unfinished(path) => OpenError::Unfinished(path),
+            NamesError::BadName(path) => OpenError::BadName(path),
+            NamesError::PrivateName(name) => OpenError::PrivateName(name),
+            NamesError::Symbolic(name) => OpenError::Symbolic(name),
+            NamesError::Missing(id, name) => OpenError::Missing(id, NamedBy::Name(name)),
+            NamesError::WrongKind(id, name) => OpenError::WrongKind(id, NamedBy::Name(name)),
+            NamesError::BadPacked(line) => OpenError::BadPacked(line),
+            NamesError::BadPeeled(name) => OpenError::BadPeeled(name),
+            NamesError::Collides(name, other) => OpenError::Collides(name, other),
+            NamesError::BadLog(path, line) => OpenError::BadLog(path, line),
+            NamesError::LongLogLine(path, line) => OpenError::LongLogLine(path, line),
+            NamesError::LogWithoutName(path) => OpenError::LogWithoutName(path),
+            NamesError::File => OpenError::File,
+            NamesError::Memory => OpenError::Memory,
+        }
+    }
+}

@@ -1,4 +1,0 @@
-pub mod Members
-pub mod Generations
-pub mod Counted
-pub mod RowsMade

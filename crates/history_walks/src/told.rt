@@ -1,0 +1,17 @@
+//! What is told of a commit.
+
+use gix_hash::ObjectId;
+use gix_traverse_commit_graph::ParentIds;
+
+/// What is told of a stored commit, of which its row is made.
+#[derive(Drop)]
+pub struct Told {
+    /// The commit's id.
+    pub id: ObjectId,
+    /// The id of its tree.
+    pub tree: ObjectId,
+    /// The ids of its parents, in their order.
+    pub parents: ParentIds,
+    /// Its committer's seconds since 1970.
+    pub time: i64,
+}
