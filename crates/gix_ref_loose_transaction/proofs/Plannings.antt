@@ -195,36 +195,6 @@ pub lent_keeps : (kind : Kind) (text : Option Bytes) (records : Option Buffer) (
 lent_keeps kind text records None is keeps = subst (λ (r : Option Buffer). KeepsFile kind text (option_map kept r)) (sym is) keeps
 lent_keeps kind text records (Some lent) is keeps = subst (λ (r : Option Buffer). KeepsFile kind text (option_map kept r)) (sym is) keeps
 
-module _ (options other : Options) (b base : Base) (old x : Tree) (records : List Record) (committer : Option ActorRef) (edit : RefEdit) where
-  loggings : SameButLocks old x → other ≡ options → base ≡ b → logging other (state_among base x records) committer ≡ logging options (state_among b old records) committer
-  loggings same opts bases = λ i. logging (opts i) (λ name. (ap (λ k. state_among k x records name) bases ∙ among_alike b old x records same name) i) committer
-
-  has : SameButLocks old x → is_full_name edit.name ≡ true → base ≡ b → has_log base x edit.name ≡ has_log b old edit.name
-  has same full bases = ap (λ k. has_log k x edit.name) bases ∙ logs_alike b old x edit.name same full
-
-  pub lined_alike : (line : Option (Vec ℕ Global)) → SameButLocks old x → is_full_name edit.name ≡ true → other ≡ options → base ≡ b
-      → IsLineOf (logging other (state_among base x records) committer) (has_log base x edit.name) edit.name edit.change line → IsLineOf (logging options (state_among b old records) committer) (has_log b old edit.name) edit.name edit.change line
-  lined_alike line same full opts bases lined =
-      subst (λ (l : Logging). IsLineOf l (has_log b old edit.name) edit.name edit.change line) (loggings same opts bases)
-      (subst (λ (stands : Bool). IsLineOf (logging other (state_among base x records) committer) stands edit.name edit.change line) (has same full bases) lined)
-
-  pub fault_alike : (may : Type 0) (error : PrepareError) → SameButLocks old x → is_full_name edit.name ≡ true → other ≡ options → base ≡ b
-      → EditFault (logging other (state_among base x records) committer) (has_log base x edit.name) may edit error → EditFault (logging options (state_among b old records) committer) (has_log b old edit.name) may edit error
-  fault_alike may error same full opts bases fault =
-      subst (λ (l : Logging). EditFault l (has_log b old edit.name) may edit error) (loggings same opts bases)
-      (subst (λ (stands : Bool). EditFault (logging other (state_among base x records) committer) stands may edit error) (has same full bases) fault)
-
--- ---- whether records are known
-pub known_records : (kind : Kind) (text : Option Bytes) (records : Option Buffer) → KeepsFile kind text (option_map kept records) → is_some records ≡ is_some text
-known_records kind None None keeps = refl
-known_records kind (Some text) (Some records) keeps = refl
-known_records kind None (Some records) keeps = absurd keeps
-known_records kind (Some text) None keeps = absurd keeps
-
-pub lent_known : (lent : Option (Bor Buffer)) → is_some (option_copied lent) ≡ is_some lent
-lent_known None = refl
-lent_known (Some buffer) = refl
-
 module _ (options other : Options) (b base : Base) (old x : Tree) (records : List Record) (committer : Option ActorRef) (same : SameButLocks old x) (opts : other ≡ options) (bases : base ≡ b) where
   pub all_lined_alike : (removes : Bool) (edits : List RefEdit) (moves : List Move) → AllPlanned base removes edits moves → AllLined (logging other (state_among base x records) committer) base x edits moves → AllLined (logging options (state_among b old records) committer) b old edits moves
   all_lined_alike removes [] [] plans lined = tt

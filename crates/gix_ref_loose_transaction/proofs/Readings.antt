@@ -124,11 +124,11 @@ quiet p (l ∷ lines) k line found none = by_name (bytes_eq l.name k) refl (λ l
 -- the line that stands first for a name has that name
 line_named : (lines : List Line) (k : Bytes) (line : Line) → line_at lines k ≡ Some line → line.name ≡ k
 line_named [] k line found = cc
-line_named (l ∷ lines) k line found = by_name (bytes_eq l.name k) refl
+line_named (l ∷ lines) k line found = by_name (bytes_eq l.name k) refl (λ later. line_named lines k line later)
   where
-    by_name : (same : Bool) → bytes_eq l.name k ≡ same → line.name ≡ k
-    by_name true is = ap (λ (o : Line). o.name) (sym (inner (sym (ap (λ c. cond c (Some l) (line_at lines k)) is) ∙ found))) ∙ (bytes_eq-Decides l.name k).0 is
-    by_name false is = line_named lines k line (sym (ap (λ c. cond c (Some l) (line_at lines k)) is) ∙ found)
+    by_name : (same : Bool) → bytes_eq l.name k ≡ same → (line_at lines k ≡ Some line → line.name ≡ k) → line.name ≡ k
+    by_name true is later = ap (λ (o : Line). o.name) (sym (inner (sym (ap (λ c. cond c (Some l) (line_at lines k)) is) ∙ found))) ∙ (bytes_eq-Decides l.name k).0 is
+    by_name false is later = later (sym (ap (λ c. cond c (Some l) (line_at lines k)) is) ∙ found)
 
 pub none_told : (b : Base) (before x : Tree) (name : Bytes) (lines : List Line) (own : Option Line) → changes_tree b before lines ≡ false → packed_text_in b x ≡ packed_text_in b before
     → IsSaid lines (packed_key name) own → NewTold own (told b before name) (told b x name)

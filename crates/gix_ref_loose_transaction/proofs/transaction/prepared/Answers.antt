@@ -1,4 +1,4 @@
-use Rattle.std.proofs.Common.{inl, inr, subst, ℕ, List, Vec}
+use Rattle.std.proofs.Common.{inl, inr, sym, subst, ℕ, List, Vec}
 use Rattle.std.proofs.lemmas.Result.{IfErr-weaker, IfOk-weaker, err_from_is_err_and}
 use Rattle.std.specs.declared.alloc.Global.{Global}
 use Rattle.gix_ref_edit.specs.Names.{AllOnce, names_of}
