@@ -7,6 +7,7 @@ use Rattle.history.specs.Runs.{is_changing}
 use Rattle.history.proofs.ActLemmas.{received_changes}
 use Rattle.history.proofs.Acted.{text_acted, refusal_acted, fault_acted, failed_so}
 use Rattle.history.proofs.act.answer.Goals as goal
+use Rattle.history.proofs.act.answer.Given as Given
 use Rattle.history.proofs.act.answer.Goals.{in-Ok, in-Err-Refused, in-Err-Fault, else-is_changing-via-then-is_changing+else-is_fault, else-is_changing-via-else-is_changing}
 
 pub returns-then-is_fault-clause-acted : goal.returns-then-is_fault-clause-acted
@@ -23,8 +24,15 @@ returns-then-is_fault-clause-acted g c = rw (← c.repository.view_is) (λ r ord
           (w.in-Err-Fault.is ∙ ap Err w.in-Err-Fault.field-0-is) w.reply-is changing (λ none. absurd (cc (changing, none))) (c.act.ensures.rows r order asked) stands (c.act.ensures.acts r order asked))
     ])
 
+-- where no mark is made the repository is as `act` left it
+kept_else : (g : Given.Over) (c : goal.Joined-else-is_changing g) → c.else-is_changing.repository ≡ c.act.new.repository
+kept_else g c = elim c.else-is_changing.branch [
+  | else-is_changing-via-then-is_changing+else-is_fault v ↦ v.repository-is
+  | else-is_changing-via-else-is_changing v ↦ v.repository-is
+]
+
 pub returns-else-is_changing-clause-acted : goal.returns-else-is_changing-clause-acted
-returns-else-is_changing-clause-acted g c = rw (← c.repository.view_is) (λ r order unfailed asked.
+returns-else-is_changing-clause-acted g c = rw (← c.repository.view_is, kept_else g c) (λ r order unfailed asked.
     let stands = asked.serves in
     let reads = asked.reads in
     let acts = c.act.ensures.acts r order asked in
@@ -54,10 +62,10 @@ pub returns-then-is_fault-clause-later : goal.returns-then-is_fault-clause-later
 returns-then-is_fault-clause-later g c = rw (← c.repository.view_is) (λ r order asked. c.act.ensures.later r order asked)
 
 pub returns-else-is_changing-clause-later : goal.returns-else-is_changing-clause-later
-returns-else-is_changing-clause-later g c = rw (← c.repository.view_is) (λ r order asked. c.act.ensures.later r order asked)
+returns-else-is_changing-clause-later g c = rw (← c.repository.view_is, kept_else g c) (λ r order asked. c.act.ensures.later r order asked)
 
 pub returns-then-is_fault-clause-honest : goal.returns-then-is_fault-clause-honest
 returns-then-is_fault-clause-honest g c = rw (← c.repository.view_is) (record { objects = c.act.ensures.honest.objects; names = c.act.ensures.honest.names })
 
 pub returns-else-is_changing-clause-honest : goal.returns-else-is_changing-clause-honest
-returns-else-is_changing-clause-honest g c = rw (← c.repository.view_is) (record { objects = c.act.ensures.honest.objects; names = c.act.ensures.honest.names })
+returns-else-is_changing-clause-honest g c = rw (← c.repository.view_is, kept_else g c) (record { objects = c.act.ensures.honest.objects; names = c.act.ensures.honest.names })
