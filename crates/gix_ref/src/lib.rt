@@ -183,7 +183,7 @@ pub mod transaction {
 }
 
 pub use gix_ref_file::{FileError, Files, Fuse, MemoryFiles, Place};
-pub use gix_ref_folder::{Folder, Part};
+pub use gix_ref_folder::{Disk, Folder, Part};
 pub use gix_ref_name::{
     Category, FullName, FullNameRef, Kind, Namespace, PartialName, PartialNameRef, Target,
     TargetRef,

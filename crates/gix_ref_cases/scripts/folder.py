@@ -1,7 +1,7 @@
 #!/usr/bin/env python3
 """Writes the rows of `folder` in stdin and stdout. The answers come from the tree of files of the rows of `file`, of which each of the two
 parts shows its own: `objects` and what lies below it, or all else. At a path with a component of more than 255 bytes nothing exists, and a
-change fails."""
+change fails. No file with a name of more than 250 bytes is made or written in the names part, unless it is a lock file: its own couldn't be."""
 
 import random
 
@@ -11,6 +11,10 @@ from families import write
 
 def is_of(part, path):
     return (path == b"objects" or path.startswith(b"objects/")) == (part == "o")
+
+
+def has_lock_name(path):
+    return path.endswith(b".lock") or len(path.rpartition(b"/")[2]) <= 255 - len(".lock")
 
 
 def is_text(path):
@@ -32,6 +36,8 @@ class Parts(files.Tree):
             return {"kind": "absent", "read": "none:so%20", "read-at": "none:......", "list": "names"}.get(name, "failed")
         if any(len(it) > 255 for path in paths for it in path.split(b"/")):
             return {"kind": "absent", "read": "none:so%20", "read-at": "none:......", "list": "names"}.get(name, "failed")
+        if part == "n" and name in ("create", "write", "append") and not has_lock_name(path):
+            return "failed"
         if name == "list" and path == b"":
             names = [it for it in self.below(b"") if is_of(part, it)]
             return ":".join(["names"] + [files.word(it) for it in names])
@@ -79,9 +85,15 @@ def fixed(words, answers):
 
 
 def by_hand_alone():
-    for path in (b"w" * 255, b"refs/" + b"w" * 255):
-        row(BOTH + [("n", "write", path, b"1"), ("n", "kind", path), ("n", "append", path, b"2"), ("n", "remove", path)],
+    for path in (b"w" * 250, b"refs/" + b"w" * 250, b"refs/" + b"w" * 250 + b".lock", b"w" * 255 + b"/" + b"w" * 250):
+        above = [("n", "folder", b"w" * 255)]
+        row(BOTH + above + [("n", "write", path, b"1"), ("n", "kind", path), ("n", "append", path, b"2"), ("n", "remove", path)],
             ["done", "file:1", "done", "done"])
+    for path in (b"w" * 251, b"w" * 255, b"refs/" + b"w" * 251):
+        row(BOTH + [("n", "write", path, b"1"), ("n", "append", path, b"2"), ("n", "create", path), ("n", "kind", path),
+                    ("n", "rename", b"HEAD", path), ("n", "kind", path), ("n", "remove", path)],
+            ["failed"] * 3 + ["absent", "done", "file:3", "done"])
+    row(BOTH + [("o", "write", b"objects/" + b"w" * 255, b"1"), ("o", "kind", b"objects/" + b"w" * 255)], ["done", "file:1"])
     for path in (b"w" * 256, b"refs/" + b"w" * 256, b"w" * 256 + b"/x", b"refs/" + b"w" * 4000, b"/".join([b"w" * 255] * 16)):
         row(BOTH + [("n", "kind", path), ("n", "read", path), ("n", "read-at", path, 0), ("n", "list", path), ("n", "create", path),
                     ("n", "write", path, b"1"), ("n", "append", path, b"1"), ("n", "rename", b"HEAD", path), ("n", "rename", path, b"a"),
@@ -101,6 +113,7 @@ def by_hand_alone():
     fixed("n:folder:refs n:last n:remove-folder:none n:last o:last", "failed refs%3a%20File%20exists failed none%3a%20No%20such%20file%20or%20directory none")
     fixed("o:write:objects/a:1 o:last n:write:objects/a:1 n:last",
           "failed objects/a%3a%20No%20such%20file%20or%20directory failed objects/a%3a%20no%20path%20of%20this%20part")
+    fixed(f"n:write:{'w' * 251}:1 n:last", f"failed {'w' * 251}%3a%20no%20name%20for%20its%20lock%20file")
     fixed("n:rename:none:kept n:last n:kind:%ff n:last", "failed kept%3a%20no%20file%20to%20move%20here failed %ff%3a%20not%20UTF-8")
 
 

@@ -1,14 +1,15 @@
 //! Cases of `gix_ref_folder`.
 use case_words::{Page, call_by};
-use gix_ref_folder::{Folder, Part};
+use gix_ref_folder::{Disk, Folder, Part};
 use std::os::unix::fs::symlink;
 use std::{fs, io};
 
-type RealFolder<'a> = Folder<&'a HostRuntime>;
+type RealFolder<'a> = Folder<Disk<&'a HostRuntime>>;
 
 // A part of the folder at this path.
 fn part<'a>(rt: &'a HostRuntime, root: &str, part: Part) -> io::Result<RealFolder<'a>> {
-    Ok(Folder::new(rt, String::from_str(rt.alloc(), root)?, part))
+    let root = String::from_str(rt.alloc(), root)?;
+    Ok(Folder::new(rt.alloc(), Disk::new(rt), root, part))
 }
 
 /// What the words of a line answer, over a folder that is made for the line of this number in the one that the program runs in, and

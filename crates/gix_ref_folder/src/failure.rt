@@ -1,6 +1,6 @@
 //! The last call that failed.
 ghost use Rattle.std.specs.Prelude.{◌≡◌, ◌++◌, ◌∷◌, ℕ, List, IfOk};
-ghost use Rattle.gix_ref_folder.specs.Folders.{failed_path, failed_error};
+ghost use Rattle.gix_ref_folder.specs.Errors.{failed_path, failed_error};
 
 use std::alloc::{AllocError, Global};
 use std::io;

@@ -1,7 +1,7 @@
 //! What an error of the system means.
 ghost use Rattle.std.specs.Prelude.{◌≡◌};
 ghost use Rattle.std.specs.IoError.{error_kind};
-ghost use Rattle.gix_ref_folder.specs.Folders.{fault_of, means_absent};
+ghost use Rattle.gix_ref_folder.specs.Errors.{fault_of, means_absent, IsNew};
 
 use gix_ref_file::FileError;
 use std::io::{self, ErrorKind};
@@ -25,4 +25,15 @@ pub fn is_missing(error: &io::Error) -> bool
         error.kind(),
         ErrorKind::NotFound | ErrorKind::NotADirectory | ErrorKind::InvalidFilename,
     )
+}
+
+/// Whether a file was made; it wasn't if something is there already.
+pub fn is_new(made: io::Result<()>) -> io::Result<bool>
+    ensures { IsNew made result }
+{
+    match made {
+        Ok(()) => Ok(true),
+        Err(error) if error.kind() == ErrorKind::AlreadyExists => Ok(false),
+        Err(error) => Err(error),
+    }
 }

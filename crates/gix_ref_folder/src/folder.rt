@@ -1,58 +1,54 @@
 //! Files of a real folder.
-ghost use Rattle.std.specs.Prelude.{◌≡◌, ◌≤◌, ◌+◌, ◌-◌, ◌^◌, min, IfOk, IfNone, OnOk, Ok, IsErrOf, string_bytes};
-ghost use Rattle.gix_ref_file.specs.History.{HasRisen};
-ghost use Rattle.gix_ref_file.specs.declared.files.FileError.TheVariants.{Failed};
-ghost use Rattle.gix_ref_folder.specs.Folders.{failures_of, root_of, part_of, IsPlaceIn};
+ghost use Rattle.std.specs.Prelude.{◌≡◌, length, map, option_map, IfOk, IfSome, IfNone, OnOk, ◌≤◌, [], is_none, string_bytes};
+ghost use Rattle.gix_ref_file.specs.Tree.{node_at, place_of, bytes_of, bytes_at, names_at, part, overwritten};
+ghost use Rattle.gix_ref_file.specs.Changes.{Change, to_create, to_write, to_append, to_rename, to_remove_file, to_make_folder, to_remove_folder};
+ghost use Rattle.gix_ref_file.specs.Calls.{Finds};
+ghost use Rattle.gix_ref_folder.specs.Systems.{IsPlaceOf, AreNames, Reads};
+ghost use Rattle.gix_ref_folder.specs.Folders.{failures_of, root_of, part_of, system_of, history_in, IsHonestIn, IsPlaceIn, IsFileIn, Acts};
 
 use crate::failure::Failure;
-use crate::faults::{fault, is_missing};
+use crate::failures::Failures;
+use crate::faults::{is_missing, is_new};
 use crate::part::Part;
+use crate::system::{Found, System};
+use gix_ref_file::laws::names_ascend;
 use gix_ref_file::paths::is_path;
 use gix_ref_file::{FileError, Files, Place};
 use std::alloc::Global;
-use std::cell::Cell;
-use std::fs::{self, OpenFile, OpenOptions};
-use std::io::{self, ErrorKind, Read, Seek, SeekFrom, Write};
-use std::os::unix::fs::MetadataExt;
+use std::io::{self, ErrorKind};
 
-/// A part of a real folder. What exists at a path is found out by each call anew. A link there is neither a file nor a folder: nothing is
-/// read or written through it, though one at a folder above the path is followed.
+// The most bytes that a name may have beside which `.lock` is to fit too.
+const LONGEST_NAME: usize = 250;
+
+/// A part of a real folder. What exists at a path is found out by each call anew.
 ///
-/// A call answers `Failed` also for a path that isn't UTF-8, and a listing where a name isn't. The root always counts as a folder. Nothing
-/// exists at a path that is too long for the system, so that only changes fail there.
+/// A call answers `Failed` also for a path that isn't UTF-8, and where what is there is neither a file nor a folder, as a link. The root always
+/// counts as a folder. Nothing exists at a path that is too long for the system, so that only changes fail there.
 ///
-/// That the system does what [`Files`] says of a call, and that nobody else changes the folder, is supposed: no clause speaks of
-/// what a real folder holds.
+/// It does what [`Files`] says where the system does what [`System`] says of this part of what is below the root.
 #[derive(Drop)]
-pub struct Folder<R: fs::Files + AllocGlobal + Clone + Drop> {
-    rt: R,
+pub struct Folder<S: System> {
+    alloc: Global,
+    system: S,
     root: String,
     part: Part,
-    changes: Option<FailedChanges>,
-    // A reading that failed after the last such change.
-    reading: Cell<Option<Failure>>,
+    failures: Failures,
 }
 
-// How many changes failed, up to the last `u64`, and the last of them.
-#[derive(Drop)]
-struct FailedChanges {
-    count: u64,
-    last: Failure,
-}
-
-impl<R: fs::Files + AllocGlobal + Clone + Drop> Folder<R> {
+impl<S: System> Folder<S> {
     /// Shows a part of the folder at `root`, which need not exist yet.
-    pub fn new(rt: R, root: String, part: Part) -> Self
+    pub fn new(alloc: Global, system: S, root: String, part: Part) -> Self
+        ensures system { system_of result ≡ system }
         ensures root { root_of result ≡ root }
         ensures part { part_of result ≡ part }
         ensures failures { failures_of result ≡ 0 }
     {
         Folder {
-            rt,
+            alloc,
+            system,
             root,
             part,
-            changes: None,
-            reading: Cell::new(None),
+            failures: Failures::new(),
         }
     }
 
@@ -60,13 +56,13 @@ impl<R: fs::Files + AllocGlobal + Clone + Drop> Folder<R> {
     pub fn last_failure(&mut self) -> Option<&Failure>
         ensures { IfNone result (failures_of self.old ≡ 0) }
     {
-        let change = self.changes.as_ref().map(|changes| &changes.last);
-        self.reading.get_mut().as_ref().or(change)
+        self.failures.last()
     }
 
     // The system's path of what is at a path of the part; `None` where nothing may be.
     fn place(&self, path: &[u8]) -> io::Result<Option<String>>
-        ensures { IfOk result (IsPlaceIn (string_bytes self.now.root) path.now) }
+        ensures { IfOk result (λ place.
+            IsPlaceIn (string_bytes self.now.root) self.now.part path.now place) }
     {
         if !is_path(path) || !self.part.has(path) {
             return Ok(None);
@@ -74,30 +70,50 @@ impl<R: fs::Files + AllocGlobal + Clone + Drop> Folder<R> {
         let Ok(path) = str::from_utf8(path) else {
             return Err(io::Error::new(ErrorKind::InvalidInput, "not UTF-8"));
         };
-        let mut place = String::from_str(self.rt.alloc(), self.root.as_str())?;
+        let mut place = String::from_str(self.alloc, self.root.as_str())?;
         place.push('/')?;
         place.push_str(path)?;
         Ok(Some(place))
     }
 
     // The system's path of what is to be changed.
-    fn target(&self, path: &[u8]) -> io::Result<String> {
+    fn target(&self, path: &[u8]) -> io::Result<String>
+        ensures { IfOk result (λ place.
+            IsPlaceOf (string_bytes self.now.root) self.now.part path.now (string_bytes place)) }
+    {
         let place = self.place(path)?;
         place.ok_or(io::Error::new(ErrorKind::InvalidInput, "no path of this part"))
     }
 
+    // The system's path of a file that is to be made or written; an error if its lock file could have no name.
+    fn file_target(&self, path: &[u8]) -> io::Result<String>
+        ensures { IfOk result (λ place.
+            IsPlaceOf (string_bytes self.now.root) self.now.part path.now (string_bytes place)) }
+    {
+        if self.part == Part::Names && !has_lock_name(path) {
+            return Err(io::Error::new(ErrorKind::InvalidFilename, "no name for its lock file"));
+        }
+        self.target(path)
+    }
+
     // What the system has at a path of its own.
-    fn found(&self, place: &str) -> io::Result<Place> {
-        match fs::symlink_metadata(&self.rt, place) {
-            Ok(found) if found.is_dir() => Ok(Place::Folder),
-            Ok(found) if found.is_file() => Ok(Place::File(found.len())),
-            Ok(_) => Err(io::Error::other("neither a file nor a folder")),
+    fn found(&self, place: &str) -> io::Result<Place>
+        ensures { Reads S.is_honest S.history self.now.system place.now
+            (λ tree path. IfOk result (λ found. found ≡ place_of (node_at tree path))) }
+    {
+        match self.system.kind(place) {
+            Ok(Found::File(len)) => Ok(Place::File(len)),
+            Ok(Found::Folder) => Ok(Place::Folder),
+            Ok(Found::Other) => Err(io::Error::other("neither a file nor a folder")),
             Err(error) if is_missing(&error) => Ok(Place::Absent),
             Err(error) => Err(error),
         }
     }
 
-    fn kind(&self, path: &[u8]) -> io::Result<Place> {
+    fn kind(&self, path: &[u8]) -> io::Result<Place>
+        ensures { Finds (IsHonestIn S.is_honest) (history_in S.history) self.now
+            (λ tree. IfOk result (λ found. found ≡ place_of (node_at tree path.now))) }
+    {
         if path.is_empty() {
             return Ok(Place::Folder);
         }
@@ -108,7 +124,11 @@ impl<R: fs::Files + AllocGlobal + Clone + Drop> Folder<R> {
     }
 
     // The system's path of a file, and its length; `None` where there is none.
-    fn file_place(&self, path: &[u8]) -> io::Result<Option<(String, u64)>> {
+    fn file_place(&self, path: &[u8]) -> io::Result<Option<(String, u64)>>
+        ensures { Finds (IsHonestIn S.is_honest) (history_in S.history) self.now
+            (λ tree. IfOk result (λ file.
+            IsFileIn (string_bytes self.now.root) self.now.part path.now tree file)) }
+    {
         let Some(place) = self.place(path)? else {
             return Ok(None);
         };
@@ -118,196 +138,193 @@ impl<R: fs::Files + AllocGlobal + Clone + Drop> Folder<R> {
         }
     }
 
-    // The system's path of a folder; `None` where there is none.
-    fn folder_place(&self, path: &[u8]) -> io::Result<Option<String>> {
-        if path.is_empty() {
-            return Ok(Some(String::from_str(self.rt.alloc(), self.root.as_str())?));
+    // Fills a buffer with a file's bytes from one on.
+    fn fill(&self, place: &str, at: u64, buffer: &mut [u8]) -> io::Result<()>
+        ensures bytes { Reads S.is_honest S.history self.now.system place.now
+            (λ tree path. OnOk result (buffer.new
+            ≡ part (bytes_at tree path) at (length buffer.old))) }
+        ensures len { length buffer.new ≡ length buffer.old }
+    {
+        if buffer.is_empty() {
+            return Ok(());
         }
-        let Some(place) = self.place(path)? else {
-            return Ok(None);
-        };
-        match self.found(place.as_str())? {
-            Place::Folder => Ok(Some(place)),
-            Place::Absent | Place::File(_) => Ok(None),
-        }
+        self.system.read_at(place, at, buffer)
     }
 
     // A file's bytes.
-    fn bytes(&self, path: &[u8]) -> io::Result<Option<Vec<u8>>> {
-        match self.file_place(path)? {
-            Some((place, len)) => Ok(Some(self.bytes_at(place.as_str(), 0, len)?)),
-            None => Ok(None),
-        }
-    }
-
-    // A file's bytes from one on, so many at most.
-    fn bytes_from(&self, path: &[u8], at: u64, most: usize) -> io::Result<Option<Vec<u8>>> {
+    fn bytes(&self, path: &[u8]) -> io::Result<Option<Vec<u8>>>
+        ensures { Finds (IsHonestIn S.is_honest) (history_in S.history) self.now
+            (λ tree. IfOk result (λ bytes. option_map (λ it. it.items) bytes
+            ≡ bytes_of (node_at tree path.now))) }
+    {
         let Some((place, len)) = self.file_place(path)? else {
             return Ok(None);
         };
-        let count = len.saturating_sub(at).min(most as u64);
-        Ok(Some(self.bytes_at(place.as_str(), at, count)?))
+        let mut bytes = vec![in self.alloc; 0; len as usize]?;
+        self.fill(place.as_str(), 0, &mut bytes)?;
+        Ok(Some(bytes))
     }
 
-    // So many bytes of a file, which has them.
-    fn bytes_at(&self, place: &str, at: u64, count: u64) -> io::Result<Vec<u8>> {
-        let mut bytes = vec![in self.rt.alloc(); 0; count as usize]?;
-        if count > 0 {
-            let mut file = fs::open(&self.rt, place)?;
-            if at > 0 {
-                file.seek(SeekFrom::Start(at))?;
-            }
-            file.read_exact(&mut bytes)?;
+    // Puts what a file has from a byte on into the beginning of a buffer, and returns how many bytes that is.
+    fn bytes_from(&self, path: &[u8], at: u64, buffer: &mut [u8]) -> io::Result<Option<usize>>
+        ensures count { Finds (IsHonestIn S.is_honest) (history_in S.history) self.now
+            (λ tree. IfOk result (λ count.
+            count ≡ option_map (λ bytes. length (part bytes at (length buffer.old)))
+            (bytes_of (node_at tree path.now)))) }
+        ensures bytes { Finds (IsHonestIn S.is_honest) (history_in S.history) self.now
+            (λ tree. OnOk result (buffer.new
+            ≡ overwritten buffer.old (part (bytes_at tree path.now) at (length buffer.old)))) }
+        ensures fits { IfOk result (λ count. IfSome count (λ n. n ≤ length buffer.new)) }
+        ensures len { length buffer.new ≡ length buffer.old }
+    {
+        let Some((place, len)) = self.file_place(path)? else {
+            return Ok(None);
+        };
+        let count = len.saturating_sub(at).min(buffer.len() as u64) as usize;
+        self.fill(place.as_str(), at, &mut buffer[..count])?;
+        Ok(Some(count))
+    }
+
+    // The names right in a folder, in any order.
+    fn names(&self, alloc: Global, folder: &[u8]) -> io::Result<Vec<Vec<u8>>>
+        ensures { Finds (IsHonestIn S.is_honest) (history_in S.history) self.now
+            (λ tree. IfOk result (λ names. AreNames tree folder.now names.items)) }
+    {
+        if folder.is_empty() {
+            return self.root_names(alloc);
         }
-        Ok(bytes)
+        match self.place(folder)? {
+            Some(place) => self.names_at(alloc, place.as_str()),
+            None => Ok(Vec::new(alloc)),
+        }
+    }
+
+    fn names_at(&self, alloc: Global, place: &str) -> io::Result<Vec<Vec<u8>>>
+        ensures { Reads S.is_honest S.history self.now.system place.now
+            (λ tree path. IfOk result (λ names. AreNames tree path names.items)) }
+    {
+        match self.found(place)? {
+            Place::Folder => self.system.list(alloc, place),
+            Place::Absent => Ok(Vec::new(alloc)),
+            Place::File(_) => Ok(Vec::new(alloc)),
+        }
+    }
+
+    // Those of the root that are of the part.
+    fn root_names(&self, alloc: Global) -> io::Result<Vec<Vec<u8>>>
+        ensures { Finds (IsHonestIn S.is_honest) (history_in S.history) self.now
+            (λ tree. IfOk result (λ names. AreNames tree [] names.items)) }
+    {
+        let part = self.part;
+        let mut names = self.system.list(alloc, self.root.as_str())?;
+        names.retain(|name| part.has(name));
+        Ok(names)
     }
 
     // The names right in a folder, ascending.
-    fn names(&self, alloc: Global, folder: &[u8]) -> io::Result<Vec<Vec<u8>>> {
-        let mut names = Vec::new(alloc);
-        let Some(place) = self.folder_place(folder)? else {
-            return Ok(names);
-        };
-        for entry in fs::read_dir(&self.rt, place.as_str())? {
-            let entry = entry?;
-            let name = entry.file_name().as_bytes();
-            if !folder.is_empty() || self.part.has(name) {
-                names.push(Vec::from_slice(alloc, name)?)?;
-            }
-        }
+    fn sorted_names(&self, alloc: Global, folder: &[u8]) -> io::Result<Vec<Vec<u8>>>
+        ensures { Finds (IsHonestIn S.is_honest) (history_in S.history) self.now
+            (λ tree. IfOk result (λ names. map (λ name. name.items) names.items
+            ≡ names_at tree folder.now)) }
+    {
+        names_ascend();
+        let mut names = self.names(alloc, folder)?;
         names.sort()?;
         Ok(names)
     }
 
-    // Makes and opens a file where nothing is, not even a link.
-    fn make(&self, place: &str) -> io::Result<R::File> {
-        let mut how = OpenOptions::new();
-        how.write(true).create_new(true);
-        how.open(&self.rt, place)
-    }
-
-    // Opens a file that is there. The system would follow a link that was put into its place just now, so what was opened is to be
-    // the file that was seen there.
-    fn open_as_seen(&self, place: &str, how: &OpenOptions) -> io::Result<R::File> {
-        let seen = fs::symlink_metadata(&self.rt, place)?;
-        if seen.is_file() {
-            let file = how.open(&self.rt, place)?;
-            let opened = file.metadata()?;
-            if opened.ino() == seen.ino() && opened.dev() == seen.dev() {
-                return Ok(file);
-            }
-        }
-        Err(io::Error::other("not a file"))
-    }
-
-    fn make_new(&self, path: &[u8]) -> io::Result<bool> {
+    fn make_new(&mut self, path: &[u8]) -> io::Result<bool>
+        ensures change { Acts S.is_honest S.history self.old self.new (to_create path.now) result }
+        ensures is_new { Finds (IsHonestIn S.is_honest) (history_in S.history) self.old
+            (λ tree. IfOk result (λ made. made ≡ is_none (node_at tree path.now))) }
+        ensures failures { failures_of self.new ≡ failures_of self.old }
+    {
         if path.is_empty() {
             // The root is there.
             return Ok(false);
         }
-        match self.make(self.target(path)?.as_str()) {
-            Ok(_) => Ok(true),
-            Err(error) if error.kind() == ErrorKind::AlreadyExists => Ok(false),
-            Err(error) => Err(error),
-        }
+        let place = self.file_target(path)?;
+        let made = self.system.create_new(place.as_str());
+        is_new(made)
     }
 
-    fn put(&self, path: &[u8], bytes: &[u8]) -> io::Result<()> {
-        let place = self.target(path)?;
-        let mut file = match self.make(place.as_str()) {
-            Err(error) if error.kind() == ErrorKind::AlreadyExists => {
-                let file = self.open_as_seen(place.as_str(), OpenOptions::new().write(true))?;
-                file.set_len(0)?;
-                file
-            }
-            made => made?,
-        };
-        file.write_all(bytes)
+    fn put(&mut self, path: &[u8], bytes: &[u8]) -> io::Result<()>
+        ensures change { Acts S.is_honest S.history self.old self.new
+            (to_write path.now bytes.now) result }
+        ensures failures { failures_of self.new ≡ failures_of self.old }
+    {
+        let place = self.file_target(path)?;
+        self.system.write(place.as_str(), bytes)
     }
 
-    fn lengthen(&self, path: &[u8], bytes: &[u8]) -> io::Result<()> {
-        let place = self.target(path)?;
-        let mut file = match self.open_as_seen(place.as_str(), OpenOptions::new().append(true)) {
-            Err(error) if error.kind() == ErrorKind::NotFound => self.make(place.as_str())?,
-            opened => opened?,
-        };
-        file.write_all(bytes)
+    fn lengthen(&mut self, path: &[u8], bytes: &[u8]) -> io::Result<()>
+        ensures change { Acts S.is_honest S.history self.old self.new
+            (to_append path.now bytes.now) result }
+        ensures failures { failures_of self.new ≡ failures_of self.old }
+    {
+        let place = self.file_target(path)?;
+        self.system.append(place.as_str(), bytes)
     }
 
     // The system would rename a folder too.
-    fn move_file(&self, from: &[u8], to: &[u8]) -> io::Result<()> {
+    fn move_file(&mut self, from: &[u8], to: &[u8]) -> io::Result<()>
+        ensures change { Acts S.is_honest S.history self.old self.new
+            (to_rename from.now to.now) result }
+        ensures failures { failures_of self.new ≡ failures_of self.old }
+    {
         let to = self.target(to)?;
         match self.file_place(from)? {
-            Some((from, _)) => fs::rename(&self.rt, from.as_str(), to.as_str()),
+            Some((from, _)) => self.system.rename(from.as_str(), to.as_str()),
             None => Err(io::Error::new(ErrorKind::NotFound, "no file to move here")),
         }
     }
 
-    // Keeps why a reading failed.
-    fn read_result<T: Drop>(&self, path: &[u8], read: io::Result<T>) -> Result<T, FileError>
-        ensures ok { IfOk result (λ value. read ≡ Ok value) }
+    fn take_file(&mut self, path: &[u8]) -> io::Result<()>
+        ensures change { Acts S.is_honest S.history self.old self.new
+            (to_remove_file path.now) result }
+        ensures failures { failures_of self.new ≡ failures_of self.old }
     {
-        match read {
-            Ok(value) => Ok(value),
-            Err(error) => {
-                let fault = fault(&error);
-                if fault == FileError::Failed {
-                    let failure = Failure::new(self.rt.alloc(), path, error);
-                    self.reading.set(Some(failure));
-                }
-                Err(fault)
-            }
-        }
+        let place = self.target(path)?;
+        self.system.remove_file(place.as_str())
     }
 
-    // What a change answers; where it failed it is counted, and why is kept.
-    fn changed<T: Drop>(&mut self, path: &[u8], changed: io::Result<T>) -> Result<T, FileError>
-        ensures ok { IfOk result (λ value. changed ≡ Ok value) }
-        ensures later { failures_of self.old ≤ failures_of self.new }
-        ensures unfailed { OnOk result (failures_of self.new ≡ failures_of self.old) }
-        ensures risen { IsErrOf result Failed
-            → HasRisen (failures_of self.old) (failures_of self.new) }
+    fn put_folder(&mut self, path: &[u8]) -> io::Result<()>
+        ensures change { Acts S.is_honest S.history self.old self.new
+            (to_make_folder path.now) result }
+        ensures failures { failures_of self.new ≡ failures_of self.old }
     {
-        match changed {
-            Ok(value) => Ok(value),
-            Err(error) => Err(self.failed(path, error)),
-        }
+        let place = self.target(path)?;
+        self.system.make_folder(place.as_str())
     }
 
-    fn failed(&mut self, path: &[u8], error: io::Error) -> FileError
-        ensures later { failures_of self.old ≤ failures_of self.new }
-        ensures risen { result ≡ Failed → HasRisen (failures_of self.old) (failures_of self.new) }
+    fn take_folder(&mut self, path: &[u8]) -> io::Result<()>
+        ensures change { Acts S.is_honest S.history self.old self.new
+            (to_remove_folder path.now) result }
+        ensures failures { failures_of self.new ≡ failures_of self.old }
     {
-        let fault = fault(&error);
-        if fault == FileError::Memory {
-            return fault;
-        }
-        let last = Failure::new(self.rt.alloc(), path, error);
-        self.count(last);
-        fault
-    }
-
-    fn count(&mut self, last: Failure)
-        ensures count { failures_of self.new ≡ min (failures_of self.old + 1) (2 ^ 64 - 1) }
-        ensures later { failures_of self.old ≤ failures_of self.new }
-    {
-        let before = self.changes.as_ref().map_or(0, |changes| changes.count);
-        self.changes = Some(FailedChanges {
-            count: before.saturating_add(1),
-            last,
-        });
-        self.reading.set(None);
+        let place = self.target(path)?;
+        self.system.remove_folder(place.as_str())
     }
 }
 
-impl<R: fs::Files + AllocGlobal + Clone + Drop> Files for Folder<R> {
+// Whether a lock file can be beside a file: most systems have names of at most 255 bytes. A lock file has none itself.
+fn has_lock_name(path: &[u8]) -> bool {
+    if path.ends_with(b".lock") {
+        return true;
+    }
+    match path.len().checked_sub(LONGEST_NAME + 1) {
+        Some(start) => path[start..].contains(&b'/'),
+        None => true,
+    }
+}
+
+impl<S: System> Files for Folder<S> {
     ghost use Rattle.std.specs.Prelude.{⊤};
-    ghost use Rattle.gix_ref_folder.specs.declared.own.Own.TheVariants.{Proof};
-    ghost use Rattle.gix_ref_folder.specs.Folders.{failures_of, follows, history_of, IsHonest};
+    ghost use Rattle.gix_ref_folder.specs.Folders.{failures_of, history_in, IsHonestIn};
 
-    ghost history = { λ folder. history_of folder };
+    ghost history = { history_in S.history };
 
-    ghost is_honest = { λ folder. IsHonest folder };
+    ghost is_honest = { IsHonestIn S.is_honest };
 
     ghost failures = { λ folder. failures_of folder };
 
@@ -316,11 +333,11 @@ impl<R: fs::Files + AllocGlobal + Clone + Drop> Files for Folder<R> {
     ghost is_atomic = { ⊥ };
 
     fn kind_of(&self, path: &[u8]) -> Result<Place, FileError> {
-        self.read_result(path, self.kind(path))
+        self.failures.read(self.alloc, path, self.kind(path))
     }
 
     fn read(&self, path: &[u8], out: &mut Vec<u8>) -> Result<Option<usize>, FileError> {
-        let Some(bytes) = self.read_result(path, self.bytes(path))? else {
+        let Some(bytes) = self.failures.read(self.alloc, path, self.bytes(path))? else {
             return Ok(None);
         };
         out.extend_from_slice(&bytes)?;
@@ -328,61 +345,49 @@ impl<R: fs::Files + AllocGlobal + Clone + Drop> Files for Folder<R> {
     }
 
     fn read_at(&self, path: &[u8], at: u64, buffer: &mut [u8]) -> Result<Option<usize>, FileError> {
-        let Some(bytes) = self.read_result(path, self.bytes_from(path, at, buffer.len()))? else {
-            return Ok(None);
-        };
-        let count = bytes.len().min(buffer.len());
-        buffer[..count].copy_from_slice(&bytes[..count]);
-        Ok(Some(count))
+        let read = self.bytes_from(path, at, buffer);
+        self.failures.read(self.alloc, path, read)
     }
 
     fn list(&self, alloc: Global, folder: &[u8]) -> Result<Vec<Vec<u8>>, FileError> {
-        self.read_result(folder, self.names(alloc, folder))
+        let names = self.sorted_names(alloc, folder);
+        self.failures.read(self.alloc, folder, names)
     }
 
-    fn create_new(&mut self, _alloc: Global, path: &[u8]) -> Result<bool, FileError> {
+    fn create_new(&mut self, alloc: Global, path: &[u8]) -> Result<bool, FileError> {
         let made = self.make_new(path);
-        self.changed(path, made)
+        self.failures.changed(alloc, path, made)
     }
 
-    fn write(&mut self, _alloc: Global, path: &[u8], bytes: &[u8]) -> Result<(), FileError> {
+    fn write(&mut self, alloc: Global, path: &[u8], bytes: &[u8]) -> Result<(), FileError> {
         let written = self.put(path, bytes);
-        self.changed(path, written)
+        self.failures.changed(alloc, path, written)
     }
 
-    fn append(&mut self, _alloc: Global, path: &[u8], bytes: &[u8]) -> Result<(), FileError> {
+    fn append(&mut self, alloc: Global, path: &[u8], bytes: &[u8]) -> Result<(), FileError> {
         let written = self.lengthen(path, bytes);
-        self.changed(path, written)
+        self.failures.changed(alloc, path, written)
     }
 
-    fn rename(&mut self, _alloc: Global, from: &[u8], to: &[u8]) -> Result<(), FileError> {
+    fn rename(&mut self, alloc: Global, from: &[u8], to: &[u8]) -> Result<(), FileError> {
         let moved = self.move_file(from, to);
-        self.changed(to, moved)
+        self.failures.changed(alloc, to, moved)
     }
 
-    fn remove_file(&mut self, _alloc: Global, path: &[u8]) -> Result<(), FileError> {
-        let removed = match self.target(path) {
-            Ok(place) => fs::remove_file(&self.rt, place.as_str()),
-            Err(error) => Err(error),
-        };
-        self.changed(path, removed)
+    fn remove_file(&mut self, alloc: Global, path: &[u8]) -> Result<(), FileError> {
+        let removed = self.take_file(path);
+        self.failures.changed(alloc, path, removed)
     }
 
-    fn make_folder(&mut self, _alloc: Global, path: &[u8]) -> Result<(), FileError> {
-        let made = match self.target(path) {
-            Ok(place) => fs::create_dir(&self.rt, place.as_str()),
-            Err(error) => Err(error),
-        };
-        self.changed(path, made)
+    fn make_folder(&mut self, alloc: Global, path: &[u8]) -> Result<(), FileError> {
+        let made = self.put_folder(path);
+        self.failures.changed(alloc, path, made)
     }
 
-    fn remove_empty_folder(&mut self, _alloc: Global, path: &[u8]) -> Result<(), FileError> {
-        let removed = match self.target(path) {
-            Ok(place) => fs::remove_dir(&self.rt, place.as_str()),
-            Err(error) => Err(error),
-        };
-        self.changed(path, removed)
+    fn remove_empty_folder(&mut self, alloc: Global, path: &[u8]) -> Result<(), FileError> {
+        let removed = self.take_folder(path);
+        self.failures.changed(alloc, path, removed)
     }
 
-    ghost rooted = { λ folder honest. follows folder _ Proof honest };
+    ghost rooted = { λ folder honest. (S.shown (system_of folder) _ _ honest).rooted };
 }

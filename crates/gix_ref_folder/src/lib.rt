@@ -1,12 +1,17 @@
 //! One part of a real folder, as files.
 #![tactic(auto)]
 
+mod disk;
 mod failure;
+mod failures;
 mod faults;
 mod folder;
 mod own;
 mod part;
+mod system;
 
+pub use disk::Disk;
 pub use failure::Failure;
 pub use folder::Folder;
 pub use part::Part;
+pub use system::{Found, System};

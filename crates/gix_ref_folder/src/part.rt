@@ -1,6 +1,6 @@
 //! Which part of a repository's folder is shown.
 ghost use Rattle.std.specs.Prelude.{◌≡◌};
-ghost use Rattle.gix_ref_folder.specs.Folders.{has};
+ghost use Rattle.gix_ref_folder.specs.Parts.{has};
 
 /// A part of a repository's folder. A path is whole in both, from the folder's root.
 #[derive(Clone, Copy, Debug, PartialEq, Eq)]

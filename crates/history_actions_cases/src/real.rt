@@ -3,15 +3,20 @@
 use crate::line::action_of;
 use crate::session::show;
 use case_words::{Page, call_by, read_bytes};
-use gix_ref_folder::{Folder, Part};
+use gix_ref_folder::{Disk, Folder, Part};
 use history::{Bytes, Collected, Kind};
 use history_actions::act;
 use history_actions::command_line::{Action, Asked};
 use std::{fs, io};
 
 // A part of the folder at this path.
-fn part<'a>(rt: &'a HostRuntime, root: &str, part: Part) -> io::Result<Folder<&'a HostRuntime>> {
-    Ok(Folder::new(rt, String::from_str(rt.alloc(), root)?, part))
+fn part<'a>(
+    rt: &'a HostRuntime,
+    root: &str,
+    part: Part,
+) -> io::Result<Folder<Disk<&'a HostRuntime>>> {
+    let root = String::from_str(rt.alloc(), root)?;
+    Ok(Folder::new(rt.alloc(), Disk::new(rt), root, part))
 }
 
 /// What the words of a line answer, over a folder that is made for the line of this number in the one that the program runs in.

@@ -2,7 +2,7 @@
 
 use crate::notes::{note_failure, note_refusal};
 use crate::turn::take_turn;
-use gix_ref_folder::{Folder, Part};
+use gix_ref_folder::{Disk, Folder, Part};
 use history::in_memory::Patient;
 use history::{Broken, Stream};
 use history_actions::command_line::{AskError, Asked, read_words};
@@ -48,8 +48,8 @@ fn act_in_turn(rt: &HostRuntime, asked: &Asked) -> Result<u8, AllocError> {
 
 // Acts on the two parts of the folder.
 fn act_on_folder(rt: &HostRuntime, asked: &Asked) -> Result<u8, AllocError> {
-    let objects = Folder::new(rt, copy(rt, asked)?, Part::Objects);
-    let names = Folder::new(rt, copy(rt, asked)?, Part::Names);
+    let objects = Folder::new(rt.alloc(), Disk::new(rt), copy(rt, asked)?, Part::Objects);
+    let names = Folder::new(rt.alloc(), Disk::new(rt), copy(rt, asked)?, Part::Names);
     // Each reply is written by one call, so no stream needs a buffer of its own.
     let mut reader = Stream::new(Patient::new(rt.stdin()));
     let mut writer = Stream::new(rt.stdout());

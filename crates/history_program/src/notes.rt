@@ -1,7 +1,7 @@
 //! What is noted behind a fault: which file, and why.
 
 use crate::turn::Refusal;
-use gix_ref_folder::Folder;
+use gix_ref_folder::{Disk, Folder};
 use history::Stream;
 use history_word::write_all;
 use std::alloc::{AllocError, Global};
@@ -13,7 +13,7 @@ pub fn note_refusal(rt: &HostRuntime, folder: &[u8], refusal: &Refusal) {
 }
 
 /// Notes the last call that failed in a part of a folder, if one did.
-pub fn note_failure(rt: &HostRuntime, part: &mut Folder<&HostRuntime>) {
+pub fn note_failure(rt: &HostRuntime, part: &mut Folder<Disk<&HostRuntime>>) {
     if let Some(failure) = part.last_failure() {
         note(rt, failure.text(rt.alloc()));
     }

@@ -1,15 +1,14 @@
-use Rattle.gix_ref_folder.specs.declared.own.Own.TheVariants.{Proof}
-use Rattle.gix_ref_folder.specs.Folders.{follows}
+use Rattle.gix_ref_folder.proofs.Made.{makes_of, cause_of, passed}
 use Rattle.gix_ref_folder.proofs.folder.FolderFiles.create_new.Goals as goal
 
 pub returns-clause-honest : goal.returns-clause-honest
-returns-clause-honest g c = follows _ _ Proof
-
-pub returns-clause-is_new : goal.returns-clause-is_new
-returns-clause-is_new g c = follows _ _ Proof
+returns-clause-honest g c honest = (c.make_new-made.ensures.change honest).0
 
 pub returns-clause-change : goal.returns-clause-change
-returns-clause-change g c = follows _ _ Proof
+returns-clause-change g c honest = makes_of _ _ _ _ _ c.changed.ensures.ok (c.make_new-made.ensures.change honest).1
 
 pub returns-clause-cause : goal.returns-clause-cause
-returns-clause-cause g c = follows _ _ Proof
+returns-clause-cause g c honest = cause_of _ _ _ _ _ c.make_new-made.ensures.failures c.changed.ensures.risen
+
+pub returns-clause-is_new : goal.returns-clause-is_new
+returns-clause-is_new g c honest = passed _ _ _ c.changed.ensures.ok (c.make_new-made.ensures.is_new honest)

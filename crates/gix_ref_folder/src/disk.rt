@@ -1,0 +1,147 @@
+//! The system's own calls.
+
+use crate::part::Part;
+use crate::system::{Found, System};
+use std::alloc::Global;
+use std::fs::{self, OpenFile, OpenOptions};
+use std::io::{self, ErrorKind, Read, Seek, SeekFrom, Write};
+use std::os::unix::fs::MetadataExt;
+
+/// The calls of the system that a program runs on.
+///
+/// A link is neither a file nor a folder: nothing is read or written through it, though one at a folder above the path is followed.
+///
+/// That the calls do what [`System`] says of a part of what is below a root, and that nobody else changes it, is supposed: the
+/// runtime's calls promise nothing.
+#[derive(Drop)]
+pub struct Disk<R: fs::Files + AllocGlobal + Clone + Drop> {
+    rt: R,
+}
+
+impl<R: fs::Files + AllocGlobal + Clone + Drop> Disk<R> {
+    /// The system of a runtime.
+    pub fn new(rt: R) -> Self {
+        Disk { rt }
+    }
+
+    fn look(&self, place: &str) -> io::Result<Found> {
+        let found = fs::symlink_metadata(&self.rt, place)?;
+        if found.is_dir() {
+            return Ok(Found::Folder);
+        }
+        if found.is_file() {
+            return Ok(Found::File(found.len()));
+        }
+        Ok(Found::Other)
+    }
+
+    fn fill(&self, place: &str, at: u64, buffer: &mut [u8]) -> io::Result<()> {
+        let mut file = fs::open(&self.rt, place)?;
+        if at > 0 {
+            file.seek(SeekFrom::Start(at))?;
+        }
+        file.read_exact(buffer)
+    }
+
+    fn names(&self, alloc: Global, place: &str) -> io::Result<Vec<Vec<u8>>> {
+        let mut names = Vec::new(alloc);
+        for entry in fs::read_dir(&self.rt, place)? {
+            let entry = entry?;
+            names.push(Vec::from_slice(alloc, entry.file_name().as_bytes())?)?;
+        }
+        Ok(names)
+    }
+
+    // Makes and opens a file where nothing is, not even a link.
+    fn make(&self, place: &str) -> io::Result<R::File> {
+        let mut how = OpenOptions::new();
+        how.write(true).create_new(true);
+        how.open(&self.rt, place)
+    }
+
+    fn put_new(&self, place: &str) -> io::Result<()> {
+        let _made = self.make(place)?;
+        Ok(())
+    }
+
+    // Opens a file to change it, and returns its length; one that is missing is made. The system would follow a link that was put into
+    // the place of a file just now, so what was opened is to be the file that was seen there.
+    fn open(&self, place: &str, how: &OpenOptions) -> io::Result<(R::File, u64)> {
+        let seen = match fs::symlink_metadata(&self.rt, place) {
+            Err(error) if error.kind() == ErrorKind::NotFound => return Ok((self.make(place)?, 0)),
+            seen => seen?,
+        };
+        if seen.is_file() {
+            let file = how.open(&self.rt, place)?;
+            let opened = file.metadata()?;
+            if opened.ino() == seen.ino() && opened.dev() == seen.dev() {
+                return Ok((file, opened.len()));
+            }
+        }
+        Err(io::Error::other("not a file"))
+    }
+
+    fn put(&self, place: &str, bytes: &[u8]) -> io::Result<()> {
+        let (mut file, len) = self.open(place, OpenOptions::new().write(true))?;
+        if len > 0 {
+            file.set_len(0)?;
+        }
+        file.write_all(bytes)
+    }
+
+    fn lengthen(&self, place: &str, bytes: &[u8]) -> io::Result<()> {
+        let (mut file, _) = self.open(place, OpenOptions::new().append(true))?;
+        file.write_all(bytes)
+    }
+}
+
+impl<R: fs::Files + AllocGlobal + Clone + Drop> System for Disk<R> {
+    ghost use Rattle.gix_ref_folder.specs.declared.own.Own.TheVariants.{Proof};
+    ghost use Rattle.gix_ref_folder.specs.Disks.{follows, history_on, IsHonestOn};
+
+    ghost history = { λ disk root part. history_on disk root part };
+
+    ghost is_honest = { λ disk root part. IsHonestOn disk root part };
+
+    fn kind(&self, place: &str) -> io::Result<Found> {
+        self.look(place)
+    }
+
+    fn read_at(&self, place: &str, at: u64, buffer: &mut [u8]) -> io::Result<()> {
+        self.fill(place, at, buffer)
+    }
+
+    fn list(&self, alloc: Global, place: &str) -> io::Result<Vec<Vec<u8>>> {
+        self.names(alloc, place)
+    }
+
+    fn create_new(&mut self, place: &str) -> io::Result<()> {
+        self.put_new(place)
+    }
+
+    fn write(&mut self, place: &str, bytes: &[u8]) -> io::Result<()> {
+        self.put(place, bytes)
+    }
+
+    fn append(&mut self, place: &str, bytes: &[u8]) -> io::Result<()> {
+        self.lengthen(place, bytes)
+    }
+
+    fn rename(&mut self, from: &str, to: &str) -> io::Result<()> {
+        fs::rename(&self.rt, from, to)
+    }
+
+    fn remove_file(&mut self, place: &str) -> io::Result<()> {
+        fs::remove_file(&self.rt, place)
+    }
+
+    fn make_folder(&mut self, place: &str) -> io::Result<()> {
+        fs::create_dir(&self.rt, place)
+    }
+
+    fn remove_folder(&mut self, place: &str) -> io::Result<()> {
+        fs::remove_dir(&self.rt, place)
+    }
+
+    ghost shown = { λ disk root part honest. follows disk root part _ Proof honest };
+}
