@@ -6,8 +6,8 @@ use Rattle.gix_hash_id.specs.Order.{id_eq}
 use Rattle.gix_hash_id.specs.OrderLaws.{id_eq-same, id_eq-itself}
 use Rattle.gix_object_lookup.specs.Table.{Object}
 use Rattle.gix_object_write.specs.Keeping.{Puts}
-use Rattle.case_store.specs.Store.{table_of}
-use Rattle.case_store.specs.declared.stored.Stored.{Stored}
+use Rattle.case_words.specs.Store.{table_of}
+use Rattle.case_words.specs.declared.stored.Stored.{Stored}
 
 abbrev object_of : Stored → Object
 object_of stored = record { kind = stored.kind; content = stored.content.items }

@@ -7,8 +7,7 @@ mod messages;
 mod signing;
 
 use crate::written::show_object;
-use case_store::Case;
-use case_words::Page;
+use case_words::{Case, Page};
 use gix_object_commit::{Commit, CommitRef};
 use std::alloc::Global;
 

@@ -2,8 +2,7 @@
 
 mod modes;
 
-use case_store::Case;
-use case_words::Page;
+use case_words::{Case, Page};
 use gix_hash::ObjectId;
 use gix_object_entries::tree::{Entry, EntryKind, EntryMode, EntryRef, name_order};
 use gix_object_entries::{Tree, TreeRef};

@@ -1,7 +1,6 @@
 //! What errors and headers print, for users and for those who debug, and writers that are interrupted.
 
-use case_store::Case;
-use case_words::Page;
+use case_words::{Case, Page};
 use gix_object_lines::write::{FilenameError, TagNameError, write_bytes};
 use gix_object_lines::{Header, Kind, decode, encode, kind};
 use std::alloc::Global;

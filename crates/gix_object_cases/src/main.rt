@@ -15,8 +15,7 @@ mod signature;
 mod tag;
 mod written;
 
-use case_store::Case;
-use case_words::Page;
+use case_words::{Case, Page};
 use gix_hash::ObjectId;
 use std::alloc::{AllocError, Global};
 use std::io;

@@ -4,8 +4,7 @@ mod borrowed;
 mod data;
 mod owned;
 
-use case_store::Case;
-use case_words::Page;
+use case_words::{Case, Page};
 use std::alloc::Global;
 
 /// Adds what the operation gives. `None` where it is none.

@@ -5,8 +5,7 @@ mod signing;
 mod whole;
 
 use crate::written::show_object;
-use case_store::Case;
-use case_words::Page;
+use case_words::{Case, Page};
 use gix_object_tag::TagRef;
 use std::alloc::Global;
 

@@ -2,8 +2,7 @@
 
 use crate::tree::put_record;
 use bstr::BStr;
-use case_store::Trees;
-use case_words::Page;
+use case_words::{Page, Trees};
 use gix_hash::ObjectId;
 use gix_object_lookup::entries_of;
 use gix_traverse_tree::recorder::Recorder;

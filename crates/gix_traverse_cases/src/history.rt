@@ -1,8 +1,7 @@
 //! Commits as the lines give them, as objects and as rows.
 
 use crate::numbers::{number, read_id, read_ids};
-use case_store::{Store, Stored};
-use case_words::Page;
+use case_words::{Page, Store, Stored};
 use gix_hash::ObjectId;
 use gix_object_lines::Kind;
 use gix_traverse_commit::{Graph, ParentIds, Row, RowsError};

@@ -3,8 +3,7 @@
 use crate::history::History;
 use crate::numbers::{put_each, read_ids};
 use crate::walks::{Asked, copied};
-use case_store::Store;
-use case_words::Page;
+use case_words::{Page, Store};
 use gix_hash::ObjectId;
 use gix_traverse_commit::All;
 use gix_traverse_topo::{Builder, Error, Sorting, Topo};

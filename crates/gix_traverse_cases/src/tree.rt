@@ -1,8 +1,7 @@
 //! Cases of `gix_traverse_tree`.
 
 use crate::copies::put_copied;
-use case_store::{Case, Row, Trees};
-use case_words::Page;
+use case_words::{Case, Page, Row, Trees};
 use gix_hash::ObjectId;
 use gix_object_entries::tree::EntryMode;
 use gix_object_lookup::entries_of;

@@ -3,7 +3,7 @@
 use crate::history::History;
 use crate::numbers::read_ids;
 use crate::predicate::Refusing;
-use case_store::Store;
+use case_words::Store;
 use gix_hash::ObjectId;
 use gix_traverse_commit::simple::Sorting;
 use gix_traverse_commit::{Accept, All, Graph, Info, Parents, Simple};

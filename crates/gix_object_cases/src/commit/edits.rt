@@ -2,8 +2,7 @@
 
 use crate::written::show_written;
 use bstr::BStr;
-use case_store::Case;
-use case_words::{Page, text_of};
+use case_words::{Case, Page, text_of};
 use gix_object_commit::CommitRef;
 use gix_object_commit::commit::HeaderRef;
 use gix_object_lines::lines::{ActorRef, Time};

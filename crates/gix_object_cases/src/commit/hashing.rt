@@ -1,8 +1,7 @@
 //! Blobs, and the ids of objects.
 
 use crate::written::show_object;
-use case_store::Case;
-use case_words::Page;
+use case_words::{Case, Page};
 use gix_hash::io::{self, Interrupt, Progress};
 use gix_object_hash::{BlobRef, compute_hash, compute_stream_hash};
 use gix_object_lines::Kind;

@@ -3,8 +3,7 @@
 use crate::program::Program;
 use crate::written::show_written;
 use bstr::BStr;
-use case_store::Case;
-use case_words::Page;
+use case_words::{Case, Page};
 use gix_object_commit::{Commit, CommitRef};
 use gix_object_commit_tokens::CommitRefIter;
 use gix_object_commit_tokens::ref_iter::CommitSignature;

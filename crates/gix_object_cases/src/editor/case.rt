@@ -1,7 +1,6 @@
 //! The words of a line.
 
-use case_store::{Row, Trees, read_kind, row_of_content};
-use case_words::read_digits;
+use case_words::{Row, Trees, read_digits, read_kind, row_of_content};
 use gix_hash::Kind;
 use gix_object_entries::tree::EntryKind;
 use gix_object_entries::{Tree, TreeRef};

@@ -1,8 +1,7 @@
 //! The edits of a line, one after another.
 
 use crate::editor::case::{Case, read_case, read_entry_kind, read_path, read_tree, row_of};
-use case_store::{Row, Trees, read_id};
-use case_words::Page;
+use case_words::{Page, Row, Trees, read_id};
 use gix_hash::{Kind, ObjectId};
 use gix_object_editor::tree::editor::{Cursor, Editor, Error, write};
 use gix_object_entries::Tree;

@@ -1,7 +1,6 @@
 //! Modes.
 
-use case_store::Case;
-use case_words::Page;
+use case_words::{Case, Page};
 use gix_object_entries::tree::EntryMode;
 use std::convert::TryFrom;
 use std::fmt;

@@ -1,8 +1,7 @@
 //! One operation, asked of whatever looks objects up.
 
 use crate::find::{kinds, paths};
-use case_store::Case;
-use case_words::Page;
+use case_words::{Case, Page};
 use gix_hash::ObjectId;
 use gix_object_find::{Exists, Find, FindHeader};
 use std::alloc::Global;

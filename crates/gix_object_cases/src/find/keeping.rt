@@ -3,8 +3,7 @@
 ghost use Rattle.std.specs.Prelude.{◌≡◌, true};
 
 use crate::find::store::Store;
-use case_store::{Case, Stored};
-use case_words::Page;
+use case_words::{Case, Page, Stored};
 use gix_hash::{Kind as HashKind, ObjectId};
 use gix_object_find::FindExt;
 use gix_object_lines::Kind;

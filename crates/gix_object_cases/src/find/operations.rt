@@ -3,8 +3,7 @@
 use crate::find::asked::ask;
 use crate::find::keeping;
 use crate::find::store::Store;
-use case_store::Case;
-use case_words::Page;
+use case_words::{Case, Page};
 use gix_object_lookup::find::Never;
 use std::alloc::Global;
 use std::rc::Rc;

@@ -1,9 +1,9 @@
 //! A store of the objects that a line gives.
 
 ghost use Rattle.std.specs.Prelude.{◌≡◌, true, false};
-ghost use Rattle.case_store.specs.Store.{ids_of, table_of};
+ghost use Rattle.case_words.specs.Store.{ids_of, table_of};
 
-use case_store::{Stored, read_loose, stored_at};
+use case_words::{Stored, read_loose, stored_at};
 use gix_hash::{Kind as HashKind, oid};
 use gix_object_lines::{Header, Kind};
 use gix_object_lookup::find::Error;

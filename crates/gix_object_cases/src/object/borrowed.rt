@@ -2,8 +2,7 @@
 
 use crate::object::{show_entries, show_part};
 use crate::written::show_object;
-use case_store::Case;
-use case_words::Page;
+use case_words::{Case, Page};
 use gix_object_lines::Kind;
 use gix_object_tree::ObjectRef;
 use std::alloc::Global;

@@ -1,8 +1,7 @@
 //! Objects that weren't read yet.
 
 use crate::object::borrowed;
-use case_store::Case;
-use case_words::Page;
+use case_words::{Case, Page};
 use gix_hash::ObjectId;
 use gix_object_lines::Kind;
 use gix_object_tree::Data;

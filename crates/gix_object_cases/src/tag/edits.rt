@@ -2,8 +2,7 @@
 
 use crate::written::show_written;
 use bstr::BStr;
-use case_store::Case;
-use case_words::Page;
+use case_words::{Case, Page};
 use gix_object_lines::lines::ActorRef;
 use gix_object_tag::TagRef;
 use std::alloc::Global;

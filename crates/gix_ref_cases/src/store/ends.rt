@@ -1,8 +1,7 @@
 //! What references lead to: the next one, the object in the end, and the lines of their logs.
 
 use crate::store::lookups::{show, show_found};
-use case_store::Store as Objects;
-use case_words::Page;
+use case_words::{Page, Store as Objects};
 use gix_hash::ObjectId;
 use gix_ref_file::MemoryFiles;
 use gix_ref_format::packed::Buffer;

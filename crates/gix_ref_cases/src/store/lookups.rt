@@ -1,8 +1,7 @@
 //! Lookups of words, and what they give.
 
 use crate::store::{ends, objects};
-use case_store::Store as Objects;
-use case_words::Page;
+use case_words::{Page, Store as Objects};
 use gix_ref_file::MemoryFiles;
 use gix_ref_format::loose;
 use gix_ref_format::packed::{Buffer, FindError};

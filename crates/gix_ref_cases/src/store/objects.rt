@@ -1,6 +1,6 @@
 //! The objects of a line, as a store of references is asked to peel with.
 
-use case_store::{Store, Stored, read_loose};
+use case_words::{Store, Stored, read_loose};
 use gix_hash::Kind;
 use std::alloc::Global;
 

@@ -1,8 +1,7 @@
 //! Objects in memory, from lines.
 
 use crate::store::objects::read_object;
-use case_store::Store;
-use case_words::text_of;
+use case_words::{Store, text_of};
 use std::alloc::Global;
 
 /// The objects of lines that have a loose object in hexadecimal digits.

@@ -1,7 +1,6 @@
 //! The parts of words.
 
-use case_store::read_id;
-use case_words::read_digits;
+use case_words::{read_digits, read_id};
 use history_files::{Change, Edit, Found};
 use history_model::FileKind;
 use std::alloc::Global;

@@ -2,8 +2,7 @@
 
 use crate::edits::case::{PathEdit, kind_word, lent, read_edit};
 use crate::edits::store::has_named;
-use case_store::{Row, Trees, read_id, read_kind, row_of_content};
-use case_words::{Page, read_digits};
+use case_words::{Page, Row, Trees, read_digits, read_id, read_kind, row_of_content};
 use gix_hash::{Kind, ObjectId};
 use history_files::{
     EditError, EditedFiles, EditedTree, EntriesState, File, Found, ReadError, edit_files,

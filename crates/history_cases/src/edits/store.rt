@@ -1,6 +1,6 @@
 //! Whether the trees are closed.
 
-use case_store::Trees;
+use case_words::Trees;
 use gix_hash::{Kind, ObjectId};
 use gix_object_entries::TreeRef;
 use std::alloc::Global;

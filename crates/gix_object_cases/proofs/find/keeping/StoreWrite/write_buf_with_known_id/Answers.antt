@@ -1,6 +1,6 @@
 use Rattle.std.proofs.Common.{refl}
 use Rattle.gix_object_cases.proofs.Kept.{kept}
-use Rattle.case_store.specs.declared.stored.Stored.{Stored}
+use Rattle.case_words.specs.declared.stored.Stored.{Stored}
 use Rattle.gix_object_cases.proofs.find.keeping.StoreWrite.write_buf_with_known_id.Goals as goal
 
 pub returns-clause-kept : goal.returns-clause-kept

@@ -1,6 +1,6 @@
 use Rattle.std.proofs.Common.{◌∙◌, sym}
 use Rattle.gix_hash_id.specs.Views.{viewed_id}
-use Rattle.case_store.proofs.Listed.{listed_by}
+use Rattle.case_words.proofs.Listed.{listed_by}
 use Rattle.gix_object_cases.proofs.find.store.StoreExists.exists.Goals as goal
 
 pub returns-clause-listed : goal.returns-clause-listed

@@ -1,7 +1,7 @@
 use Rattle.std.proofs.Common.{◌∙◌, ap, sym}
 use Rattle.std.specs.Option.{option_copied}
 use Rattle.gix_hash_id.specs.Views.{viewed_id}
-use Rattle.case_store.proofs.Listed.{listed}
+use Rattle.case_words.proofs.Listed.{listed}
 use Rattle.gix_object_cases.proofs.find.store.StoreFindInto.find_into.Goals as goal
 
 pub returns-clause-listed : goal.returns-clause-listed

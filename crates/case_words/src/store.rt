@@ -1,7 +1,7 @@
 //! A store of objects.
 
 ghost use Rattle.std.specs.Prelude.{◌≡◌, ⊤};
-ghost use Rattle.case_store.specs.Store.{ids_of, table_of};
+ghost use Rattle.case_words.specs.Store.{ids_of, table_of};
 
 use crate::stored::{Stored, stored_at};
 use gix_hash::oid;

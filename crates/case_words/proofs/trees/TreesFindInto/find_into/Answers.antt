@@ -3,8 +3,8 @@ use Rattle.std.proofs.lemmas.List.{get_or-map}
 use Rattle.gix_hash_id.specs.Id.{Id, id_of}
 use Rattle.gix_hash_id.specs.Views.{viewed_id}
 use Rattle.gix_hash_id.specs.OrderLaws.{id_eq-same}
-use Rattle.case_store.specs.declared.trees.Row.{Row}
-use Rattle.case_store.proofs.trees.TreesFindInto.find_into.Goals as goal
+use Rattle.case_words.specs.declared.trees.Row.{Row}
+use Rattle.case_words.proofs.trees.TreesFindInto.find_into.Goals as goal
 
 ids_length : (rows : List Row) → length (map (λ (r : Row). id_of r.oid) rows) ≡ length rows
 ids_length [] = refl

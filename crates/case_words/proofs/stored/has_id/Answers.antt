@@ -1,8 +1,8 @@
 use Rattle.std.proofs.Common.{◌∙◌, ap}
 use Rattle.gix_hash_id.specs.Order.{id_eq}
 use Rattle.gix_hash_id.specs.Views.{viewed_id}
-use Rattle.case_store.proofs.Listed.{same_test}
-use Rattle.case_store.proofs.stored.has_id.Goals as goal
+use Rattle.case_words.proofs.Listed.{same_test}
+use Rattle.case_words.proofs.stored.has_id.Goals as goal
 
 pub returns : goal.returns
 returns c =

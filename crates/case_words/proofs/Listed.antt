@@ -5,8 +5,8 @@ use Rattle.std.specs.Option.{option_copied}
 use Rattle.gix_hash_id.specs.Id.{Id, id_of}
 use Rattle.gix_hash_id.specs.Order.{id_eq}
 use Rattle.gix_hash_id.specs.OrderLaws.{id_eq-same, id_eq-itself}
-use Rattle.case_store.specs.Store.{ids_of}
-use Rattle.case_store.specs.declared.stored.Stored.{Stored}
+use Rattle.case_words.specs.Store.{ids_of}
+use Rattle.case_words.specs.declared.stored.Stored.{Stored}
 
 not_same : (x y : Id) (v : Bool) → id_eq x y ≡ v → (x ≡ y → false ≡ true) → false ≡ v
 not_same x y true told back = back (id_eq-same x y told)

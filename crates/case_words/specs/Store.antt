@@ -3,7 +3,7 @@ use Rattle.std.specs.Prelude.{List, find, map, option_map}
 use Rattle.gix_hash_id.specs.Id.{Id, id_of}
 use Rattle.gix_hash_id.specs.Order.{id_eq}
 use Rattle.gix_object_lookup.specs.Table.{Table}
-use Rattle.case_store.specs.declared.stored.Stored.{Stored}
+use Rattle.case_words.specs.declared.stored.Stored.{Stored}
 
 abbrev pub ids_of : List Stored → List Id
 ids_of objects = map (λ (stored : Stored). id_of stored.id) objects

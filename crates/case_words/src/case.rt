@@ -1,7 +1,7 @@
 //! Lines of a hash function and bytes.
 
-use crate::words::read_kind;
-use case_words::Texts;
+use crate::digits::Texts;
+use crate::ids::read_kind;
 use gix_hash::Kind;
 use std::alloc::Global;
 
