@@ -22,11 +22,9 @@ test: ## the merge gate: documents, proofs, wrong bodies of must-fail/, tests, p
 	@if python3 -c 'import sys; sys.exit(sys.version_info < (3, 9))' 2>/dev/null; then $(MAKE) --no-print-directory clients-test; \
 	else echo 'The clients are not tested: Python 3.9 or later is not here.'; fi
 
-# Each program on its own stream, against what it must write; as many side by side as .ci/lanes says.
 quick: ## the example and the programs of cases by rt try, without a proof; some minutes. It proves nothing
 	@echo 'Nothing of this is proved: rt try runs the sources as they are.'
-	@for it in example $(notdir $(wildcard crates/*_cases)); do echo $$it; done | xargs -P "$$(.ci/lanes)" -I{} sh -c \
-	  'cd crates/{} && if rt try --steps 1 --seconds 600 $$([ -f args ] && echo "-- $$(cat args)") < stdin 2> /dev/null | cmp -s - stdout; then echo "{}: as wanted"; else echo "{}: NOT as wanted"; exit 1; fi'
+	@scripts/quick
 
 wrong-bodies: ## tries the wrong bodies of planted/ and must-fail/; CRATES="gix_hash_id history" those of some crates, NAMED=1 the named; many hours for all
 	planted/try $(CRATES)

@@ -324,6 +324,8 @@ class Ends(WithRepo):
         code = (
             "import os, signal, sys, threading, wunthavel\n"
             "from wunthavel import protocol\n"
+            # A shell's background jobs begin with the signal ignored.
+            "signal.signal(signal.SIGINT, signal.default_int_handler)\n"
             f"repo = wunthavel.Repo({self.store!r})\n"
             "threading.Timer(0.3, os.kill, (os.getpid(), signal.SIGINT)).start()\n"
             "count = 0\n"
