@@ -1,6 +1,12 @@
-//! A run of a commit of one file and of what reads it, with what Git's ids make of it.
+//! Two commits of one file and what reads the first, with what Git's ids make of it; and a repository that has them.
 
-use history::Kind;
+use gix_ref_file::MemoryFiles;
+use history::in_memory::new_repository;
+use history::{Bytes, Collected, Command, End, Kind, ObjectId, Received, run};
+use history_repository::Repository;
+use history_word::{Buffer, read_command};
+use std::alloc::Global;
+use std::process::Abort;
 
 /// The kinds of digest.
 pub const KINDS: [Kind; 2] = [Kind::Sha1, Kind::Sha256];
@@ -32,3 +38,59 @@ pub const REPLIES: ByKind = ByKind {
     sha1: b"ok commit 66685e2ab14c48f6b22dfeca748179d40cfc74f0\nok files 1\nfile b6fc4c620b67d95f953a5c1c1230aaab5db5a1b0 1\na\nok show content file b6fc4c620b67d95f953a5c1c1230aaab5db5a1b0 5\nhello\n",
     sha256: b"ok commit 81c6fcd6b041c1d6f5e62076e03094f5af903b3e3a10c1860742675b69f1184b\nok files 1\nfile 8aec4e4876f854f688d0ebfc8f37598f38e5fd6903cccc850ca36591175aeb60 1\na\nok show content file 8aec4e4876f854f688d0ebfc8f37598f38e5fd6903cccc850ca36591175aeb60 5\nhello\n",
 };
+
+/// A commit on that of the input.
+pub const SECOND: &[u8] =
+    b"commit refs/heads/main any\nput file 1 7\na\ngoodbye\nauthor 1 3 2 +0000\nA\na@b\ncommitter 1 3 2 +0000\nA\na@b\nmessage 3\ntwo\nend\n";
+
+pub const SECOND_REPLY: ByKind = ByKind {
+    sha1: b"ok commit dc6e747185a5cde1f61914653bf0821976ebf033\n",
+    sha256: b"ok commit a5ea25249d07efccaadbf8c78d176b8ccc8ebfb7d3ee2e5e80bf06d2bd831a1a\n",
+};
+
+/// The id in replies that begin with `ok commit <id>`.
+pub fn made_id(replies: &[u8]) -> Option<ObjectId> {
+    let line = replies.split(|byte| *byte == b'\n').next()?;
+    ObjectId::from_hex(line.strip_prefix(b"ok commit ")?).ok()
+}
+
+/// The command that an input begins with.
+pub fn first_command(rt: &impl Abort, alloc: Global, input: &[u8]) -> Command {
+    match read_command(alloc, &mut Buffer::new(), &mut Bytes::new(input)) {
+        Ok(Received::Command(command)) => command,
+        _ => panic!(rt; "no command"),
+    }
+}
+
+/// The two parts of a new repository in memory, after these inputs.
+pub fn parts_after(
+    rt: &impl Abort,
+    alloc: Global,
+    kind: Kind,
+    inputs: &[&[u8]],
+) -> (MemoryFiles, MemoryFiles) {
+    let Ok(mut repository) = new_repository(alloc, kind) else {
+        panic!(rt; "not opened")
+    };
+    for input in inputs {
+        let mut reader = Bytes::new(*input);
+        let mut replies = Collected::new(alloc);
+        let ended = run(alloc, &mut reader, &mut replies, &mut repository);
+        assert!(rt; ended == Ok(End::Input));
+    }
+    repository.into_parts()
+}
+
+/// The same as the crates below `history` take it.
+pub fn opened_after(
+    rt: &impl Abort,
+    alloc: Global,
+    kind: Kind,
+    inputs: &[&[u8]],
+) -> Repository<MemoryFiles> {
+    let (objects, names) = parts_after(rt, alloc, kind, inputs);
+    match Repository::open(alloc, objects, names, kind) {
+        Ok(repository) => repository,
+        Err(_) => panic!(rt; "not opened"),
+    }
+}

@@ -1,12 +1,11 @@
 //! The two halves of a command that changes files, each called by itself.
 
-use crate::common::{INPUT, KINDS, REPLIES};
+use crate::common::{INPUT, KINDS, REPLIES, first_command};
 use gix_ref_file::{Fuse, MemoryFiles};
 use history::{
-    Bytes, Cause, Collected, Command, End, Fault, Kind, Moves, Received, Repository, Source,
-    Stopped, create, run,
+    Bytes, Cause, Collected, Command, End, Fault, Kind, Moves, Repository, Source, Stopped, create,
+    run,
 };
-use history_word::{Buffer, read_command};
 use std::alloc::Global;
 use std::process::Abort;
 
@@ -26,14 +25,6 @@ fn fresh(
     let objects = Fuse::failing_at(objects, in_objects, None);
     let names = Fuse::failing_at(names, in_names, None);
     Repository::open(alloc, objects, names, kind).ok()
-}
-
-/// The command that the input begins with.
-fn commit(rt: &impl Abort, alloc: Global) -> Command {
-    match read_command(alloc, &mut Buffer::new(), &mut Bytes::new(INPUT)) {
-        Ok(Received::Command(command)) => command,
-        _ => panic!(rt; "no command"),
-    }
 }
 
 /// What a run over this input writes, and how it ends.
@@ -81,7 +72,7 @@ fn try_halves(rt: &impl Abort, alloc: Global, kind: Kind, in_objects: u64, in_na
     let Some(mut repository) = fresh(alloc, kind, in_objects, in_names) else {
         return Met::Neither;
     };
-    let moves = match repository.store_objects(alloc, commit(rt, alloc)) {
+    let moves = match repository.store_objects(alloc, first_command(rt, alloc, INPUT)) {
         Ok(moves) => moves,
         Err(stopped) => {
             assert!(rt; matches!(stopped, Stopped::Fault(Fault::File)), "at {call}");
@@ -111,7 +102,8 @@ fn the_halves_make_a_commit(rt: HostRuntime) {
         let Some(mut repository) = fresh(alloc, kind, 0, 0) else {
             panic!(rt; "not opened")
         };
-        let Ok(moves) = repository.store_objects(alloc, commit(&rt, alloc)) else {
+        let command = first_command(&rt, alloc, INPUT);
+        let Ok(moves) = repository.store_objects(alloc, command) else {
             panic!(rt; "not stored")
         };
         let (written, _) = answer(alloc, &mut repository, b"names\n");
@@ -134,7 +126,8 @@ fn a_refusal_fails_no_repository(rt: HostRuntime) {
         };
         let (written, _) = answer(alloc, &mut repository, INPUT);
         assert!(rt; written.as_slice() == REPLIES.of(kind));
-        let refused = repository.store_objects(alloc, commit(&rt, alloc)).err();
+        let command = first_command(&rt, alloc, INPUT);
+        let refused = repository.store_objects(alloc, command).err();
         assert!(rt; matches!(refused, Some(Stopped::Refused(Cause::Taken))));
         let nothing = repository.store_objects(alloc, Command::Index);
         assert!(rt; matches!(nothing, Ok(Moves::Nothing)));

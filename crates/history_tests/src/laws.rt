@@ -1,0 +1,27 @@
+//! Laws over the definitions: a function that calls one may promise what it says.
+
+ghost use Rattle.history_model.specs.Rows.{Gives, first_stream, first_output};
+ghost use Rattle.history_steps.specs.Passing.{CommitsStoreWhole};
+
+use history_model::rows;
+use history_steps::passing;
+
+// What the stream means, computed on the definitions, is what git makes of it.
+fn first_stream_gives()
+    ensures { Gives first_stream first_output }
+{
+    rows::first_commit();
+}
+
+// The objects of a commit stand in an order in which each beginning leaves a whole store.
+fn commits_store_whole()
+    ensures { CommitsStoreWhole }
+{
+    passing::commits_store_whole();
+}
+
+#[test]
+fn laws_are_called() {
+    first_stream_gives();
+    commits_store_whole();
+}

@@ -1,0 +1,37 @@
+//! A names part after a commit: what a name holds, and whether the part is a repository's.
+
+use crate::common::{INPUT, KINDS, REPLIES, made_id, parts_after};
+use gix_ref_file::MemoryFiles;
+use history::{Objects, open_objects};
+use history_names::Names;
+use history_names_survey::{NamesError, survey_names};
+use std::test::Fail;
+
+#[test]
+fn a_name_holds_its_commit(rt: HostRuntime) -> Result<(), Fail> {
+    let alloc = rt.alloc();
+    for kind in KINDS {
+        let (_, files) = parts_after(&rt, alloc, kind, &[INPUT]);
+        let mut names = Names::new(files, kind);
+        names.read_packed(alloc)?;
+        let found = names.find(alloc, b"refs/heads/main")?;
+        assert!(rt; found == made_id(REPLIES.of(kind)));
+    }
+    Ok(())
+}
+
+#[test]
+fn names_are_surveyed_over_objects(rt: HostRuntime) -> Result<(), Fail> {
+    let alloc = rt.alloc();
+    for kind in KINDS {
+        let (objects, files) = parts_after(&rt, alloc, kind, &[INPUT]);
+        let objects = open_objects(alloc, objects, kind).map_err(|unopened| unopened.flaw)?;
+        let names = Names::new(files, kind);
+        let branch = survey_names(alloc, &names, &objects)?;
+        assert!(rt; branch.as_slice() == b"refs/heads/main".as_slice());
+        let none = Objects::new(alloc, MemoryFiles::new(alloc), kind);
+        let refused = survey_names(alloc, &names, &none);
+        assert!(rt; matches!(refused, Err(NamesError::Missing(..))));
+    }
+    Ok(())
+}
