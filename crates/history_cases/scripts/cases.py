@@ -20,6 +20,7 @@ from logs import indexes, logs, one_time, path_logs
 from names import deletions, moves, of_names, switches
 from openings import opening, reopened_between, reopening
 from packs import pack_stops, packed_delete_stops, packed_rename_stops, packs, reopened_packs
+from pieces import pieces
 from printed import printed
 from readings import readers, readings
 from recoveries import recoveries
@@ -54,4 +55,5 @@ if __name__ == "__main__":
     chance = random.Random(29)
     for number in range(80):
         grafts_by_chance(chance, list(KINDS)[number % 2])
+    pieces()
     write(Path(__file__), ROWS)

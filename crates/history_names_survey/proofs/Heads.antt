@@ -1,10 +1,9 @@
 -- What HEAD tells.
-use Rattle.std.proofs.Common.{◌≡◌, Bool, true, false, is_some, [], ◌∷◌, ◌++◌, Option, Some, None, refl, sym, ◌∙◌, ap, subst, codes}
+use Rattle.std.proofs.Common.{◌≡◌, ℕ, true, false, [], ◌∷◌, ◌++◌, length, Option, Some, None, option_map, sym, ◌∙◌, ap, subst, codes}
 use Rattle.std.specs.Prelude.{MatchOption}
 use Rattle.std.proofs.lemmas.List.{append_cancel_left, append_cancel_right}
 use Rattle.gix_ref_file.specs.Tree.{Tree}
 use Rattle.gix_ref_file.specs.History.{History}
-use Rattle.gix_ref_file.specs.Changes.{is_file_at}
 use Rattle.history_model.specs.Bytes.{Bytes}
 use Rattle.history_model.specs.Forms.{is_branch}
 use Rattle.history_model.specs.Places.{file_at, head_place}
@@ -14,16 +13,9 @@ use Rattle.history_names_survey.specs.Causes.{HasBadHead}
 use Rattle.history_names_survey.specs.Parts.{NamesBranch}
 
 -- what one view of the files says of a path, another one says
-pub seen_there : {F : Type 0} (IsHonest : F → Type 0) (history : F → History) (files known : F) (path : Bytes) (b : Bool) → files ≡ known → IsHonest known
-    → (IsHonest files → b ≡ is_file_at (history files).tree path) → b ≡ is_file_at (history known).tree path
-seen_there IsHonest history files known path b e honest told = (subst (λ f. IsHonest f → b ≡ is_file_at (history f).tree path) e told) honest
-
-pub no_file : (tree : Tree) (path : Bytes) → is_file_at tree path ≡ false → file_at tree path ≡ None
-no_file tree path none = go (file_at tree path) none
-  where
-    go : (o : Option Bytes) → is_some o ≡ false → o ≡ None
-    go None h = refl
-    go (Some text) h = cc
+pub seen_there : {F : Type 0} (IsHonest : F → Type 0) (history : F → History) (files known : F) (path : Bytes) (size : Option ℕ) → files ≡ known → IsHonest known
+    → (IsHonest files → size ≡ option_map length (file_at (history files).tree path)) → size ≡ option_map length (file_at (history known).tree path)
+seen_there IsHonest history files known path size e honest told = (subst (λ f. IsHonest f → size ≡ option_map length (file_at (history f).tree path)) e told) honest
 
 same_head : (a b : Bytes) → head_text a ≡ head_text b → a ≡ b
 same_head a b e = append_cancel_left (codes "ref: ") a b (append_cancel_right (codes "ref: " ++ a) (codes "ref: " ++ b) (10 ∷ []) e)

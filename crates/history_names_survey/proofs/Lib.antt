@@ -5,6 +5,7 @@ mod GoodNames
 mod Heads
 mod Joining
 mod KeptNames
+mod LogPieces
 mod LogTexts
 mod LooseTexts
 mod MadeNames
@@ -13,6 +14,7 @@ mod PackedReads
 mod PackedTexts
 mod ReadSoFar
 mod RecordCauses
+mod Sizes
 mod Standing
 mod Surveyed
 mod Told

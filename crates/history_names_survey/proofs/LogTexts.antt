@@ -1,11 +1,11 @@
 -- Texts of logs: what their lines tell, and where they begin with none.
-use Rattle.std.proofs.Common.{◌≡◌, ◌≢◌, ℕ, ◌+◌, ◌<◌, ◌≤◌, Bool, true, false, not, ◌&&◌, ◌||◌, List, [], ◌∷◌, ◌++◌, length, take, drop, reverse, refl, sym, ◌∙◌, ap, subst, arith, append_assoc, append-nil, length-append, take-append-drop, nat_le, ◌==◌, Err, Option, Some, None, is_some}
+use Rattle.std.proofs.Common.{◌≡◌, ◌≢◌, ℕ, ◌<◌, ◌≤◌, Bool, true, false, not, ◌&&◌, ◌||◌, List, [], ◌∷◌, ◌++◌, length, take, drop, reverse, refl, sym, ◌∙◌, ap, subst, arith, append_assoc, append-nil, length-append, take-append-drop, nat_le, ◌==◌, Option, Some, None, is_some}
 use Rattle.std.specs.Bool.{Decides}
 use Rattle.std.specs.List.{flat_map, list_all}
 use Rattle.std.specs.Prelude.{IsTrue, MatchOption}
 use Rattle.std.proofs.lemmas.Bool.{or_parts, and_parts}
-use Rattle.std.proofs.lemmas.Bool.Decides.{Decides-eqb, nat_tests}
-use Rattle.std.proofs.lemmas.List.{append_cancel_right, reverse-append, reverse-reverse, take-append-le}
+use Rattle.std.proofs.lemmas.Bool.Decides.{nat_tests}
+use Rattle.std.proofs.lemmas.List.{append_cancel_right, reverse-append, take-append-le}
 use Rattle.gix_hash_id.specs.Id.{Id}
 use Rattle.gix_hash_id.specs.declared.kind.Kind.{Kind}
 use Rattle.history_model.specs.Bytes.{Bytes, line, has_byte}
@@ -18,9 +18,7 @@ use Rattle.history_model.proofs.IdLemmas.{id_from_hex-hex, id_from_hex-is_id}
 use Rattle.history_model.proofs.OnePairLines.{entry_parts, line_more}
 use Rattle.history_model.proofs.OnePairTexts.{hex_high, actor_no_tab, actor_one_line, none_in}
 use Rattle.history_model.proofs.PartLemmas.{split_at, one_is_in}
-use Rattle.history_names_survey.specs.Logs.{SpellsLog, BeginsWithNoLine, BeginsWithLongLine, HasFault, Takes, IsEndless, SpellsEntry, Parts, AreParts, IsUncut, TellsLower, TellsIds, max_log_line}
-use Rattle.history_names_survey.specs.declared.log.LogFault.{LogFault}
-use Rattle.history_names_survey.specs.declared.log.LogFault.TheVariants.{Bad, Long, Memory}
+use Rattle.history_names_survey.specs.Logs.{BeginsWithNoLine, BeginsWithLongLine, SpellsEntry, Parts, AreParts, IsUncut, TellsLower, TellsIds, max_log_line}
 
 -- ---- bytes that aren't there
 
@@ -184,15 +182,8 @@ both_told kind parts false b first is second = absurd (cc is)
 -- ---- the first line of a text
 
 -- a text without a line feed begins with no move's line
-no_feed : (kind : Kind) (text : Bytes) → has_byte 10 text ≡ false → BeginsWithNoLine kind text
+pub no_feed : (kind : Kind) (text : Bytes) → has_byte 10 text ≡ false → BeginsWithNoLine kind text
 no_feed kind text lacks = λ entry more is same. absurd (cc (sym lacks ∙ ap (has_byte 10) (same ∙ line_more (body entry) more) ∙ one_is_in 10 (body entry) more))
-
--- why a text without a line feed isn't taken
-pub endless_fails : (kind : Kind) (text : Bytes) (number : ℕ) (fault : LogFault) → has_byte 10 text ≡ false → IsEndless text number fault → Takes kind text number (Err fault)
-endless_fails kind text number (Bad at) lacks is = (is, no_feed kind text lacks)
-endless_fails kind text number (Long at) lacks is =
-    (is.0, record { longer = is.1; endless = left_lacks 10 (take max_log_line text) (drop max_log_line text) (ap (has_byte 10) (take-append-drop max_log_line text) ∙ lacks) })
-endless_fails kind text number Memory lacks is = absurd is
 
 pub long_fails : (text front behind : Bytes) → text ≡ front ++ 10 ∷ behind → has_byte 10 front ≡ false → max_log_line ≤ length front → BeginsWithLongLine text
 long_fails text front behind cut lacks long = record {
@@ -209,26 +200,15 @@ bad_fails kind text front behind cut lacks none = λ entry more is same.
 pub good_taken : (kind : Kind) (text front behind : Bytes) → text ≡ front ++ 10 ∷ behind → SpellsEntry kind front true → (entry : LogEntry) × IsTrue (is_log_entry kind entry) × (text ≡ log_line entry ++ behind)
 good_taken kind text front behind cut told = (told.0, told.1, cut ∙ sym (line_more front behind) ∙ ap (λ t. t ++ behind) told.2)
 
--- ---- all lines
+-- ---- lists of moves
 
--- these moves' lines stand before what is left of the text
-pub record Read (kind : Kind) (text rest : Bytes) (number : ℕ) : Type 0 where
-  pub before : List LogEntry
-  pub formed : IsTrue (list_all (is_log_entry kind) before)
-  pub cut : text ≡ flat_map log_line before ++ rest
-  pub count : number ≡ length before
-  pub room : number + length rest ≤ length text
-
-pub none_read : (kind : Kind) (text : Bytes) → Read kind text text 0
-none_read kind text = record { before = []; formed = refl; cut = refl; count = refl; room = omega arith }
-
-lines_more : (xs : List LogEntry) (x : LogEntry) (rest : Bytes) → flat_map log_line (xs ++ x ∷ []) ++ rest ≡ flat_map log_line xs ++ (log_line x ++ rest)
+pub lines_more : (xs : List LogEntry) (x : LogEntry) (rest : Bytes) → flat_map log_line (xs ++ x ∷ []) ++ rest ≡ flat_map log_line xs ++ (log_line x ++ rest)
 lines_more [] x rest = ap (λ t. t ++ rest) (append-nil (log_line x))
 lines_more (y ∷ xs) x rest =
     append_assoc (log_line y) (flat_map log_line (xs ++ x ∷ [])) rest ∙ ap (λ t. log_line y ++ t) (lines_more xs x rest)
     ∙ sym (append_assoc (log_line y) (flat_map log_line xs) (log_line x ++ rest))
 
-all_more : {X : Type 0} (p : X → Bool) (xs : List X) (x : X) → list_all p xs ≡ true → p x ≡ true → list_all p (xs ++ x ∷ []) ≡ true
+pub all_more : {X : Type 0} (p : X → Bool) (xs : List X) (x : X) → list_all p xs ≡ true → p x ≡ true → list_all p (xs ++ x ∷ []) ≡ true
 all_more p [] x all is = λ i. is i && true
 all_more p (y ∷ xs) x all is = let parts = and_parts (p y) (list_all p xs) all in λ i. parts.0 i && all_more p xs x parts.1 is i
 
@@ -237,59 +217,3 @@ all_reverse p [] all = refl
 all_reverse p (x ∷ xs) all =
     let parts = and_parts (p x) (list_all p xs) all in
     ap (list_all p) (reverse-append (x ∷ []) xs) ∙ all_more p (reverse xs) x (all_reverse p xs parts.1) parts.0
-
--- a line has at least its line feed
-shorter : (text behind : Bytes) (entry : LogEntry) → text ≡ log_line entry ++ behind → length behind + 1 ≤ length text
-shorter text behind entry cut = omega (arith, ap length cut, length-append (log_line entry) behind, length-append (body entry) (10 ∷ []))
-
-pub one_read : (kind : Kind) (text rest behind : Bytes) (number : ℕ) → Read kind text rest number
-    → (entry : LogEntry) × IsTrue (is_log_entry kind entry) × (rest ≡ log_line entry ++ behind) → Read kind text behind (number + 1)
-one_read kind text rest behind number read (entry, is, cut) = record {
-  before = read.before ++ entry ∷ [];
-  formed = all_more (is_log_entry kind) read.before entry read.formed is;
-  cut = read.cut ∙ ap (λ t. flat_map log_line read.before ++ t) cut ∙ sym (lines_more read.before entry behind);
-  count = omega (arith, read.count, length-append read.before (entry ∷ []));
-  room = omega (arith, read.room, shorter rest behind entry cut);
-}
-
-pub falls : (kind : Kind) (rest behind : Bytes) → (entry : LogEntry) × IsTrue (is_log_entry kind entry) × (rest ≡ log_line entry ++ behind) → length behind < length rest
-falls kind rest behind (entry, is, cut) = omega (arith, shorter rest behind entry cut)
-
-pub all_read : (kind : Kind) (text rest : Bytes) (number : ℕ) → Read kind text rest number → rest ≡ [] → SpellsLog kind text
-all_read kind text rest number read none = record {
-  moves = reverse read.before;
-  formed = all_reverse (is_log_entry kind) read.before read.formed;
-  told = read.cut ∙ ap (λ t. flat_map log_line read.before ++ t) none ∙ append-nil (flat_map log_line read.before) ∙ ap (flat_map log_line) (sym (reverse-reverse read.before));
-}
-
--- what is wrong with a text, where its next line isn't taken
-pub read_fails : (kind : Kind) (text rest : Bytes) (number : ℕ) (fault : LogFault) → Read kind text rest number → rest ≢ [] → Takes kind rest (number + 1) (Err fault) → HasFault kind text fault
-read_fails kind text rest number (Bad at) read some (is, wrong) = record {
-  before = read.before;
-  rest = rest;
-  formed = read.formed;
-  cut = read.cut;
-  number_is = omega (arith, is, read.count);
-  some = some;
-  wrong = wrong;
-}
-read_fails kind text rest number (Long at) read some (is, wrong) = record {
-  before = read.before;
-  rest = rest;
-  formed = read.formed;
-  cut = read.cut;
-  number_is = omega (arith, is, read.count);
-  some = some;
-  wrong = wrong;
-}
-read_fails kind text rest number Memory read some wrong = tt
-
--- ---- tests of emptiness
-
-pub empty_so : (text : Bytes) → (length text == 0) ≡ true → text ≡ []
-empty_so [] h = refl
-empty_so (b ∷ text) h = absurd (let e = (Decides-eqb (length (b ∷ text)) 0).0 h in omega arith)
-
-pub some_so : (text : Bytes) → (length text == 0) ≡ false → text ≢ []
-some_so [] h = absurd (cc h)
-some_so (b ∷ text) h = λ e. absurd (cc e)

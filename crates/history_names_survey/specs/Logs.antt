@@ -1,6 +1,5 @@
 -- Which texts are logs, and what is wrong with others ("Logging updates" in git-update-ref(1)).
-use Rattle.std.specs.Prelude.{◌≡◌, ◌≢◌, ◌<◌, ◌+◌, ℕ, ⊤, Bool, true, false, List, [], ◌∷◌, ◌++◌, length, take, Result, Ok, Err, IsTrue, IsFalse}
-use Rattle.std.specs.Borrow.{Bor}
+use Rattle.std.specs.Prelude.{◌≡◌, ◌≢◌, ◌<◌, ◌≤◌, ◌+◌, ℕ, ⊤, Bool, true, false, List, [], ◌∷◌, ◌++◌, length, take, Option, Some, None, IsTrue, IsFalse}
 use Rattle.std.specs.List.{flat_map, list_all}
 use Rattle.gix_hash_id.specs.declared.kind.Kind.{Kind}
 use Rattle.gix_hash_id.specs.Id.{Id}
@@ -16,6 +15,10 @@ use Rattle.history_names_survey.specs.declared.log.LogFault.TheVariants.{Bad, Lo
 -- the most bytes of a line that is read, its line feed counted
 abbrev pub max_log_line : ℕ
 max_log_line = 4_096
+
+-- the most bytes that are read at once
+abbrev pub max_piece : ℕ
+max_piece = 65_536
 
 -- The text is the log of moves in their written form.
 pub record SpellsLog (kind : Kind) (text : Bytes) : Type 0 where
@@ -55,21 +58,31 @@ HasFault kind text (Bad number) = HasBadLine kind text number
 HasFault kind text (Long number) = HasLongLine kind text number
 HasFault kind text Memory = ⊤
 
--- ---- one line
+-- what is found in a text: that it is a log, or what is wrong with it
+abbrev pub IsFoundIn : Kind → Bytes → Option LogFault → Type 0
+IsFoundIn kind text None = SpellsLog kind text
+IsFoundIn kind text (Some fault) = HasFault kind text fault
 
--- what stands behind the first line, or what is wrong with that
-abbrev pub Takes : Kind → Bytes → ℕ → Result (Bor Bytes) LogFault → Type 0
-Takes kind text number (Ok behind) =
-    (entry : LogEntry) × IsTrue (is_log_entry kind entry) × (text ≡ log_line entry ++ behind.now)
-Takes kind text number (Err (Bad at)) = (at ≡ number) × BeginsWithNoLine kind text
-Takes kind text number (Err (Long at)) = (at ≡ number) × BeginsWithLongLine text
-Takes kind text number (Err Memory) = ⊤
+-- ---- pieces
+
+-- The first lines of a log, so many, are those of moves, and this is the rest.
+pub record BeginsWithMoves (kind : Kind) (log rest : Bytes) (lines : ℕ) : Type 0 where
+  pub moves : List LogEntry
+  pub formed : IsTrue (list_all (is_log_entry kind) moves)
+  pub cut : log ≡ flat_map log_line moves ++ rest
+  pub lines_are : lines ≡ length moves
+
+-- a piece of a log is longer than a line may be, or nothing follows it
+abbrev pub IsPiece : Bytes → Bytes → Type 0
+IsPiece piece more = (piece ≢ []) × (length piece ≤ max_log_line → more ≡ [])
 
 -- what is wrong with a text that has no line feed
 abbrev pub IsEndless : Bytes → ℕ → LogFault → Type 0
-IsEndless text number (Bad at) = at ≡ number
+IsEndless text number (Bad at) = (at ≡ number) × (length text ≤ max_log_line)
 IsEndless text number (Long at) = (at ≡ number) × (max_log_line < length text)
 IsEndless text number Memory = ⊥
+
+-- ---- one line
 
 -- whether the text, without a line feed, is a move's line
 abbrev pub SpellsEntry : Kind → Bytes → Bool → Type 0
@@ -77,6 +90,12 @@ SpellsEntry kind text true =
     (entry : LogEntry) × IsTrue (is_log_entry kind entry) × (line text ≡ log_line entry)
 SpellsEntry kind text false =
     (entry : LogEntry) → IsTrue (is_log_entry kind entry) → line text ≢ log_line entry
+
+-- what is wrong with the line of this number, without its line feed
+abbrev pub IsLineFault : Kind → Bytes → ℕ → LogFault → Type 0
+IsLineFault kind text number (Bad at) = (at ≡ number) × SpellsEntry kind text false
+IsLineFault kind text number (Long at) = (at ≡ number) × (max_log_line ≤ length text)
+IsLineFault kind text number Memory = ⊤
 
 -- ---- its parts
 

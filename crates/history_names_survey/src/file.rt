@@ -1,6 +1,6 @@
 //! One file of the names part.
 
-ghost use Rattle.std.specs.Prelude.{◌≡◌, ◌⊎◌, IfErr, IfOk, IsErrOf, IsFalse, IsTrue, OnOk};
+ghost use Rattle.std.specs.Prelude.{◌≡◌, ◌⊎◌, IfErr, IfOk, IsErrOf, IsFalse, IsTrue, OnOk, length, option_map};
 ghost use Rattle.gix_hash_id.specs.Id.{id_of};
 ghost use Rattle.gix_object_lookup.specs.Table.{kind_at};
 ghost use Rattle.gix_ref_file.specs.Calls.{Finds};
@@ -9,7 +9,7 @@ ghost use Rattle.gix_ref_file.specs.Tree.{bytes_at};
 ghost use Rattle.gix_ref_file.specs.declared.files.FileError.TheVariants.{Failed};
 ghost use Rattle.history_model.specs.Bytes.{begins};
 ghost use Rattle.history_model.specs.Forms.{is_private, refs_front};
-ghost use Rattle.history_model.specs.Places.{is_lock_file, is_log_place, log_name};
+ghost use Rattle.history_model.specs.Places.{file_at, is_lock_file, is_log_place, log_name};
 ghost use Rattle.history_names_survey.specs.Causes.{Excuses, IsCollision, IsCollisionOf, IsUnheld};
 ghost use Rattle.history_names_survey.specs.Packed.{has_name};
 ghost use Rattle.history_names_survey.specs.PackedRead.{ReadsPacked};
@@ -17,8 +17,8 @@ ghost use Rattle.history_names_survey.specs.Sound.{IsApart, Sounds};
 ghost use Rattle.history_names_survey.specs.Stored.{Facts, facts_in, may_be_held};
 
 use crate::error::NamesError;
-use crate::log::test_log;
-use crate::loose::{Loose, read_loose};
+use crate::log::log_fault;
+use crate::loose::{Loose, MAX_LOOSE, read_loose};
 use crate::packed::Packed;
 use crate::records::PACKED_REFS;
 use gix_hash::{Kind, ObjectId};
@@ -36,7 +36,7 @@ const LOGS: &[u8] = b"logs/";
 const LOCK_END: &[u8] = b".lock";
 
 /// Tests that the file at this path is one that a repository has there: a name's, which holds a stored commit or tag, or a log of a
-/// name that stands. The file is read once. HEAD isn't read.
+/// name that stands. The file has so many bytes. HEAD isn't read, and neither is a name's file that is too long to hold anything.
 pub(crate) fn test_file<F: Files, S: FindHeader>(
     alloc: Global,
     files: &F,
@@ -44,8 +44,11 @@ pub(crate) fn test_file<F: Files, S: FindHeader>(
     stored: &S,
     packed: &Packed<'_>,
     path: Vec<u8>,
+    len: u64,
 ) -> Result<(), NamesError>
-    requires { Finds F.is_honest F.history files.now (ReadsPacked kind packed.now) }
+    requires packed { Finds F.is_honest F.history files.now (ReadsPacked kind packed.now) }
+    requires size { Finds F.is_honest F.history files.now
+        (λ tree. len ≡ length (bytes_at tree path.items)) }
     ensures sound { S.is_honest stored.now → Finds F.is_honest F.history files.now
         (Sounds kind (facts_in kind (S.table stored.now)) path.items result) }
     ensures wrong { S.is_honest stored.now → Finds F.is_honest F.history files.now
@@ -62,10 +65,10 @@ pub(crate) fn test_file<F: Files, S: FindHeader>(
         return Err(NamesError::Unfinished(path));
     }
     if path.starts_with(REFS) {
-        return test_name(alloc, files, kind, stored, packed, path);
+        return test_name(alloc, files, kind, stored, packed, path, len);
     }
     if path.starts_with(LOGS) {
-        return test_log_file(alloc, files, kind, packed, path);
+        return test_log_file(alloc, files, kind, packed, path, len);
     }
     Err(NamesError::Stray(path))
 }
@@ -78,8 +81,11 @@ fn test_name<F: Files, S: FindHeader>(
     stored: &S,
     packed: &Packed<'_>,
     name: Vec<u8>,
+    len: u64,
 ) -> Result<(), NamesError>
     requires packed { Finds F.is_honest F.history files.now (ReadsPacked kind packed.now) }
+    requires size { Finds F.is_honest F.history files.now
+        (λ tree. len ≡ length (bytes_at tree name.items)) }
     requires below { IsTrue (begins refs_front name.items) }
     requires finished { IsFalse (is_lock_file name.items) }
     ensures sound { S.is_honest stored.now → Finds F.is_honest F.history files.now
@@ -95,6 +101,9 @@ fn test_name<F: Files, S: FindHeader>(
         return Err(NamesError::PrivateName(name));
     }
     test_apart(alloc, files, packed, &name)?;
+    if len > MAX_LOOSE {
+        return Err(NamesError::BadName(name));
+    }
     let text = text_at(alloc, files, &name)?;
     match read_loose(kind, &text) {
         Loose::Holds(id) => test_held(stored, id, name),
@@ -140,8 +149,11 @@ fn test_log_file<F: Files>(
     kind: Kind,
     packed: &Packed<'_>,
     path: Vec<u8>,
+    len: u64,
 ) -> Result<(), NamesError>
     requires packed { Finds F.is_honest F.history files.now (ReadsPacked kind packed.now) }
+    requires size { Finds F.is_honest F.history files.now
+        (λ tree. len ≡ length (bytes_at tree path.items)) }
     requires place { IsTrue (is_log_place path.items) }
     ensures sound { (facts : Facts) → Finds F.is_honest F.history files.now
         (Sounds kind facts path.items result) }
@@ -151,10 +163,9 @@ fn test_log_file<F: Files>(
     if !stands(files, packed, log_name(&path))? {
         return Err(NamesError::LogWithoutName(path));
     }
-    let text = text_at(alloc, files, &path)?;
-    match test_log(alloc, kind, &text) {
-        Ok(()) => Ok(()),
-        Err(fault) => Err(NamesError::of_log(path, fault)),
+    match log_fault(alloc, files, kind, &path, len)? {
+        None => Ok(()),
+        Some(fault) => Err(NamesError::of_log(path, fault)),
     }
 }
 
@@ -221,10 +232,19 @@ pub(crate) fn is_file<F: Files>(files: &F, path: &[u8]) -> Result<bool, FileErro
         (λ tree. IfOk result (λ found. found ≡ is_file_at tree path.now)) }
     ensures failed { IsErrOf result Failed → F.reading_may_fail }
 {
+    Ok(file_len(files, path)?.is_some())
+}
+
+/// How many bytes the file at the path has; `None` where none stands.
+pub(crate) fn file_len<F: Files>(files: &F, path: &[u8]) -> Result<Option<u64>, FileError>
+    ensures found { Finds F.is_honest F.history files.now
+        (λ tree. IfOk result (λ len. len ≡ option_map length (file_at tree path.now))) }
+    ensures failed { IsErrOf result Failed → F.reading_may_fail }
+{
     match files.kind_of(path)? {
-        Place::File(_) => Ok(true),
-        Place::Folder => Ok(false),
-        Place::Absent => Ok(false),
+        Place::File(len) => Ok(Some(len)),
+        Place::Folder => Ok(None),
+        Place::Absent => Ok(None),
     }
 }
 

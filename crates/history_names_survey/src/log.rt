@@ -1,11 +1,15 @@
-//! The lines of a log.
+//! The lines of a log, which is read in pieces.
 
-ghost use Rattle.std.specs.Prelude.{◌≡◌, ◌≢◌, [], IfOk, IsFalse, MatchOption, MatchResult};
-ghost use Rattle.history_model.specs.Bytes.{has_byte};
-ghost use Rattle.history_names_survey.specs.Logs.{AreParts, HasFault, IsEndless, IsUncut, SpellsEntry, SpellsLog, Takes, TellsIds, TellsLower, parts_of};
+ghost use Rattle.std.specs.Prelude.{◌≡◌, ◌<◌, ◌≤◌, ◌+◌, ◌++◌, ◌^◌, length, drop, min, true, IfErr, IfOk, IsErrOf, IsFalse, MatchOption, MatchResult};
+ghost use Rattle.gix_ref_file.specs.Calls.{Finds};
+ghost use Rattle.gix_ref_file.specs.Tree.{bytes_at, part};
+ghost use Rattle.gix_ref_file.specs.declared.files.FileError.TheVariants.{Failed};
+ghost use Rattle.history_model.specs.Bytes.{Bytes, has_byte};
+ghost use Rattle.history_names_survey.specs.Logs.{AreParts, HasFault, IsEndless, IsFoundIn, IsLineFault, IsPiece, IsUncut, SpellsEntry, TellsIds, TellsLower, BeginsWithMoves, max_piece, parts_of};
 
 use gix_hash::Kind;
 use gix_object_lines::cut::split_once;
+use gix_ref_file::{FileError, Files};
 use gix_ref_format::ids::parse_hex;
 use history_model::limits::MAX_TITLE;
 use history_texts::{Actor, hex_digits};
@@ -13,6 +17,9 @@ use std::alloc::{AllocError, Global};
 
 /// The most bytes of a line that is read, its line feed counted.
 const MAX_LOG_LINE: usize = 4_096;
+
+/// The most bytes of a log that are read at once, more than a line may have.
+const MAX_PIECE: u64 = 65_536;
 
 /// Why a log isn't read: a line that tells no move, or one that is too long, by its number, the first being 1; or no memory is left.
 #[derive(Clone, Copy)]
@@ -32,35 +39,103 @@ impl From<AllocError> for LogFault {
     }
 }
 
-/// Tests that a text is a log, line by line: each tells a move in the written form, within the limits.
-pub(crate) fn test_log(alloc: Global, kind: Kind, text: &[u8]) -> Result<(), LogFault>
-    ensures { MatchResult result (λ _. SpellsLog kind text.now) (HasFault kind text.now) }
+/// The first fault of the log at a path, a file of so many bytes; `None` if each line is a move in the written form, within the limits.
+///
+/// The log is read in pieces, each from the beginning of a line, so a long log takes no more memory than one piece.
+pub(crate) fn log_fault<F: Files>(
+    alloc: Global,
+    files: &F,
+    kind: Kind,
+    path: &[u8],
+    len: u64,
+) -> Result<Option<LogFault>, FileError>
+    requires { Finds F.is_honest F.history files.now
+        (λ tree. len ≡ length (bytes_at tree path.now)) }
+    ensures found { Finds F.is_honest F.history files.now
+        (λ tree. IfOk result (IsFoundIn kind (bytes_at tree path.now))) }
+    ensures failed { IsErrOf result Failed → F.reading_may_fail }
 {
-    let mut rest = text;
-    let mut number = 0;
-    'lines: while !rest.is_empty() {
-        number += 1;
-        let behind = behind_line(alloc, kind, rest, number)?;
-        rest = behind;
+    let mut at = 0;
+    let mut lines = 0;
+    'pieces: while at < len {
+        let piece = piece_at(alloc, files, path, at, len - at)?;
+        match test_piece(alloc, kind, &piece, lines) {
+            Ok((last, taken)) => {
+                lines = last;
+                at += taken as u64;
+            }
+            Err(fault) => return Ok(Some(fault)),
+        }
     }
-    Ok(())
+    Ok(None)
 }
 
-// What stands behind the first line of a text, which is the line of this number.
-fn behind_line(alloc: Global, kind: Kind, text: &[u8], number: usize) -> Result<&[u8], LogFault>
-    requires { text.now ≢ [] }
-    ensures { Takes kind text.now number result }
+// The bytes of a file from one on, at most so many, and at most those of a piece.
+fn piece_at<F: Files>(
+    alloc: Global,
+    files: &F,
+    path: &[u8],
+    at: u64,
+    most: u64,
+) -> Result<Vec<u8>, FileError>
+    ensures bytes { Finds F.is_honest F.history files.now (λ tree. IfOk result
+        (λ piece. piece.items ≡ part (bytes_at tree path.now) at (min most max_piece))) }
+    ensures few { IfOk result (λ piece. length piece.items ≤ most) }
+    ensures failed { IsErrOf result Failed → F.reading_may_fail }
 {
-    let Some((line, behind)) = split_once(text, b'\n') else {
-        return Err(endless(text, number));
-    };
+    let room = most.min(MAX_PIECE) as usize;
+    let mut piece = vec![in alloc; 0; room]?;
+    let count = files.read_at(path, at, &mut piece)?.unwrap_or(0);
+    piece.truncate(count);
+    Ok(piece)
+}
+
+// Tests the lines that end in a piece of a log: each is a move in the written form, within the limits. So many lines are before the
+// piece. Returns how many are before what is left of it, and how many of its bytes were taken, at least one.
+//
+// If no line ends in the piece, the error is the fault of the line that the piece begins with.
+fn test_piece(
+    alloc: Global,
+    kind: Kind,
+    piece: &[u8],
+    before: usize,
+) -> Result<(usize, usize), LogFault>
+    requires room { before + length piece.now < 2 ^ 64 }
+    requires next { before + 1 < 2 ^ 64 }
+    ensures lines { (log more : Bytes) → BeginsWithMoves kind log (piece.now ++ more) before
+        → IfOk result (λ read. BeginsWithMoves kind log (drop read.1 (piece.now ++ more)) read.0) }
+    ensures taken { IfOk result (λ read. (0 < read.1) × (read.1 ≤ length piece.now)
+        × (read.0 ≤ before + read.1)) }
+    ensures wrong { (log more : Bytes) → BeginsWithMoves kind log (piece.now ++ more) before
+        → IsPiece piece.now more → IfErr result (HasFault kind log) }
+{
+    let mut rest = piece;
+    let mut number = before;
+    'lines: while let Some((line, behind)) = split_once(rest, b'\n') {
+        number += 1;
+        test_line(alloc, kind, line, number)?;
+        rest = behind;
+    }
+    let taken = piece.len() - rest.len();
+    if taken == 0 {
+        return Err(endless(piece, before + 1));
+    }
+    Ok((number, taken))
+}
+
+// Tests the line of this number, without its line feed.
+fn test_line(alloc: Global, kind: Kind, line: &[u8], number: usize) -> Result<(), LogFault>
+    requires { IsFalse (has_byte 10 line.now) }
+    ensures { MatchResult result (λ _. SpellsEntry kind line.now true)
+        (IsLineFault kind line.now number) }
+{
     if line.len() >= MAX_LOG_LINE {
         return Err(LogFault::Long(number));
     }
     if !is_entry(alloc, kind, line)? {
         return Err(LogFault::Bad(number));
     }
-    Ok(behind)
+    Ok(())
 }
 
 // What is wrong with a line without a line feed.

@@ -15,7 +15,8 @@ ghost use Rattle.history_names_survey.specs.Sound.{IsSound, IsSoundBelow};
 ghost use Rattle.history_names_survey.specs.Stored.{AreFactsOf, Facts, facts_in};
 
 use crate::error::NamesError;
-use crate::file::{is_file, test_file, text_at};
+use crate::file::{file_len, test_file, text_at};
+use crate::loose::MAX_LOOSE;
 use crate::packed::Packed;
 use crate::records::{PACKED_REFS, test_records};
 use gix_hash::Kind;
@@ -30,7 +31,7 @@ use std::alloc::Global;
 /// HEAD's branch, where the names part is a repository's over this store of objects: HEAD names a branch, each name, in a file of its
 /// own or in `packed-refs`, holds a stored commit or tag and is no folder of another, a record's peeled id is its tag's commit, each
 /// log is of a name and tells moves alone, and nothing else stands but folders of names and logs. A name's own file wins over its
-/// record. No file is changed; each is read once, and each folder listed once.
+/// record. No file is changed; each is read once, a long log in pieces, and each folder listed once.
 ///
 /// Else the error names a cause that holds. It is `File` where a call of the files failed, and `Memory` where a growth was refused.
 pub fn survey_names<F: Files, S: FindInto + FindHeader>(
@@ -70,8 +71,11 @@ fn head_branch<F: Files>(alloc: Global, names: &Names<F>) -> Result<Vec<u8>, Nam
         (λ tree. IfErr result
         (HasCause F.reading_may_fail (kind_of_names names.now) facts tree)) }
 {
-    if !is_file(names.files(), HEAD)? {
+    let Some(len) = file_len(names.files(), HEAD)? else {
         return Err(NamesError::NoHead);
+    };
+    if len > MAX_LOOSE {
+        return Err(NamesError::BadHead);
     }
     let Some(branch) = names.head(alloc)? else {
         return Err(NamesError::BadHead);
@@ -132,7 +136,7 @@ fn test_folder<F: Files, S: FindHeader>(
                 test_folder(alloc, files, kind, stored, packed, &path)?;
             }
             Place::Folder => return Err(NamesError::Stray(path)),
-            Place::File(_) => test_file(alloc, files, kind, stored, packed, path)?,
+            Place::File(len) => test_file(alloc, files, kind, stored, packed, path, len)?,
             // A name of nothing: the folder changed while it was read.
             Place::Absent => return Err(NamesError::Stray(path)),
         }

@@ -1,4 +1,4 @@
-use Rattle.std.proofs.Common.{◌≡◌, ◌∙◌, ap, inl, inr, refl, sym, subst, rules, false, true}
+use Rattle.std.proofs.Common.{◌≡◌, ◌∙◌, ap, arith, inl, inr, refl, sym, subst, rules, false, true}
 use Rattle.std.proofs.lemmas.Result.{err_from_is_err_and}
 use Rattle.gix_hash_id.specs.Id.{id_of}
 use Rattle.history_names_survey.specs.Causes.{IsCollision}
@@ -8,6 +8,7 @@ use Rattle.gix_ref_file.specs.Tree.{bytes_at}
 use Rattle.history_model.specs.Bytes.{Bytes}
 use Rattle.history_model.specs.Forms.{is_name, is_private}
 use Rattle.history_model.specs.NameStates as states
+use Rattle.history_names_survey.proofs.Sizes.{long_faulty}
 use Rattle.history_names_survey.proofs.Told.{collision_cause, file_named, held_told, private_file, text_of, unheld_told, state_is, name_sound, name_causes}
 use Rattle.history_names_survey.proofs.file.test_name.Goals as goal
 
@@ -17,6 +18,19 @@ returns-then-not-is_name-clause-wrong g c = λ store honest there. let none : is
 
 pub returns-then-is_private-clause-wrong : goal.returns-then-is_private-clause-wrong
 returns-then-is_private-clause-wrong g c = λ store honest there. let private : is_private c.args.name.items ≡ true = search rules in (private_file c.args.kind (g.F.Files.history c.args.files.now).tree c.args.name.items there, private)
+
+pub returns-then-len-gt-MAX_LOOSE-clause-wrong : goal.returns-then-len-gt-MAX_LOOSE-clause-wrong
+returns-then-len-gt-MAX_LOOSE-clause-wrong g c = λ store honest there.
+    let tree = (g.F.Files.history c.args.files.now).tree in
+    let named : is_name c.args.name.items ≡ true = search rules in
+    let text = bytes_at tree c.args.name.items in
+    record {
+      stands = there;
+      below = c.requires.below;
+      finished = c.requires.finished;
+      bad = inr (state_is c.args.kind (facts_in c.args.kind (g.S.Lookup.table c.args.stored.now)) tree c.args.name.items text text (text_of tree c.args.name.items there) named refl states.Faulty
+          (long_faulty c.args.kind text (omega (arith, c.if-len-gt-MAX_LOOSE.true, c.requires.size honest))));
+    }
 
 pub returns-in-Holds-clause-sound : goal.returns-in-Holds-clause-sound
 returns-in-Holds-clause-sound g c = λ store honest text at.

@@ -4,12 +4,20 @@ use Rattle.std.specs.declared.alloc.Global.{Global}
 use Rattle.history_names_survey.specs.Stored.{facts_in}
 use Rattle.gix_ref_file.specs.Tree.{node_at, place_of}
 use Rattle.gix_ref_file.proofs.Listings.{map_length}
-use Rattle.history_model.specs.Places.{is_name_folder}
+use Rattle.history_model.specs.Places.{file_at, is_name_folder}
 use Rattle.gix_ref_way.proofs.Surveys.{is_listed, folder_stands, not_absent, one_more, is_deep}
 use Rattle.history_names_survey.specs.Sound.{IsSoundBelow}
 use Rattle.history_names_survey.proofs.Found.{IsSoundFrom, all_sound, sound_file, sound_folder}
+use Rattle.history_names_survey.proofs.Sizes.{file_size, size_told}
 use Rattle.history_names_survey.proofs.survey.+test_folder.Goals as goal
 use Rattle.history_names_survey.proofs.survey.+test_folder.Goals.{then-may_hold_folder+else-is_deeper, else-may_hold_folder, in-Folder+in_ok-test_folder-in-Folder, in-File+in_ok-test_file-in-File}
+
+pub test_file-requires-clause-size : goal.test_file-requires-clause-size
+test_file-requires-clause-size g t c = λ honest.
+    let tree = (g.F.Files.history c.args.files.now).tree in
+    let path = c.in_ok-path.path.items in
+    let place = ap (λ p. place_of (node_at tree p)) (sym c.deref-in-loop-name.ensures.value) ∙ sym (c.in_ok-kind_of.ensures.place honest) ∙ c.in-File.is in
+    size_told (file_at tree path) c.in-File.len (file_size tree path c.in-File.len place)
 
 pub loop-name-init : goal.loop-name-init
 loop-name-init g t c = λ store honest i below. absurd (omega (arith, below))
