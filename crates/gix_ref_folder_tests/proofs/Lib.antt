@@ -1,0 +1,4 @@
+mod Own
+mod Reported
+mod Spots
+mod Started

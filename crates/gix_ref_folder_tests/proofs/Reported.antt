@@ -1,0 +1,107 @@
+-- From what files return to what the system returns.
+use Rattle.std.proofs.Common.{◌≡◌, ℕ, ◌≤◌, Bool, true, false, List, [], ◌∷◌, ◌++◌, length, drop, map, Option, Some, None, refl, sym, ◌∙◌, ap, subst, arith}
+use Rattle.std.specs.Prelude.{Result, Ok, Err, IfOk, IfErr, OnOk, IsTrue, IsSome, Vec, is_none, option_map, unwrap_or}
+use Rattle.std.specs.IoError.{error_kind}
+use Rattle.std.specs.declared.alloc.Global.{Global}
+use Rattle.std.specs.declared.io.Error.{Error}
+use Rattle.std.specs.declared.io.ErrorKind.{ErrorKind}
+use Rattle.std.specs.declared.io.ErrorKind.TheVariants.{AlreadyExists}
+use Rattle.std.proofs.lemmas.List.{append-nil, drop_all}
+use Rattle.gix_ref_file.specs.declared.files.FileError.{FileError}
+use Rattle.gix_ref_file.specs.declared.files.FileError.TheVariants.{Failed, Memory}
+use Rattle.gix_ref_file.specs.declared.files.Place.{Place}
+use Rattle.gix_ref_file.specs.declared.files.Place.TheVariants.{Absent, File, Folder}
+use Rattle.gix_ref_file.specs.Tree.{Tree, Node, file, folder, node_at, place_of, bytes_of, is_folder, names_at, part, overwritten}
+use Rattle.gix_ref_file.specs.Changes.{Change, to_create, allows, after}
+use Rattle.gix_ref_file.specs.History.{History, Makes}
+use Rattle.gix_ref_folder.specs.Errors.{means_absent}
+use Rattle.gix_ref_folder.specs.Systems.{AreNames, Does}
+use Rattle.gix_ref_folder_tests.specs.Reports.{kind_for, IsReport}
+use Rattle.gix_ref_folder_tests.proofs.Own.{permuted}
+
+-- ---- errors
+not_absent : (why : FileError) → IsTrue (means_absent (kind_for why)) → ⊥
+not_absent Memory is = cc
+not_absent Failed is = cc
+
+pub never_absent : {A T : Type 0} (done : Result T FileError) (error : Error) → IsReport done (Err error) → IsTrue (means_absent (error_kind error)) → A
+never_absent done error report is = absurd (not_absent report.0 (subst (λ (k : ErrorKind). IsTrue (means_absent k)) report.2 is))
+
+not_taken : (why : FileError) → kind_for why ≡ AlreadyExists → ⊥
+not_taken Memory is = cc
+not_taken Failed is = cc
+
+pub never_taken : {A T : Type 0} (done : Result T FileError) (error : Error) → IsReport done (Err error) → error_kind error ≡ AlreadyExists → A
+never_taken done error report is = absurd (not_taken report.0 (sym report.2 ∙ is))
+
+-- ---- changes
+pub does_of : {T : Type 0} (change : Change) (old new : History) (done : Result T FileError) (told : Result T Error) → IsReport done told → Makes change old new done → Does change old new told
+does_of change old new done (Ok value) is makes = record {
+  allowed = subst (λ r. OnOk r (IsTrue (allows old.tree change))) is makes.allowed;
+  made = subst (λ r. OnOk r (new.tree ≡ after change old.tree)) is makes.made;
+  moments = makes.moments;
+}
+does_of change old new done (Err e) is makes = record { allowed = tt; made = tt; moments = makes.moments }
+
+pub does_new : (path : List ℕ) (old new : History) (made : Result Bool FileError) (told : Result (Unit {0}) Error) → OnOk told (made ≡ Ok true) → Makes (to_create path) old new made
+    → Does (to_create path) old new told
+does_new path old new made (Ok it) is makes = record {
+  allowed = subst (λ r. OnOk r (IsTrue (allows old.tree (to_create path)))) is makes.allowed;
+  made = subst (λ r. OnOk r (new.tree ≡ after (to_create path) old.tree)) is makes.made;
+  moments = makes.moments;
+}
+does_new path old new made (Err e) is makes = record { allowed = tt; made = tt; moments = makes.moments }
+
+none_of : (node : Option Node) → true ≡ is_none node → node ≡ None
+none_of None is = refl
+none_of (Some node) is = absurd (cc is)
+
+some_of : (node : Option Node) → false ≡ is_none node → IsSome node
+some_of None is = absurd (cc is)
+some_of (Some node) is = refl
+
+pub new_free : (node : Option Node) (made : Result Bool FileError) (told : Result (Unit {0}) Error) → OnOk told (made ≡ Ok true) → IfOk made (λ m. m ≡ is_none node) → OnOk told (node ≡ None)
+new_free there made (Ok it) is says = none_of there (subst (λ r. IfOk r (λ m. m ≡ is_none there)) is says)
+new_free there made (Err e) is says = tt
+
+pub new_taken : (node : Option Node) (made : Result Bool FileError) (told : Result (Unit {0}) Error) → IfErr told (λ error. error_kind error ≡ AlreadyExists → made ≡ Ok false)
+    → IfOk made (λ m. m ≡ is_none node) → IfErr told (λ error. error_kind error ≡ AlreadyExists → IsSome node)
+new_taken there made (Ok it) is says = tt
+new_taken there made (Err e) is says = λ already. some_of there (subst (λ r. IfOk r (λ m. m ≡ is_none there)) (is already) says)
+
+-- ---- readings
+abbrev len_of : Place → ℕ
+len_of (File len) = len
+len_of Absent = 0
+len_of Folder = 0
+
+pub file_found : (node : Option Node) (len : ℕ) → File len ≡ place_of node → option_map length (bytes_of node) ≡ Some len
+file_found None len is = absurd (cc is)
+file_found (Some (file bytes)) len is = sym (ap (λ p. Some (len_of p)) is)
+file_found (Some folder) len is = absurd (cc is)
+
+pub folder_found : (node : Option Node) → Folder ≡ place_of node → IsTrue (is_folder node)
+folder_found None is = absurd (cc is)
+folder_found (Some (file bytes)) is = absurd (cc is)
+folder_found (Some folder) is = refl
+
+pub none_found : (node : Option Node) → Absent ≡ place_of node → node ≡ None
+none_found None is = refl
+none_found (Some (file bytes)) is = absurd (cc is)
+none_found (Some folder) is = absurd (cc is)
+
+pub names_found : (tree : Tree) (path : List ℕ) (done : Result (Vec (Vec ℕ Global) Global) FileError) (told : Result (Vec (Vec ℕ Global) Global) Error) → IsReport done told
+    → IfOk done (λ names. map (λ (name : Vec ℕ Global). name.items) names.items ≡ names_at tree path) → IfOk told (λ names. AreNames tree path names.items)
+names_found tree path done (Ok names) is says =
+    permuted _ _ (subst (λ r. IfOk r (λ ns. map (λ (name : Vec ℕ Global). name.items) ns.items ≡ names_at tree path)) is says)
+names_found tree path done (Err e) is says = tt
+
+-- a buffer that was filled to its end
+pub whole_read : (o : Option (List ℕ)) (from count : ℕ) (before after : List ℕ) → Some count ≡ option_map (λ bytes. length (part bytes from (length before))) o → length before ≤ count
+    → after ≡ overwritten before (part (unwrap_or o []) from (length before)) → after ≡ part (unwrap_or o []) from (length before)
+whole_read None from count before after is full read = absurd (cc is)
+whole_read (Some bytes) from count before after is full read =
+    let read_of = part bytes from (length before) in
+    let long : count ≡ length read_of = ap (λ o. unwrap_or o 0) is in
+    let none : drop (length read_of) before ≡ [] = drop_all (length read_of) before (omega (arith, long, full)) in
+    read ∙ ap (λ rest. read_of ++ rest) none ∙ append-nil read_of

@@ -1,0 +1,210 @@
+//! What a folder over a system in memory does.
+
+use crate::memory::{folder_in_memory, system_in_memory};
+use crate::over_files::OverFiles;
+use crate::rows::ROWS;
+use case_words::{Page, call_by};
+use gix_ref_file::{Files, Fuse, MemoryFiles};
+use gix_ref_folder::{Folder, Part, System};
+use std::alloc::{AllocError, Global};
+use std::io::{self, ErrorKind};
+use std::test::Fail;
+
+const ROOT: &str = "repository";
+
+// What the words return over the two parts of a folder.
+fn play(alloc: Global, line: &str) -> Result<String, AllocError> {
+    let mut objects = folder_in_memory(alloc, ROOT, Part::Objects)?;
+    let mut names = folder_in_memory(alloc, ROOT, Part::Names)?;
+    let mut page = Page::new(alloc);
+    for word in line.split(' ') {
+        let done = match word.split_once(':') {
+            Some(("o", call)) => call_by(alloc, &mut objects, call, &mut page),
+            Some(("n", call)) => call_by(alloc, &mut names, call, &mut page),
+            _ => None,
+        };
+        if done.is_none() {
+            page.word("unread");
+        }
+    }
+    page.finish()
+}
+
+// What the words return over one part.
+fn play_on<S: System>(
+    alloc: Global,
+    folder: &mut Folder<S>,
+    line: &str,
+) -> Result<String, AllocError> {
+    let mut page = Page::new(alloc);
+    for word in line.split(' ') {
+        if call_by(alloc, folder, word, &mut page).is_none() {
+            page.word("unread");
+        }
+    }
+    page.finish()
+}
+
+#[test]
+fn a_folder_in_memory_is_written_and_read(rt: HostRuntime) -> Result<(), Fail> {
+    let alloc = rt.alloc();
+    let mut names = folder_in_memory(alloc, "repository", Part::Names)?;
+    names.write(alloc, b"HEAD", b"ref: refs/heads/main\n")?;
+    let mut text = Vec::new(alloc);
+    let count = names.read(b"HEAD", &mut text)?;
+    assert_eq!(rt; count, Some(21));
+    assert_eq!(rt; text.as_slice(), b"ref: refs/heads/main\n".as_slice());
+    Ok(())
+}
+
+#[test]
+fn rows_over_memory_are_those_over_a_disk(rt: HostRuntime) -> Result<(), Fail> {
+    for (words, wanted) in ROWS {
+        let returned = play(rt.alloc(), words)?;
+        assert_eq!(rt; returned.as_str(), wanted, "of {words}");
+    }
+    Ok(())
+}
+
+// A system with a file of each part.
+fn filled(alloc: Global) -> io::Result<OverFiles<MemoryFiles>> {
+    let mut system = system_in_memory(alloc, String::from_str(alloc, ROOT)?);
+    system.make_folder("repository/objects")?;
+    system.write("repository/objects/ab", b"blob")?;
+    system.create_new("repository/HEAD")?;
+    system.append("repository/HEAD", b"ref")?;
+    Ok(system)
+}
+
+#[test]
+fn each_part_of_one_system_is_shown_alone(rt: HostRuntime) -> Result<(), Fail> {
+    let alloc = rt.alloc();
+    let words = "list:- kind:objects kind:objects/ab read:HEAD";
+    for (part, wanted) in [
+        (Part::Objects, "names:objects folder file:4 none:so%20"),
+        (Part::Names, "names:HEAD absent absent 3:so%20ref"),
+    ] {
+        let root = String::from_str(alloc, ROOT)?;
+        let mut folder = Folder::new(alloc, filled(alloc)?, root, part);
+        let returned = play_on(alloc, &mut folder, words)?;
+        assert_eq!(rt; returned.as_str(), wanted);
+    }
+    Ok(())
+}
+
+// The kind of the error that was returned.
+fn kind_of<T: Drop>(returned: io::Result<T>) -> Option<ErrorKind> {
+    match returned {
+        Ok(_) => None,
+        Err(error) => Some(error.kind()),
+    }
+}
+
+#[test]
+fn a_system_says_why_it_fails(rt: HostRuntime) -> Result<(), Fail> {
+    let alloc = rt.alloc();
+    let mut system = filled(alloc)?;
+    let mut buffer = [0u8; 4];
+    assert!(rt; kind_of(system.kind("repository/none")) == Some(ErrorKind::NotFound));
+    assert!(rt; kind_of(system.kind("elsewhere/HEAD")) == Some(ErrorKind::NotFound));
+    assert!(rt;
+        kind_of(system.read_at("repository/HEAD", 0, &mut buffer)) == Some(ErrorKind::UnexpectedEof)
+    );
+    assert!(rt; kind_of(system.create_new("repository/HEAD")) == Some(ErrorKind::AlreadyExists));
+    assert!(rt; kind_of(system.write("elsewhere/HEAD", b"x")) == Some(ErrorKind::NotFound));
+    assert!(rt;
+        kind_of(system.rename("repository/HEAD", "repository/objects/x"))
+            == Some(ErrorKind::CrossesDevices)
+    );
+    assert!(rt; kind_of(system.remove_folder("repository/objects")) == Some(ErrorKind::Other));
+    Ok(())
+}
+
+/// The call of the names' files that fails, what it leaves of its bytes, words, and what they return.
+const FAILING: [(u64, Option<usize>, &str, &str); 11] = [
+    (
+        1,
+        None,
+        "create:HEAD create:HEAD create:HEAD",
+        "failed done stands",
+    ),
+    (
+        1,
+        None,
+        "folder:refs folder:refs list:-",
+        "failed done names:refs",
+    ),
+    (
+        2,
+        None,
+        "write:HEAD:ref kind:HEAD kind:HEAD",
+        "done failed file:3",
+    ),
+    (
+        2,
+        None,
+        "write:HEAD:ref list:- list:-",
+        "done failed names:HEAD",
+    ),
+    (
+        2,
+        None,
+        "write:HEAD:ref read:HEAD read:HEAD",
+        "done failed 3:so%20ref",
+    ),
+    (
+        3,
+        None,
+        "write:HEAD:ref read:HEAD read:HEAD",
+        "done failed 3:so%20ref",
+    ),
+    (
+        2,
+        Some(2),
+        "write:HEAD:ref write:HEAD:longer read:HEAD",
+        "done failed 2:so%20lo",
+    ),
+    (
+        2,
+        Some(1),
+        "write:HEAD:ref append:HEAD:more read:HEAD",
+        "done failed 4:so%20refm",
+    ),
+    (
+        2,
+        None,
+        "write:HEAD:ref rename:HEAD:new list:-",
+        "done failed names:HEAD",
+    ),
+    (
+        3,
+        None,
+        "write:HEAD:ref rename:HEAD:new list:-",
+        "done failed names:HEAD",
+    ),
+    (
+        2,
+        None,
+        "write:HEAD:ref remove:HEAD remove:HEAD",
+        "done failed done",
+    ),
+];
+
+#[test]
+fn a_failed_call_is_no_absence(rt: HostRuntime) -> Result<(), Fail> {
+    let alloc = rt.alloc();
+    for (call, kept, words, wanted) in FAILING {
+        let objects = Fuse::failing_at(MemoryFiles::new(alloc), 0, None);
+        let names = Fuse::failing_at(MemoryFiles::new(alloc), call, kept);
+        let system = OverFiles::new(alloc, String::from_str(alloc, ROOT)?, objects, names);
+        let root = String::from_str(alloc, ROOT)?;
+        let mut folder = Folder::new(alloc, system, root, Part::Names);
+        let returned = play_on(alloc, &mut folder, words)?;
+        assert_eq!(rt; returned.as_str(), wanted, "of {words}, at {call}");
+        let Some(failure) = folder.last_failure() else {
+            panic!(rt; "no failure is kept of {words}");
+        };
+        assert!(rt; failure.text(alloc)?.ends_with(b": the files failed"));
+    }
+    Ok(())
+}
