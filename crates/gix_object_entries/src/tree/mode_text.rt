@@ -1,7 +1,7 @@
 //! Octal texts of modes.
 
 ghost use Rattle.std.specs.Prelude.{◌≡◌, ◌<◌, ◌≤◌, ◌^◌, false, drop, length, MatchOption, MatchResult};
-ghost use Rattle.std.specs.Fmt.{digits};
+ghost use Rattle.std.specs.Fmt.{digits, WritesOnOk};
 ghost use Rattle.std.specs.Str.Parse.{IsNumeral, digits_value};
 ghost use Rattle.bstr.specs.BStr.{bstr_bytes};
 ghost use Rattle.std.specs.Char.{digit_value};
@@ -56,9 +56,14 @@ impl<'a> TryFrom<&'a [u8]> for EntryMode {
 }
 
 impl fmt::Octal for EntryMode {
-    fn fmt<W: fmt::Write>(&self, f: &mut fmt::Formatter<W>) -> fmt::Result {
-        let mut backing = [0; 6];
-        write!(f, "{}", self.as_bytes(&mut backing))
+    /// Writes the text of `as_bytes`.
+    fn fmt<W: fmt::Write>(&self, f: &mut fmt::Formatter<W>) -> fmt::Result
+        ensures { WritesOnOk W.write_str_gives f.old result (mode_text (mode_of self.now)) f.new }
+    {
+        if self.padded {
+            return f.write_str("040000");
+        }
+        fmt::Octal::fmt(&self.value, f)
     }
 }
 
