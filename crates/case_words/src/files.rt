@@ -99,7 +99,7 @@ fn change<F: Files>(
 ) -> Option<Result<bool, FileError>> {
     let rest = read_bytes(alloc, rest)?;
     let changed = match operation {
-        "create" => return Some(files.create_new(alloc, path)),
+        "create" => return Some(files.create_new(alloc, path, &rest)),
         "write" => files.write(alloc, path, &rest),
         "append" => files.append(alloc, path, &rest),
         "rename" => files.rename(alloc, path, &rest),

@@ -155,11 +155,12 @@ impl<F: Files> Files for Fuse<F> {
         }
     }
 
-    fn create_new(&mut self, alloc: Global, path: &[u8]) -> Result<bool, FileError> {
+    fn create_new(&mut self, alloc: Global, path: &[u8], bytes: &[u8]) -> Result<bool, FileError> {
         match self.next_turn() {
-            Turn::Whole => return self.files.create_new(alloc, path),
-            Turn::Part(_) => {
-                let _ = self.files.create_new(alloc, path);
+            Turn::Whole => return self.files.create_new(alloc, path, bytes),
+            Turn::Part(kept) => {
+                let kept = kept.min(bytes.len());
+                let _ = self.files.create_new(alloc, path, &bytes[..kept]);
             }
             Turn::Nothing => {}
         }

@@ -2,7 +2,7 @@
 ghost use Rattle.std.specs.Prelude.{◌≡◌, ◌≤◌, OnOk, IsErrOf, IsTrue};
 ghost use Rattle.gix_ref_file.specs.Calls.{Achieves, HasFault, Passes};
 ghost use Rattle.gix_ref_file.specs.Tree.{is_path, parent, node_at, is_folder};
-ghost use Rattle.gix_ref_file.specs.declared.files.FileError.TheVariants.{Failed};
+ghost use Rattle.gix_ref_file.specs.declared.files.FileError.TheVariants.{Failed, Memory};
 ghost use Rattle.gix_ref_way.specs.Ways.{file_at, SameFiles, OneFolderMore, FoldersAbove, NoFileAbove, HasFoldersAbove, KeepsFolders};
 
 use gix_ref_file::{FileError, Files, Place};
@@ -17,6 +17,7 @@ pub fn make_folders<F: Files>(alloc: Global, files: &mut F, path: &[u8]) -> Resu
     ensures stay { Passes F.is_honest F.history files.old files.new KeepsFolders }
     ensures later { F.failures files.old ≤ F.failures files.new }
     ensures unfailed { OnOk result (F.failures files.new ≡ F.failures files.old) }
+    ensures memory { IsErrOf result Memory → F.failures files.new ≡ F.failures files.old }
     ensures made { F.is_honest files.old → NoFileAbove path.now (F.history files.old).tree
         → OnOk result (HasFoldersAbove path.now (F.history files.new).tree) }
     ensures failed { F.is_honest files.old → NoFileAbove path.now (F.history files.old).tree
@@ -38,6 +39,7 @@ fn make_folder<F: Files>(alloc: Global, files: &mut F, folder: &[u8]) -> Result<
     ensures folders { Passes F.is_honest F.history files.old files.new (OneFolderMore folder.now) }
     ensures later { F.failures files.old ≤ F.failures files.new }
     ensures unfailed { OnOk result (F.failures files.new ≡ F.failures files.old) }
+    ensures memory { IsErrOf result Memory → F.failures files.new ≡ F.failures files.old }
     ensures stay { Passes F.is_honest F.history files.old files.new KeepsFolders }
     ensures kept { Achieves F.is_honest F.history files.old files.new result KeepsFolders }
     ensures made { F.is_honest files.old → file_at (F.history files.old).tree folder.now ≡ None
