@@ -35,8 +35,7 @@ packed_with text records =
     record { returns = has_byte 13 text; sorted = says_sorted text; records = records }
 
 abbrev pub packed_file : Kind → Bytes → Option PackedFile
-packed_file kind text =
-    option_map (packed_with text) (packed_records kind text)
+packed_file kind text = option_map (packed_with text) (packed_records kind text)
 
 -- ---- which files agree with a repository
 
