@@ -9,7 +9,7 @@ use Rattle.gix_hash_id.proofs.ByteLists.{id-digits_len}
 use Rattle.history_model.specs.Bytes.{Bytes}
 use Rattle.history_model.specs.Objects.{hex}
 use Rattle.history_model.proofs.IdLemmas.{length-hex}
-use Rattle.history_objects.proofs.objects.object_place.Goals as goal
+use Rattle.history_texts.proofs.place.object_place.Goals as goal
 
 long_enough : (id : Id) (bytes : List ℕ) → IsBytesOf bytes id → 2 ≤ length (hex id)
 long_enough id bytes is = omega (arith, length-hex id, id-digits_len id bytes is, some_bytes id.kind)
