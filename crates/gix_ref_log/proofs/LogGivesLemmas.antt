@@ -22,26 +22,26 @@ use Rattle.gix_ref_log.specs.declared.iter.error.IoError.TheVariants.{Reader, Sh
 use Rattle.gix_ref_log.specs.declared.iter.decode.LineNumber.TheVariants.{FromEnd}
 
 -- the line that stands next is given, as what it tells or as an error
-pub gives_line : (room : ℕ) (may : Type 0) (given : ℕ) (left : List (List ℕ)) (text : List ℕ) (after : List (List ℕ)) (line : Option Line) → left ≡ text ∷ after → Fits room text after
+pub gives_line : (room : ℕ) (may all : Type 0) (given : ℕ) (left : List (List ℕ)) (text : List ℕ) (after : List (List ℕ)) (line : Option Line) → left ≡ text ∷ after → Fits room text after
     → IsCopied text line
-    → GivesBack room may given left (Some (ok_or line (Decode (record { line = FromEnd given })))) after
-gives_line room may given left text after None next fits h = (text, next, fits, h, refl)
-gives_line room may given left text after (Some line) next fits h = (text, next, fits, h)
+    → GivesBack room may all given left (Some (ok_or line (Decode (record { line = FromEnd given })))) after
+gives_line room may all given left text after None next fits h = (text, next, fits, h, refl)
+gives_line room may all given left text after (Some line) next fits h = (text, next, fits, h)
 
 -- an error that ends the walk
-pub gives_error : (room : ℕ) (may : Type 0) (given : ℕ) (left : List (List ℕ)) (error : Error)
+pub gives_error : (room : ℕ) (may all : Type 0) (given : ℕ) (left : List (List ℕ)) (error : Error)
     → (error ≡ Io LineTooLong → (text : List ℕ) × (rest : List (List ℕ)) × (left ≡ text ∷ rest) × ¬ Fits room text rest)
-    → (error ≡ Io (Reader file.Failed) → may) → (error ≡ Io Short → ⊥) → (error ≡ Io NoBuffer → ⊥) → ((line : DecodeError) → error ≡ Decode line → ⊥)
-    → (after : List (List ℕ)) × (after ≡ []) × GivesBack room may given left (Some (Err error)) after
-gives_error room may given left (Io (Reader file.Failed)) long failed short empty decode = ([], refl, (failed refl, refl))
-gives_error room may given left (Io (Reader file.Memory)) long failed short empty decode = ([], refl, refl)
-gives_error room may given left (Io Short) long failed short empty decode = absurd (short refl)
-gives_error room may given left (Io NoBuffer) long failed short empty decode = absurd (empty refl)
-gives_error room may given left (Io LineTooLong) long failed short empty decode =
+    → (error ≡ Io (Reader file.Failed) → may) → (error ≡ Io Short → ¬ all) → (error ≡ Io NoBuffer → ⊥) → ((line : DecodeError) → error ≡ Decode line → ⊥)
+    → (after : List (List ℕ)) × (after ≡ []) × GivesBack room may all given left (Some (Err error)) after
+gives_error room may all given left (Io (Reader file.Failed)) long failed short empty decode = ([], refl, (failed refl, refl))
+gives_error room may all given left (Io (Reader file.Memory)) long failed short empty decode = ([], refl, refl)
+gives_error room may all given left (Io Short) long failed short empty decode = ([], refl, (short refl, refl))
+gives_error room may all given left (Io NoBuffer) long failed short empty decode = absurd (empty refl)
+gives_error room may all given left (Io LineTooLong) long failed short empty decode =
     let l = long refl in
     ([], refl, (l.0, l.1, l.2, l.3, refl))
-gives_error room may given left (Decode line) long failed short empty decode = absurd (decode line refl)
-gives_error room may given left Memory long failed short empty decode = ([], refl, refl)
+gives_error room may all given left (Decode line) long failed short empty decode = absurd (decode line refl)
+gives_error room may all given left Memory long failed short empty decode = ([], refl, refl)
 
 -- the walk gets shorter
 pub nearer_counts : (done : Bool) (before after : ℕ) → MatchBool done ⊤ (after < before) → (if done then 0 else after + 1) < before + 1

@@ -213,9 +213,9 @@ found log end held start buffer all same window is = record {
 
 -- ---- what a reading puts in
 
-pub filled : (log buffer new : List ℕ) (end held : ℕ) → held ≤ end → held ≤ length buffer → end ≤ length log
-    → new ≡ overwritten (take held buffer) (part log (end - held) (length (take held buffer))) → IsWindow log end held (new ++ drop held buffer)
-filled log buffer new end held ordered within inside is = record {
+pub filled : (log buffer new : List ℕ) (end held count : ℕ) → count ≡ held → held ≤ end → held ≤ length buffer → end ≤ length log
+    → new ≡ overwritten (take held buffer) (take count (part log (end - held) (length (take held buffer)))) → IsWindow log end held (new ++ drop held buffer)
+filled log buffer new end held count full ordered within inside is = record {
   inside = inside;
   bytes =
       let size = length-take-le held buffer within in
@@ -223,7 +223,8 @@ filled log buffer new end held ordered within inside is = record {
       let left = length-drop (end - held) log in
       let came_sized : length came ≡ held = length-take-le held (drop (end - held) log) (omega (arith, left, ordered, inside)) in
       let over = drop (length came) (take held buffer) in
-      let new_is : new ≡ came ++ over = is ∙ ap (λ n. overwritten (take held buffer) (part log (end - held) n)) size in
+      let new_is : new ≡ came ++ over = is ∙ ap (λ n. overwritten (take held buffer) (take n (part log (end - held) (length (take held buffer))))) full
+      ∙ ap (λ n. overwritten (take held buffer) (take held (part log (end - held) n))) size ∙ ap (overwritten (take held buffer)) (take-take held held (drop (end - held) log) (omega arith)) in
       let parts : end - held + held ≡ end = omega (arith, ordered) in
       ap (λ t. take held (t ++ drop held buffer)) new_is ∙ ap (take held) (append_assoc came over (drop held buffer))
       ∙ take-append-le held came (over ++ drop held buffer) (omega (arith, came_sized)) ∙ take_all held came (omega (arith, came_sized))

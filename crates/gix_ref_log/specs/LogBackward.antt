@@ -26,25 +26,27 @@ Fits room line [] = length line ≤ room
 Fits room line (next ∷ rest) = length line < room
 
 -- The next of the lines that are left comes, where it fits: as what it tells, or as an error with its number from the end
--- where it tells nothing. One that doesn't fit, a failed reading and refused memory come as an error, and nothing after it.
-abbrev pub GivesBack : ℕ → Type 0 → ℕ → List (List ℕ) → Option (Result Line Error) → List (List ℕ)
-    → Type 0
-GivesBack room may_fail number left None after = (left ≡ []) × (after ≡ [])
-GivesBack room may_fail number left (Some (Ok line)) after =
+-- where it tells nothing. One that doesn't fit, a failed or short reading and refused memory come as an error, and nothing
+-- after it.
+abbrev pub GivesBack : ℕ → Type 0 → Type 0 → ℕ → List (List ℕ) → Option (Result Line Error)
+    → List (List ℕ) → Type 0
+GivesBack room may_fail gives_all number left None after = (left ≡ []) × (after ≡ [])
+GivesBack room may_fail gives_all number left (Some (Ok line)) after =
     (text : List ℕ) × (left ≡ text ∷ after) × Fits room text after
     × ((parts : LineParts) × SpellsLine text parts × IsLineOf parts line)
-GivesBack room may_fail number left (Some (Err (Decode error))) after =
+GivesBack room may_fail gives_all number left (Some (Err (Decode error))) after =
     (text : List ℕ) × (left ≡ text ∷ after) × Fits room text after × IsNoLine text
     × (error.line ≡ FromEnd number)
-GivesBack room may_fail number left (Some (Err (Io LineTooLong))) after =
+GivesBack room may_fail gives_all number left (Some (Err (Io LineTooLong))) after =
     (text : List ℕ) × (rest : List (List ℕ)) × (left ≡ text ∷ rest) × (¬ Fits room text rest)
     × (after ≡ [])
-GivesBack room may_fail number left (Some (Err (Io (Reader file.Failed)))) after =
+GivesBack room may_fail gives_all number left (Some (Err (Io (Reader file.Failed)))) after =
     may_fail × (after ≡ [])
-GivesBack room may_fail number left (Some (Err (Io (Reader file.Memory)))) after = after ≡ []
-GivesBack room may_fail number left (Some (Err (Io Short))) after = ⊥
-GivesBack room may_fail number left (Some (Err (Io NoBuffer))) after = ⊥
-GivesBack room may_fail number left (Some (Err Memory)) after = after ≡ []
+GivesBack room may_fail gives_all number left (Some (Err (Io (Reader file.Memory)))) after = after ≡ []
+GivesBack room may_fail gives_all number left (Some (Err (Io Short))) after =
+    (¬ gives_all) × (after ≡ [])
+GivesBack room may_fail gives_all number left (Some (Err (Io NoBuffer))) after = ⊥
+GivesBack room may_fail gives_all number left (Some (Err Memory)) after = after ≡ []
 
 -- the walk has ended: nothing was left, a reading failed, a line didn't fit or memory was refused
 abbrev pub EndsWalk : Option (Result Line Error) → Type 0
@@ -72,11 +74,11 @@ StandsAt log stand left = IsAt log stand.is_done stand.end stand.held stand.buff
 
 -- What a call of `next` gives. Over readings that tell the log's bytes the next of the lines that are left comes, and the
 -- reader stands behind it.
-pub record GivesNext (honest : Type 0) (log : List ℕ) (may_fail : Type 0) (before : Stand)
-    (item : Option (Result Line Error)) (after : Stand) : Type 0 where
+pub record GivesNext (honest : Type 0) (log : List ℕ) (may_fail gives_all : Type 0)
+    (before : Stand) (item : Option (Result Line Error)) (after : Stand) : Type 0 where
   pub told : honest → (left : List (List ℕ)) → StandsAt log before left
       → (rest : List (List ℕ)) × StandsAt log after rest
-      × GivesBack (length before.buffer) may_fail after.given left item rest
+      × GivesBack (length before.buffer) may_fail gives_all after.given left item rest
   pub room : length after.buffer ≡ length before.buffer
   pub counted : after.given ≡ (if before.is_done then before.given else one_more before.given)
   -- whatever the readings tell

@@ -45,7 +45,8 @@ pub fn forward(lines: &[u8]) -> Forward<'_>
 ///
 /// A line fits where the buffer has room for it and one line feed, the log's first line where it has room for it alone. A
 /// line that doesn't fit comes as one error, and nothing after it; so does a reading that fails, or refused memory.
-/// Here an empty buffer is `NoBuffer`, and a reading that fails its own error.
+/// Here an empty buffer is `NoBuffer`, a reading that fails its own error, and one that gives fewer bytes than the log has there
+/// `Short`: what the buffer held before is never given as a line.
 pub fn reverse<R: ReadAt + Drop>(
     alloc: Global,
     log: R,
@@ -57,7 +58,7 @@ pub fn reverse<R: ReadAt + Drop>(
     ensures room { IfOk result (λ reader. length reader.buffer.now ≡ length buffer.old) }
     ensures empty { IsErrOf result NoBuffer ↔ (buffer.old ≡ []) }
     ensures failed { IsErrOf result (Reader Failed) → R.may_fail }
-    ensures short { R.is_honest log → ¬ IsErrOf result Short }
+    ensures short { R.is_honest log → R.gives_all → ¬ IsErrOf result Short }
     ensures some_line { ¬ IsErrOf result LineTooLong }
 {
     if buffer.is_empty() {

@@ -42,7 +42,7 @@ impl<R: ReadAt + Drop> Reverse<'_, R> {
             → (after : List (List ℕ))
             × IsAt (R.contents self.new.log) self.new.is_done self.new.end self.new.held
             self.new.buffer.now after
-            × GivesBack (length self.old.buffer.now) R.may_fail self.old.given left
+            × GivesBack (length self.old.buffer.now) R.may_fail R.gives_all self.old.given left
             (Some result) after }
     {
         self.is_done = true;
@@ -71,7 +71,7 @@ impl<R: ReadAt + Drop> Iterator for Reverse<'_, R> {
     type Item = Result<Line, Error>;
 
     ghost next_gives = { λ before item after. (after.log ≡ before.log)
-        × GivesNext (R.is_honest before.log) (R.contents before.log) R.may_fail
+        × GivesNext (R.is_honest before.log) (R.contents before.log) R.may_fail R.gives_all
         (stand_of before) item (stand_of after) };
 
     ghost remaining = { λ reader. at_most (if reader.is_done then 0 else reader.end + 1) };

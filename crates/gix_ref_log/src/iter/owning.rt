@@ -36,8 +36,8 @@ pub(crate) fn read_last<R: ReadAt>(
     ensures too_long { R.is_honest log.now → IsWindow (R.contents log.now) end held buffer.old
         → IsErrOf result (Io LineTooLong) → IsTooLong (R.contents log.now) end (length buffer.old) }
     ensures failed { IsErrOf result (Io (Reader Failed)) → R.may_fail }
-    ensures short { R.is_honest log.now → IsWindow (R.contents log.now) end held buffer.old
-        → ¬ IsErrOf result (Io Short) }
+    ensures short { R.is_honest log.now → R.gives_all
+        → IsWindow (R.contents log.now) end held buffer.old → ¬ IsErrOf result (Io Short) }
     ensures some_buffer { ¬ IsErrOf result (Io NoBuffer) }
     ensures no_decode { IfErr result (λ error. (line : DecodeError) → error ≢ Decode line) }
 {

@@ -29,8 +29,8 @@ pub(crate) fn last_line<R: ReadAt>(
     ensures too_long { R.is_honest log.now → IsWindow (R.contents log.now) end held buffer.old
         → IsErrOf result LineTooLong → IsTooLong (R.contents log.now) end (length buffer.old) }
     ensures failed { IsErrOf result (Reader Failed) → R.may_fail }
-    ensures short { R.is_honest log.now → IsWindow (R.contents log.now) end held buffer.old
-        → ¬ IsErrOf result Short }
+    ensures short { R.is_honest log.now → R.gives_all
+        → IsWindow (R.contents log.now) end held buffer.old → ¬ IsErrOf result Short }
     ensures some_buffer { ¬ IsErrOf result NoBuffer }
 {
     if let Some(start) = line_start(&buffer[..held], held as u64 == end) {
@@ -55,14 +55,15 @@ fn line_start(bytes: &[u8], is_all: bool) -> Option<usize>
     }
 }
 
-/// Puts the log's last bytes before `end` into the buffer, as many as it has room for, and answers how many.
+/// Puts the log's last bytes before `end` into the buffer, as many as it has room for, and returns how many. `Short` if the
+/// reading gives fewer: what the buffer held is never taken for bytes of the log.
 pub(crate) fn read_before<R: ReadAt>(log: &R, end: u64, buffer: &mut [u8]) -> Result<usize, IoError>
     ensures held { IfOk result (λ held. held ≡ min end (length buffer.old)) }
     ensures len { length buffer.new ≡ length buffer.old }
     ensures told { R.is_honest log.now → end ≤ length (R.contents log.now)
         → IfOk result (λ held. IsWindow (R.contents log.now) end held buffer.new) }
     ensures failed { IsErrOf result (Reader Failed) → R.may_fail }
-    ensures short { R.is_honest log.now → end ≤ length (R.contents log.now)
+    ensures short { R.is_honest log.now → R.gives_all → end ≤ length (R.contents log.now)
         → ¬ IsErrOf result Short }
     ensures other { IfErr result (λ error. (error ≢ LineTooLong) × (error ≢ NoBuffer)) }
 {

@@ -1,6 +1,6 @@
 //! What a log is read from at any place.
 
-ghost use Rattle.std.specs.Prelude.{◌≡◌, ◌≤◌, ⊤, ℕ, List, length, IfOk, OnOk, IsErrOf};
+ghost use Rattle.std.specs.Prelude.{◌≡◌, ◌≤◌, ⊤, ℕ, List, length, take, IfOk, IsErrOf};
 ghost use Rattle.gix_ref_file.specs.declared.files.FileError.TheVariants.{Failed};
 ghost use Rattle.gix_ref_file.specs.Tree.{bytes_at, part, overwritten};
 
@@ -11,8 +11,11 @@ pub trait ReadAt {
     /// The bytes.
     ghost contents: { Self → List ℕ };
 
-    /// Whether readings tell these bytes.
+    /// Whether the bytes that readings give are those there, though they may be fewer than fit.
     ghost is_honest: { Self → Type 0 };
+
+    /// Whether a reading gives as many bytes as fit.
+    ghost gives_all: { Type 0 };
 
     /// Whether a reading may fail.
     ghost may_fail: { Type 0 };
@@ -22,14 +25,16 @@ pub trait ReadAt {
         ensures told { is_honest self.now → IfOk result (λ len. len ≡ length (contents self.now)) }
         ensures failed { IsErrOf result Failed → may_fail };
 
-    /// Puts the bytes from `at` on into the beginning of the buffer, as many as fit, and answers how many.
+    /// Puts bytes from `at` on into the beginning of the buffer and returns how many: as many as fit, where it gives all. The rest
+    /// of the buffer stays as it was.
     fn read_at(&self, at: u64, buffer: &mut [u8]) -> Result<usize, FileError>
-        ensures count { is_honest self.now
+        ensures count { is_honest self.now → gives_all
             → IfOk result (λ n. n ≡ length (part (contents self.now) at (length buffer.old))) }
+        ensures within { is_honest self.now
+            → IfOk result (λ n. n ≤ length (part (contents self.now) at (length buffer.old))) }
         ensures bytes { is_honest self.now
-            → OnOk result
-            (buffer.new
-            ≡ overwritten buffer.old (part (contents self.now) at (length buffer.old))) }
+            → IfOk result (λ n. buffer.new
+            ≡ overwritten buffer.old (take n (part (contents self.now) at (length buffer.old)))) }
         ensures len { length buffer.new ≡ length buffer.old }
         ensures failed { IsErrOf result Failed → may_fail };
 }
@@ -38,6 +43,8 @@ impl ReadAt for &[u8] {
     ghost contents = { λ bytes. bytes.now };
 
     ghost is_honest = { λ _. ⊤ };
+
+    ghost gives_all = { ⊤ };
 
     ghost may_fail = { ⊥ };
 
@@ -67,6 +74,8 @@ impl<F: Files> ReadAt for FileAt<'_, F> {
     ghost contents = { λ file. bytes_at (F.history file.files.now).tree file.path.now };
 
     ghost is_honest = { λ file. F.is_honest file.files.now };
+
+    ghost gives_all = { ⊤ };
 
     ghost may_fail = { F.reading_may_fail };
 

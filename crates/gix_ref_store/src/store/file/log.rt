@@ -1,6 +1,6 @@
 //! Logs of references.
 
-ghost use Rattle.std.specs.Prelude.{◌≡◌, [], None, is_some, length, option_map, IfOk, IfErr, IfSome, IsSome, IsErrOf};
+ghost use Rattle.std.specs.Prelude.{◌≡◌, ⊤, [], None, is_some, length, option_map, IfOk, IfErr, IfSome, IsSome, IsErrOf};
 ghost use Rattle.gix_ref_file.specs.Tree.{bytes_at};
 ghost use Rattle.gix_ref_name.specs.Names.{name_of};
 ghost use Rattle.gix_ref_log.specs.LogForward.{lines_of};
@@ -58,6 +58,8 @@ impl<F: Files> ReadAt for LogFile<'_, F> {
     ghost contents = { λ log. bytes_at (F.history log.files.now).tree log.path.items };
 
     ghost is_honest = { λ log. F.is_honest log.files.now };
+
+    ghost gives_all = { ⊤ };
 
     ghost may_fail = { F.reading_may_fail };
 
