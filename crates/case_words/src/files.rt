@@ -2,7 +2,8 @@
 
 use crate::bytes::read_bytes;
 use crate::page::Page;
-use gix_ref_file::{FileError, Files, Fuse, MemoryFiles, Place};
+use gix_ref_file::{FileError, Files, MemoryFiles, Place};
+use gix_ref_fuse::Fuse;
 use std::alloc::Global;
 use std::mem;
 

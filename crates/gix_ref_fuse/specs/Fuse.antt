@@ -1,6 +1,6 @@
 -- What a fuse holds, and its failures.
 use Rattle.std.specs.Prelude.{ℕ, ◌+◌, ◌-◌, ◌^◌, min}
-use Rattle.gix_ref_file.specs.declared.fuse.Fuse.{Fuse}
+use Rattle.gix_ref_fuse.specs.declared.fuse.Fuse.{Fuse}
 
 -- the files behind a fuse
 abbrev pub inner : {F : Type 0} → Fuse F → F

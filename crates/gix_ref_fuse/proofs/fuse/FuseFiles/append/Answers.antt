@@ -1,9 +1,9 @@
 use Rattle.std.proofs.Common.{◌∙◌, ap}
 use Rattle.gix_ref_file.specs.Changes.{to_append}
-use Rattle.gix_ref_file.specs.Fuse.{inner}
+use Rattle.gix_ref_fuse.specs.Fuse.{inner}
 use Rattle.gix_ref_file.proofs.Histories.{stopped, stopped_before}
-use Rattle.gix_ref_file.proofs.fuse.FuseFiles.append.Goals.{in-Part, in-Nothing}
-use Rattle.gix_ref_file.proofs.fuse.FuseFiles.append.Goals as goal
+use Rattle.gix_ref_fuse.proofs.fuse.FuseFiles.append.Goals.{in-Part, in-Nothing}
+use Rattle.gix_ref_fuse.proofs.fuse.FuseFiles.append.Goals as goal
 
 pub returns-clause-change : goal.returns-clause-change
 returns-clause-change g c honest =

@@ -1,9 +1,9 @@
 //! Files of which one call fails, or all from one on: for tests of what is left then.
 ghost use Rattle.std.specs.Prelude.{◌≡◌, ◌+◌, ◌-◌, ◌^◌, min};
 ghost use Rattle.gix_ref_file.specs.declared.files.FileError.TheVariants.{Failed};
-ghost use Rattle.gix_ref_file.specs.Fuse.{inner, own_failures};
+ghost use Rattle.gix_ref_fuse.specs.Fuse.{inner, own_failures};
 
-use crate::files::{FileError, Files, Place};
+use gix_ref_file::{FileError, Files, Place};
 use std::alloc::Global;
 use std::cell::Cell;
 
@@ -115,7 +115,7 @@ impl<F: Files> Fuse<F> {
 
 impl<F: Files> Files for Fuse<F> {
     ghost use Rattle.std.specs.Prelude.{⊤};
-    ghost use Rattle.gix_ref_file.specs.Fuse.{inner, own_failures, both};
+    ghost use Rattle.gix_ref_fuse.specs.Fuse.{inner, own_failures, both};
 
     ghost history = { λ fuse. F.history (inner fuse) };
 
