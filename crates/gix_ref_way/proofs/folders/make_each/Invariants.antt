@@ -2,7 +2,7 @@ use Rattle.std.proofs.Common.{◌≡◌, ◌≤◌}
 use Rattle.gix_ref_file.specs.History.{Adds}
 use Rattle.gix_ref_way.specs.Ways.{SameFiles, FoldersAbove, KeepsFolders, NoFileAbove}
 use Rattle.gix_ref_way.proofs.FoldersMade.{HasFoldersBefore}
-use Rattle.gix_ref_way.proofs.folders.make_folders.Given as goal
+use Rattle.gix_ref_way.proofs.folders.make_each.Given as goal
 
 -- folders alone were made, each that ends before this place in the path
 abbrev pub invariant-loop-end : goal.invariant-loop-end
