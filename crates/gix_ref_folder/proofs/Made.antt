@@ -1,5 +1,5 @@
 -- From what the system does at its own paths to what a folder makes.
-use Rattle.std.proofs.Common.{◌≡◌, ◌⊎◌, inl, inr, ⊎_elim, ℕ, Bool, true, false, cond, ◌&&◌, ◌||◌, List, [], ◌∷◌, ◌++◌, length, Option, Some, None, refl, sym, ◌∙◌, ap, subst, arith}
+use Rattle.std.proofs.Common.{◌≡◌, inl, inr, ℕ, Bool, true, false, cond, ◌&&◌, ◌||◌, List, [], ◌∷◌, ◌++◌, length, take, Option, Some, None, refl, sym, ◌∙◌, ap, subst, arith}
 use Rattle.std.specs.Prelude.{Result, Ok, Err, IfOk, IfErr, OnOk, IsTrue, IsFalse, IsSome, IsErrOf, is_some, is_none, ◌==◌}
 use Rattle.std.specs.List.{AllByRecursion}
 use Rattle.std.specs.FinMap.{get, insert}
@@ -83,22 +83,22 @@ now_has P old new adds before =
     subst P now (last_added P old.past old.tree new.tree adds.during adds.all before)
 
 -- where something is already, the making of a file changes nothing
-made_none : (path : List ℕ) (tree : Tree) → IsSome (node_at tree path) → after (to_create path) tree ≡ tree
-made_none path tree there = ap (λ b. cond b tree (insert tree path (file []))) there
+made_none : (path bytes : List ℕ) (tree : Tree) → IsSome (node_at tree path) → after (to_create path bytes) tree ≡ tree
+made_none path bytes tree there = ap (λ b. cond b tree (insert tree path (file bytes))) there
 
-pub found_already : {T U : Type 0} (path : List ℕ) (old new : History) (told : Result U Error) (value : T) → IsSome (node_at old.tree path)
-    → Does (to_create path) old new told → Does (to_create path) old new (Ok value)
-found_already path old new told value there does = record {
+pub found_already : {T U : Type 0} (path bytes : List ℕ) (old new : History) (told : Result U Error) (value : T) → IsSome (node_at old.tree path)
+    → Does (to_create path bytes) old new told → Does (to_create path bytes) old new (Ok value)
+found_already path bytes old new told value there does = record {
   allowed = ap (λ b. b || may_hold_file old.tree path) there;
-  made = now_has (λ t. t ≡ old.tree) old new same refl ∙ sym (made_none path old.tree there);
+  made = now_has (λ t. t ≡ old.tree) old new same refl ∙ sym (made_none path bytes old.tree there);
   moments = does.moments;
 }
   where
-    left : (t : Tree) → MayLeave (to_create path) old.tree t → t ≡ old.tree
+    left : (t : Tree) → MayLeave (to_create path bytes) old.tree t → t ≡ old.tree
     left t (inl same) = same
-    left t (inr (n, may, is)) = is ∙ made_none path old.tree there
+    left t (inr (n, may, is)) = is ∙ made_none path (take n bytes) old.tree there
 
-    all_left : (ts : List Tree) → AllByRecursion (MayLeave (to_create path) old.tree) ts → AllByRecursion (λ t. t ≡ old.tree) ts
+    all_left : (ts : List Tree) → AllByRecursion (MayLeave (to_create path bytes) old.tree) ts → AllByRecursion (λ t. t ≡ old.tree) ts
     all_left [] all = tt
     all_left (t ∷ ts) all = (left t all.0, all_left ts all.1)
 
@@ -109,9 +109,9 @@ pub not_empty : {A : Type 0} (b : ℕ) (path : List ℕ) → IsTrue (length (b �
 not_empty b path is = absurd (let none = eqb-true (length (b ∷ path)) 0 is in omega arith)
 
 -- the root is there
-pub root_already : {T : Type 0} (path : List ℕ) (history : History) (value : T) → IsTrue (length path == 0) → Does (to_create path) history history (Ok value)
-root_already [] history value root = record { allowed = refl; made = refl; moments = record { during = []; added = sym (append-nil (trees history)); all = tt } }
-root_already (b ∷ path) history value root = not_empty b path root
+pub root_already : {T : Type 0} (path bytes : List ℕ) (history : History) (value : T) → IsTrue (length path == 0) → Does (to_create path bytes) history history (Ok value)
+root_already [] bytes history value root = record { allowed = refl; made = refl; moments = record { during = []; added = sym (append-nil (trees history)); all = tt } }
+root_already (b ∷ path) bytes history value root = not_empty b path root
 
 pub root_there : (path : List ℕ) (tree : Tree) → IsTrue (length path == 0) → false ≡ is_none (node_at tree path)
 root_there [] tree root = refl
@@ -121,11 +121,11 @@ pub some_there : (there : Option Node) → IsSome there → false ≡ is_none th
 some_there None is = absurd (cc is)
 some_there (Some there) is = refl
 
-pub new_made : (path : List ℕ) (old new : History) (made : Result (Unit {0}) Error) (told : Result Bool Error) → IsNew made told → Does (to_create path) old new made
-    → IfErr made (λ error. error_kind error ≡ AlreadyExists → IsSome (node_at old.tree path)) → Does (to_create path) old new told
-new_made path old new (Ok it) (Ok value) is does taken = does_ok (to_create path) old new it value does
-new_made path old new (Err e) (Ok value) is does taken = found_already path old new (Err e) value (taken is.1) does
-new_made path old new made (Err f) is does taken = does_err (to_create path) old new made f does
+pub new_made : (path bytes : List ℕ) (old new : History) (made : Result (Unit {0}) Error) (told : Result Bool Error) → IsNew made told → Does (to_create path bytes) old new made
+    → IfErr made (λ error. error_kind error ≡ AlreadyExists → IsSome (node_at old.tree path)) → Does (to_create path bytes) old new told
+new_made path bytes old new (Ok it) (Ok value) is does taken = does_ok (to_create path bytes) old new it value does
+new_made path bytes old new (Err e) (Ok value) is does taken = found_already path bytes old new (Err e) value (taken is.1) does
+new_made path bytes old new made (Err f) is does taken = does_err (to_create path bytes) old new made f does
 
 pub new_there : (path : List ℕ) (tree : Tree) (made : Result (Unit {0}) Error) (told : Result Bool Error) → IsNew made told → OnOk made (node_at tree path ≡ None)
     → IfErr made (λ error. error_kind error ≡ AlreadyExists → IsSome (node_at tree path)) → IfOk told (λ value. value ≡ is_none (node_at tree path))

@@ -1,9 +1,9 @@
 -- A folder over a system: which part of which folder it is, what it holds, and what is supposed of it.
-use Rattle.std.specs.Prelude.{◌≡◌, ℕ, ◌&&◌, List, ◌∷◌, Option, Some, None, String, length, option_map, string_bytes, Result, IsFalse}
+use Rattle.std.specs.Prelude.{◌≡◌, ℕ, ◌&&◌, List, Option, Some, None, String, string_bytes, Result, IsTrue, IsFalse}
 use Rattle.std.specs.declared.io.Error.{Error}
 use Rattle.std.specs.declared.alloc.Global.{Global}
 use Rattle.gix_ref_file.specs.History.{History}
-use Rattle.gix_ref_file.specs.Changes.{Change}
+use Rattle.gix_ref_file.specs.Changes.{Change, is_file_at}
 use Rattle.gix_ref_file.specs.Tree.{Tree, is_path, node_at, bytes_of}
 use Rattle.gix_ref_folder.specs.Errors.{count_of}
 use Rattle.gix_ref_folder.specs.Parts.{has}
@@ -44,9 +44,8 @@ abbrev pub IsPlaceIn : List ℕ → Part → List ℕ → Option (String Global)
 IsPlaceIn root part path (Some place) = IsPlaceOf root part path (string_bytes place)
 IsPlaceIn root part path None = IsFalse (is_path path && has part path)
 
--- the system's path of a file and its length, and none where there is no file
-abbrev pub IsFileIn : List ℕ → Part → List ℕ → Tree → Option (String Global × ℕ) → Type 0
-IsFileIn root part path tree (Some found) =
-    IsPlaceOf root part path (string_bytes found.0)
-    × (option_map length (bytes_of (node_at tree path)) ≡ Some found.1)
+-- the system's path of a file, and none if no file is there
+abbrev pub IsFileIn : List ℕ → Part → List ℕ → Tree → Option (String Global) → Type 0
+IsFileIn root part path tree (Some place) =
+    IsPlaceOf root part path (string_bytes place) × IsTrue (is_file_at tree path)
 IsFileIn root part path tree None = bytes_of (node_at tree path) ≡ None

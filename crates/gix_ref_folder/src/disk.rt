@@ -1,5 +1,7 @@
 //! The system's own calls.
+ghost use Rattle.std.specs.Prelude.{◌≡◌, ◌≤◌, length, IfOk, IfSome};
 
+use crate::faults::is_missing;
 use crate::part::Part;
 use crate::system::{Found, System};
 use std::alloc::Global;
@@ -35,12 +37,57 @@ impl<R: fs::Files + AllocGlobal + Clone + Drop> Disk<R> {
         Ok(Found::Other)
     }
 
-    fn fill(&self, place: &str, at: u64, buffer: &mut [u8]) -> io::Result<()> {
-        let mut file = fs::open(&self.rt, place)?;
-        if at > 0 {
+    // The system follows a link that it opens, so what was opened is refused if a link is there.
+    fn is_link(&self, place: &str) -> bool {
+        fs::symlink_metadata(&self.rt, place).is_ok_and(|found| found.is_symlink())
+    }
+
+    // Opens a file to read it, and returns the length that it has as it is open; `None` if nothing is there, or a folder.
+    fn opened(&self, place: &str) -> io::Result<Option<(R::File, u64)>> {
+        let file = match fs::open(&self.rt, place) {
+            Err(error) if is_missing(&error) => return Ok(None),
+            file => file?,
+        };
+        let found = file.metadata()?;
+        if found.is_dir() {
+            return Ok(None);
+        }
+        if !found.is_file() || self.is_link(place) {
+            return Err(io::Error::other("neither a file nor a folder"));
+        }
+        Ok(Some((file, found.len())))
+    }
+
+    fn bytes(&self, alloc: Global, place: &str) -> io::Result<Option<Vec<u8>>> {
+        let Some((mut file, len)) = self.opened(place)? else {
+            return Ok(None);
+        };
+        let mut bytes = vec![in alloc; 0; len as usize]?;
+        file.read_exact(&mut bytes)?;
+        Ok(Some(bytes))
+    }
+
+    fn fill(&self, place: &str, at: u64, buffer: &mut [u8]) -> io::Result<Option<usize>>
+        ensures fits { IfOk result (λ count. IfSome count (λ n. n ≤ length buffer.new)) }
+        ensures len { length buffer.new ≡ length buffer.old }
+    {
+        let Some((mut file, len)) = self.opened(place)? else {
+            return Ok(None);
+        };
+        let count = len.saturating_sub(at).min(buffer.len() as u64) as usize;
+        if count > 0 && at > 0 {
             file.seek(SeekFrom::Start(at))?;
         }
-        file.read_exact(buffer)
+        file.read_exact(&mut buffer[..count])?;
+        Ok(Some(count))
+    }
+
+    fn names_in(&self, alloc: Global, place: &str) -> io::Result<Vec<Vec<u8>>> {
+        let names = self.names(alloc, place)?;
+        if self.is_link(place) {
+            return Err(io::Error::other("neither a file nor a folder"));
+        }
+        Ok(names)
     }
 
     fn names(&self, alloc: Global, place: &str) -> io::Result<Vec<Vec<u8>>> {
@@ -59,9 +106,9 @@ impl<R: fs::Files + AllocGlobal + Clone + Drop> Disk<R> {
         how.open(&self.rt, place)
     }
 
-    fn put_new(&self, place: &str) -> io::Result<()> {
-        let _made = self.make(place)?;
-        Ok(())
+    fn put_new(&self, place: &str, bytes: &[u8]) -> io::Result<()> {
+        let mut file = self.make(place)?;
+        file.write_all(bytes)
     }
 
     // Opens a file to change it, and returns its length; one that is missing is made. The system would follow a link that was put into
@@ -107,16 +154,24 @@ impl<R: fs::Files + AllocGlobal + Clone + Drop> System for Disk<R> {
         self.look(place)
     }
 
-    fn read_at(&self, place: &str, at: u64, buffer: &mut [u8]) -> io::Result<()> {
+    fn read(&self, alloc: Global, place: &str) -> io::Result<Option<Vec<u8>>> {
+        self.bytes(alloc, place)
+    }
+
+    fn read_at(&self, place: &str, at: u64, buffer: &mut [u8]) -> io::Result<Option<usize>> {
         self.fill(place, at, buffer)
     }
 
     fn list(&self, alloc: Global, place: &str) -> io::Result<Vec<Vec<u8>>> {
+        self.names_in(alloc, place)
+    }
+
+    fn list_root(&self, alloc: Global, place: &str) -> io::Result<Vec<Vec<u8>>> {
         self.names(alloc, place)
     }
 
-    fn create_new(&mut self, place: &str) -> io::Result<()> {
-        self.put_new(place)
+    fn create_new(&mut self, place: &str, bytes: &[u8]) -> io::Result<()> {
+        self.put_new(place, bytes)
     }
 
     fn write(&mut self, place: &str, bytes: &[u8]) -> io::Result<()> {

@@ -1,7 +1,7 @@
 //! How many changes failed, and why the last call did.
 ghost use Rattle.std.specs.Prelude.{◌≡◌, ◌≤◌, ◌+◌, ◌-◌, ◌^◌, min, IfOk, IfNone, OnOk, Ok, IsErrOf};
 ghost use Rattle.gix_ref_file.specs.History.{HasRisen};
-ghost use Rattle.gix_ref_file.specs.declared.files.FileError.TheVariants.{Failed};
+ghost use Rattle.gix_ref_file.specs.declared.files.FileError.TheVariants.{Failed, Memory};
 ghost use Rattle.gix_ref_folder.specs.Errors.{count_of};
 
 use crate::failure::Failure;
@@ -76,6 +76,7 @@ impl Failures {
         ensures later { count_of self.old ≤ count_of self.new }
         ensures unfailed { OnOk result (count_of self.new ≡ count_of self.old) }
         ensures risen { IsErrOf result Failed → HasRisen (count_of self.old) (count_of self.new) }
+        ensures memory { IsErrOf result Memory → count_of self.new ≡ count_of self.old }
     {
         match changed {
             Ok(value) => Ok(value),
@@ -86,6 +87,7 @@ impl Failures {
     fn failed(&mut self, alloc: Global, path: &[u8], error: io::Error) -> FileError
         ensures later { count_of self.old ≤ count_of self.new }
         ensures risen { result ≡ Failed → HasRisen (count_of self.old) (count_of self.new) }
+        ensures memory { result ≡ Memory → count_of self.new ≡ count_of self.old }
     {
         let fault = fault(&error);
         if fault == FileError::Memory {

@@ -123,8 +123,8 @@ impl<S: System> Folder<S> {
         }
     }
 
-    // The system's path of a file, and its length; `None` where there is none.
-    fn file_place(&self, path: &[u8]) -> io::Result<Option<(String, u64)>>
+    // The system's path of a file; `None` if there is none.
+    fn file_place(&self, path: &[u8]) -> io::Result<Option<String>>
         ensures { Finds (IsHonestIn S.is_honest) (history_in S.history) self.now
             (λ tree. IfOk result (λ file.
             IsFileIn (string_bytes self.now.root) self.now.part path.now tree file)) }
@@ -133,22 +133,9 @@ impl<S: System> Folder<S> {
             return Ok(None);
         };
         match self.found(place.as_str())? {
-            Place::File(len) => Ok(Some((place, len))),
+            Place::File(_) => Ok(Some(place)),
             Place::Absent | Place::Folder => Ok(None),
         }
-    }
-
-    // Fills a buffer with a file's bytes from one on.
-    fn fill(&self, place: &str, at: u64, buffer: &mut [u8]) -> io::Result<()>
-        ensures bytes { Reads S.is_honest S.history self.now.system place.now
-            (λ tree path. OnOk result (buffer.new
-            ≡ part (bytes_at tree path) at (length buffer.old))) }
-        ensures len { length buffer.new ≡ length buffer.old }
-    {
-        if buffer.is_empty() {
-            return Ok(());
-        }
-        self.system.read_at(place, at, buffer)
     }
 
     // A file's bytes.
@@ -157,12 +144,10 @@ impl<S: System> Folder<S> {
             (λ tree. IfOk result (λ bytes. option_map (λ it. it.items) bytes
             ≡ bytes_of (node_at tree path.now))) }
     {
-        let Some((place, len)) = self.file_place(path)? else {
-            return Ok(None);
-        };
-        let mut bytes = vec![in self.alloc; 0; len as usize]?;
-        self.fill(place.as_str(), 0, &mut bytes)?;
-        Ok(Some(bytes))
+        match self.place(path)? {
+            Some(place) => self.system.read(self.alloc, place.as_str()),
+            None => Ok(None),
+        }
     }
 
     // Puts what a file has from a byte on into the beginning of a buffer, and returns how many bytes that is.
@@ -177,12 +162,10 @@ impl<S: System> Folder<S> {
         ensures fits { IfOk result (λ count. IfSome count (λ n. n ≤ length buffer.new)) }
         ensures len { length buffer.new ≡ length buffer.old }
     {
-        let Some((place, len)) = self.file_place(path)? else {
-            return Ok(None);
-        };
-        let count = len.saturating_sub(at).min(buffer.len() as u64) as usize;
-        self.fill(place.as_str(), at, &mut buffer[..count])?;
-        Ok(Some(count))
+        match self.place(path)? {
+            Some(place) => self.system.read_at(place.as_str(), at, buffer),
+            None => Ok(None),
+        }
     }
 
     // The names right in a folder, in any order.
@@ -203,10 +186,10 @@ impl<S: System> Folder<S> {
         ensures { Reads S.is_honest S.history self.now.system place.now
             (λ tree path. IfOk result (λ names. AreNames tree path names.items)) }
     {
-        match self.found(place)? {
-            Place::Folder => self.system.list(alloc, place),
-            Place::Absent => Ok(Vec::new(alloc)),
-            Place::File(_) => Ok(Vec::new(alloc)),
+        match self.system.list(alloc, place) {
+            Ok(names) => Ok(names),
+            Err(error) if is_missing(&error) => Ok(Vec::new(alloc)),
+            Err(error) => Err(error),
         }
     }
 
@@ -216,7 +199,7 @@ impl<S: System> Folder<S> {
             (λ tree. IfOk result (λ names. AreNames tree [] names.items)) }
     {
         let part = self.part;
-        let mut names = self.system.list(alloc, self.root.as_str())?;
+        let mut names = self.system.list_root(alloc, self.root.as_str())?;
         names.retain(|name| part.has(name));
         Ok(names)
     }
@@ -233,8 +216,9 @@ impl<S: System> Folder<S> {
         Ok(names)
     }
 
-    fn make_new(&mut self, path: &[u8]) -> io::Result<bool>
-        ensures change { Acts S.is_honest S.history self.old self.new (to_create path.now) result }
+    fn make_new(&mut self, path: &[u8], bytes: &[u8]) -> io::Result<bool>
+        ensures change { Acts S.is_honest S.history self.old self.new
+            (to_create path.now bytes.now) result }
         ensures is_new { Finds (IsHonestIn S.is_honest) (history_in S.history) self.old
             (λ tree. IfOk result (λ made. made ≡ is_none (node_at tree path.now))) }
         ensures failures { failures_of self.new ≡ failures_of self.old }
@@ -244,7 +228,7 @@ impl<S: System> Folder<S> {
             return Ok(false);
         }
         let place = self.file_target(path)?;
-        let made = self.system.create_new(place.as_str());
+        let made = self.system.create_new(place.as_str(), bytes);
         is_new(made)
     }
 
@@ -274,7 +258,7 @@ impl<S: System> Folder<S> {
     {
         let to = self.target(to)?;
         match self.file_place(from)? {
-            Some((from, _)) => self.system.rename(from.as_str(), to.as_str()),
+            Some(from) => self.system.rename(from.as_str(), to.as_str()),
             None => Err(io::Error::new(ErrorKind::NotFound, "no file to move here")),
         }
     }
@@ -354,8 +338,8 @@ impl<S: System> Files for Folder<S> {
         self.failures.read(self.alloc, folder, names)
     }
 
-    fn create_new(&mut self, alloc: Global, path: &[u8]) -> Result<bool, FileError> {
-        let made = self.make_new(path);
+    fn create_new(&mut self, alloc: Global, path: &[u8], bytes: &[u8]) -> Result<bool, FileError> {
+        let made = self.make_new(path, bytes);
         self.failures.changed(alloc, path, made)
     }
 

@@ -1,9 +1,9 @@
 //! The system's calls that a folder makes.
-ghost use Rattle.std.specs.Prelude.{◌≡◌, ℕ, List, None, length, IfOk, IfErr, OnOk, IsTrue, IsSome};
+ghost use Rattle.std.specs.Prelude.{◌≡◌, ◌≤◌, ℕ, List, None, length, option_map, IfOk, IfErr, IfSome, OnOk, IsTrue, IsFalse, IsSome};
 ghost use Rattle.std.specs.IoError.{error_kind};
 ghost use Rattle.std.specs.declared.io.ErrorKind.TheVariants.{AlreadyExists};
 ghost use Rattle.gix_ref_file.specs.History.{History};
-ghost use Rattle.gix_ref_file.specs.Tree.{node_at, bytes_at, part};
+ghost use Rattle.gix_ref_file.specs.Tree.{node_at, bytes_of, bytes_at, is_folder, part, overwritten};
 ghost use Rattle.gix_ref_file.specs.Changes.{to_create, to_write, to_append, to_remove_file, to_make_folder, to_remove_folder};
 ghost use Rattle.gix_ref_folder.specs.Errors.{means_absent};
 ghost use Rattle.gix_ref_folder.specs.Systems.{IsFound, AreNames, AreRootNames, Reads, Performs, Moves, IsShown};
@@ -45,24 +45,42 @@ pub trait System {
             (λ tree path. IfErr result (λ error. IsTrue (means_absent (error_kind error))
             → node_at tree path ≡ None)) };
 
-    /// Fills a buffer with a file's bytes from one on; an error if the file has fewer.
-    fn read_at(&self, place: &str, at: u64, buffer: &mut [u8]) -> io::Result<()>
+    /// Returns a file's bytes, or `None` if no file is there: nothing, or a folder.
+    fn read(&self, alloc: Global, place: &str) -> io::Result<Option<Vec<u8>>>
+        ensures { Reads is_honest history self.now place.now
+            (λ tree path. IfOk result (λ found. option_map (λ bytes. bytes.items) found
+            ≡ bytes_of (node_at tree path))) };
+
+    /// Puts what a file has from a byte on into the beginning of a buffer, as much as fits, and returns how many bytes that is, or
+    /// `None` if no file is there.
+    fn read_at(&self, place: &str, at: u64, buffer: &mut [u8]) -> io::Result<Option<usize>>
+        ensures count { Reads is_honest history self.now place.now
+            (λ tree path. IfOk result (λ count.
+            count ≡ option_map (λ bytes. length (part bytes at (length buffer.old)))
+            (bytes_of (node_at tree path)))) }
         ensures bytes { Reads is_honest history self.now place.now
             (λ tree path. OnOk result (buffer.new
-            ≡ part (bytes_at tree path) at (length buffer.old))) }
+            ≡ overwritten buffer.old (part (bytes_at tree path) at (length buffer.old)))) }
+        ensures fits { IfOk result (λ count. IfSome count (λ n. n ≤ length buffer.new)) }
         ensures len { length buffer.new ≡ length buffer.old };
 
-    /// Returns the names right in a folder, in any order.
+    /// Returns the names right in a folder, in any order; an error if no folder is there.
     fn list(&self, alloc: Global, place: &str) -> io::Result<Vec<Vec<u8>>>
         ensures names { Reads is_honest history self.now place.now
             (λ tree path. IfOk result (λ names. AreNames tree path names.items)) }
-        ensures root { (root : List ℕ) (part : Part) → is_honest self.now root part
-            → place.now ≡ root
+        ensures missing { Reads is_honest history self.now place.now
+            (λ tree path. IfErr result (λ error. IsTrue (means_absent (error_kind error))
+            → IsFalse (is_folder (node_at tree path)))) };
+
+    /// Returns the names right in a root, of all its parts, in any order.
+    fn list_root(&self, alloc: Global, place: &str) -> io::Result<Vec<Vec<u8>>>
+        ensures { (root : List ℕ) (part : Part) → is_honest self.now root part → place.now ≡ root
             → IfOk result (λ names. AreRootNames part (history self.now root part).tree names.items) };
 
-    /// Makes an empty file where nothing is; `AlreadyExists` where something is.
-    fn create_new(&mut self, place: &str) -> io::Result<()>
-        ensures change { Performs is_honest history self.old self.new place.now to_create result }
+    /// Makes a file of these bytes where nothing is; `AlreadyExists` if something is.
+    fn create_new(&mut self, place: &str, bytes: &[u8]) -> io::Result<()>
+        ensures change { Performs is_honest history self.old self.new place.now
+            (λ path. to_create path bytes.now) result }
         ensures free { Reads is_honest history self.old place.now
             (λ tree path. OnOk result (node_at tree path ≡ None)) }
         ensures taken { Reads is_honest history self.old place.now

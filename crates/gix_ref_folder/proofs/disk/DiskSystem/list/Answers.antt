@@ -5,5 +5,5 @@ use Rattle.gix_ref_folder.proofs.disk.DiskSystem.list.Goals as goal
 pub returns-clause-names : goal.returns-clause-names
 returns-clause-names g c root part path honest place = follows _ root part _ Proof honest
 
-pub returns-clause-root : goal.returns-clause-root
-returns-clause-root g c root part honest place = follows _ root part _ Proof honest
+pub returns-clause-missing : goal.returns-clause-missing
+returns-clause-missing g c root part path honest place = follows _ root part _ Proof honest
