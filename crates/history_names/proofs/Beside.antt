@@ -1,5 +1,5 @@
 -- A name's file is written beside and renamed to its place.
-use Rattle.std.proofs.Common.{◌≡◌, ◌≢◌, ◌⊎◌, inl, inr, refl, sym, ◌∙◌, ap, Bool, true, false, cond, not, ◌&&◌, [], ◌∷◌, take}
+use Rattle.std.proofs.Common.{◌≡◌, ◌≢◌, ◌⊎◌, inl, inr, refl, sym, ◌∙◌, ap, Bool, true, false, cond, not, ◌&&◌, [], ◌∷◌}
 use Rattle.std.specs.Prelude.{IsErrOf, IsTrue, Option, Result, Ok, Err, Some, None, is_some}
 use Rattle.gix_ref_file.specs.declared.files.FileError.{FileError}
 use Rattle.gix_ref_file.specs.declared.files.FileError.TheVariants.{Failed}
@@ -13,16 +13,13 @@ use Rattle.gix_ref_file.proofs.Listings.{node_is}
 use Rattle.history_model.specs.Bytes.{Bytes}
 use Rattle.history_model.specs.Forms.{is_name}
 use Rattle.history_model.specs.Places.{file_at, log_place}
-use Rattle.gix_ref_way.specs.Ways.{SameFiles, FoldersAbove, IsAbove}
+use Rattle.gix_ref_way.specs.Ways.{ChangesOneFile, SameFiles, FoldersAbove, IsAbove}
 use Rattle.history_names.specs.References.{HasLockRoom, MayBeWritten, PutsBeside, lock_place}
 use Rattle.gix_ref_way.proofs.Above.{now_above}
 use Rattle.history_names.proofs.Locks.{lock_beside_name, lock_not_above, lock_not_above_log, lock_path, own_lock}
+use Rattle.gix_ref_way.proofs.OneFile.{one_files}
 use Rattle.gix_ref_way.proofs.Stored.{now_same, apart_from_inserted, apart_from_removed}
 use Rattle.gix_ref_file.proofs.Rooted.{first}
-
-while_locked : (lock text : Bytes) (t x : Tree) → MayLeave (to_write lock text) t x → (other : Bytes) → other ≢ lock → file_at x other ≡ file_at t other
-while_locked lock text t x (inl same) other apart = ap (λ y. file_at y other) same
-while_locked lock text t x (inr (n, may, is)) other apart = ap (λ y. file_at y other) is ∙ apart_from_inserted t lock (file (take n text)) other apart
 
 pub from_and_2 : (a b : Bool) → IsTrue (a && b) → IsTrue b
 from_and_2 true b h = h
@@ -45,10 +42,10 @@ module _ (path text lock : Bytes) (is_lock : lock ≡ lock_place path) (old made
   pub way_beside : Adds (MayBeWritten path text old.tree) old made
   way_beside = adds_weaker old made first (λ x same. record { here = inl (same path); others = λ other away beside. same other })
 
-  pub lock_beside : Adds (MayLeave (to_write lock text) made.tree) made locked → Adds (MayBeWritten path text old.tree) old locked
-  lock_beside second = adds_joined old made locked way_beside (adds_weaker made locked second (λ x left. record {
-    here = inl (while_locked lock text made.tree x left path apart ∙ now_same old made first path);
-    others = λ other away beside. while_locked lock text made.tree x left other (not_lock other beside) ∙ now_same old made first other;
+  pub lock_beside : Adds (ChangesOneFile lock made.tree) made locked → Adds (MayBeWritten path text old.tree) old locked
+  lock_beside second = adds_joined old made locked way_beside (adds_weaker made locked second (λ x one. record {
+    here = inl (one_files lock made.tree x one path apart ∙ now_same old made first path);
+    others = λ other away beside. one_files lock made.tree x one other (not_lock other beside) ∙ now_same old made first other;
   }))
 
   module _ (may_lock : IsTrue (may_hold_file made.tree lock)) (is_locked : locked.tree ≡ after (to_write lock text) made.tree) where
@@ -75,7 +72,7 @@ module _ (path text lock : Bytes) (is_lock : lock ≡ lock_place path) (old made
     }
     while_renamed x (inr (n, may, is)) = let puts = renamed x may is in record { here = inr puts.here; others = puts.others }
 
-    pub rename_beside : Adds (MayLeave (to_write lock text) made.tree) made locked → Adds (MayLeave (to_rename lock path) locked.tree) locked new → Adds (MayBeWritten path text old.tree) old new
+    pub rename_beside : Adds (ChangesOneFile lock made.tree) made locked → Adds (MayLeave (to_rename lock path) locked.tree) locked new → Adds (MayBeWritten path text old.tree) old new
     rename_beside second third = adds_joined old locked new (lock_beside second) (adds_weaker locked new third while_renamed)
 
     pub put_beside : IsTrue (allows locked.tree (to_rename lock path)) → new.tree ≡ after (to_rename lock path) locked.tree → PutsBeside path text old.tree new.tree

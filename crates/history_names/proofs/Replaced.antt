@@ -1,21 +1,22 @@
 -- `packed-refs` is written beside and renamed to its place.
-use Rattle.std.proofs.Common.{◌≡◌, ◌≢◌, inl, inr, refl, sym, ◌∙◌, ap, subst, not, ◌&&◌, true, List, take, codes}
+use Rattle.std.proofs.Common.{◌≡◌, ◌≢◌, refl, sym, ◌∙◌, ap, subst, not, ◌&&◌, true, List, codes}
 use Rattle.std.specs.Prelude.{IsTrue, Option, Some, None, is_some}
 use Rattle.std.specs.FinMap.{get}
 use Rattle.gix_ref_file.specs.Tree.{Tree, Node, file, folder, bytes_of, is_folder}
 use Rattle.gix_ref_file.specs.Changes.{to_write, to_rename, allows, after, may_hold_file, is_file_at, MayLeave}
 use Rattle.gix_ref_file.specs.History.{History, Adds}
-use Rattle.gix_ref_file.proofs.Histories.{adds_weaker, adds_joined}
+use Rattle.gix_ref_file.proofs.Histories.{adds_weaker}
 use Rattle.gix_ref_file.proofs.Trees.{get_inserted, room_after_insert}
 use Rattle.gix_hash_id.specs.declared.kind.Kind.{Kind}
 use Rattle.gix_ref_format.specs.Packed.{Record}
 use Rattle.gix_ref_format.specs.PackedBuffer.{Keeps, KeepsFile}
 use Rattle.history_model.specs.Bytes.{Bytes}
 use Rattle.history_model.specs.Places.{file_at, packed_place}
+use Rattle.gix_ref_way.specs.Ways.{ChangesOneFile}
 use Rattle.gix_ref_way.specs.Ways as made
 use Rattle.history_names.specs.Packing.{HasPackedRoom}
 use Rattle.history_names.specs.References.{PutsBeside, SameFolders}
-use Rattle.gix_ref_way.proofs.FoldersStay.{written_folders, renamed_folders, same_twice}
+use Rattle.gix_ref_way.proofs.OneFile.{ones_folders, renamed_after}
 
 abbrev pub packed_lock : Bytes
 packed_lock = codes "packed-refs.lock"
@@ -33,24 +34,11 @@ as_before t u same place = (
   λ is. folder_is (get u place) (same place ∙ ap is_folder is),
 )
 
-same_itself : (t x : Tree) → x ≡ t → made.SameFolders t x
-same_itself t x same path = ap (λ y. is_folder (get y path)) same
+pub locked_folders : (old locked : History) → Adds (ChangesOneFile packed_lock old.tree) old locked → Adds (SameFolders old.tree) old locked
+locked_folders old locked adds = adds_weaker old locked (ones_folders packed_lock old locked adds) (as_before old.tree)
 
-while_locked : (text : Bytes) (t x : Tree) → MayLeave (to_write packed_lock text) t x → made.SameFolders t x
-while_locked text t x (inl same) = same_itself t x same
-while_locked text t x (inr (n, may, is)) = written_folders t x packed_lock (take n text) may is
-
-while_renamed : (text : Bytes) (t locked x : Tree) → IsTrue (allows t (to_write packed_lock text)) → locked ≡ after (to_write packed_lock text) t → MayLeave (to_rename packed_lock packed_place) locked x → made.SameFolders t x
-while_renamed text t locked x may is_locked (inl same) = written_folders t x packed_lock text may (same ∙ is_locked)
-while_renamed text t locked x may is_locked (inr (n, may_move, is)) = same_twice t locked x (written_folders t locked packed_lock text may is_locked) (renamed_folders locked x packed_lock packed_place may_move is)
-
-pub locked_folders : (text : Bytes) (old locked : History) → Adds (MayLeave (to_write packed_lock text) old.tree) old locked → Adds (SameFolders old.tree) old locked
-locked_folders text old locked adds = adds_weaker old locked adds (λ x left. as_before old.tree x (while_locked text old.tree x left))
-
-pub renamed_all : (text : Bytes) (old locked new : History) → IsTrue (allows old.tree (to_write packed_lock text)) → locked.tree ≡ after (to_write packed_lock text) old.tree
-    → Adds (MayLeave (to_write packed_lock text) old.tree) old locked → Adds (MayLeave (to_rename packed_lock packed_place) locked.tree) locked new → Adds (SameFolders old.tree) old new
-renamed_all text old locked new may is_locked first second =
-    adds_joined old locked new (locked_folders text old locked first) (adds_weaker locked new second (λ x left. as_before old.tree x (while_renamed text old.tree locked.tree x may is_locked left)))
+pub renamed_all : (old locked new : History) → Adds (ChangesOneFile packed_lock old.tree) old locked → Adds (MayLeave (to_rename packed_lock packed_place) locked.tree) locked new → Adds (SameFolders old.tree) old new
+renamed_all old locked new first second = adds_weaker old new (renamed_after packed_lock packed_place old locked new first second) (as_before old.tree)
 
 -- ---- room
 

@@ -2,7 +2,7 @@
 ghost use Rattle.std.specs.Prelude.{◌≡◌, ◌≤◌, IfOk, OnOk, IsErrOf};
 ghost use Rattle.gix_ref_file.specs.Calls.{Achieves, Passes};
 ghost use Rattle.gix_ref_file.specs.History.{HasRisen};
-ghost use Rattle.gix_ref_file.specs.declared.files.FileError.TheVariants.{Failed};
+ghost use Rattle.gix_ref_file.specs.declared.files.FileError.TheVariants.{Failed, Memory};
 ghost use Rattle.history_model.specs.Places.{head_place};
 ghost use Rattle.history_model.specs.StandsFor.{head_text};
 ghost use Rattle.gix_ref_way.specs.Ways.{SameFolders};
@@ -11,6 +11,7 @@ ghost use Rattle.history_names.specs.References.{HasHeadRoom, MayBeWritten, Puts
 
 use crate::names::Names;
 use gix_ref_file::{FileError, Files};
+use gix_ref_way::write_anew;
 use history_model::names::HEAD;
 use std::alloc::{AllocError, Global};
 
@@ -48,12 +49,14 @@ impl<F: Files> Names<F> {
         // Where HEAD and its lock file have room, a call of the files fails only of itself.
         ensures later { F.failures self.old.files ≤ F.failures self.new.files }
         ensures unfailed { OnOk result (F.failures self.new.files ≡ F.failures self.old.files) }
+        ensures memory { IsErrOf result Memory
+            → F.failures self.new.files ≡ F.failures self.old.files }
         ensures failed { F.is_honest self.old.files
             → HasHeadRoom (F.history self.old.files).tree → IsErrOf result Failed
             → HasRisen (F.failures self.old.files) (F.failures self.new.files) }
     {
         let text = head_text(alloc, branch)?;
-        self.files.write(alloc, HEAD_LOCK, &text)?;
+        write_anew(alloc, &mut self.files, HEAD_LOCK, &text)?;
         self.files.rename(alloc, HEAD_LOCK, HEAD)
     }
 }

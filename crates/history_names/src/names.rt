@@ -3,7 +3,7 @@ ghost use Rattle.std.specs.Prelude.{◌≡◌, ◌≤◌, None, IfOk, OnOk, IsEr
 ghost use Rattle.gix_ref_file.specs.Calls.{Achieves, Finds, HasFault, Passes};
 ghost use Rattle.gix_ref_file.specs.Tree.{bytes_at};
 ghost use Rattle.gix_ref_file.specs.Changes.{is_file_at};
-ghost use Rattle.gix_ref_file.specs.declared.files.FileError.TheVariants.{Failed};
+ghost use Rattle.gix_ref_file.specs.declared.files.FileError.TheVariants.{Failed, Memory};
 ghost use Rattle.history_model.specs.Forms.{is_name};
 ghost use Rattle.history_model.specs.Bytes.{line};
 ghost use Rattle.history_model.specs.Objects.{hex};
@@ -19,7 +19,7 @@ use gix_object_lines::cut::{strip_prefix, strip_suffix};
 use gix_ref_file::{FileError, Files};
 use gix_ref_format::ids::parse_hex;
 use gix_ref_format::packed::Buffer;
-use gix_ref_way::{has_file_above, has_file_below, is_file, make_way};
+use gix_ref_way::{has_file_above, has_file_below, is_file, make_way, write_anew};
 use history_model::names::HEAD;
 use history_texts::{LogEntry, push_hex};
 use std::alloc::{AllocError, Global};
@@ -163,6 +163,8 @@ impl<F: Files> Names<F> {
         // Where the name has room, a call of the files fails only of itself.
         ensures later { F.failures self.old.files ≤ F.failures self.new.files }
         ensures unfailed { OnOk result (F.failures self.new.files ≡ F.failures self.old.files) }
+        ensures memory { IsErrOf result Memory
+            → F.failures self.new.files ≡ F.failures self.old.files }
         ensures failed { IsTrue (is_name name.now) → F.is_honest self.old.files
             → HasRoom name.now (F.history self.old.files).tree
             → IsErrOf result Failed
@@ -191,6 +193,8 @@ impl<F: Files> Names<F> {
             (FoldersAbove (log_place name.now)) }
         ensures later { F.failures self.old.files ≤ F.failures self.new.files }
         ensures unfailed { OnOk result (F.failures self.new.files ≡ F.failures self.old.files) }
+        ensures memory { IsErrOf result Memory
+            → F.failures self.new.files ≡ F.failures self.old.files }
         ensures failed { IsTrue (is_name name.now) → F.is_honest self.old.files
             → HasWay (log_place name.now) (F.history self.old.files).tree
             → IsErrOf result Failed
@@ -221,6 +225,8 @@ impl<F: Files> Names<F> {
             (FoldersAbove name.now) }
         ensures later { F.failures self.old.files ≤ F.failures self.new.files }
         ensures unfailed { OnOk result (F.failures self.new.files ≡ F.failures self.old.files) }
+        ensures memory { IsErrOf result Memory
+            → F.failures self.new.files ≡ F.failures self.old.files }
         ensures failed { IsTrue (is_name name.now) → F.is_honest self.old.files
             → HasWay name.now (F.history self.old.files).tree
             → HasLockRoom name.now (F.history self.old.files).tree
@@ -230,7 +236,7 @@ impl<F: Files> Names<F> {
         let text = name_text(alloc, id)?;
         let lock = lock_place(alloc, name)?;
         make_way(alloc, &mut self.files, name)?;
-        self.files.write(alloc, &lock, &text)?;
+        write_anew(alloc, &mut self.files, &lock, &text)?;
         self.files.rename(alloc, &lock, name)
     }
 
@@ -253,6 +259,8 @@ impl<F: Files> Names<F> {
         // Where the name's file stands, a call of the files fails only of itself.
         ensures later { F.failures self.old.files ≤ F.failures self.new.files }
         ensures unfailed { OnOk result (F.failures self.new.files ≡ F.failures self.old.files) }
+        ensures memory { IsErrOf result Memory
+            → F.failures self.new.files ≡ F.failures self.old.files }
         ensures failed { F.is_honest self.old.files
             → IsTrue (is_file_at (F.history self.old.files).tree name.now)
             → IsErrOf result Failed
@@ -273,6 +281,8 @@ impl<F: Files> Names<F> {
         ensures folders { Passes F.is_honest F.history self.old.files self.new.files SameFolders }
         ensures later { F.failures self.old.files ≤ F.failures self.new.files }
         ensures unfailed { OnOk result (F.failures self.new.files ≡ F.failures self.old.files) }
+        ensures memory { IsErrOf result Memory
+            → F.failures self.new.files ≡ F.failures self.old.files }
         ensures failed { F.is_honest self.old.files → IsErrOf result Failed
             → HasFault F.failures F.reading_may_fail self.old.files self.new.files }
     {

@@ -3,7 +3,7 @@ ghost use Rattle.std.specs.Prelude.{◌≡◌, ◌≢◌, ◌≤◌, None, Some,
 ghost use Rattle.gix_hash_id.specs.Id.{id_of};
 ghost use Rattle.gix_ref_file.specs.Calls.{Achieves, Finds, Passes};
 ghost use Rattle.gix_ref_file.specs.History.{HasRisen};
-ghost use Rattle.gix_ref_file.specs.declared.files.FileError.TheVariants.{Failed};
+ghost use Rattle.gix_ref_file.specs.declared.files.FileError.TheVariants.{Failed, Memory};
 ghost use Rattle.gix_ref_format.specs.Packed.{Record, packed_records};
 ghost use Rattle.gix_ref_format.specs.PackedBuffer.{FileFault, Keeps};
 ghost use Rattle.gix_ref_format.specs.PackedKept.{kept, text_of};
@@ -19,6 +19,7 @@ use gix_ref_file::{FileError, Files};
 use gix_ref_format::packed::Buffer;
 use gix_ref_format::packed::buffer::Error;
 use gix_ref_name::FullNameRef;
+use gix_ref_way::write_anew;
 use history_texts::is_name;
 use std::alloc::Global;
 
@@ -78,13 +79,15 @@ impl<F: Files> Names<F> {
         ensures folders { Passes F.is_honest F.history self.old.files self.new.files SameFolders }
         ensures later { F.failures self.old.files ≤ F.failures self.new.files }
         ensures unfailed { OnOk result (F.failures self.new.files ≡ F.failures self.old.files) }
+        ensures memory { IsErrOf result Memory
+            → F.failures self.new.files ≡ F.failures self.old.files }
         ensures failed { F.is_honest self.old.files
             → HasPackedRoom (F.history self.old.files).tree
             → packed_records self.old.kind text.items ≢ None → IsErrOf result Failed
             → HasRisen (F.failures self.old.files) (F.failures self.new.files) }
     {
         let packed = buffer_of(alloc, text, self.kind)?;
-        self.files.write(alloc, PACKED_LOCK, packed.as_ref())?;
+        write_anew(alloc, &mut self.files, PACKED_LOCK, packed.as_ref())?;
         self.files.rename(alloc, PACKED_LOCK, PACKED)?;
         self.packed = Some(packed);
         Ok(())

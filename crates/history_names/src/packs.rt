@@ -1,7 +1,7 @@
 //! Packing of names: `packed-refs` gets a record for each, and then their own files go.
 ghost use Rattle.std.specs.Prelude.{◌≡◌, ◌≤◌, IfOk, OnOk, IsErrOf};
 ghost use Rattle.gix_ref_file.specs.Calls.{Achieves, HasFault, Passes};
-ghost use Rattle.gix_ref_file.specs.declared.files.FileError.TheVariants.{Failed};
+ghost use Rattle.gix_ref_file.specs.declared.files.FileError.TheVariants.{Failed, Memory};
 ghost use Rattle.gix_ref_packed.specs.Edited.{line_of, lines_of, own_line};
 ghost use Rattle.history_names.specs.Packing.{HasPackedRoom, KeepsRecords};
 ghost use Rattle.history_names.specs.Packed.{AllFull, AllOfKind, AreGone, ArePacked, IsPackedText, MayBeGone, MayPack, lines_of_names, name_texts, record_of_name, records_of};
@@ -44,6 +44,8 @@ impl<F: Files> Names<F> {
         ensures folders { Passes F.is_honest F.history self.old.files self.new.files SameFolders }
         ensures later { F.failures self.old.files ≤ F.failures self.new.files }
         ensures unfailed { OnOk result (F.failures self.new.files ≡ F.failures self.old.files) }
+        ensures memory { IsErrOf result Memory
+            → F.failures self.new.files ≡ F.failures self.old.files }
         ensures failed { AllOfKind self.old.kind names.now
             → F.is_honest self.old.files → HasPackedRoom (F.history self.old.files).tree
             → IsErrOf result Failed
@@ -66,6 +68,8 @@ impl<F: Files> Names<F> {
         ensures folders { Passes F.is_honest F.history self.old.files self.new.files SameFolders }
         ensures later { F.failures self.old.files ≤ F.failures self.new.files }
         ensures unfailed { OnOk result (F.failures self.new.files ≡ F.failures self.old.files) }
+        ensures memory { IsErrOf result Memory
+            → F.failures self.new.files ≡ F.failures self.old.files }
         ensures failed { F.is_honest self.old.files → IsErrOf result Failed
             → HasFault F.failures F.reading_may_fail self.old.files self.new.files }
     {

@@ -1,7 +1,7 @@
 //! Deletions of names, packed or not: the log goes, then the record, then the file.
 ghost use Rattle.std.specs.Prelude.{◌≡◌, ◌≤◌, [], ◌∷◌, None, Some, IfOk, OnOk, IsErrOf, IsTrue, MatchOption};
 ghost use Rattle.gix_ref_file.specs.Calls.{Achieves, HasFault, Passes};
-ghost use Rattle.gix_ref_file.specs.declared.files.FileError.TheVariants.{Failed};
+ghost use Rattle.gix_ref_file.specs.declared.files.FileError.TheVariants.{Failed, Memory};
 ghost use Rattle.gix_ref_name.specs.Names.{name_of};
 ghost use Rattle.gix_ref_format.specs.Lookup.{packed_hit};
 ghost use Rattle.gix_ref_format.specs.PackedKept.{kept};
@@ -49,6 +49,8 @@ impl<F: Files> Names<F> {
         // Where `packed-refs` has room, a call of the files fails only of itself.
         ensures later { F.failures self.old.files ≤ F.failures self.new.files }
         ensures unfailed { OnOk result (F.failures self.new.files ≡ F.failures self.old.files) }
+        ensures memory { IsErrOf result Memory
+            → F.failures self.new.files ≡ F.failures self.old.files }
         ensures failed { IsTrue (is_name name.now) → F.is_honest self.old.files
             → KeepsRecords self.old (F.history self.old.files).tree
             → HasPackedRoom (F.history self.old.files).tree → IsErrOf result Failed
@@ -79,6 +81,8 @@ impl<F: Files> Names<F> {
         ensures folders { Passes F.is_honest F.history self.old.files self.new.files SameFolders }
         ensures later { F.failures self.old.files ≤ F.failures self.new.files }
         ensures unfailed { OnOk result (F.failures self.new.files ≡ F.failures self.old.files) }
+        ensures memory { IsErrOf result Memory
+            → F.failures self.new.files ≡ F.failures self.old.files }
         ensures failed { IsTrue (is_name name.now) → F.is_honest self.old.files
             → KeepsRecords self.old (F.history self.old.files).tree
             → HasPackedRoom (F.history self.old.files).tree → IsErrOf result Failed
@@ -102,6 +106,8 @@ impl<F: Files> Names<F> {
         ensures folders { Passes F.is_honest F.history self.old.files self.new.files SameFolders }
         ensures later { F.failures self.old.files ≤ F.failures self.new.files }
         ensures unfailed { OnOk result (F.failures self.new.files ≡ F.failures self.old.files) }
+        ensures memory { IsErrOf result Memory
+            → F.failures self.new.files ≡ F.failures self.old.files }
         ensures failed { F.is_honest self.old.files → IsErrOf result Failed
             → HasFault F.failures F.reading_may_fail self.old.files self.new.files }
     {

@@ -1,8 +1,8 @@
 -- What the files of a part of objects allow a put.
-use Rattle.std.proofs.Common.{◌≡◌, refl, ◌∙◌, ap, true, ◌&&◌, ◌++◌, arith}
+use Rattle.std.proofs.Common.{◌≡◌, refl, ◌∙◌, ap, true, ◌&&◌, arith}
 use Rattle.std.specs.Prelude.{IsTrue, is_some}
-use Rattle.gix_ref_file.specs.Tree.{Tree, file, bytes_of, bytes_at}
-use Rattle.gix_ref_file.specs.Changes.{to_write, to_append, to_rename, allows, after, may_hold_file, is_file_at}
+use Rattle.gix_ref_file.specs.Tree.{Tree, file, bytes_of}
+use Rattle.gix_ref_file.specs.Changes.{to_write, to_rename, allows, after, may_hold_file, is_file_at}
 use Rattle.gix_ref_file.specs.History.{History, Adds}
 use Rattle.gix_ref_file.proofs.Trees.{get_inserted, room_after_insert}
 use Rattle.history_model.specs.Bytes.{Bytes}
@@ -23,19 +23,12 @@ module _ (place : Bytes) (old made : History) (part : IsObjectPart old.tree) (pl
   object_fits = may_hold made.tree place (object_place_is_path place placed) folders
       (no_deep_folder made.tree (folders_after old.tree made.tree place part placed (now_above place old made above)) place (object_place_length place placed).0)
 
-  module _ (header : Bytes) (written : Tree) (is_written : written ≡ after (to_write unfinished_place header) made.tree) where
-    pub fits_when_written : (path : Bytes) → IsTrue (may_hold_file made.tree path) → IsTrue (may_hold_file written path)
-    fits_when_written path may = ap (λ t. may_hold_file t path) is_written ∙ room_after_insert made.tree unfinished_place header unfinished_fits path ∙ may
+  module _ (text : Bytes) (written : Tree) (is_written : written ≡ after (to_write unfinished_place text) made.tree) where
+    stands : is_file_at written unfinished_place ≡ true
+    stands = ap (λ t. is_file_at t unfinished_place) is_written ∙ ap (λ o. is_some (bytes_of o)) (get_inserted made.tree unfinished_place (file text))
 
-    module _ (content : Bytes) (appended : Tree) (is_appended : appended ≡ after (to_append unfinished_place content) written) where
-      stands : is_file_at appended unfinished_place ≡ true
-      stands = ap (λ t. is_file_at t unfinished_place) is_appended
-          ∙ ap (λ o. is_some (bytes_of o)) (get_inserted written unfinished_place (file (bytes_at written unfinished_place ++ content)))
+    fits : IsTrue (may_hold_file written place)
+    fits = ap (λ t. may_hold_file t place) is_written ∙ room_after_insert made.tree unfinished_place text unfinished_fits place ∙ object_fits
 
-      fits : IsTrue (may_hold_file appended place)
-      fits = ap (λ t. may_hold_file t place) is_appended
-          ∙ room_after_insert written unfinished_place (bytes_at written unfinished_place ++ content) (fits_when_written unfinished_place unfinished_fits) place
-          ∙ fits_when_written place object_fits
-
-      pub may_rename : allows appended (to_rename unfinished_place place) ≡ true
-      may_rename = λ i. stands i && fits i
+    pub may_rename : allows written (to_rename unfinished_place place) ≡ true
+    may_rename = λ i. stands i && fits i

@@ -1,22 +1,22 @@
 -- What the changes of a put leave of the files.
-use Rattle.std.proofs.Common.{◌≡◌, ◌≢◌, ◌⊎◌, inl, inr, refl, sym, ◌∙◌, ap, subst, Bool, true, false, cond, ◌&&◌, [], ◌∷◌, ◌++◌, take}
+use Rattle.std.proofs.Common.{◌≡◌, ◌≢◌, inl, inr, refl, sym, ◌∙◌, ap, subst, Bool, true, false, cond, ◌&&◌, [], ◌∷◌, ◌++◌}
 use Rattle.std.specs.Prelude.{IsTrue, Option, Some, None, is_some, unwrap_or, Result, Ok, Err, OnErr}
 use Rattle.std.specs.Bool.{Decides}
 use Rattle.std.proofs.lemmas.List.{append_cancel_left}
 use Rattle.std.specs.FinMap.{get, insert, remove}
 use Rattle.gix_ref_file.specs.Tree.{Tree, file, node_at, bytes_of, bytes_at}
-use Rattle.gix_ref_file.specs.Changes.{Change, to_write, to_append, to_rename, allows, after, may_hold_file, is_file_at, MayLeave}
+use Rattle.gix_ref_file.specs.Changes.{to_write, to_append, to_rename, allows, after, may_hold_file, is_file_at, MayLeave}
 use Rattle.gix_ref_file.specs.History.{History, Adds}
 use Rattle.gix_ref_file.proofs.Histories.{adds_weaker, adds_joined}
-use Rattle.gix_ref_file.proofs.Rooted.{adds_now, first}
 use Rattle.gix_ref_file.proofs.Trees.{get-removed, get_inserted, same_path_itself}
 use Rattle.history_model.specs.Bytes.{Bytes}
 use Rattle.gix_hash_id.specs.Id.{id_of}
 use Rattle.history_model.specs.Places.{file_at, unfinished_place}
 use Rattle.history_texts.specs.ObjectTexts.{is_reserved}
-use Rattle.gix_ref_way.specs.Ways.{SameFiles}
+use Rattle.gix_ref_way.specs.Ways.{ChangesOneFile, SameFiles}
 use Rattle.history_objects.specs.Stores.{KeepsFiles, HoldsFile, MayStand, IsTaken, place_of, text_of}
 use Rattle.history_texts.specs.declared.object.NewObject.{NewObject}
+use Rattle.gix_ref_way.proofs.OneFile.{insert-insert, one_files, one_now}
 use Rattle.gix_ref_way.proofs.Stored.{apart_from_inserted, apart_from_removed, now_same}
 
 -- ---- one after another
@@ -31,13 +31,8 @@ keeps_then_may place text old mid new first (inl second) = inl (keeps_then_keeps
 keeps_then_may place text old mid new first (inr second) = inr (record { here = second.here; others = λ path apart other. second.others path apart other ∙ first path apart })
 
 -- ---- one change
-pub while_written : (bytes : Bytes) (t x : Tree) → MayLeave (to_write unfinished_place bytes) t x → KeepsFiles t x
-while_written bytes t x (inl same) = λ q apart. ap (λ y. file_at y q) same
-while_written bytes t x (inr (n, may, is)) = λ q apart. ap (λ y. file_at y q) is ∙ apart_from_inserted t unfinished_place (file (take n bytes)) q apart
-
-pub while_appended : (bytes : Bytes) (t x : Tree) → MayLeave (to_append unfinished_place bytes) t x → KeepsFiles t x
-while_appended bytes t x (inl same) = λ q apart. ap (λ y. file_at y q) same
-while_appended bytes t x (inr (n, may, is)) = λ q apart. ap (λ y. file_at y q) is ∙ apart_from_inserted t unfinished_place (file (bytes_at t unfinished_place ++ take n bytes)) q apart
+pub one_keeps : (t x : Tree) → ChangesOneFile unfinished_place t x → KeepsFiles t x
+one_keeps t x one = one_files unfinished_place t x one
 
 -- the root is no file's place
 not_root : (t : Tree) (place : Bytes) → IsTrue (may_hold_file t place) → (u : Tree) → node_at u place ≡ get u place
@@ -65,53 +60,41 @@ after_rename place text t x is may made = subst (HoldsFile place text t) (sym ma
 file_inserted : (t : Tree) (bytes : Bytes) → bytes_at (insert t unfinished_place (file bytes)) unfinished_place ≡ bytes
 file_inserted t bytes = ap (λ node. unwrap_or (bytes_of node) []) (get_inserted t unfinished_place (file bytes))
 
-pub both_written : (header content : Bytes) (t u v : Tree) → u ≡ after (to_write unfinished_place header) t → v ≡ after (to_append unfinished_place content) u → bytes_at v unfinished_place ≡ header ++ content
+pub both_written : (header content : Bytes) (t u v : Tree) → u ≡ after (to_write unfinished_place header) t → v ≡ after (to_append unfinished_place content) u → v ≡ after (to_write unfinished_place (header ++ content)) t
 both_written header content t u v is_u is_v =
-    ap (λ y. bytes_at y unfinished_place) is_v ∙ file_inserted u _ ∙ ap (λ y. bytes_at y unfinished_place ++ content) is_u ∙ ap (λ bytes. bytes ++ content) (file_inserted t header)
+    is_v ∙ ap (λ y. insert y unfinished_place (file (bytes_at y unfinished_place ++ content))) is_u
+    ∙ ap (λ bytes. insert (insert t unfinished_place (file header)) unfinished_place (file (bytes ++ content))) (file_inserted t header)
+    ∙ insert-insert t unfinished_place (file header) (file (header ++ content))
 
 -- ---- histories
--- the histories of a put: folders are made, the header written, the content appended, the file renamed
-module _ (place header content : Bytes) (old made written appended new : History) where
-  abbrev text : Bytes
-  text = header ++ content
-
+-- the histories of a put: folders are made, the text written, the file renamed
+module _ (place text : Bytes) (old made written new : History) where
   pub may_from_same : Adds (SameFiles old.tree) old made → Adds (MayStand place text old.tree) old made
   may_from_same first = adds_weaker old made first (λ x same. inl (same_keeps old.tree x same))
 
-  pub may_from_write : Adds (SameFiles old.tree) old made → Adds (MayLeave (to_write unfinished_place header) made.tree) made written → Adds (MayStand place text old.tree) old written
+  pub may_from_write : Adds (SameFiles old.tree) old made → Adds (ChangesOneFile unfinished_place made.tree) made written → Adds (MayStand place text old.tree) old written
   may_from_write first second =
       adds_joined old made written (may_from_same first)
-      (adds_weaker made written second (λ x left. inl (keeps_then_keeps old.tree made.tree x (same_keeps old.tree made.tree (now_same old made first)) (while_written header made.tree x left))))
+      (adds_weaker made written second (λ x one. inl (keeps_then_keeps old.tree made.tree x (same_keeps old.tree made.tree (now_same old made first)) (one_keeps made.tree x one))))
 
-  keeps_written : Adds (SameFiles old.tree) old made → written.tree ≡ after (to_write unfinished_place header) made.tree → KeepsFiles old.tree written.tree
-  keeps_written first is_written =
-      keeps_then_keeps old.tree made.tree written.tree (same_keeps old.tree made.tree (now_same old made first))
-      (λ q apart. ap (λ y. file_at y q) is_written ∙ apart_from_inserted made.tree unfinished_place (file header) q apart)
+  pub kept_when_written : Adds (SameFiles old.tree) old made → Adds (ChangesOneFile unfinished_place made.tree) made written → KeepsFiles old.tree written.tree
+  kept_when_written first second =
+      keeps_then_keeps old.tree made.tree written.tree (same_keeps old.tree made.tree (now_same old made first)) (one_keeps made.tree written.tree (one_now unfinished_place made written second))
 
-  pub may_from_append : Adds (SameFiles old.tree) old made → Adds (MayLeave (to_write unfinished_place header) made.tree) made written → written.tree ≡ after (to_write unfinished_place header) made.tree
-      → Adds (MayLeave (to_append unfinished_place content) written.tree) written appended → Adds (MayStand place text old.tree) old appended
-  may_from_append first second is_written third =
-      adds_joined old written appended (may_from_write first second)
-      (adds_weaker written appended third (λ x left. inl (keeps_then_keeps old.tree written.tree x (keeps_written first is_written) (while_appended content written.tree x left))))
+  text_written : written.tree ≡ after (to_write unfinished_place text) made.tree → bytes_at written.tree unfinished_place ≡ text
+  text_written is = ap (λ y. bytes_at y unfinished_place) is ∙ file_inserted made.tree text
 
-  keeps_appended : Adds (SameFiles old.tree) old made → written.tree ≡ after (to_write unfinished_place header) made.tree → appended.tree ≡ after (to_append unfinished_place content) written.tree → KeepsFiles old.tree appended.tree
-  keeps_appended first is_written is_appended =
-      keeps_then_keeps old.tree written.tree appended.tree (keeps_written first is_written)
-      (λ q apart. ap (λ y. file_at y q) is_appended ∙ apart_from_inserted written.tree unfinished_place (file (bytes_at written.tree unfinished_place ++ content)) q apart)
+  pub may_from_rename : Adds (SameFiles old.tree) old made → Adds (ChangesOneFile unfinished_place made.tree) made written → written.tree ≡ after (to_write unfinished_place text) made.tree
+      → Adds (MayLeave (to_rename unfinished_place place) written.tree) written new → Adds (MayStand place text old.tree) old new
+  may_from_rename first second is_written third =
+      adds_joined old written new (may_from_write first second)
+      (adds_weaker written new third (λ x left. keeps_then_may place text old.tree written.tree x (kept_when_written first second) (while_renamed place text written.tree x (text_written is_written) left)))
 
-  pub may_from_rename : Adds (SameFiles old.tree) old made → Adds (MayLeave (to_write unfinished_place header) made.tree) made written → written.tree ≡ after (to_write unfinished_place header) made.tree
-      → Adds (MayLeave (to_append unfinished_place content) written.tree) written appended → appended.tree ≡ after (to_append unfinished_place content) written.tree
-      → Adds (MayLeave (to_rename unfinished_place place) appended.tree) appended new → Adds (MayStand place text old.tree) old new
-  may_from_rename first second is_written third is_appended fourth =
-      adds_joined old appended new (may_from_append first second is_written third)
-      (adds_weaker appended new fourth (λ x left. keeps_then_may place text old.tree appended.tree x (keeps_appended first is_written is_appended)
-      (while_renamed place text appended.tree x (both_written header content made.tree written.tree appended.tree is_written is_appended) left)))
-
-  pub stored : Adds (SameFiles old.tree) old made → written.tree ≡ after (to_write unfinished_place header) made.tree → appended.tree ≡ after (to_append unfinished_place content) written.tree
-      → IsTrue (allows appended.tree (to_rename unfinished_place place)) → new.tree ≡ after (to_rename unfinished_place place) appended.tree → HoldsFile place text old.tree new.tree
-  stored first is_written is_appended may is_new =
-      let last = after_rename place text appended.tree new.tree (both_written header content made.tree written.tree appended.tree is_written is_appended) may is_new in
-      record { here = last.here; others = λ q apart other. last.others q apart other ∙ keeps_appended first is_written is_appended q apart }
+  pub stored : Adds (SameFiles old.tree) old made → Adds (ChangesOneFile unfinished_place made.tree) made written → written.tree ≡ after (to_write unfinished_place text) made.tree
+      → IsTrue (allows written.tree (to_rename unfinished_place place)) → new.tree ≡ after (to_rename unfinished_place place) written.tree → HoldsFile place text old.tree new.tree
+  stored first second is_written may is_new =
+      let last = after_rename place text written.tree new.tree (text_written is_written) may is_new in
+      record { here = last.here; others = λ q apart other. last.others q apart other ∙ kept_when_written first second q apart }
 
 -- a text is a front and a content where it begins so and the rest is the content
 pub same_text : (text read front rest content : Bytes) (b : Bool) → text ≡ read → read ≡ front ++ rest → Decides b (rest ≡ content) → (b ≡ true → text ≡ front ++ content) × (text ≡ front ++ content → b ≡ true)
@@ -145,26 +128,6 @@ untaken object tree reserved told free alone (inl taken) = absurd (cc (sym free 
 untaken object tree reserved told free alone (inr other) = alone other
 
 -- ---- where a failed change changes nothing
-
--- a change of the unfinished file leaves the others
-pub now_keeps : (change : Change) (old new : History) → Adds (MayLeave change old.tree) old new → ((x : Tree) → MayLeave change old.tree x → KeepsFiles old.tree x) → KeepsFiles old.tree new.tree
-now_keeps change old new adds keeps = from_now (adds_now _ old new adds)
-  where
-    from_now : (new.tree ≡ old.tree) ⊎ MayLeave change old.tree new.tree → KeepsFiles old.tree new.tree
-    from_now (inl same) = λ q apart. ap (λ y. file_at y q) same
-    from_now (inr left) = keeps new.tree left
-
-pub kept_when_made : (old made : History) → Adds (SameFiles old.tree) old made → KeepsFiles old.tree made.tree
-kept_when_made old made first = same_keeps old.tree made.tree (now_same old made first)
-
-pub kept_when_written : (header : Bytes) (old made written : History) → Adds (SameFiles old.tree) old made → Adds (MayLeave (to_write unfinished_place header) made.tree) made written → KeepsFiles old.tree written.tree
-kept_when_written header old made written first second =
-    keeps_then_keeps old.tree made.tree written.tree (kept_when_made old made first) (now_keeps (to_write unfinished_place header) made written second (while_written header made.tree))
-
-pub kept_when_appended : (header content : Bytes) (old made written appended : History) → Adds (SameFiles old.tree) old made → Adds (MayLeave (to_write unfinished_place header) made.tree) made written
-    → Adds (MayLeave (to_append unfinished_place content) written.tree) written appended → KeepsFiles old.tree appended.tree
-kept_when_appended header content old made written appended first second third =
-    keeps_then_keeps old.tree written.tree appended.tree (kept_when_written header old made written first second) (now_keeps (to_append unfinished_place content) written appended third (while_appended content written.tree))
 
 pub on_err_any : {T E P : Type 0} (r : Result T E) → P → OnErr r P
 on_err_any (Ok x) p = tt

@@ -3,18 +3,20 @@
 mod lookups;
 
 ghost use Rattle.std.specs.FinMap.{contains_key, empty, len};
-ghost use Rattle.std.specs.Prelude.{OnErr, ◌||◌, ◌≡◌, ◌≢◌, ◌⊎◌, ◌≤◌, ◌++◌, ◌↔◌, drop, vec_len, true, IfOk, OnOk, IsErrOf, MatchOption};
+ghost use Rattle.std.specs.Prelude.{OnErr, ◌||◌, ◌≡◌, ◌≢◌, ◌⊎◌, ◌≤◌, ◌++◌, ◌↔◌, drop, vec_len, true, IfOk, IsTrue, OnOk, IsErrOf, MatchOption};
 ghost use Rattle.history_model.specs.Objects.{object_text};
 ghost use Rattle.history_model.specs.Places.{file_at, object_place, unfinished_place};
 ghost use Rattle.history_objects.specs.declared.objects.PutMadeError.TheVariants.{File, Memory, IdTaken};
 ghost use Rattle.gix_hash_id.specs.declared.object_id.ObjectId.{ObjectId};
 ghost use Rattle.gix_ref_file.specs.declared.files.FileError.TheVariants.{Failed};
+ghost use Rattle.gix_ref_file.specs.declared.files.FileError.TheVariants as file_errors;
 ghost use Rattle.gix_ref_file.specs.Tree.{bytes_at};
 ghost use Rattle.gix_ref_file.specs.Calls.{Achieves, Finds, HasFault, Passes};
-ghost use Rattle.gix_ref_file.specs.Changes.{is_file_at};
+ghost use Rattle.gix_ref_file.specs.Changes.{to_write, after, is_file_at, may_hold_file};
+ghost use Rattle.gix_ref_file.specs.History.{HasRisen};
 ghost use Rattle.history_texts.specs.ObjectTexts.{is_empty_tree, is_reserved};
 ghost use Rattle.history_objects.specs.Stores.{HoldsFile, Holds, HoldsNone, IsFinished, MayPut, MayStand, KeepsFiles, IsObjectPlace, IsObjectPart, IsTaken, place_of, text_of, put_fault};
-ghost use Rattle.gix_ref_way.specs.Ways.{FoldersAbove, KeepsFolders};
+ghost use Rattle.gix_ref_way.specs.Ways.{ChangesOneFile, FoldersAbove, KeepsFolders};
 ghost use Rattle.gix_hash_id.specs.Id.{Id, id_of};
 ghost use Rattle.history_objects.specs.Ids.{with_id, AreOfKind, IsAscending};
 ghost use Rattle.history_texts.specs.IdLists.{is_one_of};
@@ -29,12 +31,9 @@ use gix_hash::{Kind, ObjectId, Prefix};
 use gix_object_lines::cut::strip_prefix;
 use gix_object_lines::{Kind as ObjectKind, encode};
 use gix_ref_file::{FileError, Files, Place};
-use gix_ref_way::make_folders;
-use history_texts::{NewObject, hex_digits, parse_header};
+use gix_ref_way::{make_folders, write_anew};
+use history_texts::{NewObject, UNFINISHED, object_place, parse_header};
 use std::alloc::{AllocError, Global};
-
-/// Where an object is written before it is given its place.
-pub const UNFINISHED: &[u8] = b"objects/unfinished";
 
 /// An object as it was stored.
 #[derive(Drop, Debug)]
@@ -167,6 +166,8 @@ impl<F: Files> Objects<F> {
         // In a part of objects a call of the files fails only of itself.
         ensures later { F.failures self.old.files ≤ F.failures self.new.files }
         ensures unfailed { OnOk result (F.failures self.new.files ≡ F.failures self.old.files) }
+        ensures memory { IsErrOf result Memory
+            → F.failures self.new.files ≡ F.failures self.old.files }
         ensures failed { F.is_honest self.old.files → IsObjectPart (F.history self.old.files).tree
             → IsErrOf result File
             → HasFault F.failures F.reading_may_fail self.old.files self.new.files }
@@ -246,13 +247,14 @@ impl<F: Files> Objects<F> {
             (KeepsFiles (F.history self.old.files).tree (F.history self.new.files).tree) }
         ensures later { F.failures self.old.files ≤ F.failures self.new.files }
         ensures unfailed { OnOk result (F.failures self.new.files ≡ F.failures self.old.files) }
+        ensures memory { IsErrOf result file_errors.Memory
+            → F.failures self.new.files ≡ F.failures self.old.files }
         ensures failed { F.is_honest self.old.files → IsObjectPart (F.history self.old.files).tree
             → IsObjectPlace place.now → IsErrOf result Failed
             → HasFault F.failures F.reading_may_fail self.old.files self.new.files }
     {
         make_folders(alloc, &mut self.files, place)?;
-        self.files.write(alloc, UNFINISHED, header)?;
-        self.files.append(alloc, UNFINISHED, content)?;
+        write_unfinished(alloc, &mut self.files, header, content)?;
         self.files.rename(alloc, UNFINISHED, place)
     }
 
@@ -321,6 +323,46 @@ impl<F: Files> Objects<F> {
     }
 }
 
+// The longest content that is written in one call with its header.
+const LONGEST_AT_ONCE: usize = 65536;
+
+// Makes the unfinished file anew, of a header and a content.
+fn write_unfinished<F: Files>(
+    alloc: Global,
+    files: &mut F,
+    header: &[u8],
+    content: &[u8],
+) -> Result<(), FileError>
+    ensures honest { F.is_honest files.old → F.is_honest files.new }
+    ensures written { Achieves F.is_honest F.history files.old files.new result (λ old new.
+        new ≡ after (to_write unfinished_place (header.now ++ content.now)) old) }
+    ensures moments { Passes F.is_honest F.history files.old files.new
+        (ChangesOneFile unfinished_place) }
+    ensures later { F.failures files.old ≤ F.failures files.new }
+    ensures unfailed { OnOk result (F.failures files.new ≡ F.failures files.old) }
+    ensures memory { IsErrOf result file_errors.Memory → F.failures files.new ≡ F.failures files.old }
+    ensures failed { F.is_honest files.old
+        → IsTrue (may_hold_file (F.history files.old).tree unfinished_place)
+        → IsErrOf result Failed → HasRisen (F.failures files.old) (F.failures files.new) }
+{
+    if content.len() <= LONGEST_AT_ONCE {
+        let text = joined(alloc, header, content)?;
+        return write_anew(alloc, files, UNFINISHED, &text);
+    }
+    write_anew(alloc, files, UNFINISHED, header)?;
+    files.append(alloc, UNFINISHED, content)
+}
+
+// A header and a content in one text.
+fn joined(alloc: Global, header: &[u8], content: &[u8]) -> Result<Vec<u8>, AllocError>
+    ensures { IfOk result (λ text. text.items ≡ header.now ++ content.now) }
+{
+    let mut text = Vec::with_capacity(alloc, header.len().saturating_add(content.len()))?;
+    text.extend_from_slice(header)?;
+    text.extend_from_slice(content)?;
+    Ok(text)
+}
+
 // Whether no object, or none but the empty tree, has this one's id.
 fn is_reserved(object: &NewObject) -> bool
     ensures { result ≡ is_reserved (id_of object.now.id) object.now.kind object.now.content.items }
@@ -335,25 +377,6 @@ fn is_empty_tree(object: ObjectKind, content: &[u8]) -> bool
     ensures { result ≡ is_empty_tree object content.now }
 {
     matches!(object, ObjectKind::Tree) && content.is_empty()
-}
-
-// `objects/`, the digits of a SHA-256 id and the slash between them.
-const LONGEST_PLACE: usize = 73;
-
-/// The path of an object's file.
-pub fn object_place(alloc: Global, id: &ObjectId) -> Result<Vec<u8>, AllocError>
-    ensures { IfOk result (λ place. place.items ≡ object_place (id_of id.now)) }
-{
-    // An id's digits are two for each of its bytes.
-    let _bytes = id.as_bytes();
-    let mut buffer = Kind::hex_buf();
-    let (folder, file) = hex_digits(id, &mut buffer).split_at(2);
-    let mut place = Vec::with_capacity(alloc, LONGEST_PLACE)?;
-    place.extend_from_slice(b"objects/")?;
-    place.extend_from_slice(folder)?;
-    place.push(b'/')?;
-    place.extend_from_slice(file)?;
-    Ok(place)
 }
 
 // A text without so many bytes at its front.

@@ -153,6 +153,8 @@ impl<F: Files> Objects<F> {
             ≤ F.failures (files_of_objects self.new) }
         ensures unfailed { OnOk result (F.failures (files_of_objects self.new)
             ≡ F.failures (files_of_objects self.old)) }
+        ensures memory { IsErrOf result Memory
+            → F.failures (files_of_objects self.new) ≡ F.failures (files_of_objects self.old) }
         ensures failed { F.is_honest (files_of_objects self.old)
             → IsObjectPart (F.history (files_of_objects self.old)).tree → IsErrOf result File
             → HasFault F.failures F.reading_may_fail

@@ -1,4 +1,4 @@
-use Rattle.std.proofs.Common.{◌≡◌, refl, ◌∙◌, ap, subst, ⊎_elim, Err, arith}
+use Rattle.std.proofs.Common.{◌≡◌, refl, ◌∙◌, ap, subst, ⊎_elim, Err}
 use Rattle.std.proofs.lemmas.Result.{err_from_is_err_and}
 use Rattle.gix_ref_file.specs.History.{Adds}
 use Rattle.gix_ref_file.specs.declared.files.FileError.TheVariants.{Failed}
@@ -14,80 +14,72 @@ use Rattle.history_names.proofs.names.Names.replace_packed.Goals as goal
 pub returns-clause-put : goal.returns-clause-put
 returns-clause-put g c = λ honest.
     let old = g.F.Files.history c.args.self.now.files in
-    let locked = g.F.Files.history c.write.new.self in
+    let locked = g.F.Files.history c.write_anew.new.files in
     let new = g.F.Files.history c.rename.new.self in
-    let written = c.in_ok-write.ensures.change honest in
-    let renamed = c.in_ok-rename.ensures.change (c.write.ensures.honest honest) in
+    let renamed = c.in_ok-rename.ensures.change (c.write_anew.ensures.honest honest) in
     subst (λ bytes. PutsBeside packed_place bytes old.tree new.tree) (c.as_ref.ensures ∙ c.in_ok-packed.ensures.bytes)
-    (put_beside packed_place c.as_ref.result.now packed_lock refl old old locked new (adds_nothing old) written.allowed written.made renamed.allowed renamed.made)
+    (put_beside packed_place c.as_ref.result.now packed_lock refl old old locked new (adds_nothing old) (c.in_ok-write_anew.ensures.allowed honest) (c.in_ok-write_anew.ensures.made honest) renamed.allowed renamed.made)
 
 pub returns-clause-keeps : goal.returns-clause-keeps
 returns-clause-keeps g c = λ honest.
     let old = g.F.Files.history c.args.self.now.files in
-    let locked = g.F.Files.history c.write.new.self in
+    let locked = g.F.Files.history c.write_anew.new.files in
     let new = g.F.Files.history c.rename.new.self in
-    let written = c.in_ok-write.ensures.change honest in
-    let renamed = c.in_ok-rename.ensures.change (c.write.ensures.honest honest) in
+    let renamed = c.in_ok-rename.ensures.change (c.write_anew.ensures.honest honest) in
     keeps_text c.args.self.now.kind c.args.text.items (kept c.in_ok-packed.packed) old.tree new.tree
     (subst (λ bytes. PutsBeside packed_place bytes old.tree new.tree) (c.as_ref.ensures ∙ c.in_ok-packed.ensures.bytes)
-    (put_beside packed_place c.as_ref.result.now packed_lock refl old old locked new (adds_nothing old) written.allowed written.made renamed.allowed renamed.made))
+    (put_beside packed_place c.as_ref.result.now packed_lock refl old old locked new (adds_nothing old) (c.in_ok-write_anew.ensures.allowed honest) (c.in_ok-write_anew.ensures.made honest) renamed.allowed renamed.made))
     c.in_ok-packed.ensures.kept
 
-pub returns-in_err-write-clause-moments : goal.returns-in_err-write-clause-moments
-returns-in_err-write-clause-moments g c = λ honest.
+pub returns-in_err-write_anew-clause-moments : goal.returns-in_err-write_anew-clause-moments
+returns-in_err-write_anew-clause-moments g c = λ honest.
     let old = g.F.Files.history c.args.self.now.files in
-    let locked = g.F.Files.history c.write.new.self in
+    let locked = g.F.Files.history c.write_anew.new.files in
     subst (λ bytes. Adds (MayBeWritten packed_place bytes old.tree) old locked) (c.as_ref.ensures ∙ c.in_ok-packed.ensures.bytes)
-    (lock_beside packed_place c.as_ref.result.now packed_lock refl old old locked locked (adds_nothing old) (c.write.ensures.change honest).moments)
+    (lock_beside packed_place c.as_ref.result.now packed_lock refl old old locked locked (adds_nothing old) (c.write_anew.ensures.moments honest))
 
 pub returns-in_err-rename-clause-moments : goal.returns-in_err-rename-clause-moments
 returns-in_err-rename-clause-moments g c = λ honest.
     let old = g.F.Files.history c.args.self.now.files in
-    let locked = g.F.Files.history c.write.new.self in
+    let locked = g.F.Files.history c.write_anew.new.files in
     let new = g.F.Files.history c.rename.new.self in
-    let written = c.in_ok-write.ensures.change honest in
-    let renamed = c.rename.ensures.change (c.write.ensures.honest honest) in
+    let renamed = c.rename.ensures.change (c.write_anew.ensures.honest honest) in
     subst (λ bytes. Adds (MayBeWritten packed_place bytes old.tree) old new) (c.as_ref.ensures ∙ c.in_ok-packed.ensures.bytes)
-    (rename_beside packed_place c.as_ref.result.now packed_lock refl old old locked new (adds_nothing old) written.allowed written.made written.moments renamed.moments)
+    (rename_beside packed_place c.as_ref.result.now packed_lock refl old old locked new (adds_nothing old) (c.in_ok-write_anew.ensures.allowed honest) (c.in_ok-write_anew.ensures.made honest) (c.write_anew.ensures.moments honest) renamed.moments)
 
 pub returns-clause-moments : goal.returns-clause-moments
 returns-clause-moments g c = λ honest.
     let old = g.F.Files.history c.args.self.now.files in
-    let locked = g.F.Files.history c.write.new.self in
+    let locked = g.F.Files.history c.write_anew.new.files in
     let new = g.F.Files.history c.rename.new.self in
-    let written = c.in_ok-write.ensures.change honest in
-    let renamed = c.rename.ensures.change (c.write.ensures.honest honest) in
+    let renamed = c.rename.ensures.change (c.write_anew.ensures.honest honest) in
     subst (λ bytes. Adds (MayBeWritten packed_place bytes old.tree) old new) (c.as_ref.ensures ∙ c.in_ok-packed.ensures.bytes)
-    (rename_beside packed_place c.as_ref.result.now packed_lock refl old old locked new (adds_nothing old) written.allowed written.made written.moments renamed.moments)
+    (rename_beside packed_place c.as_ref.result.now packed_lock refl old old locked new (adds_nothing old) (c.in_ok-write_anew.ensures.allowed honest) (c.in_ok-write_anew.ensures.made honest) (c.write_anew.ensures.moments honest) renamed.moments)
 
-pub returns-in_err-write-clause-folders : goal.returns-in_err-write-clause-folders
-returns-in_err-write-clause-folders g c = λ honest.
-    locked_folders c.as_ref.result.now (g.F.Files.history c.args.self.now.files) (g.F.Files.history c.write.new.self) (c.write.ensures.change honest).moments
+pub returns-in_err-write_anew-clause-folders : goal.returns-in_err-write_anew-clause-folders
+returns-in_err-write_anew-clause-folders g c = λ honest.
+    locked_folders (g.F.Files.history c.args.self.now.files) (g.F.Files.history c.write_anew.new.files) (c.write_anew.ensures.moments honest)
 
 pub returns-in_err-rename-clause-folders : goal.returns-in_err-rename-clause-folders
 returns-in_err-rename-clause-folders g c = λ honest.
-    let written = c.in_ok-write.ensures.change honest in
-    let renamed = c.rename.ensures.change (c.write.ensures.honest honest) in
-    renamed_all c.as_ref.result.now (g.F.Files.history c.args.self.now.files) (g.F.Files.history c.write.new.self) (g.F.Files.history c.rename.new.self) written.allowed written.made written.moments renamed.moments
+    let renamed = c.rename.ensures.change (c.write_anew.ensures.honest honest) in
+    renamed_all (g.F.Files.history c.args.self.now.files) (g.F.Files.history c.write_anew.new.files) (g.F.Files.history c.rename.new.self) (c.write_anew.ensures.moments honest) renamed.moments
 
 pub returns-clause-folders : goal.returns-clause-folders
 returns-clause-folders g c = λ honest.
-    let written = c.in_ok-write.ensures.change honest in
-    let renamed = c.rename.ensures.change (c.write.ensures.honest honest) in
-    renamed_all c.as_ref.result.now (g.F.Files.history c.args.self.now.files) (g.F.Files.history c.write.new.self) (g.F.Files.history c.rename.new.self) written.allowed written.made written.moments renamed.moments
+    let renamed = c.rename.ensures.change (c.write_anew.ensures.honest honest) in
+    renamed_all (g.F.Files.history c.args.self.now.files) (g.F.Files.history c.write_anew.new.files) (g.F.Files.history c.rename.new.self) (c.write_anew.ensures.moments honest) renamed.moments
 
-pub returns-in_err-write-clause-failed : goal.returns-in_err-write-clause-failed
-returns-in_err-write-clause-failed g c = λ honest room reads failed.
-    let error = err_from_is_err_and c.from_residual-in_err-write.result c.from_residual-in_err-write.ensures.1 in
-    let same : c.write.result ≡ Err Failed = c.in_err-write.was ∙ ap Err (told_error c.from_residual-in_err-write.result c.in_err-write.field-0.0 error.0 error.1 error.2 failed) in
-    ⊎_elim (λ risen. risen) (λ (never : ⊥). absurd never)
-    (caused _ _ _ _ c.write.result (c.write.ensures.cause honest) (lock_room (g.F.Files.history c.args.self.now.files).tree room) same (omega arith))
+pub returns-in_err-write_anew-clause-failed : goal.returns-in_err-write_anew-clause-failed
+returns-in_err-write_anew-clause-failed g c = λ honest room reads failed.
+    let error = err_from_is_err_and c.from_residual-in_err-write_anew.result c.from_residual-in_err-write_anew.ensures.1 in
+    let same : c.write_anew.result ≡ Err Failed = c.in_err-write_anew.was ∙ ap Err (told_error c.from_residual-in_err-write_anew.result c.in_err-write_anew.field-0.0 error.0 error.1 error.2 failed) in
+    c.write_anew.ensures.failed honest (lock_room (g.F.Files.history c.args.self.now.files).tree room) same
 
 pub returns-in_err-rename-clause-failed : goal.returns-in_err-rename-clause-failed
 returns-in_err-rename-clause-failed g c = λ honest room reads failed.
-    let written = c.in_ok-write.ensures.change honest in
     let error = err_from_is_err_and c.from_residual-in_err-rename.result c.from_residual-in_err-rename.ensures.1 in
     let same : c.rename.result ≡ Err Failed = c.in_err-rename.was ∙ ap Err (told_error c.from_residual-in_err-rename.result c.in_err-rename.field-0.0 error.0 error.1 error.2 failed) in
     ⊎_elim (λ risen. risen) (λ (never : ⊥). absurd never)
-    (caused _ _ _ _ c.rename.result (c.rename.ensures.cause (c.write.ensures.honest honest))
-    (may_follow c.as_ref.result.now (g.F.Files.history c.args.self.now.files).tree (g.F.Files.history c.write.new.self).tree room written.made) same c.write.ensures.later)
+    (caused _ _ _ _ c.rename.result (c.rename.ensures.cause (c.write_anew.ensures.honest honest))
+    (may_follow c.as_ref.result.now (g.F.Files.history c.args.self.now.files).tree (g.F.Files.history c.write_anew.new.files).tree room (c.in_ok-write_anew.ensures.made honest)) same c.write_anew.ensures.later)
