@@ -18,8 +18,9 @@ use Rattle.history_survey.specs.Links.{reach_of}
 use Rattle.history_survey.specs.Passing.{IsPassed, IsRefusedLink, IsSame}
 use Rattle.history_survey.specs.Surveyed.{IsLacking}
 use Rattle.history_survey.specs.Surveying.{Dones, IsAmong, IsDone, IsOpen, Reaches, Stands, Unmet, by_id, link_of, links_of}
-use Rattle.history_survey.specs.declared.flaw.ObjectsFlaw.{ObjectsFlaw}
-use Rattle.history_survey.specs.declared.flaw.ObjectsFlaw.TheVariants.{Stray, Unfinished, BadObject, WrongId, TooLarge, BadTree, Missing, WrongKind, Cycle, IdReserved, File, Memory}
+use Rattle.history_texts.specs.declared.open_error.OpenError.{OpenError}
+use Rattle.history_texts.specs.declared.open_error.NamedBy.TheVariants.{Object}
+use Rattle.history_texts.specs.declared.open_error.OpenError.TheVariants.{BadTree, Missing, WrongKind, Cycle}
 use Rattle.history_survey.specs.declared.order.Done.{Done}
 use Rattle.history_survey.specs.declared.order.Frame.{Frame}
 use Rattle.history_survey.specs.declared.reading.Link as own
@@ -83,49 +84,31 @@ module _ (kind : Kind) (tree : Tree) (ids : List ObjectId) (unmet : Unmet) (done
   to_due has new removed = taken kind tree ids unmet done (frame ∷ frames) s link.id has (link.kind, named) new removed
 
   -- it is to none
-  pub to_none : maps.get by_id done link.id ≡ None → sets.contains by_id unmet link.id ≡ false → (items : List Frame) → frames ≡ reverse items → (flaw : ObjectsFlaw) → IsLacking items frame.id link.id flaw → IsObjectsFlaw ⊥ kind tree flaw
+  pub to_none : maps.get by_id done link.id ≡ None → sets.contains by_id unmet link.id ≡ false → (items : List Frame) → frames ≡ reverse items → (flaw : OpenError) → IsLacking items frame.id link.id flaw → IsObjectsFlaw ⊥ kind tree flaw
   to_none absent gone items are (Cycle id) (same, inl e) = subst (λ (x : ObjectId). IsObjectsFlaw ⊥ kind tree (Cycle x)) (sym same) (cycle kind tree ids unmet done frame frames s (id_of link.id) link.kind named (inl e))
   to_none absent gone items are (Cycle id) (same, inr e) =
       subst (λ (x : ObjectId). IsObjectsFlaw ⊥ kind tree (Cycle x)) (sym same) (cycle kind tree ids unmet done frame frames s (id_of link.id) link.kind named (inr (subst (IsAmong (id_of link.id)) (sym are) (told_open (id_of link.id) items e))))
-  to_none absent gone items are (Missing id by) (same, from, apart, none) =
-      subst (λ (x : ObjectId). IsObjectsFlaw ⊥ kind tree (Missing x by)) (sym same)
-      (subst (λ (x : ObjectId). IsObjectsFlaw ⊥ kind tree (Missing link.id x)) (sym from)
+  to_none absent gone items are (Missing id (Object by)) (same, from, apart, none) =
+      subst (λ (x : ObjectId). IsObjectsFlaw ⊥ kind tree (Missing x (Object by))) (sym same)
+      (subst (λ (x : ObjectId). IsObjectsFlaw ⊥ kind tree (Missing link.id (Object x))) (sym from)
       (missing kind tree ids unmet done frame frames s (id_of link.id) link.kind named
       (λ q e. (has_same unmet q link.id e ∙ gone, done_same done q link.id e ∙ absent))
       (λ among. elim among [ inl e ↦ apart e | inr a ↦ told_apart (id_of link.id) items none (subst (IsAmong (id_of link.id)) are a) ])))
-  to_none absent gone items are (WrongKind id by) is = absurd is
-  to_none absent gone items are (BadTree id) is = absurd is
-  to_none absent gone items are (Stray path) is = absurd is
-  to_none absent gone items are (Unfinished path) is = absurd is
-  to_none absent gone items are (BadObject path) is = absurd is
-  to_none absent gone items are (WrongId path) is = absurd is
-  to_none absent gone items are (TooLarge path) is = absurd is
-  to_none absent gone items are IdReserved is = absurd is
-  to_none absent gone items are File is = absurd is
-  to_none absent gone items are Memory is = absurd is
+  to_none absent gone items are _ is = absurd is
 
   module _ (d : Done) (noted_at : maps.get by_id done link.id ≡ Some d) where
     noted : IsDone kind tree s.values (id_of link.id) d
     noted = s.dones link.id d noted_at
 
     -- what is wrong with a link that is done
-    pub to_refused : (flaw : ObjectsFlaw) → IsRefusedLink frame link d flaw → IsObjectsFlaw ⊥ kind tree flaw
-    to_refused (WrongKind id by) (same, from, other) =
-        subst (λ (x : ObjectId). IsObjectsFlaw ⊥ kind tree (WrongKind x by)) (sym same)
-        (subst (λ (x : ObjectId). IsObjectsFlaw ⊥ kind tree (WrongKind link.id x)) (sym from) (wrong_kind kind tree s.values s.in_tree frame is link at_link less_link d noted other))
+    pub to_refused : (flaw : OpenError) → IsRefusedLink frame link d flaw → IsObjectsFlaw ⊥ kind tree flaw
+    to_refused (WrongKind id (Object by)) (same, from, other) =
+        subst (λ (x : ObjectId). IsObjectsFlaw ⊥ kind tree (WrongKind x (Object by))) (sym same)
+        (subst (λ (x : ObjectId). IsObjectsFlaw ⊥ kind tree (WrongKind link.id (Object x))) (sym from) (wrong_kind kind tree s.values s.in_tree frame is link at_link less_link d noted other))
     to_refused (BadTree id) (same, of_tree, long) =
         let path = path_there kind tree s.values s.in_tree frame is link at_link less_link d noted of_tree in
         subst (λ (x : ObjectId). IsObjectsFlaw ⊥ kind tree (BadTree x)) (sym same) (deep path.0 path.1 (subst (λ n. max_path < n) (sym path.2) long))
-    to_refused (Stray path) is = absurd is
-    to_refused (Unfinished path) is = absurd is
-    to_refused (BadObject path) is = absurd is
-    to_refused (WrongId path) is = absurd is
-    to_refused (TooLarge path) is = absurd is
-    to_refused (Missing id by) is = absurd is
-    to_refused (Cycle id) is = absurd is
-    to_refused IdReserved is = absurd is
-    to_refused File is = absurd is
-    to_refused Memory is = absurd is
+    to_refused _ is = absurd is
 
     -- the link is passed
     pub past : (new : Frame) → IsPassed frame new link d → Stands kind tree ids unmet done (new ∷ frames) None

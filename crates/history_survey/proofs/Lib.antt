@@ -7,7 +7,6 @@ pub mod Grouped
 pub mod Joins
 pub mod Listings
 pub mod Nexts
-pub mod Opens
 pub mod Paths
 pub mod Placed
 pub mod Steps

@@ -24,8 +24,8 @@ use Rattle.gix_hash_id.specs.Kind.{hex_len}
 use Rattle.gix_hash_id.specs.declared.kind.Kind.TheVariants as digests
 use Rattle.history_survey.specs.Flaws.{IsObjectsFlaw, IsStray, stray_file, stray_folder}
 use Rattle.history_survey.specs.Listing.{Gathers, HasObjectFile, IsListedAt, IsNoPlace, IsPlaceIn}
-use Rattle.history_survey.specs.declared.flaw.ObjectsFlaw.{ObjectsFlaw}
-use Rattle.history_survey.specs.declared.flaw.ObjectsFlaw.TheVariants.{Stray, Unfinished, BadObject, WrongId, TooLarge, BadTree, Missing, WrongKind, Cycle, IdReserved, File, Memory}
+use Rattle.history_texts.specs.declared.open_error.OpenError.{OpenError}
+use Rattle.history_texts.specs.declared.open_error.OpenError.TheVariants.{Stray, Unfinished, Memory}
 use Rattle.history_survey.specs.Surveying.{AreListed}
 
 -- ---- lists that grow
@@ -172,7 +172,7 @@ other_place kind id other path digits formed other_formed is cut spelled =
 
 -- ---- what is no place of an object
 
-pub no_place : (MayFail : Type 0) (kind : Kind) (tree : Tree) (path : Bytes) (size : ℕ) → place_of (node_at tree path) ≡ places.File size → (flaw : ObjectsFlaw) → IsNoPlace kind path flaw → IsObjectsFlaw MayFail kind tree flaw
+pub no_place : (MayFail : Type 0) (kind : Kind) (tree : Tree) (path : Bytes) (size : ℕ) → place_of (node_at tree path) ≡ places.File size → (flaw : OpenError) → IsNoPlace kind path flaw → IsObjectsFlaw MayFail kind tree flaw
 no_place MayFail kind tree path size there flaw is = go (text_there (node_at tree path) there) flaw is
   where
     text_there : (o : Option Node) → place_of o ≡ places.File size → (text : Bytes) × (bytes_of o ≡ Some text)
@@ -180,19 +180,11 @@ no_place MayFail kind tree path size there flaw is = go (text_there (node_at tre
     text_there (Some (file bytes)) h = (bytes, refl)
     text_there (Some folder) h = cc
 
-    go : (text : Bytes) × (file_at tree path ≡ Some text) → (flaw : ObjectsFlaw) → IsNoPlace kind path flaw → IsObjectsFlaw MayFail kind tree flaw
+    go : (text : Bytes) × (file_at tree path ≡ Some text) → (flaw : OpenError) → IsNoPlace kind path flaw → IsObjectsFlaw MayFail kind tree flaw
     go (text, at) (Stray other) (same, apart, none) = subst (IsStray kind tree) (sym same) (stray_file text at apart none)
     go (text, at) (Unfinished other) (same, here) = (same ∙ here, (text, ap (file_at tree) (sym here) ∙ at))
     go (text, at) Memory is = tt
-    go (text, at) (BadObject other) is = absurd is
-    go (text, at) (WrongId other) is = absurd is
-    go (text, at) (TooLarge other) is = absurd is
-    go (text, at) (BadTree id) is = absurd is
-    go (text, at) (Missing id by) is = absurd is
-    go (text, at) (WrongKind id by) is = absurd is
-    go (text, at) (Cycle id) is = absurd is
-    go (text, at) IdReserved is = absurd is
-    go (text, at) File is = absurd is
+    go (text, at) _ is = absurd is
 
 -- a folder that is none of objects
 pub folder_is_stray : (kind : Kind) (tree : Tree) (path : Bytes) → IsTrue (is_path path) → place_of (node_at tree path) ≡ places.Folder → is_object_folder path ≡ false → IsStray kind tree path
@@ -203,5 +195,5 @@ folder_is_stray kind tree path is there other = stray_folder (folder_at (get tre
     folder_at (Some (file bytes)) h = cc
     folder_at (Some folder) h = refl
 
-pub told : {X : Type 0} (P : ObjectsFlaw → Type 0) (r : Result X ObjectsFlaw) (flaw : ObjectsFlaw) → r ≡ Err flaw → P flaw → IfErr r P
+pub told : {X : Type 0} (P : OpenError → Type 0) (r : Result X OpenError) (flaw : OpenError) → r ≡ Err flaw → P flaw → IfErr r P
 told P r flaw same is = subst (λ x. IfErr x P) (sym same) is

@@ -19,30 +19,35 @@ use Rattle.history_model.proofs.WholeTexts.{object_cut, object_same}
 use Rattle.history_steps.specs.TreeReads.{HasObject}
 use Rattle.history_texts.specs.ObjectTexts.{IsNoObject, is_empty_tree, is_reserved}
 use Rattle.history_texts.specs.Written.{IsMalformed}
-use Rattle.history_survey.specs.Flaws.{HasFile, HasReserved, HasText, IsBadText, IsBadTree, IsObjectsFlaw, IsOther, IsTooLong, no_object, no_commit, no_tag, malformed}
+use Rattle.history_texts.specs.Malformed.{IsBefore1970, IsTagOfOther}
+use Rattle.history_survey.specs.Flaws.{HasBadTag, HasBadTime, HasFile, HasReserved, HasText, IsBadText, IsBadTree, IsElseMalformed, IsObjectsFlaw, IsOther, IsTooLong, no_object, no_commit, no_tag, malformed}
 use Rattle.history_survey.specs.Links.{Link, LinksObjects}
 use Rattle.history_survey.specs.Nexts.{IsObject}
 use Rattle.history_survey.specs.Reading.{IsFileFor, is_reserved_in}
 use Rattle.std.proofs.lemmas.Option.{same_Some}
-use Rattle.history_survey.specs.declared.flaw.ObjectsFlaw.{ObjectsFlaw}
-use Rattle.history_survey.specs.declared.flaw.ObjectsFlaw.TheVariants.{Stray, Unfinished, BadObject, WrongId, TooLarge, BadTree, Missing, WrongKind, Cycle, IdReserved, File, Memory}
+use Rattle.history_texts.specs.declared.open_error.OpenError.{OpenError}
+use Rattle.history_texts.specs.declared.open_error.NamedBy.TheVariants.{Object}
+use Rattle.history_texts.specs.declared.open_error.OpenError.TheVariants.{Stray, Unfinished, BadObject, WrongId, TooLarge, BadTree, BadTime, BadTag, Missing, WrongKind, Cycle, IdReserved, File, Memory}
 
 -- a flaw that no failed reading is stays one
-pub flaw_stays : (MayFail : Type 0) (kind : Kind) (tree : Tree) (flaw : ObjectsFlaw) → IsObjectsFlaw ⊥ kind tree flaw → IsObjectsFlaw MayFail kind tree flaw
+pub flaw_stays : (MayFail : Type 0) (kind : Kind) (tree : Tree) (flaw : OpenError) → IsObjectsFlaw ⊥ kind tree flaw → IsObjectsFlaw MayFail kind tree flaw
 flaw_stays MayFail kind tree (Stray path) is = is
 flaw_stays MayFail kind tree (Unfinished path) is = is
 flaw_stays MayFail kind tree (BadObject path) is = is
 flaw_stays MayFail kind tree (WrongId path) is = is
 flaw_stays MayFail kind tree (TooLarge path) is = is
 flaw_stays MayFail kind tree (BadTree id) is = is
-flaw_stays MayFail kind tree (Missing id by) is = is
-flaw_stays MayFail kind tree (WrongKind id by) is = is
+flaw_stays MayFail kind tree (BadTime id) is = is
+flaw_stays MayFail kind tree (BadTag id) is = is
+flaw_stays MayFail kind tree (Missing id (Object by)) is = is
+flaw_stays MayFail kind tree (WrongKind id (Object by)) is = is
 flaw_stays MayFail kind tree (Cycle id) is = is
 flaw_stays MayFail kind tree IdReserved is = is
 flaw_stays MayFail kind tree File is = absurd is
 flaw_stays MayFail kind tree Memory is = is
+flaw_stays MayFail kind tree _ is = absurd is
 
-pub flaws_stay : {X : Type 0} (MayFail : Type 0) (kind : Kind) (tree : Tree) (r : Result X ObjectsFlaw) → IfErr r (IsObjectsFlaw ⊥ kind tree) → IfErr r (IsObjectsFlaw MayFail kind tree)
+pub flaws_stay : {X : Type 0} (MayFail : Type 0) (kind : Kind) (tree : Tree) (r : Result X OpenError) → IfErr r (IsObjectsFlaw ⊥ kind tree) → IfErr r (IsObjectsFlaw MayFail kind tree)
 flaws_stay MayFail kind tree (Ok x) is = is
 flaws_stay MayFail kind tree (Err flaw) is = flaw_stays MayFail kind tree flaw is
 
@@ -121,14 +126,18 @@ module _ (kind : Kind) (tree : Tree) (id : Id) (path content : Bytes) where
   pub bad_tree : HasFile kind tree path id (object_text kinds.Tree content) → IsMalformed kind kinds.Tree content → IsBadTree kind tree id
   bad_tree has bad = malformed content (object_there kind tree id path (object_text kinds.Tree content) has kinds.Tree content refl) bad
 
-  pub bad_commit : HasFile kind tree path id (object_text kinds.Commit content) → IsMalformed kind kinds.Commit content → HasText kind tree path (λ id text. IsBadText kind text)
-  bad_commit has bad = (id, object_text kinds.Commit content, has, no_commit content refl bad)
+  pub bad_time : (object : ObjectKind) → HasFile kind tree path id (object_text object content) → IsBefore1970 kind object content → HasBadTime kind tree id
+  bad_time object has before = (object, content, object_there kind tree id path (object_text object content) has object content refl, before)
 
-  pub bad_tag : HasFile kind tree path id (object_text kinds.Tag content) → IsMalformed kind kinds.Tag content → HasText kind tree path (λ id text. IsBadText kind text)
-  bad_tag has bad = (id, object_text kinds.Tag content, has, no_tag content refl bad)
+  pub bad_tag : HasFile kind tree path id (object_text kinds.Tag content) → IsTagOfOther content → HasBadTag kind tree id
+  bad_tag has of_other = (content, object_there kind tree id path (object_text kinds.Tag content) has kinds.Tag content refl, of_other)
 
-  pub no_bad_blob : {A : Type 0} → IsMalformed kind kinds.Blob content → A
-  no_bad_blob bad = absurd (bad [] refl)
+  -- without another cause
+  pub bad_object : (object : ObjectKind) → object ≢ kinds.Tree → HasFile kind tree path id (object_text object content) → IsElseMalformed kind object content → HasText kind tree path (λ id text. IsBadText kind text)
+  bad_object kinds.Tree other has bad = absurd (other refl)
+  bad_object kinds.Blob other has bad = absurd (bad.malformed [] refl)
+  bad_object kinds.Commit other has bad = (id, object_text kinds.Commit content, has, no_commit content refl bad)
+  bad_object kinds.Tag other has bad = (id, object_text kinds.Tag content, has, no_tag content refl bad)
 
 -- ---- a file that is longer than any object
 

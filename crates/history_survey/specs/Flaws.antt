@@ -12,10 +12,12 @@ use Rattle.history_model.specs.Forms.{is_id, max_content, max_path}
 use Rattle.history_model.specs.Objects.{object_text}
 use Rattle.history_model.specs.Places.{file_at, is_object_folder, object_place, unfinished_place}
 use Rattle.history_steps.specs.TreeReads.{HasObject}
+use Rattle.history_texts.specs.Malformed.{IsBefore1970, IsTagOfOther}
 use Rattle.history_texts.specs.ObjectTexts.{IsNoObject, is_reserved, object_id}
 use Rattle.history_texts.specs.Written.{IsMalformed, NamesObjects, Naming}
-use Rattle.history_survey.specs.declared.flaw.ObjectsFlaw.{ObjectsFlaw}
-use Rattle.history_survey.specs.declared.flaw.ObjectsFlaw.TheVariants.{Stray, Unfinished, BadObject, WrongId, TooLarge, BadTree, Missing, WrongKind, Cycle, IdReserved, File, Memory}
+use Rattle.history_texts.specs.declared.open_error.OpenError.{OpenError}
+use Rattle.history_texts.specs.declared.open_error.NamedBy.TheVariants.{Object}
+use Rattle.history_texts.specs.declared.open_error.OpenError.TheVariants.{Stray, Unfinished, BadObject, WrongId, TooLarge, BadTree, BadTime, BadTag, Missing, WrongKind, Cycle, IdReserved, File, Memory}
 
 -- ---- what stands at a place
 
@@ -31,13 +33,20 @@ IsTooLong text = (max_content < length text)
     × ((object : ObjectKind) (content : Bytes) → length content ≤ max_content
     → text ≢ object_text object content)
 
--- the text is no object's, or that of a commit or a tag in no written form
+-- The content is in no written form of its kind, and neither tells a time before 1970 nor is a tag of something other than a
+-- commit, which have causes of their own.
+pub record IsElseMalformed (kind : Kind) (object : ObjectKind) (content : Bytes) : Type 0 where
+  pub malformed : IsMalformed kind object content
+  pub since : ¬ IsBefore1970 kind object content
+  pub of_commit : object ≡ kinds.Tag → ¬ IsTagOfOther content
+
+-- the text is no object's, or that of a commit or a tag in no written form, without another cause
 pub data IsBadText (kind : Kind) (text : Bytes) : Type 0 where
   no_object : IsNoObject text → IsBadText kind text
   no_commit : (content : Bytes) → text ≡ object_text kinds.Commit content
-      → IsMalformed kind kinds.Commit content → IsBadText kind text
+      → IsElseMalformed kind kinds.Commit content → IsBadText kind text
   no_tag : (content : Bytes) → text ≡ object_text kinds.Tag content
-      → IsMalformed kind kinds.Tag content → IsBadText kind text
+      → IsElseMalformed kind kinds.Tag content → IsBadText kind text
 
 -- the text is an object's of another id
 pub record IsOther (kind : Kind) (id : Id) (text : Bytes) : Type 0 where
@@ -98,6 +107,16 @@ abbrev pub HasText : Kind → Tree → Bytes → (Id → Bytes → Type 0) → T
 HasText kind tree path What =
     (id : Id) × (text : Bytes) × HasFile kind tree path id text × What id text
 
+-- the commit or the tag of this id tells a time before 1970
+abbrev pub HasBadTime : Kind → Tree → Id → Type 0
+HasBadTime kind tree id = (object : ObjectKind) × (content : Bytes)
+    × HasObject kind tree id object content × IsBefore1970 kind object content
+
+-- the object of this id is a tag of something other than a commit
+abbrev pub HasBadTag : Kind → Tree → Id → Type 0
+HasBadTag kind tree id =
+    (content : Bytes) × HasObject kind tree id kinds.Tag content × IsTagOfOther content
+
 -- an object stands under the null id, or another than the empty tree under that one's
 abbrev pub HasReserved : Kind → Tree → Type 0
 HasReserved kind tree = (id : Id) × (object : ObjectKind) × (content : Bytes)
@@ -113,7 +132,7 @@ abbrev pub HasMissing : Kind → Tree → Id → Id → Type 0
 HasMissing kind tree id by =
     (as_kind : ObjectKind) × Names kind tree by id as_kind × (file_at tree (object_place id) ≡ None)
 
-abbrev pub IsObjectsFlaw : Type 0 → Kind → Tree → ObjectsFlaw → Type 0
+abbrev pub IsObjectsFlaw : Type 0 → Kind → Tree → OpenError → Type 0
 IsObjectsFlaw MayFail kind tree (Stray path) = IsStray kind tree path.items
 IsObjectsFlaw MayFail kind tree (Unfinished path) =
     (path.items ≡ unfinished_place)
@@ -124,9 +143,14 @@ IsObjectsFlaw MayFail kind tree (WrongId path) = HasText kind tree path.items (I
 IsObjectsFlaw MayFail kind tree (TooLarge path) =
     HasText kind tree path.items (λ id text. IsTooLong text)
 IsObjectsFlaw MayFail kind tree (BadTree id) = IsBadTree kind tree (id_of id)
-IsObjectsFlaw MayFail kind tree (Missing id by) = HasMissing kind tree (id_of id) (id_of by)
-IsObjectsFlaw MayFail kind tree (WrongKind id by) = HasWrongKind kind tree (id_of id) (id_of by)
+IsObjectsFlaw MayFail kind tree (BadTime id) = HasBadTime kind tree (id_of id)
+IsObjectsFlaw MayFail kind tree (BadTag id) = HasBadTag kind tree (id_of id)
+IsObjectsFlaw MayFail kind tree (Missing id (Object by)) =
+    HasMissing kind tree (id_of id) (id_of by)
+IsObjectsFlaw MayFail kind tree (WrongKind id (Object by)) =
+    HasWrongKind kind tree (id_of id) (id_of by)
 IsObjectsFlaw MayFail kind tree (Cycle id) = Leads kind tree (id_of id) (id_of id)
 IsObjectsFlaw MayFail kind tree IdReserved = HasReserved kind tree
 IsObjectsFlaw MayFail kind tree File = MayFail
 IsObjectsFlaw MayFail kind tree Memory = ⊤
+IsObjectsFlaw MayFail kind tree _ = ⊥

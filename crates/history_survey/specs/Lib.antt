@@ -1,4 +1,3 @@
-pub mod Faults
 pub mod Flaws
 pub mod Links
 pub mod Listing

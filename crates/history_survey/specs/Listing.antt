@@ -9,8 +9,8 @@ use Rattle.history_model.specs.Bytes.{Bytes}
 use Rattle.history_model.specs.Forms.{is_id}
 use Rattle.history_model.specs.Places.{file_at, is_object_folder, object_place, unfinished_place}
 use Rattle.gix_ref_way.specs.Ways.{above}
-use Rattle.history_survey.specs.declared.flaw.ObjectsFlaw.{ObjectsFlaw}
-use Rattle.history_survey.specs.declared.flaw.ObjectsFlaw.TheVariants.{Stray, Unfinished, BadObject, WrongId, TooLarge, BadTree, Missing, WrongKind, Cycle, IdReserved, File, Memory}
+use Rattle.history_texts.specs.declared.open_error.OpenError.{OpenError}
+use Rattle.history_texts.specs.declared.open_error.OpenError.TheVariants.{Stray, Unfinished, Memory}
 
 -- the place of one of these ids
 abbrev pub IsPlaceIn : List ObjectId → Bytes → Type 0
@@ -38,17 +38,9 @@ pub record Gathers (kind : Kind) (tree : Tree) (place : Bytes) (old new : List O
       → IsListedAt new path (get tree path)
 
 -- the path is the place of no object: it is the unfinished one's, or a stray
-abbrev pub IsNoPlace : Kind → Bytes → ObjectsFlaw → Type 0
+abbrev pub IsNoPlace : Kind → Bytes → OpenError → Type 0
 IsNoPlace kind path (Stray other) = (other.items ≡ path) × (path ≢ unfinished_place)
     × ((id : Id) → IsTrue (is_id kind id) → path ≢ object_place id)
 IsNoPlace kind path (Unfinished other) = (other.items ≡ path) × (path ≡ unfinished_place)
 IsNoPlace kind path Memory = ⊤
-IsNoPlace kind path (BadObject other) = ⊥
-IsNoPlace kind path (WrongId other) = ⊥
-IsNoPlace kind path (TooLarge other) = ⊥
-IsNoPlace kind path (BadTree id) = ⊥
-IsNoPlace kind path (Missing id by) = ⊥
-IsNoPlace kind path (WrongKind id by) = ⊥
-IsNoPlace kind path (Cycle id) = ⊥
-IsNoPlace kind path IdReserved = ⊥
-IsNoPlace kind path File = ⊥
+IsNoPlace kind path _ = ⊥

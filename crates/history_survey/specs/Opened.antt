@@ -1,6 +1,6 @@
 -- What an objects part must hold to be opened.
 use Rattle.std.specs.Prelude.{◌≡◌, Some}
-use Rattle.std.specs.FinMap.{FinMap, get, contains_key}
+use Rattle.std.specs.FinMap.{FinMap, get}
 use Rattle.gix_hash_id.specs.Id.{Id}
 use Rattle.gix_hash_id.specs.declared.kind.Kind.{Kind}
 use Rattle.gix_ref_file.specs.Tree.{Tree}
@@ -9,8 +9,6 @@ use Rattle.history_model.specs.Forms.{IsWrittenValue}
 use Rattle.history_model.specs.Objects.{Value, value_text}
 use Rattle.history_model.specs.Places.{file_at, object_place}
 use Rattle.history_model.specs.Repository.{IsWholeStore, Reference, Repository, Values, fresh}
-use Rattle.history_steps.specs.TreeHalves.{HoldsValues}
-use Rattle.history_objects.specs.Ids.{IdSet}
 
 -- a repository of these values, without names
 abbrev pub store_of : Kind → Values → Repository
@@ -26,13 +24,6 @@ pub record AreInTree (kind : Kind) (tree : Tree) (values : Values) : Type 0 wher
   pub sound : IsSoundStore kind values
   pub texts : (id : Id) (value : Value) → get values id ≡ Some value
       → file_at tree (object_place id) ≡ Some (value_text kind value)
-
--- The tree has the files of such values and no other, no folders but those of objects, and these are the ids of the values.
-pub record IsOpened (kind : Kind) (tree : Tree) (ids : IdSet) : Type 0 where
-  pub values : Values
-  pub holds : HoldsValues kind tree values
-  pub sound : IsSoundStore kind values
-  pub known : (id : Id) → contains_key ids id ≡ contains_key values id
 
 -- What is whole is so beside any names.
 abbrev pub StaysWhole : Type 0

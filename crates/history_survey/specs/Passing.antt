@@ -3,8 +3,9 @@ use Rattle.std.specs.Prelude.{◌≡◌, ◌≢◌, ◌⊎◌, ◌<◌, ◌≤�
 use Rattle.gix_object_lines.specs.declared.kind.Kind.TheVariants as kinds
 use Rattle.history_model.specs.Forms.{max_path}
 use Rattle.history_survey.specs.Links.{reach_of}
-use Rattle.history_survey.specs.declared.flaw.ObjectsFlaw.{ObjectsFlaw}
-use Rattle.history_survey.specs.declared.flaw.ObjectsFlaw.TheVariants.{Stray, Unfinished, BadObject, WrongId, TooLarge, BadTree, Missing, WrongKind, Cycle, IdReserved, File, Memory}
+use Rattle.history_texts.specs.declared.open_error.OpenError.{OpenError}
+use Rattle.history_texts.specs.declared.open_error.NamedBy.TheVariants.{Object}
+use Rattle.history_texts.specs.declared.open_error.OpenError.TheVariants.{BadTree, WrongKind}
 use Rattle.history_survey.specs.declared.order.Done.{Done}
 use Rattle.history_survey.specs.declared.order.Frame.{Frame}
 use Rattle.history_survey.specs.declared.reading.Link.{Link}
@@ -30,18 +31,9 @@ pub record IsPassed (old new : Frame) (link : Link) (done : Done) : Type 0 where
   pub as_before : old.kind ≢ kinds.Tree → new.longest ≡ old.longest
 
 -- what is wrong with a link that is done
-abbrev pub IsRefusedLink : Frame → Link → Done → ObjectsFlaw → Type 0
-IsRefusedLink frame link done (WrongKind id by) =
+abbrev pub IsRefusedLink : Frame → Link → Done → OpenError → Type 0
+IsRefusedLink frame link done (WrongKind id (Object by)) =
     (id ≡ link.id) × (by ≡ frame.id) × (done.kind ≢ link.kind)
 IsRefusedLink frame link done (BadTree id) = (id ≡ frame.id) × (frame.kind ≡ kinds.Tree)
     × (max_path < reach_of link.name done.longest)
-IsRefusedLink frame link done (Stray path) = ⊥
-IsRefusedLink frame link done (Unfinished path) = ⊥
-IsRefusedLink frame link done (BadObject path) = ⊥
-IsRefusedLink frame link done (WrongId path) = ⊥
-IsRefusedLink frame link done (TooLarge path) = ⊥
-IsRefusedLink frame link done (Missing id by) = ⊥
-IsRefusedLink frame link done (Cycle id) = ⊥
-IsRefusedLink frame link done IdReserved = ⊥
-IsRefusedLink frame link done File = ⊥
-IsRefusedLink frame link done Memory = ⊥
+IsRefusedLink frame link done _ = ⊥

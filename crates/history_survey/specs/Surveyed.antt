@@ -12,8 +12,9 @@ use Rattle.history_steps.specs.TreeHalves.{HoldsValues}
 use Rattle.history_texts.specs.IdLists.{is_one_of}
 use Rattle.history_survey.specs.Opened.{IsSoundStore}
 use Rattle.history_survey.specs.Surveying.{Stands}
-use Rattle.history_survey.specs.declared.flaw.ObjectsFlaw.{ObjectsFlaw}
-use Rattle.history_survey.specs.declared.flaw.ObjectsFlaw.TheVariants.{Stray, Unfinished, BadObject, WrongId, TooLarge, BadTree, Missing, WrongKind, Cycle, IdReserved, File, Memory}
+use Rattle.history_texts.specs.declared.open_error.OpenError.{OpenError}
+use Rattle.history_texts.specs.declared.open_error.NamedBy.TheVariants.{Object}
+use Rattle.history_texts.specs.declared.open_error.OpenError.TheVariants.{Cycle, Missing}
 use Rattle.history_survey.specs.declared.order.Frame.{Frame}
 use Rattle.history_survey.specs.declared.order.Survey.{Survey}
 
@@ -36,21 +37,12 @@ abbrev pub is_open : List Frame → Id → Bool
 is_open frames id = list_any (λ (frame : Frame). id_eq id (id_of frame.id)) frames
 
 -- what is wrong where an object names one that is neither done nor to come
-abbrev pub IsLacking : List Frame → ObjectId → ObjectId → ObjectsFlaw → Type 0
+abbrev pub IsLacking : List Frame → ObjectId → ObjectId → OpenError → Type 0
 IsLacking frames by id (Cycle other) =
     (other ≡ id) × ((id_of by ≡ id_of id) ⊎ (is_open frames (id_of id) ≡ true))
-IsLacking frames by id (Missing other from) = (other ≡ id) × (from ≡ by)
+IsLacking frames by id (Missing other (Object from)) = (other ≡ id) × (from ≡ by)
     × (id_of by ≢ id_of id) × IsFalse (is_open frames (id_of id))
-IsLacking frames by id (WrongKind other from) = ⊥
-IsLacking frames by id (BadTree other) = ⊥
-IsLacking frames by id (Stray path) = ⊥
-IsLacking frames by id (Unfinished path) = ⊥
-IsLacking frames by id (BadObject path) = ⊥
-IsLacking frames by id (WrongId path) = ⊥
-IsLacking frames by id (TooLarge path) = ⊥
-IsLacking frames by id IdReserved = ⊥
-IsLacking frames by id File = ⊥
-IsLacking frames by id Memory = ⊥
+IsLacking frames by id _ = ⊥
 
 -- the tree holds the values of just these ids, which are a whole store in written form
 pub record IsWholePart (kind : Kind) (tree : Tree) (ids : List ObjectId) : Type 0 where

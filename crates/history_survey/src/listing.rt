@@ -7,12 +7,10 @@ ghost use Rattle.history_survey.specs.Flaws.{IsObjectsFlaw};
 ghost use Rattle.history_survey.specs.Listing.{Gathers, IsNoPlace};
 ghost use Rattle.history_survey.specs.Surveying.{AreListed};
 
-use crate::flaw::ObjectsFlaw;
 use gix_hash::{Kind, ObjectId};
 use gix_ref_file::paths::{is_deeper, joined};
 use gix_ref_file::{Files, Place};
-use history_objects::{UNFINISHED, object_place};
-use history_texts::{Part, parse_lower_hex};
+use history_texts::{OpenError, Part, UNFINISHED, object_place, parse_lower_hex};
 use std::alloc::{AllocError, Global};
 
 /// The ids at whose places files stand, where no other files stand and no folders but those of objects.
@@ -20,7 +18,7 @@ pub(crate) fn list_objects<F: Files>(
     alloc: Global,
     files: &F,
     kind: Kind,
-) -> Result<Vec<ObjectId>, ObjectsFlaw>
+) -> Result<Vec<ObjectId>, OpenError>
     ensures listed { F.is_honest files.now
         → IfOk result (λ ids. AreListed kind (F.history files.now).tree ids.items) }
     ensures flaw { F.is_honest files.now
@@ -38,7 +36,7 @@ fn gather<F: Files>(
     kind: Kind,
     folder: &[u8],
     ids: &mut Vec<ObjectId>,
-) -> Result<(), ObjectsFlaw>
+) -> Result<(), OpenError>
     ensures gathered { F.is_honest files.now
         → OnOk result (Gathers kind (F.history files.now).tree folder.now ids.old.items
         ids.new.items) }
@@ -51,9 +49,9 @@ fn gather<F: Files>(
             Place::Folder if Part::Objects.may_hold_folder(&path) && is_deeper(&path, folder) => {
                 gather(alloc, files, kind, &path, ids)?;
             }
-            Place::Folder => return Err(ObjectsFlaw::Stray(path)),
+            Place::Folder => return Err(OpenError::Stray(path)),
             // A name that is gone: the folder changed while it was read.
-            Place::Absent => return Err(ObjectsFlaw::Stray(path)),
+            Place::Absent => return Err(OpenError::Stray(path)),
             Place::File(_) => {
                 let id = id_of_file(alloc, kind, path)?;
                 ids.push(id)?;
@@ -64,7 +62,7 @@ fn gather<F: Files>(
 }
 
 // The id at whose place a file stands.
-fn id_of_file(alloc: Global, kind: Kind, path: Vec<u8>) -> Result<ObjectId, ObjectsFlaw>
+fn id_of_file(alloc: Global, kind: Kind, path: Vec<u8>) -> Result<ObjectId, OpenError>
     ensures placed { IfOk result (λ id. IsTrue (is_id kind (id_of id))
         × (path.items ≡ object_place (id_of id))) }
     ensures flaw { IfErr result (IsNoPlace kind path.items) }
@@ -73,9 +71,9 @@ fn id_of_file(alloc: Global, kind: Kind, path: Vec<u8>) -> Result<ObjectId, Obje
         return Ok(id);
     }
     if path.as_slice() == UNFINISHED {
-        return Err(ObjectsFlaw::Unfinished(path));
+        return Err(OpenError::Unfinished(path));
     }
-    Err(ObjectsFlaw::Stray(path))
+    Err(OpenError::Stray(path))
 }
 
 // The id of this kind that the path is the place of.

@@ -10,12 +10,12 @@ ghost use Rattle.history_survey.specs.Passing.{IsPassed, IsReach, IsRefusedLink,
 ghost use Rattle.history_survey.specs.Surveyed.{IsLacking, IsWholePart, StandsAt, StandsOver, is_open, left_of};
 ghost use Rattle.history_survey.specs.Surveying.{AreListed};
 
-use crate::flaw::ObjectsFlaw;
 use crate::reading::{Found, Link, read_object};
 use gix_hash::{Kind, ObjectId};
 use gix_object::Kind as ObjectKind;
 use gix_ref_file::Files;
 use history_model::limits::MAX_PATH;
+use history_texts::{NamedBy, OpenError};
 use std::alloc::{AllocError, Global};
 use std::collections::{BTreeMap, BTreeSet};
 
@@ -38,19 +38,19 @@ pub(crate) struct Frame {
 
 impl Frame {
     // Goes past a link that is done, or tells what is wrong with it.
-    fn pass(&mut self, link: Link, done: Done) -> Result<(), ObjectsFlaw>
+    fn pass(&mut self, link: Link, done: Done) -> Result<(), OpenError>
         requires { self.old.next < length self.old.links.items }
         ensures same { IsSame self.old self.new }
         ensures passed { OnOk result (IsPassed self.old self.new link done) }
         ensures refused { IfErr result (IsRefusedLink self.old link done) }
     {
         if done.kind != link.kind {
-            return Err(ObjectsFlaw::WrongKind(link.id, self.id));
+            return Err(OpenError::WrongKind(link.id, NamedBy::Object(self.id)));
         }
         if self.kind == ObjectKind::Tree {
             let reach = path_length(link.name, done.longest);
             if reach > MAX_PATH {
-                return Err(ObjectsFlaw::BadTree(self.id));
+                return Err(OpenError::BadTree(self.id));
             }
             self.longest = self.longest.max(reach);
         }
@@ -97,7 +97,7 @@ impl Survey {
     }
 
     /// Notes all objects that can be noted, and gives the one that is to be read next; `None` where all are noted.
-    pub(crate) fn next(&mut self) -> Result<Option<ObjectId>, ObjectsFlaw>
+    pub(crate) fn next(&mut self) -> Result<Option<ObjectId>, OpenError>
         ensures stands { (kind : Kind) (tree : Tree) (ids : List ObjectId)
             → StandsAt kind tree ids self.old None
             → IfOk result (StandsAt kind tree ids self.new) }
@@ -125,7 +125,7 @@ impl Survey {
     }
 
     // Goes past the links of an object that are done, and gives the first that is to come.
-    fn advance(&mut self, frame: &mut Frame) -> Result<Option<ObjectId>, ObjectsFlaw>
+    fn advance(&mut self, frame: &mut Frame) -> Result<Option<ObjectId>, OpenError>
         ensures stands { (kind : Kind) (tree : Tree) (ids : List ObjectId)
             → StandsOver kind tree ids self.old (frame.old ∷ reverse self.old.waiting.items) None
             → IfOk result (StandsOver kind tree ids self.new
@@ -154,13 +154,13 @@ impl Survey {
     }
 
     // What is wrong where an object is named that is neither done nor to come: it is open itself, or isn't listed.
-    fn lacking(&self, by: ObjectId, id: ObjectId) -> ObjectsFlaw
+    fn lacking(&self, by: ObjectId, id: ObjectId) -> OpenError
         ensures { IsLacking self.now.waiting.items by id result }
     {
         if id == by || self.is_open(&id) {
-            ObjectsFlaw::Cycle(id)
+            OpenError::Cycle(id)
         } else {
-            ObjectsFlaw::Missing(id, by)
+            OpenError::Missing(id, NamedBy::Object(by))
         }
     }
 
@@ -177,7 +177,7 @@ impl Survey {
         files: &F,
         kind: Kind,
         id: ObjectId,
-    ) -> Result<(), ObjectsFlaw>
+    ) -> Result<(), OpenError>
         ensures stands { F.is_honest files.now → (ids : List ObjectId)
             → StandsAt kind (F.history files.now).tree ids self.old (Some id)
             → OnOk result (StandsAt kind (F.history files.now).tree ids self.new None) }
@@ -206,7 +206,7 @@ pub(crate) fn survey_objects<F: Files>(
     files: &F,
     kind: Kind,
     ids: &[ObjectId],
-) -> Result<(), ObjectsFlaw>
+) -> Result<(), OpenError>
     ensures whole { F.is_honest files.now → AreListed kind (F.history files.now).tree ids.now
         → OnOk result (IsWholePart kind (F.history files.now).tree ids.now) }
     ensures flaw { F.is_honest files.now → AreListed kind (F.history files.now).tree ids.now

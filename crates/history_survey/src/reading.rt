@@ -5,7 +5,6 @@ ghost use Rattle.gix_hash_id.specs.declared.kind.Kind.{Kind};
 ghost use Rattle.gix_object_entries.specs.Entry.{item_of};
 ghost use Rattle.gix_object_lines.specs.declared.kind.Kind.TheVariants as kinds;
 ghost use Rattle.gix_ref_file.specs.Tree.{Tree};
-ghost use Rattle.history_model.specs.Bytes.{Bytes};
 ghost use Rattle.history_model.specs.Objects.{digest, object_text};
 ghost use Rattle.history_texts.specs.ObjectTexts.{is_empty_tree};
 ghost use Rattle.history_texts.specs.Written.{IsMalformed, naming_of};
@@ -14,7 +13,6 @@ ghost use Rattle.history_survey.specs.Links.{LinksByTree, LinksObjects, link_by_
 ghost use Rattle.history_survey.specs.Reading.{IsFileFor, IsRead, is_reserved_in};
 ghost use Rattle.history_survey.specs.Surveying.{link_of, links_of};
 
-use crate::flaw::ObjectsFlaw;
 use gix_hash::hasher::hasher;
 use gix_hash::{Kind, ObjectId};
 use gix_object::decode::Error;
@@ -22,8 +20,10 @@ use gix_object::tree::EntryRef;
 use gix_object::{Kind as ObjectKind, TreeRef};
 use gix_ref_file::{Files, Place};
 use history_model::limits::MAX_CONTENT;
-use history_objects::object_place;
-use history_texts::{Named, is_written_tree, named_by, parse_header};
+use history_texts::{
+    Named, OpenError, is_before_1970, is_tag_of_other, is_written_tree, named_by, object_place,
+    parse_header,
+};
 use std::alloc::{AllocError, Global};
 
 /// The most bytes that the header of a content within the limit has: a kind, a space, eight digits and a zero byte.
@@ -51,7 +51,7 @@ pub(crate) fn read_object<F: Files>(
     files: &F,
     kind: Kind,
     id: &ObjectId,
-) -> Result<Found, ObjectsFlaw>
+) -> Result<Found, OpenError>
     ensures read { F.is_honest files.now
         → IsFileFor kind (F.history files.now).tree (id_of id.now)
         → IfOk result (λ found. IsRead kind (F.history files.now).tree (id_of id.now) found) }
@@ -62,7 +62,7 @@ pub(crate) fn read_object<F: Files>(
     let place = object_place(alloc, id)?;
     if let Place::File(size) = files.kind_of(&place)? {
         if size > MAX_CONTENT as u64 + MAX_HEADER {
-            return Err(ObjectsFlaw::TooLarge(place));
+            return Err(OpenError::TooLarge(place));
         }
     }
     let mut text = Vec::new(alloc);
@@ -77,46 +77,57 @@ fn found_in(
     id: &ObjectId,
     place: Vec<u8>,
     text: &[u8],
-) -> Result<Found, ObjectsFlaw>
+) -> Result<Found, OpenError>
     ensures read { (tree : Tree) → HasFile kind tree place.items (id_of id.now) text.now
         → IfOk result (IsRead kind tree (id_of id.now)) }
     ensures flaw { (tree : Tree) → HasFile kind tree place.items (id_of id.now) text.now
         → IfErr result (IsObjectsFlaw ⊥ kind tree) }
 {
     let Some((object, start)) = parse_header(text) else {
-        return Err(ObjectsFlaw::BadObject(place));
+        return Err(OpenError::BadObject(place));
     };
     let content = &text[start..];
     if content.len() > MAX_CONTENT {
-        return Err(ObjectsFlaw::TooLarge(place));
+        return Err(OpenError::TooLarge(place));
     }
     if digest_of(kind, text) != *id {
-        return Err(ObjectsFlaw::WrongId(place));
+        return Err(OpenError::WrongId(place));
     }
     if is_reserved(kind, id, object, content) {
-        return Err(ObjectsFlaw::IdReserved);
+        return Err(OpenError::IdReserved);
     }
     match links_in(alloc, kind, object, content)? {
         Some(links) => Ok(Found {
             kind: object,
             links,
         }),
-        None => Err(malformed(object, id, place)),
+        None => Err(malformed(alloc, kind, object, id, place, content)?),
     }
 }
 
 // What is wrong where a content isn't in the written form of its kind.
-fn malformed(object: ObjectKind, id: &ObjectId, place: Vec<u8>) -> ObjectsFlaw
-    ensures { (kind : Kind) (tree : Tree) (content : Bytes)
-        → HasFile kind tree place.items (id_of id.now) (object_text object content)
-        → IsMalformed kind object content → IsObjectsFlaw ⊥ kind tree result }
+fn malformed(
+    alloc: Global,
+    kind: Kind,
+    object: ObjectKind,
+    id: &ObjectId,
+    place: Vec<u8>,
+    content: &[u8],
+) -> Result<OpenError, AllocError>
+    ensures { (tree : Tree)
+        → HasFile kind tree place.items (id_of id.now) (object_text object content.now)
+        → IsMalformed kind object content.now → IfOk result (IsObjectsFlaw ⊥ kind tree) }
 {
-    match object {
-        ObjectKind::Tree => ObjectsFlaw::BadTree(*id),
-        ObjectKind::Blob => ObjectsFlaw::BadObject(place),
-        ObjectKind::Commit => ObjectsFlaw::BadObject(place),
-        ObjectKind::Tag => ObjectsFlaw::BadObject(place),
+    if matches!(object, ObjectKind::Tree) {
+        return Ok(OpenError::BadTree(*id));
     }
+    if is_before_1970(alloc, kind, object, content)? {
+        return Ok(OpenError::BadTime(*id));
+    }
+    if matches!(object, ObjectKind::Tag) && is_tag_of_other(content) {
+        return Ok(OpenError::BadTag(*id));
+    }
+    Ok(OpenError::BadObject(place))
 }
 
 // The digest of a text.

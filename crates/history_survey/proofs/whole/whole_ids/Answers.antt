@@ -1,7 +1,7 @@
 use Rattle.std.proofs.Common.{subst, sym}
 use Rattle.history_survey.specs.Surveyed.{IsWholePart}
 use Rattle.history_survey.specs.Surveying.{AreListed}
-use Rattle.history_survey.proofs.opening.whole_ids.Goals as goal
+use Rattle.history_survey.proofs.whole.whole_ids.Goals as goal
 
 pub returns-clause-whole : goal.returns-clause-whole
 returns-clause-whole g c = λ honest.
