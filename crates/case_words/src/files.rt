@@ -2,7 +2,8 @@
 
 use crate::bytes::read_bytes;
 use crate::page::Page;
-use gix_ref_file::{FileError, Files, Fuse, MemoryFiles, Place};
+use gix_ref_file::{FileError, Files, MemoryFiles, Place};
+use gix_ref_fuse::Fuse;
 use std::alloc::Global;
 use std::mem;
 
@@ -99,7 +100,7 @@ fn change<F: Files>(
 ) -> Option<Result<bool, FileError>> {
     let rest = read_bytes(alloc, rest)?;
     let changed = match operation {
-        "create" => return Some(files.create_new(alloc, path)),
+        "create" => return Some(files.create_new(alloc, path, &rest)),
         "write" => files.write(alloc, path, &rest),
         "append" => files.append(alloc, path, &rest),
         "rename" => files.rename(alloc, path, &rest),

@@ -182,8 +182,9 @@ pub mod transaction {
     pub use gix_ref_loose_transaction::transaction::{Transaction, prepare as prepare_edits};
 }
 
-pub use gix_ref_file::{FileError, Files, Fuse, MemoryFiles, Place};
+pub use gix_ref_file::{FileError, Files, MemoryFiles, Place};
 pub use gix_ref_folder::{Disk, Folder, Part};
+pub use gix_ref_fuse::Fuse;
 pub use gix_ref_name::{
     Category, FullName, FullNameRef, Kind, Namespace, PartialName, PartialNameRef, Target,
     TargetRef,

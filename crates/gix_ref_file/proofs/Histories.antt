@@ -1,11 +1,11 @@
 -- How histories go on.
-use Rattle.std.proofs.Common.{◌≡◌, inl, inr, ⊎_elim, ℕ, zero, suc, List, [], ◌∷◌, ◌++◌, length, take, drop, ◌+◌, ◌≤◌, refl, sym, ◌∙◌, ap, subst, arith, append_assoc, length-append}
-use Rattle.std.specs.Prelude.{Result, Ok, Err, OnOk, IsTrue}
+use Rattle.std.proofs.Common.{◌≡◌, inl, inr, ⊎_elim, ℕ, zero, suc, List, [], ◌∷◌, ◌++◌, length, take, drop, ◌+◌, ◌≤◌, refl, sym, ◌∙◌, ap, subst, cond, arith, append_assoc, length-append}
+use Rattle.std.specs.Prelude.{Result, Ok, Err, OnOk, IsTrue, is_some}
 use Rattle.std.specs.FinMap.{insert}
 use Rattle.std.proofs.lemmas.List.{append_cancel_left, append-nil, take_all, drop_at, take-append-le}
 use Rattle.std.specs.List.{AllByRecursion}
 use Rattle.gix_ref_file.specs.declared.files.FileError.{FileError}
-use Rattle.gix_ref_file.specs.Tree.{Tree, file, bytes_at}
+use Rattle.gix_ref_file.specs.Tree.{Tree, file, node_at, bytes_at}
 use Rattle.gix_ref_file.specs.Changes.{Change, to_create, to_write, to_append, to_rename, to_remove_file, to_make_folder, to_remove_folder, allows, after, cut, MayLeave}
 use Rattle.gix_ref_file.specs.History.{History, trees, moment, stood_between, Adds, Makes, Steps}
 
@@ -49,7 +49,7 @@ on_ok P (Err e) p = tt
 
 -- all the bytes are a beginning of them
 whole : (change : Change) (tree : Tree) → (n : ℕ) × (after (cut n change) tree ≡ after change tree)
-whole (to_create path) tree = (0, refl)
+whole (to_create path bytes) tree = (length bytes, ap (λ bs. cond (is_some (node_at tree path)) tree (insert tree path (file bs))) (take_all (length bytes) bytes (omega arith)))
 whole (to_write path bytes) tree = (length bytes, ap (λ bs. insert tree path (file bs)) (take_all (length bytes) bytes (omega arith)))
 whole (to_append path bytes) tree = (length bytes, ap (λ bs. insert tree path (file (bytes_at tree path ++ bs))) (take_all (length bytes) bytes (omega arith)))
 whole (to_rename from to) tree = (0, refl)
@@ -115,7 +115,7 @@ taken_twice (suc m) (suc n) [] = (0, refl)
 taken_twice (suc m) (suc n) (b ∷ bytes) = let rest = taken_twice m n bytes in (suc rest.0, ap (λ bs. b ∷ bs) rest.1)
 
 cut_twice : (m n : ℕ) (change : Change) (tree : Tree) → (k : ℕ) × (after (cut m (cut n change)) tree ≡ after (cut k change) tree)
-cut_twice m n (to_create path) tree = (0, refl)
+cut_twice m n (to_create path bytes) tree = let k = taken_twice m n bytes in (k.0, ap (λ bs. cond (is_some (node_at tree path)) tree (insert tree path (file bs))) k.1)
 cut_twice m n (to_write path bytes) tree = let k = taken_twice m n bytes in (k.0, ap (λ bs. insert tree path (file bs)) k.1)
 cut_twice m n (to_append path bytes) tree = let k = taken_twice m n bytes in (k.0, ap (λ bs. insert tree path (file (bytes_at tree path ++ bs))) k.1)
 cut_twice m n (to_rename from to) tree = (0, refl)
@@ -125,7 +125,7 @@ cut_twice m n (to_remove_folder path) tree = (0, refl)
 
 -- how many bytes there are has no part in it
 allows-cut : (n : ℕ) (change : Change) (tree : Tree) → allows tree (cut n change) ≡ allows tree change
-allows-cut n (to_create path) tree = refl
+allows-cut n (to_create path bytes) tree = refl
 allows-cut n (to_write path bytes) tree = refl
 allows-cut n (to_append path bytes) tree = refl
 allows-cut n (to_rename from to) tree = refl

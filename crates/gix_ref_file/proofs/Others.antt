@@ -18,11 +18,11 @@ removed_elsewhere t p [] apart = refl
 removed_elsewhere t p (b ∷ q) apart = get-removed t p (b ∷ q) ∙ ap (λ x. cond x None (get t (b ∷ q))) apart
 
 pub others_stay : (change : Change) (tree : Tree) (path : List ℕ) → IsFalse (list_any (same_path path) (paths_of change)) → node_at (after change tree) path ≡ node_at tree path
-others_stay (to_create p) tree path apart = by_case (is_some (node_at tree p))
+others_stay (to_create p bytes) tree path apart = by_case (is_some (node_at tree p))
   where
-    by_case : (there : Bool) → node_at (cond there tree (insert tree p (file []))) path ≡ node_at tree path
+    by_case : (there : Bool) → node_at (cond there tree (insert tree p (file bytes))) path ≡ node_at tree path
     by_case true = refl
-    by_case false = inserted_elsewhere tree p (file []) path (or_parts (same_path path p) false apart).0
+    by_case false = inserted_elsewhere tree p (file bytes) path (or_parts (same_path path p) false apart).0
 others_stay (to_write p bytes) tree path apart = inserted_elsewhere tree p (file bytes) path (or_parts (same_path path p) false apart).0
 others_stay (to_append p bytes) tree path apart = inserted_elsewhere tree p (file (bytes_at tree p ++ bytes)) path (or_parts (same_path path p) false apart).0
 others_stay (to_rename from to) tree path apart =

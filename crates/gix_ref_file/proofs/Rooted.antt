@@ -132,15 +132,15 @@ file_may t (b ∷ p) rooted is_file =
     there (Some n) h = refl
 
 -- ---- each change keeps it, and so what it may leave
-rooted_create : (t : Tree) (p : List ℕ) → IsRooted t → IsTrue (allows t (to_create p)) → IsRooted (after (to_create p) t)
-rooted_create t p rooted may = by_case (is_some (node_at t p)) may
+rooted_create : (t : Tree) (p bytes : List ℕ) → IsRooted t → IsTrue (allows t (to_create p bytes)) → IsRooted (after (to_create p bytes) t)
+rooted_create t p bytes rooted may = by_case (is_some (node_at t p)) may
   where
-    by_case : (there : Bool) → IsTrue (there || may_hold_file t p) → IsRooted (cond there t (insert t p (file [])))
+    by_case : (there : Bool) → IsTrue (there || may_hold_file t p) → IsRooted (cond there t (insert t p (file bytes)))
     by_case true h = rooted
-    by_case false h = rooted_insert t p (file []) rooted h
+    by_case false h = rooted_insert t p (file bytes) rooted h
 
 pub rooted_after : (n : ℕ) (change : Change) (t : Tree) → IsRooted t → IsTrue (allows t change) → IsRooted (after (cut n change) t)
-rooted_after n (to_create path) t rooted may = rooted_create t path rooted may
+rooted_after n (to_create path bytes) t rooted may = rooted_create t path (take n bytes) rooted may
 rooted_after n (to_write path bytes) t rooted may = rooted_insert t path (file (take n bytes)) rooted may
 rooted_after n (to_append path bytes) t rooted may = rooted_insert t path (file (bytes_at t path ++ take n bytes)) rooted may
 rooted_after n (to_rename from to) t rooted may =

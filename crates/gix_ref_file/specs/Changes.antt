@@ -6,7 +6,7 @@ use Rattle.gix_ref_file.specs.Tree.{Tree, file, folder, is_path, same_path, pare
 
 -- a change, with the paths that it names and the bytes that it brings
 pub data Change : Type 0 where
-  to_create : List ℕ → Change
+  to_create : List ℕ → List ℕ → Change
   to_write : List ℕ → List ℕ → Change
   to_append : List ℕ → List ℕ → Change
   to_rename : List ℕ → List ℕ → Change
@@ -16,7 +16,7 @@ pub data Change : Type 0 where
 
 -- the paths that a change names
 abbrev pub paths_of : Change → List (List ℕ)
-paths_of (to_create path) = path ∷ []
+paths_of (to_create path bytes) = path ∷ []
 paths_of (to_write path bytes) = path ∷ []
 paths_of (to_append path bytes) = path ∷ []
 paths_of (to_rename from to) = from ∷ to ∷ []
@@ -39,7 +39,7 @@ is_empty_at tree place = not (list_any (λ path. same_path (parent path) place) 
 
 -- whether the tree allows a change
 abbrev pub allows : Tree → Change → Bool
-allows tree (to_create path) = is_some (node_at tree path) || may_hold_file tree path
+allows tree (to_create path bytes) = is_some (node_at tree path) || may_hold_file tree path
 allows tree (to_write path bytes) = may_hold_file tree path
 allows tree (to_append path bytes) = may_hold_file tree path
 allows tree (to_rename from to) = is_file_at tree from && may_hold_file tree to
@@ -50,8 +50,8 @@ allows tree (to_remove_folder path) =
 
 -- the tree after a change that it allows
 abbrev pub after : Change → Tree → Tree
-after (to_create path) tree =
-    if is_some (node_at tree path) then tree else insert tree path (file [])
+after (to_create path bytes) tree =
+    if is_some (node_at tree path) then tree else insert tree path (file bytes)
 after (to_write path bytes) tree = insert tree path (file bytes)
 after (to_append path bytes) tree = insert tree path (file (bytes_at tree path ++ bytes))
 after (to_rename from to) tree = insert (remove tree from) to (file (bytes_at tree from))
@@ -61,9 +61,9 @@ after (to_remove_folder path) tree = remove tree path
 
 -- of what a change writes, its first n bytes
 abbrev pub cut : ℕ → Change → Change
+cut n (to_create path bytes) = to_create path (take n bytes)
 cut n (to_write path bytes) = to_write path (take n bytes)
 cut n (to_append path bytes) = to_append path (take n bytes)
-cut n (to_create path) = to_create path
 cut n (to_rename from to) = to_rename from to
 cut n (to_remove_file path) = to_remove_file path
 cut n (to_make_folder path) = to_make_folder path

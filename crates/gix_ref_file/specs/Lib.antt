@@ -1,7 +1,6 @@
 pub mod Below
 pub mod Calls
 pub mod Changes
-pub mod Fuse
 pub mod History
 pub mod Nodes
 pub mod Past

@@ -49,7 +49,8 @@ pub enum Place {
 /// A file may stand at a path in a folder that stands, where no folder stands itself. A change that the tree doesn't allow answers
 /// `Failed` and changes nothing. A change that is stopped or fails leaves all as before or as after it, and of what it was to
 /// write any beginning. Each call answers `Memory` where memory was refused, and may answer `Failed` where what keeps the files
-/// failed: a change is then counted in `failures`, and a reading does so only where `reading_may_fail`.
+/// failed: a change is then counted in `failures`, and a reading does so only where `reading_may_fail`. A change that returns
+/// `Memory` has counted nothing.
 pub trait Files {
     /// The tree that stands now, and those that stood before it.
     ghost history: { Self → History };
@@ -109,19 +110,20 @@ pub trait Files {
             ≡ names_at (history self.now).tree folder.now) }
         ensures failed { IsErrOf result Failed → reading_may_fail };
 
-    /// Makes an empty file and answers true, or false where something stands already. `Failed` where nothing stands and no file
-    /// may.
-    fn create_new(&mut self, alloc: Global, path: &[u8]) -> Result<bool, FileError>
+    /// Makes a file of these bytes and returns true, or returns false and changes nothing if something exists at the path
+    /// already. `Failed` if nothing exists there and no file may.
+    fn create_new(&mut self, alloc: Global, path: &[u8], bytes: &[u8]) -> Result<bool, FileError>
         ensures honest { is_honest self.old → is_honest self.new }
         ensures is_new { is_honest self.old
             → IfOk result (λ made. made ≡ is_none (node_at (history self.old).tree path.now)) }
         ensures change { is_honest self.old
-            → Makes (to_create path.now) (history self.old) (history self.new) result }
+            → Makes (to_create path.now bytes.now) (history self.old) (history self.new) result }
         ensures cause { is_honest self.old
-            → HasCause (allows (history self.old).tree (to_create path.now))
+            → HasCause (allows (history self.old).tree (to_create path.now bytes.now))
             (failures self.old) (failures self.new) result }
         ensures later { failures self.old ≤ failures self.new }
         ensures unfailed { OnOk result (failures self.new ≡ failures self.old) }
+        ensures memory { IsErrOf result Memory → failures self.new ≡ failures self.old }
         ensures atomic { is_atomic → OnErr result (history self.new ≡ history self.old) };
 
     /// Makes a file of these bytes, in the place of a file that stands there. `Failed` where no file may stand.
@@ -134,6 +136,7 @@ pub trait Files {
             (failures self.old) (failures self.new) result }
         ensures later { failures self.old ≤ failures self.new }
         ensures unfailed { OnOk result (failures self.new ≡ failures self.old) }
+        ensures memory { IsErrOf result Memory → failures self.new ≡ failures self.old }
         ensures atomic { is_atomic → OnErr result (history self.new ≡ history self.old) };
 
     /// Puts these bytes behind those of a file, or makes a file of them. `Failed` where no file may stand.
@@ -146,6 +149,7 @@ pub trait Files {
             (failures self.old) (failures self.new) result }
         ensures later { failures self.old ≤ failures self.new }
         ensures unfailed { OnOk result (failures self.new ≡ failures self.old) }
+        ensures memory { IsErrOf result Memory → failures self.new ≡ failures self.old }
         ensures atomic { is_atomic → OnErr result (history self.new ≡ history self.old) };
 
     /// Gives a file another path, in the place of a file that stands there. `Failed` where no file stands at `from` or none may at
@@ -159,6 +163,7 @@ pub trait Files {
             (failures self.old) (failures self.new) result }
         ensures later { failures self.old ≤ failures self.new }
         ensures unfailed { OnOk result (failures self.new ≡ failures self.old) }
+        ensures memory { IsErrOf result Memory → failures self.new ≡ failures self.old }
         ensures atomic { is_atomic → OnErr result (history self.new ≡ history self.old) };
 
     /// Removes a file. `Failed` where none stands.
@@ -171,6 +176,7 @@ pub trait Files {
             (failures self.old) (failures self.new) result }
         ensures later { failures self.old ≤ failures self.new }
         ensures unfailed { OnOk result (failures self.new ≡ failures self.old) }
+        ensures memory { IsErrOf result Memory → failures self.new ≡ failures self.old }
         ensures atomic { is_atomic → OnErr result (history self.new ≡ history self.old) };
 
     /// Makes a folder. `Failed` where something stands, or no file might.
@@ -183,6 +189,7 @@ pub trait Files {
             (failures self.old) (failures self.new) result }
         ensures later { failures self.old ≤ failures self.new }
         ensures unfailed { OnOk result (failures self.new ≡ failures self.old) }
+        ensures memory { IsErrOf result Memory → failures self.new ≡ failures self.old }
         ensures atomic { is_atomic → OnErr result (history self.new ≡ history self.old) };
 
     /// Removes a folder. `Failed` where none stands, at the root, and where something stands in it.
@@ -195,6 +202,7 @@ pub trait Files {
             (failures self.old) (failures self.new) result }
         ensures later { failures self.old ≤ failures self.new }
         ensures unfailed { OnOk result (failures self.new ≡ failures self.old) }
+        ensures memory { IsErrOf result Memory → failures self.new ≡ failures self.old }
         ensures atomic { is_atomic → OnErr result (history self.new ≡ history self.old) };
 
     /// So each path that stands can be reached by listings from the root.

@@ -2,7 +2,6 @@
 #![tactic(auto)]
 
 mod files;
-mod fuse;
 pub mod laws;
 mod memory;
 mod nodes;
@@ -10,5 +9,4 @@ pub mod paths;
 mod ranges;
 
 pub use files::{FileError, Files, Place};
-pub use fuse::Fuse;
 pub use memory::MemoryFiles;

@@ -115,14 +115,15 @@ impl Files for MemoryFiles {
         Ok(self.nodes.names(alloc, folder)?)
     }
 
-    fn create_new(&mut self, alloc: Global, path: &[u8]) -> Result<bool, FileError> {
+    fn create_new(&mut self, alloc: Global, path: &[u8], bytes: &[u8]) -> Result<bool, FileError> {
         if self.place(path) != Place::Absent {
             return Ok(false);
         }
         if !self.is_in_folder(path) {
             return Err(FileError::Failed);
         }
-        self.put(alloc, path, Entry::File(Vec::new(alloc)))?;
+        let bytes = bytes.to_vec(alloc)?;
+        self.put(alloc, path, Entry::File(bytes))?;
         Ok(true)
     }
 

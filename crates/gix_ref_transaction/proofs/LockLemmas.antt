@@ -34,9 +34,9 @@ one_other p q apart = ap (λ b. b || false) (apart_test p q apart)
 
 -- ---- one change
 
-pub created_others : (lock : List ℕ) (old x : Tree) → MayLeave (to_create lock) old x → OthersStay lock old x
+pub created_others : (lock : List ℕ) (old x : Tree) → MayLeave (to_create lock []) old x → OthersStay lock old x
 created_others lock old x (inl same) = λ path apart. ap (λ t. node_at t path) same
-created_others lock old x (inr (n, may, is)) = λ path apart. ap (λ t. node_at t path) is ∙ others_stay (to_create lock) old path (one_other path lock apart)
+created_others lock old x (inr (n, may, is)) = λ path apart. ap (λ t. node_at t path) is ∙ others_stay (to_create lock (take n [])) old path (one_other path lock apart)
 
 pub written_others : (lock bytes : List ℕ) (old x : Tree) → MayLeave (to_write lock bytes) old x → OthersStay lock old x
 written_others lock bytes old x (inl same) = λ path apart. ap (λ t. node_at t path) same
@@ -66,13 +66,13 @@ renamed_put lock place old x (inr (n, may, is)) = record {
 }
 
 -- a lock that stood isn't made
-pub created_held : (lock : List ℕ) (old x : Tree) → MayLeave (to_create lock) old x → KeepsHeld lock old x
+pub created_held : (lock : List ℕ) (old x : Tree) → MayLeave (to_create lock []) old x → KeepsHeld lock old x
 created_held lock old x (inl same) = λ stood. ap (λ t. node_at t lock) same
 created_held lock old x (inr (n, may, is)) = λ stood. ap (λ t. node_at t lock) (is ∙ by_node (node_at old lock) refl stood)
   where
-    by_node : (o : Option Node) → node_at old lock ≡ o → node_at old lock ≢ None → after (to_create lock) old ≡ old
+    by_node : (o : Option Node) → node_at old lock ≡ o → node_at old lock ≢ None → after (to_create lock (take n [])) old ≡ old
     by_node None none stood = absurd (stood none)
-    by_node (Some n) some stood = ap (λ o. cond (is_some o) old (insert old lock (file []))) some
+    by_node (Some x) some stood = ap (λ o. cond (is_some o) old (insert old lock (file (take n [])))) some
 
 -- ---- what stands at a lock
 
@@ -80,7 +80,7 @@ pub none_of : (o : Option Node) → is_none o ≡ true → o ≡ None
 none_of None is = refl
 none_of (Some n) is = clash (sym is)
 
-pub taken_by : (lock : List ℕ) (old new : Tree) → is_none (node_at old lock) ≡ true → IsTrue (allows old (to_create lock)) → new ≡ after (to_create lock) old → IsTaken lock old new
+pub taken_by : (lock : List ℕ) (old new : Tree) → is_none (node_at old lock) ≡ true → IsTrue (allows old (to_create lock [])) → new ≡ after (to_create lock []) old → IsTaken lock old new
 taken_by lock old new free may is =
     let none : node_at old lock ≡ None = none_of (node_at old lock) free in
     let room : may_hold_file old lock ≡ true = sym (ap (λ o. is_some o || may_hold_file old lock) none) ∙ may in

@@ -52,7 +52,7 @@ pub fn acquire<F: Files>(
 {
     let path = lock_path(alloc, place)?;
     let place = place.to_vec(alloc)?;
-    if files.create_new(alloc, &path)? {
+    if files.create_new(alloc, &path, &[])? {
         Ok(Some(Lock { place, path }))
     } else {
         Ok(None)

@@ -57,13 +57,13 @@ renamed_ok from bytes to t old new (Err e) may is makes = tt
 as_before : (t x : Tree) → x ≡ t → SameFolders t x
 as_before t x same q = ap (λ y. is_folder (get y q)) same
 
-pub while_created : (k : Bytes) (t x : Tree) → MayLeave (to_create k) t x → SameFolders t x
-while_created k t x (inl same) = as_before t x same
-while_created k t x (inr (n, may, is)) = by_case (is_some (node_at t k)) may is
+pub while_created : (k bytes : Bytes) (t x : Tree) → MayLeave (to_create k bytes) t x → SameFolders t x
+while_created k bytes t x (inl same) = as_before t x same
+while_created k bytes t x (inr (n, may, is)) = by_case (is_some (node_at t k)) may is
   where
-    by_case : (b : Bool) → IsTrue (b || may_hold_file t k) → x ≡ cond b t (insert t k (file [])) → SameFolders t x
+    by_case : (b : Bool) → IsTrue (b || may_hold_file t k) → x ≡ cond b t (insert t k (file (take n bytes))) → SameFolders t x
     by_case true may is = as_before t x is
-    by_case false may is = put_folders t x k [] may is
+    by_case false may is = put_folders t x k (take n bytes) may is
 
 pub while_written : (k bytes : Bytes) (t x : Tree) → MayLeave (to_write k bytes) t x → SameFolders t x
 while_written k bytes t x (inl same) = as_before t x same

@@ -4,7 +4,9 @@ pub mod FilesBelow
 pub mod FoldersKept
 pub mod FoldersMade
 pub mod FoldersStay
+pub mod OneFile
 pub mod Rooms
 pub mod Stored
 pub mod Surveys
+pub mod Upward
 pub mod Walked

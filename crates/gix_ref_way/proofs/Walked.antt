@@ -14,7 +14,7 @@ use Rattle.gix_ref_way.specs.Ways.{Bytes, above}
 
 -- ---- what stands above
 
-parent_of_folder : (tree : Tree) (path : Bytes) → IsRooted tree → IsTrue (is_folder (node_at tree path)) → IsTrue (is_folder (node_at tree (parent path)))
+pub parent_of_folder : (tree : Tree) (path : Bytes) → IsRooted tree → IsTrue (is_folder (node_at tree path)) → IsTrue (is_folder (node_at tree (parent path)))
 parent_of_folder tree [] rooted is = refl
 parent_of_folder tree (b ∷ path) rooted is = (rooted (b ∷ path) (some_of_folder (get tree (b ∷ path)) is)).1
 

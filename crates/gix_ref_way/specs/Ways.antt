@@ -1,5 +1,5 @@
 -- The way of a file: the folders that it stands in, and what stands in its place.
-use Rattle.std.specs.Prelude.{ℕ, zero, suc, ◌≡◌, ◌⊎◌, Bool, true, false, List, ◌∷◌, ◌++◌, Option, Some, None, Contains, IsTrue}
+use Rattle.std.specs.Prelude.{ℕ, zero, suc, ◌≡◌, ◌≢◌, ◌⊎◌, Bool, true, false, List, ◌∷◌, ◌++◌, Option, Some, None, Contains, IsTrue}
 use Rattle.std.specs.FinMap.{get}
 use Rattle.gix_ref_file.specs.Tree.{Tree, folder, parent, node_at, bytes_of, is_folder}
 use Rattle.gix_ref_file.specs.Changes.{is_file_at}
@@ -90,6 +90,13 @@ pub record FoldersOnlyOf (paths : List Bytes) (old new : Tree) : Type 0 where
       → IsFolderAt place old ⊎ ((path : Bytes) × Contains paths path × IsAbove place path)
   pub went : (place : Bytes) → IsFolderAt place old
       → IsFolderAt place new ⊎ ((path : Bytes) × Contains paths path × IsAtOrBelow path place)
+
+-- ---- a file that is made anew
+
+-- What exists at each other path is as before, and no folder came or went at this one.
+pub record ChangesOneFile (path : Bytes) (old new : Tree) : Type 0 where
+  pub others : (other : Bytes) → other ≢ path → get new other ≡ get old other
+  pub here : is_folder (get new path) ≡ is_folder (get old path)
 
 -- ---- files in the way
 

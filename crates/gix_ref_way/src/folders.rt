@@ -1,15 +1,16 @@
 //! The folders that a file stands in.
-ghost use Rattle.std.specs.Prelude.{◌≡◌, ◌≤◌, OnOk, IsErrOf, IsTrue};
-ghost use Rattle.gix_ref_file.specs.Calls.{Achieves, HasFault, Passes};
+ghost use Rattle.std.specs.Prelude.{◌≡◌, ◌≤◌, IfOk, OnOk, IsErrOf, IsTrue};
+ghost use Rattle.gix_ref_file.specs.Calls.{Achieves, Finds, HasFault, Passes};
 ghost use Rattle.gix_ref_file.specs.Tree.{is_path, parent, node_at, is_folder};
-ghost use Rattle.gix_ref_file.specs.declared.files.FileError.TheVariants.{Failed};
+ghost use Rattle.gix_ref_file.specs.declared.files.FileError.TheVariants.{Failed, Memory};
 ghost use Rattle.gix_ref_way.specs.Ways.{file_at, SameFiles, OneFolderMore, FoldersAbove, NoFileAbove, HasFoldersAbove, KeepsFolders};
 
+use gix_ref_file::paths::parent;
 use gix_ref_file::{FileError, Files, Place};
 use std::alloc::Global;
 
-/// Makes those folders of a path that are missing, the outermost first. Files stay. It is `Failed` where a file stands at one of them, or
-/// a call of the files failed, and `Memory` where no memory is left.
+/// Makes those folders of a path that are missing, the outermost first. Files stay. If the path's own folder exists, nothing else is
+/// asked. It is `Failed` if a file exists at one of the folders or a call of the files failed, and `Memory` if no memory is left.
 pub fn make_folders<F: Files>(alloc: Global, files: &mut F, path: &[u8]) -> Result<(), FileError>
     ensures honest { F.is_honest files.old → F.is_honest files.new }
     ensures moments { Passes F.is_honest F.history files.old files.new SameFiles }
@@ -17,6 +18,29 @@ pub fn make_folders<F: Files>(alloc: Global, files: &mut F, path: &[u8]) -> Resu
     ensures stay { Passes F.is_honest F.history files.old files.new KeepsFolders }
     ensures later { F.failures files.old ≤ F.failures files.new }
     ensures unfailed { OnOk result (F.failures files.new ≡ F.failures files.old) }
+    ensures memory { IsErrOf result Memory → F.failures files.new ≡ F.failures files.old }
+    ensures made { F.is_honest files.old → NoFileAbove path.now (F.history files.old).tree
+        → OnOk result (HasFoldersAbove path.now (F.history files.new).tree) }
+    ensures failed { F.is_honest files.old → NoFileAbove path.now (F.history files.old).tree
+        → IsTrue (is_path path.now)
+        → IsErrOf result Failed → HasFault F.failures F.reading_may_fail files.old files.new }
+{
+    // The folders above one that exists do, too.
+    if is_folder(files, parent(path))? {
+        return Ok(());
+    }
+    make_each(alloc, files, path)
+}
+
+// Makes those folders of a path that are missing, and asks for each.
+fn make_each<F: Files>(alloc: Global, files: &mut F, path: &[u8]) -> Result<(), FileError>
+    ensures honest { F.is_honest files.old → F.is_honest files.new }
+    ensures moments { Passes F.is_honest F.history files.old files.new SameFiles }
+    ensures folders { Passes F.is_honest F.history files.old files.new (FoldersAbove path.now) }
+    ensures stay { Passes F.is_honest F.history files.old files.new KeepsFolders }
+    ensures later { F.failures files.old ≤ F.failures files.new }
+    ensures unfailed { OnOk result (F.failures files.new ≡ F.failures files.old) }
+    ensures memory { IsErrOf result Memory → F.failures files.new ≡ F.failures files.old }
     ensures made { F.is_honest files.old → NoFileAbove path.now (F.history files.old).tree
         → OnOk result (HasFoldersAbove path.now (F.history files.new).tree) }
     ensures failed { F.is_honest files.old → NoFileAbove path.now (F.history files.old).tree
@@ -31,6 +55,18 @@ pub fn make_folders<F: Files>(alloc: Global, files: &mut F, path: &[u8]) -> Resu
     Ok(())
 }
 
+// Whether a folder exists at the path.
+fn is_folder<F: Files>(files: &F, path: &[u8]) -> Result<bool, FileError>
+    ensures found { Finds F.is_honest F.history files.now (λ tree.
+        IfOk result (λ found. found ≡ is_folder (node_at tree path.now))) }
+    ensures failed { IsErrOf result Failed → F.reading_may_fail }
+{
+    match files.kind_of(path)? {
+        Place::Folder => Ok(true),
+        Place::Absent | Place::File(_) => Ok(false),
+    }
+}
+
 // Makes a folder where nothing stands.
 fn make_folder<F: Files>(alloc: Global, files: &mut F, folder: &[u8]) -> Result<(), FileError>
     ensures honest { F.is_honest files.old → F.is_honest files.new }
@@ -38,6 +74,7 @@ fn make_folder<F: Files>(alloc: Global, files: &mut F, folder: &[u8]) -> Result<
     ensures folders { Passes F.is_honest F.history files.old files.new (OneFolderMore folder.now) }
     ensures later { F.failures files.old ≤ F.failures files.new }
     ensures unfailed { OnOk result (F.failures files.new ≡ F.failures files.old) }
+    ensures memory { IsErrOf result Memory → F.failures files.new ≡ F.failures files.old }
     ensures stay { Passes F.is_honest F.history files.old files.new KeepsFolders }
     ensures kept { Achieves F.is_honest F.history files.old files.new result KeepsFolders }
     ensures made { F.is_honest files.old → file_at (F.history files.old).tree folder.now ≡ None

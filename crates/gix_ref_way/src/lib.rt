@@ -1,10 +1,12 @@
 //! The way of a file: the folders that it stands in, folders that stand in its place, and files that are in the way.
 #![tactic(auto)]
 
+mod anew;
 mod files;
 mod folders;
 mod way;
 
+pub use crate::anew::write_anew;
 pub use crate::files::{has_file_above, has_file_below, is_file};
 pub use crate::folders::make_folders;
 pub use crate::way::make_way;

@@ -4,7 +4,7 @@ ghost use Rattle.std.specs.FinMap.{get};
 ghost use Rattle.gix_ref_file.specs.Tree.{folder, is_path};
 ghost use Rattle.gix_ref_file.specs.Changes.{may_hold_file};
 ghost use Rattle.gix_ref_file.specs.Calls.{Achieves, HasFault, Passes};
-ghost use Rattle.gix_ref_file.specs.declared.files.FileError.TheVariants.{Failed};
+ghost use Rattle.gix_ref_file.specs.declared.files.FileError.TheVariants.{Failed, Memory};
 ghost use Rattle.gix_ref_way.specs.Ways.{SameFiles, FoldersAbove, KeepsOtherFolders, ClearsWay, HasWay, NoFileBelow};
 
 use crate::folders::make_folders;
@@ -21,6 +21,7 @@ pub fn make_way<F: Files>(alloc: Global, files: &mut F, path: &[u8]) -> Result<(
     ensures stay { Passes F.is_honest F.history files.old files.new (KeepsOtherFolders path.now) }
     ensures later { F.failures files.old ≤ F.failures files.new }
     ensures unfailed { OnOk result (F.failures files.new ≡ F.failures files.old) }
+    ensures memory { IsErrOf result Memory → F.failures files.new ≡ F.failures files.old }
     ensures room { F.is_honest files.old → IsTrue (is_path path.now)
         → HasWay path.now (F.history files.old).tree
         → OnOk result (IsTrue (may_hold_file (F.history files.new).tree path.now)) }
@@ -44,6 +45,7 @@ fn make_room<F: Files>(alloc: Global, files: &mut F, path: &[u8]) -> Result<(), 
     ensures stay { Passes F.is_honest F.history files.old files.new (KeepsOtherFolders path.now) }
     ensures later { F.failures files.old ≤ F.failures files.new }
     ensures unfailed { OnOk result (F.failures files.new ≡ F.failures files.old) }
+    ensures memory { IsErrOf result Memory → F.failures files.new ≡ F.failures files.old }
     ensures room { F.is_honest files.old → IsTrue (is_path path.now)
         → HasWay path.now (F.history files.old).tree
         → OnOk result (IsTrue (may_hold_file (F.history files.new).tree path.now)) }
@@ -64,6 +66,7 @@ fn clear_way<F: Files>(alloc: Global, files: &mut F, place: &[u8]) -> Result<(),
         (λ old new. get new place.now ≢ Some folder) }
     ensures later { F.failures files.old ≤ F.failures files.new }
     ensures unfailed { OnOk result (F.failures files.new ≡ F.failures files.old) }
+    ensures memory { IsErrOf result Memory → F.failures files.new ≡ F.failures files.old }
     ensures failed { F.is_honest files.old → NoFileBelow place.now (F.history files.old).tree
         → IsErrOf result Failed → HasFault F.failures F.reading_may_fail files.old files.new }
 {

@@ -6,7 +6,7 @@ use Rattle.gix_ref_format.specs.Lines.{lines}
 use Rattle.gix_ref_format.specs.Packed.{Record, header_line, packed_records}
 use Rattle.gix_ref_format.specs.declared.packed.Header.{Header}
 pub use Rattle.gix_ref_format.specs.Ids.{id_from_hex}
-use Rattle.history_model.specs.Bytes.{Bytes, by_bytes, ends, has_twice}
+use Rattle.history_model.specs.Bytes.{Bytes, by_bytes, ends, has_byte, has_twice}
 use Rattle.history_model.specs.Repository.{Repository, peeled, is_tag}
 use Rattle.history_model.specs.Forms.{is_name, is_private}
 use Rattle.gix_hash_id.specs.declared.kind.Kind.{Kind}
@@ -15,8 +15,9 @@ use Rattle.gix_hash_id.specs.declared.kind.Kind.{Kind}
 abbrev pub whole_line : Bytes → Option Bytes
 whole_line text = if ends (10 ∷ []) text then Some (take (length text - 1) text) else None
 
--- whether the header says that the records are sorted, and the records
+-- whether a carriage return is in it, whether the header says that the records are sorted, and the records
 pub record PackedFile : Type 0 where
+  pub returns : Bool
   pub sorted : Bool
   pub records : List Record
 
@@ -29,10 +30,12 @@ abbrev pub says_sorted : Bytes → Bool
 says_sorted text =
     unwrap_or (option_map (λ header. header.sorted) (first_header (lines text))) false
 
+abbrev pub packed_with : Bytes → List Record → PackedFile
+packed_with text records =
+    record { returns = has_byte 13 text; sorted = says_sorted text; records = records }
+
 abbrev pub packed_file : Kind → Bytes → Option PackedFile
-packed_file kind text =
-    option_map (λ records. record { sorted = says_sorted text; records = records })
-    (packed_records kind text)
+packed_file kind text = option_map (packed_with text) (packed_records kind text)
 
 -- ---- which files agree with a repository
 
@@ -42,11 +45,12 @@ PeelAgrees r entry =
     IfSome entry.peeled
     (λ commit. IsTrue (is_tag r entry.target) × (peeled r entry.target ≡ Some commit))
 
--- each name is one that a repository may hold, none stands twice, and they ascend where the header says so
+-- No carriage return is in it, each name is one that a repository may hold, none stands twice, and they ascend where the header says so.
 abbrev pub is_packed_form : PackedFile → Bool
 is_packed_form packed =
     let names = map (λ entry. entry.name) packed.records in
-    list_all is_name names && not (has_twice bytes_eq names) && not (list_any is_private names)
+    not packed.returns && list_all is_name names && not (has_twice bytes_eq names)
+    && not (list_any is_private names)
     && (not packed.sorted || is_sorted by_bytes (map (λ name. (name, name)) names))
 
 abbrev pub PackedAgrees : Repository → PackedFile → Type 0

@@ -72,9 +72,10 @@ found_named (r ∷ records) name e found = go (found_named records name e) (byte
 pub form_once : (packed : PackedFile) → is_packed_form packed ≡ true → has_twice bytes_eq (map name_in packed.records) ≡ false
 form_once packed formed =
     let names = map name_in packed.records in
-    let three = and_parts (list_all is_name names && not (has_twice bytes_eq names) && not (list_any is_private names)) _ formed in
-    let two = and_parts (list_all is_name names && not (has_twice bytes_eq names)) (not (list_any is_private names)) three.0 in
-    not_true _ (and_parts (list_all is_name names) (not (has_twice bytes_eq names)) two.0).1
+    let named = not packed.returns && list_all is_name names in
+    let three = and_parts (named && not (has_twice bytes_eq names) && not (list_any is_private names)) _ formed in
+    let two = and_parts (named && not (has_twice bytes_eq names)) (not (list_any is_private names)) three.0 in
+    not_true _ (and_parts named (not (has_twice bytes_eq names)) two.0).1
 
 agrees_by_finds : (r : Repository) (packed : PackedFile) → is_packed_form packed ≡ true → ((e : Record) → hit packed.records e.name ≡ Some e → PeelAgrees r e) → PackedAgrees r packed
 agrees_by_finds r packed formed told = (formed, all_by_finds (PeelAgrees r) packed.records (form_once packed formed) told)

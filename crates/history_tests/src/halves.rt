@@ -1,7 +1,8 @@
 //! The two halves of a command that changes files, each called by itself.
 
 use crate::common::{INPUT, KINDS, REPLIES, first_command};
-use gix_ref_file::{Fuse, MemoryFiles};
+use gix_ref_file::MemoryFiles;
+use gix_ref_fuse::Fuse;
 use history::{
     Bytes, Cause, Collected, Command, End, Fault, Kind, Moves, Repository, Source, Stopped, create,
     run,

@@ -6,6 +6,7 @@ mod Cuts
 mod FirstLine
 pub mod FirstParts
 pub mod LogLines
+pub mod Malformeds
 pub mod Offsets
 pub mod Spelled
 pub mod Surveys

@@ -2,8 +2,9 @@ pub mod Actors
 pub mod Commits
 pub mod Formats
 pub mod IdLists
+pub mod Malformed
 pub mod ObjectTexts
+pub mod OpenErrors
 pub mod Parts
-pub mod Refusals
 pub mod Tags
 pub mod Written

@@ -4,6 +4,7 @@ ghost use Rattle.history_model.specs.Forms.{title};
 ghost use Rattle.history_texts.specs.Written.{IsMalformed, NamesObjects, naming_of};
 
 mod commits;
+mod malformed;
 mod tags;
 mod trees;
 
@@ -12,6 +13,7 @@ use commits::named_by_commit;
 use gix_hash::{Kind, ObjectId};
 use gix_object_lines::Kind as ObjectKind;
 use gix_object_lines::cut::split_once;
+pub use malformed::{is_before_1970, is_tag_of_other};
 use std::alloc::{AllocError, Global};
 pub use tags::is_name;
 use tags::named_by_tag;

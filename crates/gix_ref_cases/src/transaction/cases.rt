@@ -4,7 +4,8 @@ use crate::transaction::edits::read_edits;
 use crate::transaction::loose;
 use case_words::{Page, read_texts, text_of};
 use gix_hash::Kind;
-use gix_ref_file::{Files, Fuse, MemoryFiles};
+use gix_ref_file::{Files, MemoryFiles};
+use gix_ref_fuse::Fuse;
 use gix_ref_transaction::packed::{RecordEdit, Transaction};
 use std::alloc::Global;
 

@@ -46,16 +46,16 @@ pub(crate) fn named_by_tag(
 
 // What stands on the lines of a tag of a commit, and behind them.
 #[derive(Clone, Copy)]
-struct TagTexts<'a> {
+pub(crate) struct TagTexts<'a> {
     target: &'a [u8],
     name: &'a [u8],
-    tagger: &'a [u8],
+    pub(crate) tagger: &'a [u8],
     message: &'a [u8],
 }
 
 impl<'a> TagTexts<'a> {
     // The texts of a content; `None` where it hasn't these lines.
-    fn new(content: &'a [u8]) -> Option<TagTexts<'a>>
+    pub(crate) fn new(content: &'a [u8]) -> Option<TagTexts<'a>>
         ensures { MatchOption result
             ((parts : TagParts) → AreLines parts → content.now ≢ tag_lines parts)
             (λ texts. AreLines (parts_of_tag texts)
@@ -92,7 +92,7 @@ impl<'a> TagTexts<'a> {
 }
 
 // What stands behind the word on the line that it begins, and what follows that line.
-fn line_behind<'a>(text: &'a [u8], word: &[u8]) -> Option<(&'a [u8], &'a [u8])>
+pub(crate) fn line_behind<'a>(text: &'a [u8], word: &[u8]) -> Option<(&'a [u8], &'a [u8])>
     ensures { MatchOption result
         ((line rest : Bytes) → Lacks 10 line → text.now ≢ word.now ++ (line ++ 10 ∷ rest))
         (λ cut. Lacks 10 cut.0.now × (text.now ≡ word.now ++ (cut.0.now ++ 10 ∷ cut.1.now))) }

@@ -1,4 +1,4 @@
-use Rattle.std.proofs.Common.{◌≡◌, ◌∙◌, ap, sym, cond, true, [], ◌||◌, rules}
+use Rattle.std.proofs.Common.{◌≡◌, ◌∙◌, ap, sym, cond, true, ◌||◌, rules}
 use Rattle.std.specs.Prelude.{is_none}
 use Rattle.std.specs.FinMap.{insert}
 use Rattle.gix_ref_file.specs.Tree.{file, node_at}
@@ -14,10 +14,11 @@ returns-clause-change c honest =
     let path = c.args.path.now in
     let may : may_hold_file tree path ≡ true = search rules in
     let none : true ≡ is_none (node_at tree path) = search rules in
+    let copied : c.in_ok-bytes.bytes.items ≡ c.args.bytes.now = search rules in
     let absent = none_some _ none in
     makes _ _ _ _ (ap (λ b. b || may_hold_file tree path) absent ∙ may)
     (steps_to _ _ _ _ c.in_ok-put.ensures.ok
-    (ap (λ bs. insert tree path (file bs)) c.new.ensures.items ∙ sym (ap (λ b. cond b tree (insert tree path (file []))) absent)))
+    (ap (λ bs. insert tree path (file bs)) copied ∙ sym (ap (λ b. cond b tree (insert tree path (file c.args.bytes.now))) absent)))
 
 pub returns-clause-honest : goal.returns-clause-honest
 returns-clause-honest c honest = rooted_made _ _ _ _ (returns-clause-change c honest) honest

@@ -1,0 +1,9 @@
+//! Laws on the forms of objects, over the definitions alone.
+
+ghost use Rattle.history_texts.specs.Malformed.{BeforeIsMalformed, OfOtherIsMalformed};
+
+/// No commit and no tag in written form tells a time before 1970, and no tag in written form is of something other than a commit.
+pub fn are_malformed()
+    ensures before { BeforeIsMalformed }
+    ensures of_other { OfOtherIsMalformed }
+{}
