@@ -80,6 +80,14 @@ def add_walks(git, root):
         add(order + "-untracked", git, root, trees, "whole" + told(entries, lambda path: b""))
 
 
+def add_asked(git, root):
+    """How many trees a walk asks for: the root, and each folder as often as it is named."""
+    trees = git.trees(root)
+    for order, entries in (("breadth", git.breadth(root)), ("depth", git.depth(root))):
+        count = 1 + sum(mode == "040000" for mode, _, _ in entries)
+        add(order + "-asked", git, root, trees, f"whole asked {count}" + told(entries, lambda path: b""))
+
+
 def names(path):
     return tuple(path.split(b"/"))
 
@@ -125,6 +133,7 @@ def main():
         nested = {b"a": {b"x": file}, b"b": file}
         for entries in ({}, {b"a": file}, nested, {b"a": {b"b": {b"c": {b"d": file}}}}, {b"a": {b"x": file}, b"b": {b"x": file}}):
             add_walks(git, git.tree(entries))
+            add_asked(git, git.tree(entries))
         for _ in range(40):
             add_walks(git, git.tree(any_tree(git, blobs, chance, 4)))
         # what stands at several paths
@@ -137,6 +146,7 @@ def main():
         root = git.tree({b"a": {b"shut": {b"x": file}, b"y": file, b"z": file}, b"b": file})
         depth, breadth = git.depth(root), git.breadth(root)
         add_walks(git, root)
+        add_asked(git, root)
         # copies tell the same: the path `a`, `a/b` that is queued, and the entries; buffers are empty when they are taken
         add("depth-copied", git, root, git.trees(root), "0 0 a a/b" + told(depth, lambda path: path))
         add("breadth-copied", git, root, git.trees(root), "a a/b" + told(breadth, lambda path: path))

@@ -44,7 +44,8 @@ pub fn put_record(entry: &Entry, page: &mut Page) {
     page.put_between(" ", entry.oid, "");
 }
 
-// How a walk from the root ends, and what a recorder has that tracks what the operation's name says behind the order.
+// How a walk from the root ends, and what a recorder has that tracks what the operation's name says after the order; before it, at
+// `asked`, how many trees were asked for.
 fn put_walk(
     alloc: Global,
     operation: &str,
@@ -59,10 +60,14 @@ fn put_walk(
         _ => None,
     };
     let mut recorder = Recorder::new(alloc).track_location(location);
+    trees.count_anew();
     match order {
         "depth" => by_depth(alloc, root, trees, &mut recorder, page),
         "breadth" => by_levels(alloc, root, trees, &mut recorder, page),
         _ => return None,
+    }
+    if tracked == "asked" {
+        page.put_between(" asked ", trees.asked(), "");
     }
     for entry in &recorder.records {
         put_record(entry, page);
