@@ -16,9 +16,9 @@ inner fuse = fuse.files
 abbrev pub own_failures : {F : Type 0} → Fuse F → ℕ
 own_failures fuse = fuse.failures
 
--- both counts, up to the last value
-abbrev pub both : ℕ → ℕ → ℕ
-both own inner = min (own + inner) (2 ^ 64 - 1)
+-- how many changes failed, by it or by the files, up to the last value
+abbrev pub failed_in : {F : Type 0} → (F → ℕ) → Fuse F → ℕ
+failed_in failures fuse = min (own_failures fuse + failures (inner fuse)) (2 ^ 64 - 1)
 
 -- the number of the last change, 0 before the first: readings before it count too
 abbrev pub last_change : {F : Type 0} → Fuse F → ℕ

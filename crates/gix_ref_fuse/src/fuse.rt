@@ -166,21 +166,27 @@ impl<F: Files> Fuse<F> {
 }
 
 impl<F: Files> Files for Fuse<F> {
-    ghost use Rattle.std.specs.Prelude.{⊤};
-    ghost use Rattle.gix_ref_file.specs.Changes.{to_create, to_write, to_append, to_rename, to_remove_file, to_make_folder, to_remove_folder};
-    ghost use Rattle.gix_ref_fuse.specs.Fuse.{inner, own_failures, both, Reads, Acts};
+    ghost use Rattle.std.specs.Prelude.{⊤, ◌++◌, length, map, take, option_map, unwrap_or, is_none, IfOk, IfSome, OnOk, OnErr};
+    ghost use Rattle.gix_ref_file.specs.Tree.{node_at, place_of, bytes_of, bytes_at, part, overwritten, names_at};
+    ghost use Rattle.gix_ref_file.specs.Changes.{to_create, to_write, to_append, to_rename, to_remove_file, to_make_folder, to_remove_folder, allows};
+    ghost use Rattle.gix_ref_file.specs.History.{Makes, HasCause};
+    ghost use Rattle.gix_ref_fuse.specs.Fuse.{failed_in, Reads, Acts};
+
+    // A method with clauses of its own says those of `Files` again; the last of each is the fuse's.
 
     ghost history = { λ fuse. F.history (inner fuse) };
 
     ghost is_honest = { λ fuse. F.is_honest (inner fuse) };
 
-    ghost failures = { λ fuse. both (own_failures fuse) (F.failures (inner fuse)) };
+    ghost failures = { failed_in F.failures };
 
     ghost reading_may_fail = { ⊤ };
 
     ghost is_atomic = { ⊥ };
 
     fn kind_of(&self, path: &[u8]) -> Result<Place, FileError>
+        ensures place { F.is_honest (inner self.now)
+            → IfOk result (λ place. place ≡ place_of (node_at (F.history (inner self.now)).tree path.now)) }
         ensures turn { (call : ℕ) × HasRisen (last_change self.now) call
             × Reads F.reading_may_fail (turn_at (plan_of self.now) call) result }
     {
@@ -191,6 +197,16 @@ impl<F: Files> Files for Fuse<F> {
     }
 
     fn read(&self, path: &[u8], out: &mut Vec<u8>) -> Result<Option<usize>, FileError>
+        ensures count { F.is_honest (inner self.now)
+            → IfOk result (λ count.
+            count ≡ option_map length (bytes_of (node_at (F.history (inner self.now)).tree path.now))) }
+        ensures bytes { F.is_honest (inner self.now)
+            → OnOk result (out.new.items
+            ≡ out.old.items ++ bytes_at (F.history (inner self.now)).tree path.now) }
+        ensures front { take (length out.old.items) out.new.items ≡ out.old.items }
+        ensures grown { IfOk result (λ count. length out.new.items
+            ≡ length out.old.items + unwrap_or count 0) }
+        ensures err { OnErr result (out.new.items ≡ out.old.items) }
         ensures turn { (call : ℕ) × HasRisen (last_change self.now) call
             × Reads F.reading_may_fail (turn_at (plan_of self.now) call) result }
     {
@@ -201,6 +217,16 @@ impl<F: Files> Files for Fuse<F> {
     }
 
     fn read_at(&self, path: &[u8], at: u64, buffer: &mut [u8]) -> Result<Option<usize>, FileError>
+        ensures count { F.is_honest (inner self.now)
+            → IfOk result (λ count.
+            count ≡ option_map (λ bytes. length (part bytes at (length buffer.old)))
+            (bytes_of (node_at (F.history (inner self.now)).tree path.now))) }
+        ensures bytes { F.is_honest (inner self.now)
+            → OnOk result (buffer.new
+            ≡ overwritten buffer.old
+            (part (bytes_at (F.history (inner self.now)).tree path.now) at (length buffer.old))) }
+        ensures fits { IfOk result (λ count. IfSome count (λ n. n ≤ length buffer.new)) }
+        ensures len { length buffer.new ≡ length buffer.old }
         ensures turn { (call : ℕ) × HasRisen (last_change self.now) call
             × Reads F.reading_may_fail (turn_at (plan_of self.now) call) result }
     {
@@ -211,6 +237,9 @@ impl<F: Files> Files for Fuse<F> {
     }
 
     fn list(&self, alloc: Global, folder: &[u8]) -> Result<Vec<Vec<u8>>, FileError>
+        ensures names { F.is_honest (inner self.now)
+            → IfOk result (λ names. map (λ name. name.items) names.items
+            ≡ names_at (F.history (inner self.now)).tree folder.now) }
         ensures turn { (call : ℕ) × HasRisen (last_change self.now) call
             × Reads F.reading_may_fail (turn_at (plan_of self.now) call) result }
     {
@@ -221,6 +250,17 @@ impl<F: Files> Files for Fuse<F> {
     }
 
     fn create_new(&mut self, alloc: Global, path: &[u8], bytes: &[u8]) -> Result<bool, FileError>
+        ensures honest { F.is_honest (inner self.old) → F.is_honest (inner self.new) }
+        ensures is_new { F.is_honest (inner self.old)
+            → IfOk result (λ made. made ≡ is_none (node_at (F.history (inner self.old)).tree path.now)) }
+        ensures change { F.is_honest (inner self.old)
+            → Makes (to_create path.now bytes.now) (F.history (inner self.old)) (F.history (inner self.new)) result }
+        ensures cause { F.is_honest (inner self.old)
+            → HasCause (allows (F.history (inner self.old)).tree (to_create path.now bytes.now))
+            (failed_in F.failures self.old) (failed_in F.failures self.new) result }
+        ensures later { failed_in F.failures self.old ≤ failed_in F.failures self.new }
+        ensures unfailed { OnOk result (failed_in F.failures self.new ≡ failed_in F.failures self.old) }
+        ensures memory { IsErrOf result Memory → failed_in F.failures self.new ≡ failed_in F.failures self.old }
         ensures count { HasRisen (last_change self.old) (last_change self.new) }
         ensures plan { plan_of self.new ≡ plan_of self.old }
         ensures turn { F.is_honest (inner self.old) → Acts F.history F.failures
@@ -238,6 +278,15 @@ impl<F: Files> Files for Fuse<F> {
     }
 
     fn write(&mut self, alloc: Global, path: &[u8], bytes: &[u8]) -> Result<(), FileError>
+        ensures honest { F.is_honest (inner self.old) → F.is_honest (inner self.new) }
+        ensures change { F.is_honest (inner self.old)
+            → Makes (to_write path.now bytes.now) (F.history (inner self.old)) (F.history (inner self.new)) result }
+        ensures cause { F.is_honest (inner self.old)
+            → HasCause (allows (F.history (inner self.old)).tree (to_write path.now bytes.now))
+            (failed_in F.failures self.old) (failed_in F.failures self.new) result }
+        ensures later { failed_in F.failures self.old ≤ failed_in F.failures self.new }
+        ensures unfailed { OnOk result (failed_in F.failures self.new ≡ failed_in F.failures self.old) }
+        ensures memory { IsErrOf result Memory → failed_in F.failures self.new ≡ failed_in F.failures self.old }
         ensures count { HasRisen (last_change self.old) (last_change self.new) }
         ensures plan { plan_of self.new ≡ plan_of self.old }
         ensures turn { F.is_honest (inner self.old) → Acts F.history F.failures
@@ -255,6 +304,15 @@ impl<F: Files> Files for Fuse<F> {
     }
 
     fn append(&mut self, alloc: Global, path: &[u8], bytes: &[u8]) -> Result<(), FileError>
+        ensures honest { F.is_honest (inner self.old) → F.is_honest (inner self.new) }
+        ensures change { F.is_honest (inner self.old)
+            → Makes (to_append path.now bytes.now) (F.history (inner self.old)) (F.history (inner self.new)) result }
+        ensures cause { F.is_honest (inner self.old)
+            → HasCause (allows (F.history (inner self.old)).tree (to_append path.now bytes.now))
+            (failed_in F.failures self.old) (failed_in F.failures self.new) result }
+        ensures later { failed_in F.failures self.old ≤ failed_in F.failures self.new }
+        ensures unfailed { OnOk result (failed_in F.failures self.new ≡ failed_in F.failures self.old) }
+        ensures memory { IsErrOf result Memory → failed_in F.failures self.new ≡ failed_in F.failures self.old }
         ensures count { HasRisen (last_change self.old) (last_change self.new) }
         ensures plan { plan_of self.new ≡ plan_of self.old }
         ensures turn { F.is_honest (inner self.old) → Acts F.history F.failures
@@ -272,6 +330,15 @@ impl<F: Files> Files for Fuse<F> {
     }
 
     fn rename(&mut self, alloc: Global, from: &[u8], to: &[u8]) -> Result<(), FileError>
+        ensures honest { F.is_honest (inner self.old) → F.is_honest (inner self.new) }
+        ensures change { F.is_honest (inner self.old)
+            → Makes (to_rename from.now to.now) (F.history (inner self.old)) (F.history (inner self.new)) result }
+        ensures cause { F.is_honest (inner self.old)
+            → HasCause (allows (F.history (inner self.old)).tree (to_rename from.now to.now))
+            (failed_in F.failures self.old) (failed_in F.failures self.new) result }
+        ensures later { failed_in F.failures self.old ≤ failed_in F.failures self.new }
+        ensures unfailed { OnOk result (failed_in F.failures self.new ≡ failed_in F.failures self.old) }
+        ensures memory { IsErrOf result Memory → failed_in F.failures self.new ≡ failed_in F.failures self.old }
         ensures count { HasRisen (last_change self.old) (last_change self.new) }
         ensures plan { plan_of self.new ≡ plan_of self.old }
         ensures turn { F.is_honest (inner self.old) → Acts F.history F.failures
@@ -288,6 +355,15 @@ impl<F: Files> Files for Fuse<F> {
     }
 
     fn remove_file(&mut self, alloc: Global, path: &[u8]) -> Result<(), FileError>
+        ensures honest { F.is_honest (inner self.old) → F.is_honest (inner self.new) }
+        ensures change { F.is_honest (inner self.old)
+            → Makes (to_remove_file path.now) (F.history (inner self.old)) (F.history (inner self.new)) result }
+        ensures cause { F.is_honest (inner self.old)
+            → HasCause (allows (F.history (inner self.old)).tree (to_remove_file path.now))
+            (failed_in F.failures self.old) (failed_in F.failures self.new) result }
+        ensures later { failed_in F.failures self.old ≤ failed_in F.failures self.new }
+        ensures unfailed { OnOk result (failed_in F.failures self.new ≡ failed_in F.failures self.old) }
+        ensures memory { IsErrOf result Memory → failed_in F.failures self.new ≡ failed_in F.failures self.old }
         ensures count { HasRisen (last_change self.old) (last_change self.new) }
         ensures plan { plan_of self.new ≡ plan_of self.old }
         ensures turn { F.is_honest (inner self.old) → Acts F.history F.failures
@@ -304,6 +380,15 @@ impl<F: Files> Files for Fuse<F> {
     }
 
     fn make_folder(&mut self, alloc: Global, path: &[u8]) -> Result<(), FileError>
+        ensures honest { F.is_honest (inner self.old) → F.is_honest (inner self.new) }
+        ensures change { F.is_honest (inner self.old)
+            → Makes (to_make_folder path.now) (F.history (inner self.old)) (F.history (inner self.new)) result }
+        ensures cause { F.is_honest (inner self.old)
+            → HasCause (allows (F.history (inner self.old)).tree (to_make_folder path.now))
+            (failed_in F.failures self.old) (failed_in F.failures self.new) result }
+        ensures later { failed_in F.failures self.old ≤ failed_in F.failures self.new }
+        ensures unfailed { OnOk result (failed_in F.failures self.new ≡ failed_in F.failures self.old) }
+        ensures memory { IsErrOf result Memory → failed_in F.failures self.new ≡ failed_in F.failures self.old }
         ensures count { HasRisen (last_change self.old) (last_change self.new) }
         ensures plan { plan_of self.new ≡ plan_of self.old }
         ensures turn { F.is_honest (inner self.old) → Acts F.history F.failures
@@ -320,6 +405,15 @@ impl<F: Files> Files for Fuse<F> {
     }
 
     fn remove_empty_folder(&mut self, alloc: Global, path: &[u8]) -> Result<(), FileError>
+        ensures honest { F.is_honest (inner self.old) → F.is_honest (inner self.new) }
+        ensures change { F.is_honest (inner self.old)
+            → Makes (to_remove_folder path.now) (F.history (inner self.old)) (F.history (inner self.new)) result }
+        ensures cause { F.is_honest (inner self.old)
+            → HasCause (allows (F.history (inner self.old)).tree (to_remove_folder path.now))
+            (failed_in F.failures self.old) (failed_in F.failures self.new) result }
+        ensures later { failed_in F.failures self.old ≤ failed_in F.failures self.new }
+        ensures unfailed { OnOk result (failed_in F.failures self.new ≡ failed_in F.failures self.old) }
+        ensures memory { IsErrOf result Memory → failed_in F.failures self.new ≡ failed_in F.failures self.old }
         ensures count { HasRisen (last_change self.old) (last_change self.new) }
         ensures plan { plan_of self.new ≡ plan_of self.old }
         ensures turn { F.is_honest (inner self.old) → Acts F.history F.failures

@@ -14,6 +14,7 @@ pub mod NameRead
 pub mod NamesBelow
 pub mod NamesPacked
 pub mod PackedAll
+mod PlainTexts
 pub mod ReadRecords
 pub mod RecordsLeft
 pub mod Removals

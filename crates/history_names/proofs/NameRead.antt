@@ -15,7 +15,7 @@ use Rattle.gix_ref_format.specs.declared.packed.buffer.Buffer.{Buffer}
 use Rattle.history_model.specs.Bytes.{Bytes, begins}
 use Rattle.history_model.specs.Forms.{is_name, is_private}
 use Rattle.history_model.specs.NameStates.{Holds, Symbolic, Absent, Faulty, loose_line, loose_state, name_state, packed_state}
-use Rattle.history_model.specs.PackedNames.{id_from_hex, says_sorted, whole_line}
+use Rattle.history_model.specs.PackedNames.{id_from_hex, packed_with, whole_line}
 use Rattle.history_model.specs.Places.{file_at, packed_place}
 use Rattle.history_model.proofs.FormatLemmas.{records_alike}
 use Rattle.history_model.proofs.NameLemmas.{partial_of, some_or}
@@ -95,7 +95,7 @@ kept_told kind name (Some text) None named keeps = absurd keeps
 kept_told kind name (Some text) (Some buffer) named keeps =
     ap (λ key. option_map target (option_and_then (hit (kept buffer)) key)) (records_alike name named)
     ∙ by_kind (is_private name)
-    ∙ sym (ap (λ (rs : Option (List Record)). told_id (unwrap_or (option_map (packed_state name) (option_map (λ records. record { sorted = says_sorted text; records = records }) rs)) Faulty)) keeps.1)
+    ∙ sym (ap (λ (rs : Option (List Record)). told_id (unwrap_or (option_map (packed_state name) (option_map (packed_with text) rs)) Faulty)) keeps.1)
   where
     by_found : (o : Option Record) → option_map target o ≡ told_id (unwrap_or (option_map (λ (e : Record). Holds e.target) o) Absent)
     by_found None = refl

@@ -17,7 +17,7 @@ use Rattle.gix_ref_packed.specs.Written.{HasKind}
 use Rattle.history_model.specs.Bytes.{Bytes, is_empty}
 use Rattle.history_model.specs.Forms.{HasForm, IsWritten, is_actor, is_id, is_log_entry, is_name, is_private, is_reference, is_tag_name, max_title, title}
 use Rattle.history_model.specs.Objects.{Value, StoredBytes, StoredCommit, StoredFolder, StoredTag}
-use Rattle.history_model.specs.PackedNames.{says_sorted}
+use Rattle.history_model.specs.PackedNames.{packed_with}
 use Rattle.history_model.specs.Places.{file_at, head_place, is_lock_file, is_log_place, is_name_place, log_name, packed_place}
 use Rattle.history_model.specs.Repository.{Reference, Repository, id_at, is_tag, is_tag_value, peeled, peeled_value, stands}
 use Rattle.history_model.proofs.IdLemmas.{has_kind}
@@ -156,12 +156,12 @@ module _ (r : Repository) (written : IsWritten r) where
         let by_finds : (P : Record → Type 0) → ((e : Record) → IsTold e.name e → P e) → AllByRecursion P told.after = λ P all.
         all_by_finds P told.after (ascend_once told.after told.ascend) (λ e found. all e (record_told e.name e (sym (told.each e.name ∙ each e.name) ∙ found))) in
         let read : packed_records r.kind has.text ≡ Some told.after = told.reads (as_all r.kind told.after (by_finds (HasKind r.kind) (λ e t. t.kind))) in
-        let holds : HasAllNames r (record { sorted = says_sorted has.text; records = told.after }) = record {
-          formed = form_made told.after told.ascend (by_finds (λ (e : Record). is_name e.name ≡ true) (λ e t. t.formed)) (by_finds (λ (e : Record). is_private e.name ≡ false) (λ e t. t.public)) (says_sorted has.text);
+        let holds : HasAllNames r (packed_with has.text told.after) = record {
+          formed = form_made told.after told.ascend (by_finds (λ (e : Record). is_name e.name ≡ true) (λ e t. t.formed)) (by_finds (λ (e : Record). is_private e.name ≡ false) (λ e t. t.public)) has.text told.is;
           each = λ name. told.each name ∙ each name;
         } in
         let text : IsTextOfAll r has.text = record { records = told.after; ascend = told.ascend; each = λ name. told.each name ∙ each name; is = told.is } in
-        subst (PacksAll r) (sym has.here) (text, subst (λ o. MatchOption (option_map (λ records. record { sorted = says_sorted has.text; records = records }) o) ⊥ (HasAllNames r)) (sym read) holds)
+        subst (PacksAll r) (sym has.here) (text, subst (λ o. MatchOption (option_map (packed_with has.text) o) ⊥ (HasAllNames r)) (sym read) holds)
 
     among : (name : Bytes) (b : Bool) → is_some (record_for r name) ≡ b → is_among (name_texts names) name ≡ b
     among name b is = among_hit names name ∙ ap is_some (each name) ∙ is

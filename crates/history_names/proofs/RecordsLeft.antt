@@ -14,15 +14,16 @@ use Rattle.gix_ref_format.specs.PackedBuffer.{Keeps, KeepsFile, hit}
 use Rattle.gix_ref_format.specs.PackedKept.{kept}
 use Rattle.gix_ref_format.specs.declared.packed.buffer.Buffer.{Buffer}
 use Rattle.gix_ref_packed.specs.Edited.{Ascend, ComesBefore, IsEdited, Line, line_at, under}
-use Rattle.gix_ref_packed.specs.Written.{AllHaveKind, HasKind}
-use Rattle.history_model.specs.Bytes.{Bytes, by_bytes, has_twice}
+use Rattle.gix_ref_packed.specs.Written.{AllHaveKind, HasKind, packed_text}
+use Rattle.history_model.specs.Bytes.{Bytes, by_bytes, has_byte, has_twice}
 use Rattle.history_model.specs.Forms.{is_name, is_private}
-use Rattle.history_model.specs.PackedNames.{PackedFile, is_packed_form, packed_file, says_sorted}
+use Rattle.history_model.specs.PackedNames.{PackedFile, is_packed_form, packed_file, packed_with, says_sorted}
 use Rattle.history_model.proofs.FormatLemmas.{records_alike}
 use Rattle.history_model.proofs.PlaceLemmas.{one_text, text_itself, texts_apart}
 use Rattle.history_steps.specs.TakeSteps.{LacksName, LacksRecord}
 use Rattle.history_steps.proofs.PackedRecords.{all_by_finds, all_found, found_named, name_in, not_found}
 use Rattle.history_names.specs.Packing.{IfSomeRecords, IsEditedText, kept_hit}
+use Rattle.history_names.proofs.PlainTexts.{packed_plain}
 use Rattle.history_names.proofs.ReadRecords.{records_kind}
 
 none_some : {A X : Type 0} {x : X} → None ≡ Some x → A
@@ -86,14 +87,17 @@ none_told p (r ∷ records) h = or_from (p r.name) (list_any p (map name_in reco
 
 -- records that ascend have the form, where their names do
 pub form_made : (records : List Record) → Ascend records → AllByRecursion (λ (e : Record). is_name e.name ≡ true) records → AllByRecursion (λ (e : Record). is_private e.name ≡ false) records
-    → (sorted : Bool) → is_packed_form (record { sorted = sorted; records = records }) ≡ true
-form_made records ascend named public sorted =
+    → (text : Bytes) → text ≡ packed_text records → is_packed_form (packed_with text records) ≡ true
+form_made records ascend named public text written =
     let own = map name_in records in
-    and_from (list_all is_name own && not (has_twice bytes_eq own) && not (list_any is_private own)) (not sorted || is_sorted by_bytes (map pair_of own))
-    (and_from (list_all is_name own && not (has_twice bytes_eq own)) (not (list_any is_private own))
-    (and_from (list_all is_name own) (not (has_twice bytes_eq own)) (all_told is_name records named) (not_false (has_twice bytes_eq own) (ascend_once records ascend)))
+    let plain = not (has_byte 13 text) in
+    and_from (plain && list_all is_name own && not (has_twice bytes_eq own) && not (list_any is_private own)) (not (says_sorted text) || is_sorted by_bytes (map pair_of own))
+    (and_from (plain && list_all is_name own && not (has_twice bytes_eq own)) (not (list_any is_private own))
+    (and_from (plain && list_all is_name own) (not (has_twice bytes_eq own))
+    (and_from plain (list_all is_name own) (ap (λ t. not (has_byte 13 t)) written ∙ not_false (has_byte 13 (packed_text records)) (packed_plain records named)) (all_told is_name records named))
+    (not_false (has_twice bytes_eq own) (ascend_once records ascend)))
     (not_false (list_any is_private own) (none_told is_private records public)))
-    (right (not sorted) (is_sorted by_bytes (map pair_of own)) (ascend_sorted records ascend))
+    (right (not (says_sorted text)) (is_sorted by_bytes (map pair_of own)) (ascend_sorted records ascend))
   where
     right : (a b : Bool) → b ≡ true → (a || b) ≡ true
     right true b h = refl
@@ -104,14 +108,17 @@ module _ (packed : PackedFile) (formed : is_packed_form packed ≡ true) where
   abbrev names : List Bytes
   names = map name_in packed.records
 
-  three : ((list_all is_name names && not (has_twice bytes_eq names) && not (list_any is_private names)) ≡ true) × ((not packed.sorted || is_sorted by_bytes (map pair_of names)) ≡ true)
-  three = and_parts (list_all is_name names && not (has_twice bytes_eq names) && not (list_any is_private names)) (not packed.sorted || is_sorted by_bytes (map pair_of names)) formed
+  abbrev plain_named : Bool
+  plain_named = not packed.returns && list_all is_name names
 
-  two : ((list_all is_name names && not (has_twice bytes_eq names)) ≡ true) × (not (list_any is_private names) ≡ true)
-  two = and_parts (list_all is_name names && not (has_twice bytes_eq names)) (not (list_any is_private names)) three.0
+  three : ((plain_named && not (has_twice bytes_eq names) && not (list_any is_private names)) ≡ true) × ((not packed.sorted || is_sorted by_bytes (map pair_of names)) ≡ true)
+  three = and_parts (plain_named && not (has_twice bytes_eq names) && not (list_any is_private names)) (not packed.sorted || is_sorted by_bytes (map pair_of names)) formed
+
+  two : ((plain_named && not (has_twice bytes_eq names)) ≡ true) × (not (list_any is_private names) ≡ true)
+  two = and_parts (plain_named && not (has_twice bytes_eq names)) (not (list_any is_private names)) three.0
 
   all_names : list_all is_name names ≡ true
-  all_names = (and_parts (list_all is_name names) (not (has_twice bytes_eq names)) two.0).0
+  all_names = (and_parts (not packed.returns) (list_all is_name names) (and_parts plain_named (not (has_twice bytes_eq names)) two.0).0).1
 
   none_private : list_any is_private names ≡ false
   none_private = not_true (list_any is_private names) two.1
@@ -127,7 +134,7 @@ module _ (packed : PackedFile) (formed : is_packed_form packed ≡ true) where
 
 module _ (kind : Kind) (name text : Bytes) (records after : List Record) (read : packed_records kind text ≡ Some records) (edited : IsEdited records (record { name = name; says = None } ∷ []) after) where
   abbrev old : PackedFile
-  old = record { sorted = says_sorted text; records = records }
+  old = packed_with text records
 
   each : (other : Bytes) → hit after other ≡ cond (bytes_eq other name) None (hit records other)
   each other = edited.each other ∙ go (bytes_eq name other) refl
@@ -149,28 +156,25 @@ module _ (kind : Kind) (name text : Bytes) (records after : List Record) (read :
   same_kind : AllHaveKind kind after
   same_kind = as_all kind after (by_was (HasKind kind) (λ e found. all_found (HasKind kind) records e.name e (records_kind kind text records read) found))
 
-  module _ (formed : is_packed_form (record { sorted = says_sorted text; records = records }) ≡ true) where
-    left_formed : (sorted : Bool) → is_packed_form (record { sorted = sorted; records = after }) ≡ true
-    left_formed sorted =
+  module _ (formed : is_packed_form old ≡ true) (new : Bytes) (written : new ≡ packed_text after) where
+    left_formed : is_packed_form (packed_with new after) ≡ true
+    left_formed =
         form_made after edited.ascend (by_was (λ (e : Record). is_name e.name ≡ true) (λ e found. found_name old formed e.name e found))
-        (by_was (λ (e : Record). is_private e.name ≡ false) (λ e found. found_public old formed e.name e found)) sorted
+        (by_was (λ (e : Record). is_private e.name ≡ false) (λ e found. found_public old formed e.name e found)) new written
 
-    lacks : (sorted : Bool) → LacksName name old (record { sorted = sorted; records = after })
-    lacks sorted = record { formed = left_formed sorted; each = each }
+    lacks : LacksName name old (packed_with new after)
+    lacks = record { formed = left_formed; each = each }
 
 -- ---- in texts
 
 abbrev removal : Bytes → List Line
 removal name = record { name = name; says = None } ∷ []
 
-abbrev file_of : Bytes → List Record → PackedFile
-file_of text records = record { sorted = says_sorted text; records = records }
-
 abbrev IsFormed : Kind → Bytes → Type 0
 IsFormed kind text = MatchOption (packed_file kind text) ⊥ (λ packed. is_packed_form packed ≡ true)
 
-form_of : (kind : Kind) (text : Bytes) (records : List Record) → packed_records kind text ≡ Some records → IsFormed kind text → is_packed_form (file_of text records) ≡ true
-form_of kind text records read formed = subst (λ o. MatchOption (option_map (file_of text) o) ⊥ (λ packed. is_packed_form packed ≡ true)) read formed
+form_of : (kind : Kind) (text : Bytes) (records : List Record) → packed_records kind text ≡ Some records → IsFormed kind text → is_packed_form (packed_with text records) ≡ true
+form_of kind text records read formed = subst (λ o. MatchOption (option_map (packed_with text) o) ⊥ (λ packed. is_packed_form packed ≡ true)) read formed
 
 pub lacks_written : (kind : Kind) (name text new : Bytes) (left : List Record) → Keeps kind text left → IsFormed kind text → IsEditedText kind left (removal name) new → LacksRecord kind name (Some text) (Some new)
 lacks_written kind name text new left keeps formed told =
@@ -180,25 +184,25 @@ lacks_written kind name text new left keeps formed told =
     record { ascend = told.edited.ascend; each = λ other. told.edited.each other ∙ ap (under (line_at (removal name) other)) (keeps.2.first other) } in
     let form = form_of kind text records read formed in
     let read_new : packed_records kind new ≡ Some told.after = told.reads (same_kind kind name text records told.after read edited) in
-    subst (λ o. MatchOption o ⊥ (λ (old : PackedFile). MatchOption (packed_file kind new) ⊥ (LacksName name old))) (sym (ap (option_map (file_of text)) read))
-    (subst (λ o. MatchOption o ⊥ (LacksName name (file_of text records))) (sym (ap (option_map (file_of new)) read_new))
-    (lacks kind name text records told.after read edited form (says_sorted new)))
+    subst (λ o. MatchOption o ⊥ (λ (old : PackedFile). MatchOption (packed_file kind new) ⊥ (LacksName name old))) (sym (ap (option_map (packed_with text)) read))
+    (subst (λ o. MatchOption o ⊥ (LacksName name (packed_with text records))) (sym (ap (option_map (packed_with new)) read_new))
+    (lacks kind name text records told.after read edited form new told.is))
 
 module _ (kind : Kind) (name text : Bytes) (records left : List Record) (read : packed_records kind text ≡ Some records) (first : (other : Bytes) → hit left other ≡ hit records other)
-    (formed : is_packed_form (file_of text records) ≡ true) (named : is_name name ≡ true) (none : packed_hit left name ≡ None) where
+    (formed : is_packed_form (packed_with text records) ≡ true) (named : is_name name ≡ true) (none : packed_hit left name ≡ None) where
   none_hit : hit records name ≡ None
   none_hit = by_kind (is_private name) refl (sym (ap (option_and_then (hit left)) (records_alike name named)) ∙ none)
     where
       not_there : is_private name ≡ true → (o : Option Record) → hit records name ≡ o → o ≡ None
       not_there private None e = refl
       not_there private (Some r) e =
-          clash (ap is_private (found_named records name r e) ∙ private) (found_public (file_of text records) formed name r e)
+          clash (ap is_private (found_named records name r e) ∙ private) (found_public (packed_with text records) formed name r e)
 
       by_kind : (b : Bool) → is_private name ≡ b → option_and_then (hit left) (cond b None (Some name)) ≡ None → hit records name ≡ None
       by_kind true private e = not_there private (hit records name) refl
       by_kind false public e = sym (first name) ∙ e
 
-  same_lacks : LacksName name (file_of text records) (file_of text records)
+  same_lacks : LacksName name (packed_with text records) (packed_with text records)
   same_lacks = record { formed = formed; each = λ other. go other (bytes_eq other name) refl }
     where
       go : (other : Bytes) (b : Bool) → bytes_eq other name ≡ b → hit records other ≡ cond b None (hit records other)
@@ -212,7 +216,7 @@ lacks_same kind name (Some text) None keeps formed named none = absurd keeps
 lacks_same kind name (Some text) (Some buffer) keeps formed named none =
     let records = keeps.0 in
     let read : packed_records kind text ≡ Some records = keeps.1 in
-    subst (λ o. MatchOption o ⊥ (λ (old : PackedFile). MatchOption o ⊥ (LacksName name old))) (sym (ap (option_map (file_of text)) read))
+    subst (λ o. MatchOption o ⊥ (λ (old : PackedFile). MatchOption o ⊥ (LacksName name old))) (sym (ap (option_map (packed_with text)) read))
     (same_lacks kind name text records (kept buffer) read keeps.2.first (form_of kind text records read (formed text refl)) named none)
 
 -- what was written without the name

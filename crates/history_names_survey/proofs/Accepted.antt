@@ -234,7 +234,7 @@ module _ (tree : Tree) (r : Repository) (facts : Facts) (are : AreFactsOf facts 
   packs : Packs
   packs = by_file (file_at tree packed_place) refl
     where
-      no_records : PackedAgrees r (record { sorted = false; records = [] })
+      no_records : PackedAgrees r (record { returns = false; sorted = false; records = [] })
       no_records = (refl, tt)
 
       by_packed : (text : Bytes) (o : Option PackedFile) → packed_file r.kind text ≡ o → MatchOption o ⊥ (PackedAgrees r) → bytes_at tree packed_place ≡ text → Packs
@@ -247,7 +247,7 @@ module _ (tree : Tree) (r : Repository) (facts : Facts) (are : AreFactsOf facts 
       }
 
       by_file : (o : Option Bytes) → file_at tree packed_place ≡ o → Packs
-      by_file None at = by_packed [] (Some (record { sorted = false; records = [] })) refl no_records (ap (λ (o : Option Bytes). unwrap_or o []) at)
+      by_file None at = by_packed [] (Some (record { returns = false; sorted = false; records = [] })) refl no_records (ap (λ (o : Option Bytes). unwrap_or o []) at)
       by_file (Some text) at = by_packed text (packed_file r.kind text) refl (s.holds.packed text at) (ap (λ (o : Option Bytes). unwrap_or o []) at)
 
   agrees_form : is_packed_form packs.packed ≡ true

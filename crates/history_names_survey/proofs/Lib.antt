@@ -14,6 +14,7 @@ mod PackedReads
 mod PackedTexts
 mod ReadSoFar
 mod RecordCauses
+mod Returns
 mod Sizes
 mod Standing
 mod Surveyed

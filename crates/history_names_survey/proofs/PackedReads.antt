@@ -11,7 +11,7 @@ use Rattle.gix_ref_format.specs.PackedBuffer.{hit}
 use Rattle.history_model.specs.Bytes.{Bytes, has_twice}
 use Rattle.history_model.specs.Forms.{is_name, is_private}
 use Rattle.history_model.specs.NameStates.{NameState, Holds, Symbolic, Absent, Faulty, is_absent, loose_line, loose_state, name_state, packed_state, packed_text_state}
-use Rattle.history_model.specs.PackedNames.{PackedFile, id_from_hex, is_packed_form, packed_file, says_sorted, whole_line}
+use Rattle.history_model.specs.PackedNames.{PackedFile, id_from_hex, is_packed_form, packed_file, packed_with, whole_line}
 use Rattle.history_model.specs.Places.{file_at, packed_place}
 use Rattle.history_model.proofs.PlaceLemmas.{one_text, text_itself}
 use Rattle.history_names_survey.specs.Packed.{are_good_names, has_name, has_record, is_ascending, is_good_file, is_packed_text, record_names, records_at, records_in}
@@ -36,7 +36,7 @@ was_not false e = refl
 pub file_records : (kind : Kind) (text : Bytes) (packed : PackedFile) → packed_file kind text ≡ Some packed → records_in kind text ≡ packed.records
 file_records kind text packed is = go (packed_records kind text) is
   where
-    go : (o : Option (List Record)) → option_map (λ records. record { sorted = says_sorted text; records = records }) o ≡ Some packed → unwrap_or o [] ≡ packed.records
+    go : (o : Option (List Record)) → option_map (packed_with text) o ≡ Some packed → unwrap_or o [] ≡ packed.records
     go None e = none_some e
     go (Some records) e = ap (λ (p : PackedFile). p.records) (inside e)
 
@@ -45,6 +45,7 @@ pub record IsFile (kind : Kind) (text : Bytes) : Type 0 where
   pub packed : PackedFile
   pub read : packed_file kind text ≡ Some packed
   pub records : records_in kind text ≡ packed.records
+  pub whole : is_good_file packed ≡ true
   pub good : are_good_names packed.sorted (record_names packed.records) ≡ true
 
 pub file_of : (kind : Kind) (text : Bytes) → is_packed_text kind text ≡ true → IsFile kind text
@@ -52,7 +53,13 @@ file_of kind text good = go (packed_file kind text) refl good
   where
     go : (o : Option PackedFile) → packed_file kind text ≡ o → unwrap_or (option_map is_good_file o) false ≡ true → IsFile kind text
     go None is e = absurd (cc e)
-    go (Some packed) is e = record { packed = packed; read = is; records = file_records kind text packed is; good = e }
+    go (Some packed) is e = record {
+      packed = packed;
+      read = is;
+      records = file_records kind text packed is;
+      whole = e;
+      good = (and_parts (not packed.returns) (are_good_names packed.sorted (record_names packed.records)) e).1;
+    }
 
 -- ---- forms
 
@@ -63,22 +70,32 @@ module _ (packed : PackedFile) where
   abbrev rises : Bool
   rises = not packed.sorted || is_ascending names
 
+  abbrev plain : Bool
+  plain = not packed.returns
+
   pub form_good : is_packed_form packed ≡ true → is_good_file packed ≡ true
   form_good formed =
-      let three = and_parts (list_all is_name names && not (has_twice bytes_eq names) && not (list_any is_private names)) rises formed in
-      let two = and_parts (list_all is_name names && not (has_twice bytes_eq names)) (not (list_any is_private names)) three.0 in
-      and_from (list_all is_name names && not (has_twice bytes_eq names)) rises two.0 three.1
+      let three = and_parts (plain && list_all is_name names && not (has_twice bytes_eq names) && not (list_any is_private names)) rises formed in
+      let two = and_parts (plain && list_all is_name names && not (has_twice bytes_eq names)) (not (list_any is_private names)) three.0 in
+      let one = and_parts (plain && list_all is_name names) (not (has_twice bytes_eq names)) two.0 in
+      let named = and_parts plain (list_all is_name names) one.0 in
+      and_from plain (list_all is_name names && not (has_twice bytes_eq names) && rises) named.0
+      (and_from (list_all is_name names && not (has_twice bytes_eq names)) rises (and_from (list_all is_name names) (not (has_twice bytes_eq names)) named.1 one.1) three.1)
 
   pub form_public : is_packed_form packed ≡ true → list_any is_private names ≡ false
   form_public formed =
-      let three = and_parts (list_all is_name names && not (has_twice bytes_eq names) && not (list_any is_private names)) rises formed in
-      was_not (list_any is_private names) (and_parts (list_all is_name names && not (has_twice bytes_eq names)) (not (list_any is_private names)) three.0).1
+      let three = and_parts (plain && list_all is_name names && not (has_twice bytes_eq names) && not (list_any is_private names)) rises formed in
+      was_not (list_any is_private names) (and_parts (plain && list_all is_name names && not (has_twice bytes_eq names)) (not (list_any is_private names)) three.0).1
 
   pub form_from : is_good_file packed ≡ true → list_any is_private names ≡ false → is_packed_form packed ≡ true
   form_from good public =
-      let two = and_parts (list_all is_name names && not (has_twice bytes_eq names)) rises good in
-      and_from (list_all is_name names && not (has_twice bytes_eq names) && not (list_any is_private names)) rises
-      (and_from (list_all is_name names && not (has_twice bytes_eq names)) (not (list_any is_private names)) two.0 (ap not public)) two.1
+      let both = and_parts plain (list_all is_name names && not (has_twice bytes_eq names) && rises) good in
+      let two = and_parts (list_all is_name names && not (has_twice bytes_eq names)) rises both.1 in
+      let one = and_parts (list_all is_name names) (not (has_twice bytes_eq names)) two.0 in
+      and_from (plain && list_all is_name names && not (has_twice bytes_eq names) && not (list_any is_private names)) rises
+      (and_from (plain && list_all is_name names && not (has_twice bytes_eq names)) (not (list_any is_private names))
+      (and_from (plain && list_all is_name names) (not (has_twice bytes_eq names)) (and_from plain (list_all is_name names) both.0 one.0) one.1)
+      (ap not public)) two.1
 
 -- ---- what the records say
 

@@ -1,13 +1,15 @@
 -- Which line of a text is the first that may not stand in a file of packed names.
-use Rattle.std.proofs.Common.{◌≡◌, ◌≢◌, ℕ, zero, suc, ◌+◌, ◌≤◌, Bool, true, false, cond, List, [], ◌∷◌, ◌++◌, map, take, length, Option, Some, None, option_map, unwrap_or, refl, sym, ◌∙◌, ap, subst, arith, append-nil}
-use Rattle.std.specs.Prelude.{option_and_then}
+use Rattle.std.proofs.Common.{◌≡◌, ◌≢◌, ℕ, zero, suc, ◌+◌, ◌≤◌, Bool, true, false, cond, not, ◌&&◌, List, [], ◌∷◌, ◌++◌, map, take, length, Option, Some, None, option_map, unwrap_or, refl, sym, ◌∙◌, ap, subst, arith, append-nil}
+use Rattle.std.specs.Prelude.{◌==◌, option_and_then}
 use Rattle.std.specs.List.{AllByRecursion, onto_first}
+use Rattle.std.proofs.lemmas.Bool.{and_from, and_parts, or_from, or_parts}
 use Rattle.gix_hash_id.specs.declared.kind.Kind.{Kind}
 use Rattle.gix_ref_format.specs.Lines.{lines}
 use Rattle.gix_ref_format.specs.Packed.{Record, Item, Good, Bad, items, item_of, record_line, peel_behind, all_good, header_line, is_headed, items_behind_header, packed_items, packed_records}
 use Rattle.gix_ref_format.specs.declared.packed.Header.{Header}
+use Rattle.history_model.specs.Bytes.{has_byte}
 use Rattle.history_model.specs.Forms.{is_id}
-use Rattle.history_model.specs.PackedNames.{first_header, says_sorted}
+use Rattle.history_model.specs.PackedNames.{first_header, packed_with, says_sorted}
 use Rattle.history_names_survey.specs.Packed.{first_lines, record_names, is_good_file, are_good_names, is_packed_text, records_in, HasBadRecord}
 use Rattle.history_names_survey.proofs.PackedLines.{lines_first, weights, with_peel, Passed, passed, begins, all_ids}
 use Rattle.history_names_survey.proofs.GoodNames.{good_front}
@@ -97,26 +99,52 @@ few_lines (byte ∷ rest) = by_end (few_lines rest) _
     by_end few true = omega (arith, few)
     by_end few false = onto (lines rest) few
 
+-- ---- carriage returns
+
+was_not : (b : Bool) → not b ≡ true → b ≡ false
+was_not true e = cc
+was_not false e = refl
+
+never : (b : Bool) → (b && false) ≡ false
+never true = refl
+never false = refl
+
+plain_first : (n : ℕ) (text : List ℕ) → has_byte 13 text ≡ false → has_byte 13 (first_lines n text) ≡ false
+plain_first zero text plain = refl
+plain_first (suc n) [] plain = refl
+plain_first (suc n) (byte ∷ rest) plain =
+    let parts = or_parts (byte == 13) (has_byte 13 rest) plain in
+    by_end parts.0 (plain_first n rest parts.1) (plain_first (suc n) rest parts.1) (byte == 10)
+  where
+    by_end : (byte == 13) ≡ false → has_byte 13 (first_lines n rest) ≡ false → has_byte 13 (first_lines (suc n) rest) ≡ false
+        → (b : Bool) → has_byte 13 (cond b (byte ∷ first_lines n rest) (byte ∷ first_lines (suc n) rest)) ≡ false
+    by_end here ended going true = or_from (byte == 13) (has_byte 13 (first_lines n rest)) here ended
+    by_end here ended going false = or_from (byte == 13) (has_byte 13 (first_lines (suc n) rest)) here going
+
 module _ (kind : Kind) (text : List ℕ) where
   -- ---- texts by their records
 
-  text_by : (some : List Record) (front : List ℕ) → packed_records kind front ≡ Some some → is_packed_text kind front ≡ are_good_names (says_sorted front) (record_names some)
-  text_by some front is = ap (λ o. unwrap_or (option_map (is_good_file) (option_map (λ rs. record { sorted = says_sorted front; records = rs }) o)) false) is
+  pub text_by : (some : List Record) (front : List ℕ) → packed_records kind front ≡ Some some → is_packed_text kind front ≡ (not (has_byte 13 front) && are_good_names (says_sorted front) (record_names some))
+  text_by some front is = ap (λ o. unwrap_or (option_map (is_good_file) (option_map (packed_with front) o)) false) is
 
-  text_none : (front : List ℕ) → packed_records kind front ≡ None → is_packed_text kind front ≡ false
-  text_none front is = ap (λ o. unwrap_or (option_map (is_good_file) (option_map (λ rs. record { sorted = says_sorted front; records = rs }) o)) false) is
+  pub text_none : (front : List ℕ) → packed_records kind front ≡ None → is_packed_text kind front ≡ false
+  text_none front is = ap (λ o. unwrap_or (option_map (is_good_file) (option_map (packed_with front) o)) false) is
 
   no_names : (sorted : Bool) → are_good_names sorted [] ≡ true
   no_names true = refl
   no_names false = refl
 
   -- the first lines, of which these are the records
-  lines_by : (n : ℕ) (some : List Record) → packed_records kind (first_lines n text) ≡ Some some → are_good_names (says_sorted text) (record_names some) ≡ true → is_packed_text kind (first_lines n text) ≡ true
-  lines_by zero some is good = refl
-  lines_by (suc n) some is good = text_by some (first_lines (suc n) text) is ∙ ap (λ s. are_good_names s (record_names some)) (sorted_first n text) ∙ good
+  lines_by : has_byte 13 text ≡ false → (n : ℕ) (some : List Record) → packed_records kind (first_lines n text) ≡ Some some → are_good_names (says_sorted text) (record_names some) ≡ true → is_packed_text kind (first_lines n text) ≡ true
+  lines_by plain zero some is good = refl
+  lines_by plain (suc n) some is good =
+      text_by some (first_lines (suc n) text) is ∙ ap (λ b. not b && are_good_names (says_sorted (first_lines (suc n) text)) (record_names some)) (plain_first (suc n) text plain)
+      ∙ ap (λ s. are_good_names s (record_names some)) (sorted_first n text) ∙ good
 
   lines_bad : (n : ℕ) (some : List Record) → packed_records kind (first_lines (suc n) text) ≡ Some some → are_good_names (says_sorted text) (record_names some) ≡ false → is_packed_text kind (first_lines (suc n) text) ≡ false
-  lines_bad n some is bad = text_by some (first_lines (suc n) text) is ∙ ap (λ s. are_good_names s (record_names some)) (sorted_first n text) ∙ bad
+  lines_bad n some is bad =
+      text_by some (first_lines (suc n) text) is ∙ ap (λ s. not (has_byte 13 (first_lines (suc n) text)) && are_good_names s (record_names some)) (sorted_first n text)
+      ∙ ap (λ g. not (has_byte 13 (first_lines (suc n) text)) && g) bad ∙ never (not (has_byte 13 (first_lines (suc n) text)))
 
   -- ---- the header is none
 
@@ -163,9 +191,9 @@ module _ (kind : Kind) (text : List ℕ) where
         by_head true = omega (arith, p.fits, b.fits, few_lines text)
         by_head false = omega (arith, p.fits, b.fits, few_lines text)
 
-    module _ (good : are_good_names (says_sorted text) (record_names seen) ≡ true) where
+    module _ (plain : has_byte 13 text ≡ false) (good : are_good_names (says_sorted text) (record_names seen) ≡ true) where
       good_so_far : is_packed_text kind (first_lines (lead text + weights seen) text) ≡ true
-      good_so_far = lines_by (lead text + weights seen) seen seen_first good
+      good_so_far = lines_by plain (lead text + weights seen) seen seen_first good
 
       bad_at : is_packed_text kind (first_lines (suc (lead text + weights seen)) text) ≡ false → HasBadRecord kind text line_next
       bad_at bad =
@@ -238,8 +266,8 @@ module _ (kind : Kind) (text : List ℕ) where
   pub all_read : (seen : List Record) → packed_items kind text ≡ Some (map Good seen ++ []) → packed_records kind text ≡ Some seen
   all_read seen given = ap (option_and_then all_good) given ∙ ap all_good (append-nil (map Good seen)) ∙ all_good_of seen
 
-  pub all_stand : (seen : List Record) → packed_records kind text ≡ Some seen → are_good_names (says_sorted text) (record_names seen) ≡ true → is_packed_text kind text ≡ true
-  all_stand seen read good = text_by seen text read ∙ good
+  pub all_stand : (seen : List Record) → has_byte 13 text ≡ false → packed_records kind text ≡ Some seen → are_good_names (says_sorted text) (record_names seen) ≡ true → is_packed_text kind text ≡ true
+  all_stand seen plain read good = text_by seen text read ∙ and_from (not (has_byte 13 text)) (are_good_names (says_sorted text) (record_names seen)) (ap not plain) good
 
   -- ---- the first lines of a file of packed names are one
 
@@ -253,13 +281,19 @@ module _ (kind : Kind) (text : List ℕ) where
           b : Behind kind text all
           b = behind_all kind text all at
 
+          parts : (not (has_byte 13 text) ≡ true) × (are_good_names (says_sorted text) (record_names records) ≡ true)
+          parts = and_parts (not (has_byte 13 text)) (are_good_names (says_sorted text) (record_names records)) (sym (text_by records text (ap (option_and_then all_good) at ∙ is)) ∙ good)
+
+          plain : has_byte 13 text ≡ false
+          plain = was_not (has_byte 13 text) parts.0
+
           names_good : are_good_names (says_sorted text) (record_names records) ≡ true
-          names_good = sym (text_by records text (ap (option_and_then all_good) at ∙ is)) ∙ good
+          names_good = parts.1
 
           far : (k : ℕ) → is_packed_text kind (first_lines (lead text + k) text) ≡ true
           far k =
               let some = begins kind b.rest b.number false records (ap all_good b.are ∙ is) k in
-              lines_by (lead text + k) some.some (b.some k ∙ some.good) (good_front (says_sorted text) (record_names some.some) some.more (ap (are_good_names (says_sorted text)) (sym some.names) ∙ names_good))
+              lines_by plain (lead text + k) some.some (b.some k ∙ some.good) (good_front (says_sorted text) (record_names some.some) some.more (ap (are_good_names (says_sorted text)) (sym some.names) ∙ names_good))
 
           by_number : (n : ℕ) → is_packed_text kind (first_lines n text) ≡ true
           by_number zero = refl

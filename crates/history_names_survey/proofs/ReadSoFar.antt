@@ -8,7 +8,7 @@ use Rattle.gix_ref_format.specs.Packed.{Record, Item, Good, is_headed, item_view
 use Rattle.gix_ref_format.specs.declared.packed.Reference.{Reference}
 use Rattle.gix_ref_format.specs.declared.packed.iter.Error.{Error}
 use Rattle.gix_ref_format.specs.declared.packed.iter.Error.TheVariants as faults
-use Rattle.history_model.specs.Bytes.{Bytes}
+use Rattle.history_model.specs.Bytes.{Bytes, has_byte}
 use Rattle.history_model.specs.Forms.{is_name}
 use Rattle.history_model.specs.PackedNames.{says_sorted}
 use Rattle.history_names_survey.specs.Packed.{HasBadRecord, are_good_names, is_ascending, record_names, records_in}
@@ -23,6 +23,7 @@ seen_in records = map record_of records
 
 module _ (kind : Kind) (text : Bytes) where
   pub record IsSoFar (left : List Item) (records : List Reference) (names : List (Bor (List ℕ))) (sorted : Bool) (number : ℕ) : Type 0 where
+    pub plain : has_byte 13 text ≡ false
     pub given : packed_items kind text ≡ Some (map Good (seen_in records) ++ left)
     pub sorted_is : sorted ≡ says_sorted text
     pub good : are_good_names (says_sorted text) (record_names (seen_in records)) ≡ true
@@ -33,9 +34,10 @@ module _ (kind : Kind) (text : Bytes) where
   no_names true = refl
   no_names false = refl
 
-  pub begun : (left : List Item) (records : List Reference) (names : List (Bor (List ℕ))) (sorted : Bool) (number : ℕ) → packed_items kind text ≡ Some left → records ≡ [] → names ≡ [] → sorted ≡ says_sorted text
+  pub begun : (left : List Item) (records : List Reference) (names : List (Bor (List ℕ))) (sorted : Bool) (number : ℕ) → has_byte 13 text ≡ false → packed_items kind text ≡ Some left → records ≡ [] → names ≡ [] → sorted ≡ says_sorted text
       → number ≡ cond (is_headed text) 2 1 → IsSoFar left records names sorted number
-  begun left records names sorted number is none_read none_kept says first = subst (λ rs. IsSoFar left rs names sorted number) (sym none_read) (subst (λ ns. IsSoFar left [] ns sorted number) (sym none_kept) (record {
+  begun left records names sorted number plain is none_read none_kept says first = subst (λ rs. IsSoFar left rs names sorted number) (sym none_read) (subst (λ ns. IsSoFar left [] ns sorted number) (sym none_kept) (record {
+    plain = plain;
     given = is;
     sorted_is = says;
     good = no_names (says_sorted text);
@@ -56,7 +58,7 @@ module _ (kind : Kind) (text : Bytes) where
     no_record (faults.Header line) r e = cc
 
     pub bad_item : (e : Error) (more : List Item) → left ≡ item_view (Err e) ∷ more → HasBadRecord kind text number
-    bad_item e more cut = at_number (bad_line kind text (seen_in records) left so_far.given so_far.good (item_view (Err e)) more cut (no_record e))
+    bad_item e more cut = at_number (bad_line kind text (seen_in records) left so_far.given so_far.plain so_far.good (item_view (Err e)) more cut (no_record e))
 
     pub rises : (not sorted || is_ascending (record_names (seen_in records))) ≡ true
     rises = ap (λ s. not s || is_ascending (record_names (seen_in records))) so_far.sorted_is ∙ (good_parts (says_sorted text) (record_names (seen_in records)) so_far.good).rises
@@ -84,11 +86,11 @@ module _ (kind : Kind) (text : Bytes) where
 
       pub bad_follow : Follows false → HasBadRecord kind text number
       bad_follow none =
-          at_number (bad_name kind text (seen_in records) left so_far.given so_far.good (record_of one) more cut (bad_follower (says_sorted text) (record_names (seen_in records)) name (follows false none)))
+          at_number (bad_name kind text (seen_in records) left so_far.given so_far.plain so_far.good (record_of one) more cut (bad_follower (says_sorted text) (record_names (seen_in records)) name (follows false none)))
 
       pub bad_twice : list_any (bytes_eq name) (names_in names) ≡ true → HasBadRecord kind text number
       bad_twice there =
-          at_number (bad_name kind text (seen_in records) left so_far.given so_far.good (record_of one) more cut (bad_again (says_sorted text) (record_names (seen_in records)) name (sym (so_far.kept name) ∙ there)))
+          at_number (bad_name kind text (seen_in records) left so_far.given so_far.plain so_far.good (record_of one) more cut (bad_again (says_sorted text) (record_names (seen_in records)) name (sym (so_far.kept name) ∙ there)))
 
       given_next : packed_items kind text ≡ Some (map Good (seen_in (records ++ one ∷ [])) ++ more)
       given_next = so_far.given ∙ ap Some (ap (λ l. map Good (seen_in records) ++ l) cut ∙ go records)
@@ -107,6 +109,7 @@ module _ (kind : Kind) (text : Bytes) where
       pub one_next : (new : List Reference) (put : List (Bor (List ℕ))) (behind : ℕ) → Follows true → list_any (bytes_eq name) (names_in names) ≡ false → new ≡ records ++ one ∷ []
           → ((other : Bytes) → list_any (bytes_eq other) (names_in put) ≡ (bytes_eq other name || list_any (bytes_eq other) (names_in names))) → behind ≡ number + weight (record_of one) → IsSoFar more new put sorted behind
       one_next new put behind may bare new_is puts behind_is = subst (λ rs. IsSoFar more rs put sorted behind) (sym new_is) (record {
+        plain = so_far.plain;
         given = given_next;
         sorted_is = so_far.sorted_is;
         good = ap (are_good_names (says_sorted text)) (one_more records) ∙ good_next (says_sorted text) (record_names (seen_in records)) name so_far.good (follows true may) (sym (so_far.kept name) ∙ bare);
@@ -131,7 +134,7 @@ module _ (kind : Kind) (text : Bytes) where
         let read : packed_records kind text ≡ Some (seen_in records) = all_read kind text (seen_in records) (so_far.given ∙ ap (λ l. Some (map Good (seen_in records) ++ l)) none) in
         let all : seen_in records ≡ records_in kind text = sym (ap (λ (o : Option (List Record)). unwrap_or o []) read) in
         record {
-          good = all_stand kind text (seen_in records) read so_far.good;
+          good = all_stand kind text (seen_in records) so_far.plain read so_far.good;
           records = ap (map record_of) records_are ∙ all;
           names = λ name. ap (λ ns. list_any (bytes_eq name) (names_in ns)) names_are ∙ so_far.kept name ∙ ap (λ rs. list_any (bytes_eq name) (record_names rs)) all;
         }

@@ -310,7 +310,7 @@ module _ (kind : Kind) (facts : Facts) (tree : Tree) (sound : (path : Bytes) →
 
     packed_agrees : PackedAgrees r kept.packed
     packed_agrees = (
-      form_from kept.packed kept.good all_public,
+      form_from kept.packed kept.whole all_public,
       subst (AllByRecursion (PeelAgrees r)) kept.records (all_map (IsSoundRecord kind facts tree) (PeelAgrees r) (records_at kind tree) peel_agrees records),
     )
 

@@ -26,9 +26,10 @@ are_good_names sorted names = list_all is_name names && not (has_twice bytes_eq 
     && (not sorted || is_ascending names)
 
 abbrev pub is_good_file : PackedFile → Bool
-is_good_file packed = are_good_names packed.sorted (record_names packed.records)
+is_good_file packed =
+    not packed.returns && are_good_names packed.sorted (record_names packed.records)
 
--- each line is in its form, and its name may stand there
+-- each line is in its form, without a carriage return, and its name may stand there
 abbrev pub is_packed_text : Kind → Bytes → Bool
 is_packed_text kind text = unwrap_or (option_map is_good_file (packed_file kind text)) false
 

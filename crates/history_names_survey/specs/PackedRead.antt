@@ -1,13 +1,13 @@
 -- What is read of `packed-refs`.
-use Rattle.std.specs.Prelude.{◌≡◌, ℕ, ⊤, List, map, bytes_eq, IsTrue}
+use Rattle.std.specs.Prelude.{◌≡◌, ◌≤◌, ◌+◌, ◌++◌, ℕ, ⊤, List, length, map, bytes_eq, IsTrue, IsFalse}
 use Rattle.std.specs.Borrow.{Bor}
 use Rattle.std.specs.List.{list_any}
 use Rattle.gix_hash_id.specs.declared.kind.Kind.{Kind}
 use Rattle.gix_ref_file.specs.Tree.{Tree, bytes_at}
 use Rattle.gix_ref_format.specs.Packed.{record_of}
-use Rattle.history_model.specs.Bytes.{Bytes}
+use Rattle.history_model.specs.Bytes.{Bytes, has_byte}
 use Rattle.history_model.specs.Places.{packed_place}
-use Rattle.history_names_survey.specs.Packed.{HasBadRecord, is_packed_text, record_names, records_in}
+use Rattle.history_names_survey.specs.Packed.{HasBadRecord, first_lines, is_packed_text, record_names, records_in}
 use Rattle.history_names_survey.specs.declared.error.NamesError.{NamesError}
 use Rattle.history_names_survey.specs.declared.error.NamesError.TheVariants.{BadPacked, Memory}
 use Rattle.history_names_survey.specs.declared.packed.Packed.{Packed}
@@ -26,6 +26,15 @@ pub record IsReadOf (kind : Kind) (text : Bytes) (packed : Packed) : Type 0 wher
 -- the same of the file in a tree
 abbrev pub ReadsPacked : Kind → Packed → Tree → Type 0
 ReadsPacked kind packed tree = IsReadOf kind (bytes_at tree packed_place) packed
+
+-- The lines that end in a text, and how many they are. No line ends in what is left.
+pub record AreLinesOf (text whole : Bytes) (count : ℕ) : Type 0 where
+  pub rest : Bytes
+  pub are : text ≡ whole ++ rest
+  pub endless : IsFalse (has_byte 10 rest)
+  pub few : count ≤ length whole
+  pub first : (n : ℕ) (more : Bytes)
+      → first_lines (count + n) (whole ++ more) ≡ whole ++ first_lines n more
 
 -- why a text is no such file
 abbrev pub IsPackedFault : Kind → Bytes → NamesError → Type 0

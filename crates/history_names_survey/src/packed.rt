@@ -1,15 +1,15 @@
 //! The text of `packed-refs`, read line by line.
 
-ghost use Rattle.std.specs.Prelude.{◌≡◌, ◌++◌, ◌∷◌, [], ◌&&◌, ◌||◌, not, map, Some, IsTrue, MatchOption, MatchResult, bytes_eq, is_some, if◌then◌else◌};
+ghost use Rattle.std.specs.Prelude.{◌≡◌, ◌++◌, ◌∷◌, [], ◌&&◌, ◌||◌, not, map, Some, IsTrue, MatchOption, MatchResult, bytes_eq, is_some, if◌then◌else◌, IsFalse};
 ghost use Rattle.std.specs.List.{list_any};
 ghost use Rattle.std.specs.Ordering.{is_lt};
 ghost use Rattle.gix_ref_format.specs.Lines.{lines};
 ghost use Rattle.gix_ref_format.specs.Packed.{header_line, is_headed, record_of};
-ghost use Rattle.history_model.specs.Bytes.{by_bytes};
+ghost use Rattle.history_model.specs.Bytes.{by_bytes, has_byte};
 ghost use Rattle.history_model.specs.Forms as forms;
 ghost use Rattle.history_model.specs.PackedNames.{first_header, says_sorted};
 ghost use Rattle.history_names_survey.specs.Packed.{is_ascending, record_names};
-ghost use Rattle.history_names_survey.specs.PackedRead.{IsPackedFault, IsReadOf, names_in};
+ghost use Rattle.history_names_survey.specs.PackedRead.{AreLinesOf, IsPackedFault, IsReadOf, names_in};
 
 use crate::error::NamesError;
 use gix_hash::Kind;
@@ -27,9 +27,25 @@ pub(crate) struct Packed<'a> {
 }
 
 impl<'a> Packed<'a> {
-    /// The records of a text, read line by line: each is a record of a name, with or without a peeled id, none stands twice, and they
-    /// ascend where the header says so. Else `BadPacked` tells the first line that may not stand behind those before it.
+    /// The records of a text, read line by line: each is a record of a name, with or without a peeled id, none stands twice, they ascend
+    /// where the header says so, and no line has a carriage return. Else `BadPacked` tells the first line that may not come after those
+    /// before it.
     pub(crate) fn read(alloc: Global, kind: Kind, text: &'a [u8]) -> Result<Packed<'a>, NamesError>
+        ensures { MatchResult result (IsReadOf kind text.now) (IsPackedFault kind text.now) }
+    {
+        match split_once(text, b'\r') {
+            None => Packed::read_plain(alloc, kind, text),
+            Some((front, _)) => {
+                let (whole, count) = whole_lines(front);
+                Packed::read_plain(alloc, kind, whole)?;
+                Err(NamesError::BadPacked(count + 1))
+            }
+        }
+    }
+
+    // The records of a text without a carriage return.
+    fn read_plain(alloc: Global, kind: Kind, text: &'a [u8]) -> Result<Packed<'a>, NamesError>
+        requires { IsFalse (has_byte 13 text.now) }
         ensures { MatchResult result (IsReadOf kind text.now) (IsPackedFault kind text.now) }
     {
         let Ok(mut left) = Iter::new(text, kind) else {
@@ -62,6 +78,19 @@ impl<'a> Packed<'a> {
     {
         self.names.contains(name)
     }
+}
+
+// The lines that end in a text, and how many they are.
+fn whole_lines(text: &[u8]) -> (&[u8], usize)
+    ensures { AreLinesOf text.now result.0.now result.1 }
+{
+    let mut rest = text;
+    let mut count = 0;
+    'lines: while let Some((_, behind)) = split_once(rest, b'\n') {
+        rest = behind;
+        count += 1;
+    }
+    (&text[..text.len() - rest.len()], count)
 }
 
 // Whether the header says that the records ascend.

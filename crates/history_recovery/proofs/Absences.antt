@@ -15,7 +15,7 @@ use Rattle.history_model.specs.Bytes.{Bytes, begins}
 use Rattle.history_model.specs.Forms.{is_name, is_private}
 use Rattle.history_model.specs.Places.{file_at, packed_place, is_log_place, log_name, is_lock_file}
 use Rattle.history_model.specs.NameStates.{Holds, Symbolic, Absent, Faulty, is_absent, loose_line, loose_state, name_state, packed_state, packed_text_state}
-use Rattle.history_model.specs.PackedNames.{id_from_hex, says_sorted, whole_line}
+use Rattle.history_model.specs.PackedNames.{id_from_hex, packed_with, whole_line}
 use Rattle.history_model.proofs.FormatLemmas.{records_alike}
 use Rattle.history_model.proofs.NameLemmas.{partial_of, some_or}
 use Rattle.history_model.proofs.WholePaths.{begins_parts}
@@ -68,7 +68,7 @@ told_none kind tree name none = sym (ap (λ found. is_absent (unwrap_or (option_
 pub told_faulty : (kind : Kind) (tree : Tree) (name text : Bytes) → file_at tree packed_place ≡ Some text → packed_records kind text ≡ None → false ≡ is_absent (packed_reading kind tree name)
 told_faulty kind tree name text stands none =
     sym (ap (λ found. is_absent (unwrap_or (option_map (packed_text_state kind name) found) Absent)) stands
-    ∙ ap (λ (rs : Option (List Record)). is_absent (unwrap_or (option_map (packed_state name) (option_map (λ records. record { sorted = says_sorted text; records = records }) rs)) Faulty)) none)
+    ∙ ap (λ (rs : Option (List Record)). is_absent (unwrap_or (option_map (packed_state name) (option_map (packed_with text) rs)) Faulty)) none)
 
 pub told_records : (kind : Kind) (tree : Tree) (name text : Bytes) (kept : List Record) → is_name name ≡ true → file_at tree packed_place ≡ Some text → Keeps kind text kept
     → is_none (packed_hit kept name) ≡ is_absent (packed_reading kind tree name)
@@ -76,7 +76,7 @@ told_records kind tree name text kept named stands keeps =
     ap (λ key. is_none (option_and_then (hit kept) key)) (records_alike name named)
     ∙ by_kind (is_private name)
     ∙ sym (ap (λ found. is_absent (unwrap_or (option_map (packed_text_state kind name) found) Absent)) stands
-    ∙ ap (λ (rs : Option (List Record)). is_absent (unwrap_or (option_map (packed_state name) (option_map (λ records. record { sorted = says_sorted text; records = records }) rs)) Faulty)) keeps.1)
+    ∙ ap (λ (rs : Option (List Record)). is_absent (unwrap_or (option_map (packed_state name) (option_map (packed_with text) rs)) Faulty)) keeps.1)
   where
     by_found : (o : Option Record) → is_none o ≡ is_absent (unwrap_or (option_map (λ found. Holds found.target) o) Absent)
     by_found None = refl

@@ -21,7 +21,6 @@ use Rattle.gix_ref_way.specs.Ways.{above}
 use Rattle.history_recovery.specs.Clearing.{lock_place, is_over, AreAllKept, IsCut, AreCutBelow, IsLogFolder, Cuts, MayCut, Replaces}
 use Rattle.history_recovery.specs.Recovering.{NamesAlike}
 use Rattle.history_recovery.proofs.Below.{all_below}
-use Rattle.history_recovery.proofs.Lines.{whole_itself}
 use Rattle.history_recovery.proofs.Left.{left_is, none_stays, apart_turned, node-twice, lock_apart, lock_is_lock, with_lock, with_renamed, not_some}
 
 -- ---- alike, step by step
@@ -204,34 +203,6 @@ renamed_alike kind log whole old locked new may allowed is first second =
     then_alike kind old locked new (locked_alike kind log whole old locked may first) (adds_weaker locked new second (while_renamed kind old.tree log whole may locked.tree allowed is))
 
 -- ---- one log
-
--- what is no file has no lines to be cut
-pub unread_cut : (tree : Tree) (path : Bytes) (n : Option ℕ) → is_log_place path ≡ true → n ≡ option_map length (file_at tree path) → is_some n ≡ false → IsCut tree path
-unread_cut tree [] n log is none = cc
-unread_cut tree (b ∷ path) n log is none = go (get tree (b ∷ path)) refl
-  where
-    go : (o : Option Node) → get tree (b ∷ path) ≡ o → option_map (recovered_node (b ∷ path)) (get tree (b ∷ path)) ≡ get tree (b ∷ path)
-    go None e = ap (option_map (recovered_node (b ∷ path))) e ∙ sym e
-    go (Some folder) e = ap (option_map (recovered_node (b ∷ path))) e ∙ sym e
-    go (Some (file bytes)) e =
-        let wrong : true ≡ false = sym (ap is_some (is ∙ ap (λ o. option_map length (bytes_of o)) e)) ∙ none in cc wrong
-
--- what is read of a file is its text
-pub read_text : (tree : Tree) (path read : Bytes) (n : Option ℕ) → n ≡ option_map length (file_at tree path) → is_some n ≡ true → read ≡ bytes_at tree path → file_at tree path ≡ Some read
-read_text tree path read n is some text = go (file_at tree path) refl
-  where
-    go : (o : Option Bytes) → file_at tree path ≡ o → file_at tree path ≡ Some read
-    go None e = let wrong : false ≡ true = sym (ap is_some (is ∙ ap (option_map length) e)) ∙ some in cc wrong
-    go (Some bytes) e = e ∙ ap Some (sym (text ∙ ap (λ o. unwrap_or o []) e))
-
--- a text that is as long as its whole lines is these
-pub uncut_itself : (tree : Tree) (path text whole : Bytes) → is_log_place path ≡ true → file_at tree path ≡ Some text → whole ≡ whole_lines text → length whole ≡ length text → IsCut tree path
-uncut_itself tree path text whole log stands is same =
-    ap (option_map (recovered_node path)) at ∙ ap (λ b. Some (file (cond b (whole_lines text) text))) log
-    ∙ ap (λ bs. Some (file bs)) (whole_itself text (ap length (sym is) ∙ same)) ∙ sym at
-  where
-    at : get tree path ≡ Some (file text)
-    at = file_is tree path text log stands
 
 pub may_cut : (kind : Kind) (tree : Tree) (log text whole : Bytes) → AreAllKept kind tree → is_log_place log ≡ true → file_at tree log ≡ Some text → whole ≡ whole_lines text → MayCut kind log whole tree
 may_cut kind tree log text whole kept is stands lines = record { kept = kept; is_log = is; text = text; stands = stands; lines = lines }

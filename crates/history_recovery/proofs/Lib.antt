@@ -9,3 +9,4 @@ mod Locks
 mod Recoveries
 mod Rooms
 mod Stood
+mod TornEnds

@@ -47,19 +47,6 @@ ends_there end text some fits is =
     let last : take end text ≡ take (end - 1) text ++ 10 ∷ [] = last_taken end text some fits ∙ ap (λ b. take (end - 1) text ++ b ∷ []) is in
     ap whole_lines last ∙ line_ends (take (end - 1) text) ∙ sym last
 
--- they are the text where they are as long
-pub whole_itself : (text : Bytes) → length (whole_lines text) ≡ length text → whole_lines text ≡ text
-whole_itself [] same = refl
-whole_itself (b ∷ text) same = go (has_byte 10 (b ∷ text)) refl same (whole_itself text)
-  where
-    go : (c : Bool) → has_byte 10 (b ∷ text) ≡ c → length (whole_lines (b ∷ text)) ≡ suc (length text) → (length (whole_lines text) ≡ length text → whole_lines text ≡ text) → whole_lines (b ∷ text) ≡ b ∷ text
-    go true e same rest =
-        let is : whole_lines (b ∷ text) ≡ b ∷ whole_lines text = ap (λ c. cond c (b ∷ whole_lines text) []) e in
-        is ∙ ap (λ t. b ∷ t) (rest (omega (arith, same, ap length is)))
-    go false e same rest =
-        let is : whole_lines (b ∷ text) ≡ [] = ap (λ c. cond c (b ∷ whole_lines text) []) e in
-        absurd (omega (arith, same, ap length is))
-
 pub nothing_left : (end : ℕ) (text : Bytes) → end ≤ 0 → whole_lines (take end text) ≡ take end text
 nothing_left end text none = subst (λ n. whole_lines (take n text) ≡ take n text) (zero_is end none) refl
   where

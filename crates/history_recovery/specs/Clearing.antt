@@ -1,10 +1,10 @@
 -- The words of private contracts: what clearing and cutting make of the names part.
-use Rattle.std.specs.Prelude.{◌≡◌, ◌⊎◌, ℕ, suc, Bool, true, false, ◌&&◌, ◌||◌, ◌∷◌, ◌++◌, [], Some, None, option_map, unwrap_or, is_none, IsSome, IsTrue, codes}
+use Rattle.std.specs.Prelude.{◌≡◌, ◌⊎◌, ℕ, suc, Bool, true, false, not, ◌&&◌, ◌||◌, ◌∷◌, ◌++◌, [], Some, None, option_map, unwrap_or, is_none, IsSome, IsTrue, bytes_eq, codes}
 use Rattle.std.specs.FinMap.{get, insert}
 use Rattle.gix_ref_file.specs.Tree.{Tree, file, bytes_at}
 use Rattle.gix_ref_format.specs.Lookup.{packed_hit}
 use Rattle.gix_ref_format.specs.PackedKept.{kept}
-use Rattle.history_model.specs.Bytes.{Bytes, begins}
+use Rattle.history_model.specs.Bytes.{Bytes, begins, ends}
 use Rattle.history_model.specs.Forms.{is_name}
 use Rattle.history_model.specs.Logs.{whole_lines}
 use Rattle.history_model.specs.Places.{file_at, packed_place, is_log_place, log_name, is_lock_file}
@@ -63,6 +63,11 @@ pub record Clears (kind : Kind) (old tree : Tree) : Type 0 where
 -- below `logs`, or that folder
 abbrev pub IsLogFolder : Bytes → Type 0
 IsLogFolder place = IsTrue (begins (codes "logs/") (place ++ 47 ∷ []))
+
+-- whether a file stands at the path whose last line has no line feed
+abbrev pub has_torn_end : Tree → Bytes → Bool
+has_torn_end tree path =
+    let text = bytes_at tree path in not (bytes_eq text []) && not (ends (10 ∷ []) text)
 
 -- a log at the path has whole lines alone
 abbrev pub IsCut : Tree → Bytes → Type 0

@@ -1,15 +1,15 @@
 //! Cuts logs behind their last line feeds.
 ghost use Rattle.std.specs.Prelude.{◌≡◌, ◌≤◌, OnOk, IfOk, IsErrOf, IsTrue};
-ghost use Rattle.gix_ref_file.specs.Calls.{Achieves, HasFault, Passes};
+ghost use Rattle.gix_ref_file.specs.Calls.{Achieves, Finds, HasFault, Passes};
 ghost use Rattle.gix_ref_file.specs.declared.files.FileError.TheVariants.{Failed, Memory};
 ghost use Rattle.history_model.specs.Places.{is_log_place};
 ghost use Rattle.history_model.specs.Logs as logs;
 ghost use Rattle.gix_hash_id.specs.declared.kind.Kind.{Kind};
-ghost use Rattle.history_recovery.specs.Clearing.{AreAllKept, AreCutBelow, Cuts, IsCut, IsLogFolder, MayCut, Replaces, lock_place};
+ghost use Rattle.history_recovery.specs.Clearing.{AreAllKept, AreCutBelow, Cuts, IsCut, IsLogFolder, MayCut, Replaces, has_torn_end, lock_place};
 ghost use Rattle.history_recovery.specs.Recovering.{NamesAlike};
 
 use gix_ref_file::paths::{is_deeper, joined};
-use gix_ref_file::{FileError, Files};
+use gix_ref_file::{FileError, Files, Place};
 use std::alloc::{AllocError, Global};
 
 /// Cuts the logs below a folder of logs, in a tree without leftovers.
@@ -46,7 +46,7 @@ pub(crate) fn cut_below<F: Files>(
     Ok(())
 }
 
-// Cuts the log at a path, where a file stands there.
+// Cuts the log at a path, if a file stands there. Only a log whose last line is torn is read whole.
 fn cut_log<F: Files>(alloc: Global, files: &mut F, log: &[u8]) -> Result<(), FileError>
     ensures honest { F.is_honest files.old → F.is_honest files.new }
     ensures alike { (kind : Kind) → AreAllKept kind (F.history files.old).tree
@@ -67,15 +67,30 @@ fn cut_log<F: Files>(alloc: Global, files: &mut F, log: &[u8]) -> Result<(), Fil
         → F.is_honest files.old → IsErrOf result Failed
         → HasFault F.failures F.reading_may_fail files.old files.new }
 {
+    if !is_torn(files, log)? {
+        return Ok(());
+    }
     let mut text = Vec::new(alloc);
-    if files.read(log, &mut text)?.is_none() {
-        return Ok(());
-    }
+    files.read(log, &mut text)?;
     let whole = whole_lines(&text);
-    if whole.len() == text.len() {
-        return Ok(());
-    }
     replace_log(alloc, files, log, whole)
+}
+
+// Whether the file at a path ends within a line, by its last byte alone.
+fn is_torn<F: Files>(files: &F, path: &[u8]) -> Result<bool, FileError>
+    ensures torn { Finds F.is_honest F.history files.now
+        (λ tree. IfOk result (λ torn. torn ≡ has_torn_end tree path.now)) }
+    ensures failed { IsErrOf result Failed → F.reading_may_fail }
+{
+    let Place::File(len) = files.kind_of(path)? else {
+        return Ok(false);
+    };
+    if len == 0 {
+        return Ok(false);
+    }
+    let mut last = [0; 1];
+    files.read_at(path, len - 1, &mut last)?;
+    Ok(last[0] != b'\n')
 }
 
 // Puts its whole lines in the place of a log: writes them in its lock file, and renames that.

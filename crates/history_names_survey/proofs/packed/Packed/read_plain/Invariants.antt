@@ -1,6 +1,6 @@
 use Rattle.gix_ref_format.specs.PackedIter.{items_left}
 use Rattle.history_names_survey.proofs.ReadSoFar.{IsSoFar}
-use Rattle.history_names_survey.proofs.packed.Packed.read.Given as goal
+use Rattle.history_names_survey.proofs.packed.Packed.read_plain.Given as goal
 
 -- the records so far may stand in a file of packed names
 abbrev pub invariant-loop-item : goal.invariant-loop-item
