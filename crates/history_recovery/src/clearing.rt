@@ -3,7 +3,7 @@ ghost use Rattle.std.specs.Prelude.{◌≡◌, ◌≤◌, ◌||◌, codes, OnOk,
 ghost use Rattle.gix_ref_file.specs.Calls.{HasFault, Passes};
 ghost use Rattle.gix_ref_file.specs.Tree.{node_at, is_folder};
 ghost use Rattle.gix_ref_file.specs.Changes.{is_file_at};
-ghost use Rattle.gix_ref_file.specs.declared.files.FileError.TheVariants.{Failed};
+ghost use Rattle.gix_ref_file.specs.declared.files.FileError.TheVariants.{Failed, Memory};
 ghost use Rattle.history_model.specs.FileMap.{is_below};
 ghost use Rattle.gix_hash_id.specs.declared.kind.Kind.{Kind};
 ghost use Rattle.history_recovery.specs.Clearing.{Tells, Clears, IsKept, AreKeptBelow};
@@ -28,6 +28,7 @@ pub(crate) fn clear_below<F: Files>(
         → OnOk result (AreKeptBelow kind folder.now (F.history files.new).tree) }
     ensures later { F.failures files.old ≤ F.failures files.new }
     ensures unfailed { OnOk result (F.failures files.new ≡ F.failures files.old) }
+    ensures memory { IsErrOf result Memory → F.failures files.new ≡ F.failures files.old }
     ensures failed { F.is_honest files.old → IsErrOf result Failed
         → HasFault F.failures F.reading_may_fail files.old files.new }
 {
@@ -57,6 +58,7 @@ fn clear_at<F: Files>(
         → OnOk result (IsKept kind (F.history files.new).tree path.now) }
     ensures later { F.failures files.old ≤ F.failures files.new }
     ensures unfailed { OnOk result (F.failures files.new ≡ F.failures files.old) }
+    ensures memory { IsErrOf result Memory → F.failures files.new ≡ F.failures files.old }
     ensures failed { F.is_honest files.old → IsErrOf result Failed
         → HasFault F.failures F.reading_may_fail files.old files.new }
 {
@@ -84,6 +86,7 @@ fn remove_leftover<F: Files>(
         → OnOk result (IsKept kind (F.history files.new).tree path.now) }
     ensures later { F.failures files.old ≤ F.failures files.new }
     ensures unfailed { OnOk result (F.failures files.new ≡ F.failures files.old) }
+    ensures memory { IsErrOf result Memory → F.failures files.new ≡ F.failures files.old }
     ensures failed { F.is_honest files.old
         → IsTrue (is_file_at (F.history files.old).tree path.now)
         → IsErrOf result Failed
@@ -106,6 +109,7 @@ fn remove_deserted<F: Files>(alloc: Global, files: &mut F, folder: &[u8]) -> Res
         → OnOk result (IsKept kind (F.history files.new).tree folder.now) }
     ensures later { F.failures files.old ≤ F.failures files.new }
     ensures unfailed { OnOk result (F.failures files.new ≡ F.failures files.old) }
+    ensures memory { IsErrOf result Memory → F.failures files.new ≡ F.failures files.old }
     ensures failed { F.is_honest files.old
         → IsTrue (is_folder (node_at (F.history files.old).tree folder.now))
         → IsErrOf result Failed

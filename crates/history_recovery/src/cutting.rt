@@ -1,7 +1,7 @@
 //! Cuts logs behind their last line feeds.
 ghost use Rattle.std.specs.Prelude.{◌≡◌, ◌≤◌, OnOk, IfOk, IsErrOf, IsTrue};
 ghost use Rattle.gix_ref_file.specs.Calls.{Achieves, Finds, HasFault, Passes};
-ghost use Rattle.gix_ref_file.specs.declared.files.FileError.TheVariants.{Failed};
+ghost use Rattle.gix_ref_file.specs.declared.files.FileError.TheVariants.{Failed, Memory};
 ghost use Rattle.history_model.specs.Places.{is_log_place};
 ghost use Rattle.history_model.specs.Logs as logs;
 ghost use Rattle.gix_hash_id.specs.declared.kind.Kind.{Kind};
@@ -30,6 +30,7 @@ pub(crate) fn cut_below<F: Files>(
         (λ _ new. AreCutBelow folder.now new) }
     ensures later { F.failures files.old ≤ F.failures files.new }
     ensures unfailed { OnOk result (F.failures files.new ≡ F.failures files.old) }
+    ensures memory { IsErrOf result Memory → F.failures files.new ≡ F.failures files.old }
     ensures failed { (kind : Kind) → AreAllKept kind (F.history files.old).tree
         → IsLogFolder folder.now
         → F.is_honest files.old → IsErrOf result Failed
@@ -60,6 +61,7 @@ fn cut_log<F: Files>(alloc: Global, files: &mut F, log: &[u8]) -> Result<(), Fil
         (λ _ new. IsCut new log.now) }
     ensures later { F.failures files.old ≤ F.failures files.new }
     ensures unfailed { OnOk result (F.failures files.new ≡ F.failures files.old) }
+    ensures memory { IsErrOf result Memory → F.failures files.new ≡ F.failures files.old }
     ensures failed { (kind : Kind) → AreAllKept kind (F.history files.old).tree
         → IsTrue (is_log_place log.now)
         → F.is_honest files.old → IsErrOf result Failed
@@ -105,6 +107,7 @@ fn replace_log<F: Files>(
         → Achieves F.is_honest F.history files.old files.new result (Replaces log.now) }
     ensures later { F.failures files.old ≤ F.failures files.new }
     ensures unfailed { OnOk result (F.failures files.new ≡ F.failures files.old) }
+    ensures memory { IsErrOf result Memory → F.failures files.new ≡ F.failures files.old }
     ensures failed { (kind : Kind) → MayCut kind log.now whole.now (F.history files.old).tree
         → F.is_honest files.old → IsErrOf result Failed
         → HasFault F.failures F.reading_may_fail files.old files.new }

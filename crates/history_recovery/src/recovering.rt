@@ -2,10 +2,11 @@
 ghost use Rattle.std.specs.Prelude.{◌≡◌, ◌⊎◌, ◌≤◌, OnOk, IsErrOf};
 ghost use Rattle.gix_ref_file.specs.Calls.{Achieves, HasFault, Passes};
 ghost use Rattle.gix_ref_file.specs.declared.files.FileError.TheVariants.{Failed};
+ghost use Rattle.gix_ref_file.specs.declared.files.FileError.TheVariants as calls;
 ghost use Rattle.history_model.specs.Places.{Pair};
 ghost use Rattle.history_model.specs.Recovery.{recovered};
 ghost use Rattle.history_recovery.specs.Recovering.{ObjectsAlike, NamesAlike, AreObjectsRecovered, AreNamesRecovered, IsOnTheWay, pair_of, recover_fault};
-ghost use Rattle.history_recovery.specs.declared.recovering.RecoverError.TheVariants.{File};
+ghost use Rattle.history_recovery.specs.declared.recovering.RecoverError.TheVariants.{File, Memory};
 
 use crate::clearing::clear_below;
 use crate::cutting::cut_below;
@@ -79,6 +80,8 @@ pub fn recover<F: Files>(
     ensures names_later { F.failures names.old ≤ F.failures names.new }
     ensures unfailed { OnOk result ((F.failures objects.new ≡ F.failures objects.old)
         × (F.failures names.new ≡ F.failures names.old)) }
+    ensures memory { IsErrOf result Memory → (F.failures objects.new ≡ F.failures objects.old)
+        × (F.failures names.new ≡ F.failures names.old) }
     ensures failed { F.is_honest objects.old → F.is_honest names.old
         → IsErrOf result File
         → HasFault F.failures F.reading_may_fail objects.old objects.new
@@ -97,6 +100,7 @@ fn remove_unfinished<F: Files>(alloc: Global, objects: &mut F) -> Result<(), Fil
     ensures alike { Passes F.is_honest F.history objects.old objects.new ObjectsAlike }
     ensures later { F.failures objects.old ≤ F.failures objects.new }
     ensures unfailed { OnOk result (F.failures objects.new ≡ F.failures objects.old) }
+    ensures memory { IsErrOf result calls.Memory → F.failures objects.new ≡ F.failures objects.old }
     ensures failed { F.is_honest objects.old → IsErrOf result Failed
         → HasFault F.failures F.reading_may_fail objects.old objects.new }
 {
@@ -114,6 +118,7 @@ fn recover_names<F: Files>(alloc: Global, names: &mut F, kind: Kind) -> Result<(
     ensures alike { Passes F.is_honest F.history names.old names.new (NamesAlike kind) }
     ensures later { F.failures names.old ≤ F.failures names.new }
     ensures unfailed { OnOk result (F.failures names.new ≡ F.failures names.old) }
+    ensures memory { IsErrOf result calls.Memory → F.failures names.new ≡ F.failures names.old }
     ensures failed { F.is_honest names.old → IsErrOf result Failed
         → HasFault F.failures F.reading_may_fail names.old names.new }
 {
