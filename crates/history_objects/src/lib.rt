@@ -8,7 +8,7 @@ mod prefixes;
 mod put;
 
 pub use ids::IdIter;
-pub use objects::{Object, Objects, PutMadeError, UNFINISHED, object_place};
+pub use objects::{Object, Objects, PutMadeError};
 pub use opening::ObjectsRefusal;
 pub use prefixes::{Hit, Lookup};
 pub use put::PutError;

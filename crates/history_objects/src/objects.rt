@@ -30,11 +30,8 @@ use gix_object_lines::cut::strip_prefix;
 use gix_object_lines::{Kind as ObjectKind, encode};
 use gix_ref_file::{FileError, Files, Place};
 use gix_ref_way::make_folders;
-use history_texts::{NewObject, hex_digits, parse_header};
+use history_texts::{NewObject, UNFINISHED, object_place, parse_header};
 use std::alloc::{AllocError, Global};
-
-/// Where an object is written before it is given its place.
-pub const UNFINISHED: &[u8] = b"objects/unfinished";
 
 /// An object as it was stored.
 #[derive(Drop, Debug)]
@@ -335,25 +332,6 @@ fn is_empty_tree(object: ObjectKind, content: &[u8]) -> bool
     ensures { result ≡ is_empty_tree object content.now }
 {
     matches!(object, ObjectKind::Tree) && content.is_empty()
-}
-
-// `objects/`, the digits of a SHA-256 id and the slash between them.
-const LONGEST_PLACE: usize = 73;
-
-/// The path of an object's file.
-pub fn object_place(alloc: Global, id: &ObjectId) -> Result<Vec<u8>, AllocError>
-    ensures { IfOk result (λ place. place.items ≡ object_place (id_of id.now)) }
-{
-    // An id's digits are two for each of its bytes.
-    let _bytes = id.as_bytes();
-    let mut buffer = Kind::hex_buf();
-    let (folder, file) = hex_digits(id, &mut buffer).split_at(2);
-    let mut place = Vec::with_capacity(alloc, LONGEST_PLACE)?;
-    place.extend_from_slice(b"objects/")?;
-    place.extend_from_slice(folder)?;
-    place.push(b'/')?;
-    place.extend_from_slice(file)?;
-    Ok(place)
 }
 
 // A text without so many bytes at its front.

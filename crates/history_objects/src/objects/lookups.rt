@@ -7,12 +7,12 @@ ghost use Rattle.history_objects.specs.KnownObjects.{table_of, HoldsKnown};
 ghost use Rattle.history_objects.specs.Lookups.{find_fault};
 ghost use Rattle.history_texts.specs.ObjectTexts.{object_in};
 
-use crate::objects::{Objects, cut_front, object_place};
+use crate::objects::{Objects, cut_front};
 use gix_hash::{ObjectId, oid};
 use gix_object_lines::{Header, Kind as ObjectKind};
 use gix_object_lookup::{Exists, FindHeader, FindInto, Lookup, find};
 use gix_ref_file::{FileError, Files};
-use history_texts::parse_header;
+use history_texts::{object_place, parse_header};
 
 impl<F: Files> Lookup for Objects<F> {
     ghost table = { table_of F.history };
