@@ -7,5 +7,6 @@ mod KnownIds
 mod Maps
 mod ObjectFiles
 pub mod ObjectParts
+mod Opens
 mod PrefixLists
 mod Stored

@@ -4,6 +4,7 @@ pub mod KeptIds
 pub mod KnownIds
 pub mod KnownObjects
 pub mod Lookups
+pub mod Opened
 pub mod Prefixes
 pub mod Puts
 pub mod Stores

@@ -1,13 +1,16 @@
-//! Opening a part as a store of objects: one that holds none yet.
-ghost use Rattle.std.specs.Prelude.{◌≡◌, [], IfOk, OnOk, IfErr};
-ghost use Rattle.history_texts.specs.Parts.{IsClear};
-ghost use Rattle.history_texts.specs.Refusals.{IsWrongPart};
-ghost use Rattle.history_texts.specs.declared.parts.Part.TheVariants as parts;
+//! Opening a part as a store of objects.
+ghost use Rattle.std.specs.Prelude.{◌≡◌, IfErr, IfOk};
+ghost use Rattle.history_objects.specs.Face.{files_of_objects, ids_of_objects, kind_of_objects};
+ghost use Rattle.history_objects.specs.KnownObjects.{HoldsKnown};
+ghost use Rattle.history_objects.specs.Opened.{IsOpened};
+ghost use Rattle.history_survey.specs.Flaws.{IsObjectsFlaw};
+ghost use Rattle.history_survey.specs.Surveyed.{IsWholePart};
 
 use crate::objects::Objects;
-use gix_hash::Kind;
+use gix_hash::{Kind, ObjectId};
 use gix_ref_file::Files;
-use history_texts::{OpenError, Part, refuse_stray};
+use history_survey::whole_ids;
+use history_texts::OpenError;
 use std::alloc::Global;
 
 /// Why objects aren't opened, and their part, as it was handed in.
@@ -18,26 +21,51 @@ pub struct ObjectsRefusal<F: Files> {
 }
 
 impl<F: Files> Objects<F> {
-    ghost use Rattle.std.specs.FinMap.{empty};
-    ghost use Rattle.history_objects.specs.Face.{files_of_objects, ids_of_objects, kind_of_objects};
-
-    /// Opens the objects of a part that holds no file yet. No file is changed.
+    /// Opens the objects of a part that is whole: each file is an object's, in written form and under its own id, all that an object names
+    /// is stored, and none reaches itself. So is a part without files. No file is changed. Each object is read once.
     ///
-    /// Else the refusal names a cause that holds, and hands the part back: `NotYet` for a file, `Stray` for a folder that no
-    /// repository has, `File` where a call of the files failed, `Memory` where a growth was refused.
+    /// Else the error of the refusal is a cause that holds of the part, which is handed back: `File` where a call of the files failed,
+    /// `Memory` where a growth was refused.
     pub fn open(alloc: Global, files: F, kind: Kind) -> Result<Objects<F>, ObjectsRefusal<F>>
-        ensures ok { IfOk result (λ opened. (files_of_objects opened ≡ files)
-            × (kind_of_objects opened ≡ kind) × (ids_of_objects opened ≡ empty)) }
-        ensures clear { F.is_honest files
-            → OnOk result (IsClear parts.Objects [] (F.history files).tree) }
-        ensures refused { F.is_honest files
-            → IfErr result (λ refusal. IsWrongPart F.reading_may_fail parts.Objects []
-            (F.history files).tree refusal.error) }
+        ensures files { IfOk result (λ objects. (files_of_objects objects ≡ files)
+            × (kind_of_objects objects ≡ kind)) }
+        ensures whole { F.is_honest files → IfOk result (λ objects.
+            IsOpened kind (F.history files).tree (ids_of_objects objects)) }
+        ensures holds { F.is_honest files → IfOk result (HoldsKnown F.is_honest F.history) }
+        ensures flaw { F.is_honest files → IfErr result (λ refusal.
+            IsObjectsFlaw F.reading_may_fail kind (F.history files).tree refusal.error) }
         ensures handed_back { IfErr result (λ refusal. refusal.files ≡ files) }
     {
-        match refuse_stray(alloc, &files, Part::Objects, b"") {
-            Ok(()) => Ok(Objects::new(alloc, files, kind)),
+        match whole_ids(alloc, &files, kind) {
+            Ok(ids) => open_ids(alloc, files, kind, &ids),
             Err(error) => Err(ObjectsRefusal { error, files }),
         }
+    }
+}
+
+// The store of a part that has the objects of these ids.
+fn open_ids<F: Files>(
+    alloc: Global,
+    files: F,
+    kind: Kind,
+    ids: &[ObjectId],
+) -> Result<Objects<F>, ObjectsRefusal<F>>
+    requires { F.is_honest files → IsWholePart kind (F.history files).tree ids.now }
+    ensures files { IfOk result (λ objects. (files_of_objects objects ≡ files)
+        × (kind_of_objects objects ≡ kind)) }
+    ensures whole { F.is_honest files → IfOk result (λ objects.
+        IsOpened kind (F.history files).tree (ids_of_objects objects)) }
+    ensures holds { F.is_honest files → IfOk result (HoldsKnown F.is_honest F.history) }
+    ensures flaw { F.is_honest files → IfErr result (λ refusal.
+        IsObjectsFlaw F.reading_may_fail kind (F.history files).tree refusal.error) }
+    ensures handed_back { IfErr result (λ refusal. refusal.files ≡ files) }
+{
+    let mut objects = Objects::new(alloc, files, kind);
+    match objects.know(alloc, ids) {
+        Ok(()) => Ok(objects),
+        Err(_) => Err(ObjectsRefusal {
+            error: OpenError::Memory,
+            files: objects.into_files(),
+        }),
     }
 }

@@ -1,0 +1,18 @@
+-- What the objects part is of which a store is opened.
+use Rattle.std.specs.Prelude.{◌≡◌}
+use Rattle.std.specs.FinMap.{contains_key}
+use Rattle.gix_hash_id.specs.Id.{Id}
+use Rattle.gix_hash_id.specs.declared.kind.Kind.{Kind}
+use Rattle.gix_ref_file.specs.Tree.{Tree}
+use Rattle.history_model.specs.Repository.{Values}
+use Rattle.history_steps.specs.TreeHalves.{HoldsValues}
+use Rattle.history_survey.specs.Opened.{IsSoundStore}
+use Rattle.history_objects.specs.Ids.{IdSet}
+
+-- The tree has the files of values that are a whole store in written form and no other, no folders but those of objects, and these
+-- are the ids of the values.
+pub record IsOpened (kind : Kind) (tree : Tree) (ids : IdSet) : Type 0 where
+  pub values : Values
+  pub holds : HoldsValues kind tree values
+  pub sound : IsSoundStore kind values
+  pub known : (id : Id) → contains_key ids id ≡ contains_key values id
