@@ -78,7 +78,7 @@ def of_object(kind, files, path, text):
         found.add((b"IdReserved",))
     named = {b"blob": lambda *_: [], b"tree": of_tree, b"commit": of_commit, b"tag": of_tag}[object_](kind, content)
     if named is None:
-        return found | {(b"BadTree", digits) if object_ == b"tree" else (b"BadObject", path)}
+        return found | {malformed(kind, object_, content, digits, path)}
     for other, as_kind in named:
         there = files.get(place(other))
         if there is None:
@@ -86,6 +86,30 @@ def of_object(kind, files, path, text):
         elif header(there) and header(there)[0] != as_kind:
             found.add((b"WrongKind", other, digits))
     return found | ({(b"BadTree", digits)} if object_ == b"tree" and longest(kind, files, content) > 4096 else set())
+
+
+def malformed(kind, object_, content, digits, path):
+    """The cause of an object that isn't in written form."""
+    if object_ == b"tree":
+        return (b"BadTree", digits)
+    if is_before_1970(kind, object_, content):
+        return (b"BadTime", digits)
+    if object_ == b"tag" and re.match(rb"object .*\ntype (blob|tree|tag)\n", content):
+        return (b"BadTag", digits)
+    return (b"BadObject", path)
+
+
+def is_before_1970(kind, object_, content):
+    """Whether it is a commit by Git's format, or has the lines of a tag of a commit, and the seconds of a time have a minus."""
+    digits, actor = b"[0-9a-fA-F]{%d}" % SIZES[kind], rb"[^<\n]* <[^\n]*> (-?\d+) [+-]\d{4}"
+    header = rb"[^ \n]+ [^\n]*\n(?: [^\n]*\n)*"
+    forms = {
+        b"commit": rb"tree %s\n(?:parent %s\n)*author %s\ncommitter %s\n(?:%s)*\n(?s:.*)" % (digits, digits, actor, actor, header),
+        b"tag": rb"object .*\ntype commit\ntag .*\ntagger %s\n\n(?s:.*)" % actor,
+    }
+    found = re.fullmatch(forms[object_], content) if object_ in forms else None
+    seconds = found.groups() if found else ()
+    return any(it.startswith(b"-") for it in seconds) and all(-2 ** 63 <= int(it) < 2 ** 63 for it in seconds)
 
 
 def longest(kind, files, content):

@@ -79,6 +79,7 @@ CAUSES: Dict[str, str] = {
     "LogWithoutName": "a stopped run left this log; recover removes it",
     "BadLog": "a line of this log isn't whole",
     "BadObject": "the file isn't an object",
+    "BadTag": "the tag isn't of a commit",
     "WrongId": "the object has another id than its place says",
     "Missing": "an object isn't stored",
     "WrongKind": "an object is of another kind than its user says",

@@ -9,9 +9,7 @@ use gix_ref::file::Store;
 use gix_ref::transaction::{Change, LogChange, PackedRefs, PreviousValue, RefEdit, prepare_edits};
 use gix_ref::{Disk, Files, Folder, FullName, MemoryFiles, Part, Target};
 use gix_traverse::commit::Simple;
-use history::{
-    Bytes, Collected, End, Kind, ObjectId, Repository, Stream, create, open_objects, run,
-};
+use history::{Bytes, Collected, End, Kind, ObjectId, Objects, Repository, Stream, create, run};
 use std::alloc::Global;
 use std::io::Read;
 use std::{env, fs};
@@ -58,7 +56,7 @@ fn tour<F: Files + Drop>(rt: &HostRuntime, parts: (F, F), commands: &[u8]) -> Re
     run(alloc, &mut reader, &mut writer, &mut repository)?;
 
     let (objects, _) = repository.into_parts();
-    let objects = open_objects(alloc, objects, Kind::Sha1).map_err(|unopened| unopened.flaw)?;
+    let objects = Objects::open(alloc, objects, Kind::Sha1).map_err(|refusal| refusal.error)?;
     for commit in Simple::new(vec![in alloc; tip]?, &objects)? {
         println!(rt; "{}", commit?.id)?;
     }

@@ -42,8 +42,9 @@ pub use gix_traverse_commit_graph::{Graph, Row};
 pub use history_model::{Cause, End, Fault, laws};
 pub use history_recovery::{RecoverError, recover};
 pub use history_repository::{NamedBy, OpenError, OpenRefusal, Stopped};
-pub use history_store::{CreateError, Hit, IdIter, Lookup, Object, Objects, PutError, create};
-pub use history_survey::{ObjectsFlaw, Unopened, open_objects};
+pub use history_store::{
+    CreateError, Hit, IdIter, Lookup, Object, Objects, ObjectsRefusal, PutError, create,
+};
 pub use history_word::{Broken, Bytes, Collected, Command, Received, Sink, Source, Stream};
 pub use moves::Moves;
 pub use reply::Reply;

@@ -8,7 +8,7 @@ use Rattle.history_model.specs.Places.{Pair}
 use Rattle.history_names_survey.specs.Parts.{NamesBranch}
 use Rattle.history_names_survey.specs.declared.error.NamesError.{NamesError}
 use Rattle.history_names_survey.specs.declared.error.NamesError.TheVariants as names
-use Rattle.history_repository.specs.Causes.{cause_of_names}
+use Rattle.history_names_survey.specs.Told.{cause_of_names}
 use Rattle.history_actions.specs.Looking.{AreOwn, IsForeign, IsHeadless, IsRecoverable, IsStrayed}
 
 pub foreign_head : (MayFail : Type 0) (kind : Kind) (pair : Pair) (cause : NamesError)

@@ -17,8 +17,8 @@ use Rattle.history_names_survey.specs.Causes.{HasBadHead}
 use Rattle.history_names_survey.specs.Parts.{NamesBranch}
 use Rattle.history_names_survey.specs.declared.error.NamesError.{NamesError}
 use Rattle.history_names_survey.specs.declared.error.NamesError.TheVariants as names
-use Rattle.history_repository.specs.declared.open_error.OpenError.{OpenError}
-use Rattle.history_repository.specs.declared.open_error.OpenError.TheVariants.{NoHead, BadHead, Stray, File, Memory}
+use Rattle.history_texts.specs.declared.open_error.OpenError.{OpenError}
+use Rattle.history_texts.specs.declared.open_error.OpenError.TheVariants.{NoHead, BadHead, Stray, File, Memory}
 
 -- ---- places
 

@@ -12,7 +12,7 @@ use Rattle.history_model.specs.declared.End.{End}
 use Rattle.history_model.specs.declared.End.TheVariants.{Input}
 use Rattle.history_repository.specs.Causes.{IsOpenCause, IsOpenFault}
 use Rattle.history_repository.specs.Opened.{trees_of}
-use Rattle.history_repository.specs.declared.open_error.OpenError.{OpenError}
+use Rattle.history_texts.specs.declared.open_error.OpenError.{OpenError}
 use Rattle.history.specs.Acts.{CountsFailure, StaysHonest}
 use Rattle.history_repository.specs.Face.{has_failed, names_part, objects_part}
 use Rattle.history.specs.Moments.{GoesLater, IsTraced}

@@ -5,7 +5,7 @@ use Rattle.gix_ref_file.specs.Calls.{HasFault}
 use Rattle.gix_ref_file.specs.History.{History}
 use Rattle.history_model.specs.Recovery.{recovered}
 use Rattle.history_repository.specs.Opened.{trees_of}
-use Rattle.history_repository.specs.declared.open_error.OpenError.{OpenError}
+use Rattle.history_texts.specs.declared.open_error.OpenError.{OpenError}
 use Rattle.history_actions.specs.Failures.{IsDone}
 use Rattle.history_actions.specs.Looking.{IsForeign, IsRecoverable}
 use Rattle.history_actions.specs.declared.failure.Failure.{Failure}

@@ -8,10 +8,10 @@ use Rattle.gix_hash_id.specs.declared.kind.Kind.{Kind}
 use Rattle.gix_hash_id.specs.declared.kind.Kind.TheVariants.{Sha1, Sha256}
 use Rattle.history_model.specs.Bytes.{Bytes, line}
 use Rattle.history_model.specs.Objects.{hex}
-use Rattle.history_repository.specs.declared.open_error.NamedBy.{NamedBy}
-use Rattle.history_repository.specs.declared.open_error.NamedBy.TheVariants.{Object, Name}
-use Rattle.history_repository.specs.declared.open_error.OpenError.{OpenError}
-use Rattle.history_repository.specs.declared.open_error.OpenError.TheVariants as causes
+use Rattle.history_texts.specs.declared.open_error.NamedBy.{NamedBy}
+use Rattle.history_texts.specs.declared.open_error.NamedBy.TheVariants.{Object, Name}
+use Rattle.history_texts.specs.declared.open_error.OpenError.{OpenError}
+use Rattle.history_texts.specs.declared.open_error.OpenError.TheVariants as causes
 use Rattle.history_actions.specs.Looking.{is_object_place}
 use Rattle.history_actions.specs.declared.failure.Failure.{Failure}
 use Rattle.history_actions.specs.declared.failure.Failure.TheVariants.{NotEmpty, Unopened, File, Memory, Read, Write, Ended}
@@ -27,6 +27,8 @@ cause_word (causes.BadObject path) = codes "refused BadObject"
 cause_word (causes.WrongId path) = codes "refused WrongId"
 cause_word (causes.TooLarge path) = codes "refused TooLarge"
 cause_word (causes.BadTree id) = codes "refused BadTree"
+cause_word (causes.BadTime id) = codes "refused BadTime"
+cause_word (causes.BadTag id) = codes "refused BadTag"
 cause_word (causes.Missing id by) = codes "refused Missing"
 cause_word (causes.WrongKind id by) = codes "refused WrongKind"
 cause_word (causes.Cycle id) = codes "refused Cycle"
@@ -57,6 +59,8 @@ cause_values (causes.BadObject path) = path.items ∷ []
 cause_values (causes.WrongId path) = path.items ∷ []
 cause_values (causes.TooLarge path) = path.items ∷ []
 cause_values (causes.BadTree id) = hex (id_of id) ∷ []
+cause_values (causes.BadTime id) = hex (id_of id) ∷ []
+cause_values (causes.BadTag id) = hex (id_of id) ∷ []
 cause_values (causes.Missing id by) = hex (id_of id) ∷ namer_text by ∷ []
 cause_values (causes.WrongKind id by) = hex (id_of id) ∷ namer_text by ∷ []
 cause_values (causes.Cycle id) = hex (id_of id) ∷ []

@@ -6,7 +6,7 @@ ghost use Rattle.history_model.specs.Bytes.{Bytes};
 ghost use Rattle.history_model.specs.Forms.{is_branch, is_name};
 ghost use Rattle.history_model.specs.Places.{is_log_place, is_lower_hex, log_name};
 ghost use Rattle.history_names_survey.specs.Parts.{NamesBranch};
-ghost use Rattle.history_repository.specs.Causes.{cause_of_names};
+ghost use Rattle.history_names_survey.specs.Told.{cause_of_names};
 ghost use Rattle.history_repository.specs.Opened.{trees_of};
 ghost use Rattle.history_actions.specs.Looking.{AreOwnBelow, IsForeign, IsHeadless, IsRecoverable, IsStrayed, TellsHead, is_lock_of_place, is_names_place, is_object_place, may_have_file};
 

@@ -117,6 +117,8 @@ fn word_of_cause(cause: &OpenError) -> &'static [u8]
         OpenError::WrongId(_) => b"refused WrongId",
         OpenError::TooLarge(_) => b"refused TooLarge",
         OpenError::BadTree(_) => b"refused BadTree",
+        OpenError::BadTime(_) => b"refused BadTime",
+        OpenError::BadTag(_) => b"refused BadTag",
         OpenError::Missing(..) => b"refused Missing",
         OpenError::WrongKind(..) => b"refused WrongKind",
         OpenError::Cycle(_) => b"refused Cycle",

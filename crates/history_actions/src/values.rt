@@ -95,7 +95,10 @@ pub(crate) fn write_cause_values<E: Sink>(errors: &mut E, cause: &OpenError) -> 
         | OpenError::Symbolic(path)
         | OpenError::BadPeeled(path)
         | OpenError::LogWithoutName(path) => write_value(errors, path),
-        OpenError::BadTree(id) | OpenError::Cycle(id) => write_id(errors, id),
+        OpenError::BadTree(id)
+        | OpenError::BadTime(id)
+        | OpenError::BadTag(id)
+        | OpenError::Cycle(id) => write_id(errors, id),
         OpenError::Missing(id, by) | OpenError::WrongKind(id, by) => write_named(errors, id, by),
         OpenError::BadPacked(number) => write_number(errors, *number),
         OpenError::Collides(name, other) => write_names(errors, name, other),

@@ -187,6 +187,16 @@ def flaws(kind, first, log):
     unopened([b"WrongId", kind.place(empty)], *kind.put_text(empty, kind.text(b"blob", b"x")))
     unopened([b"BadObject", kind.place(empty)], *kind.put_text(empty, b"hello"))
     unopened([b"BadTree", kind.id(b"tree", b"hello")], *kind.put(b"tree", b"hello"))
+    # A time before 1970, and a tag of something other than a commit; a zero before the seconds is neither.
+    author, both = (b"author A <a@b> 1 ", b"author A <a@b> -1 "), (b" 1 +0000\n", b" -1 +0000\n")
+    for old, new in (author, both, (b"committer A <a@b> 1 ", b"committer A <a@b> -0 ")):
+        before = kind.commit_text.replace(old, new)
+        unopened([b"BadTime", kind.id(b"commit", before)], *kind.put(b"commit", before))
+    later = kind.commit_text.replace(*author).replace(b"-1", b"01")
+    unopened([b"BadObject", kind.place(kind.id(b"commit", later))], *kind.put(b"commit", later))
+    for of, seconds, cause in ((b"commit", b"-1", b"BadTime"), (b"tree", b"1", b"BadTag"), (b"blob", b"-1", b"BadTag"), (b"tag", b"01", b"BadTag")):
+        tag = b"object " + kind.commit + b"\ntype " + of + b"\ntag v\ntagger A <a@b> " + seconds + b" +0000\n\none"
+        unopened([cause, kind.id(b"tag", tag)], *kind.put(b"tag", tag))
     file = b"100644 a" + ZERO + bytes.fromhex(kind.blob.decode())
     tree = kind.id(b"tree", file)
     unopened([b"Missing", kind.blob, tree], *kind.put(b"tree", file))

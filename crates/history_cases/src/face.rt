@@ -3,13 +3,13 @@
 use case_words::{Page, read_bytes};
 use gix_ref_file::MemoryFiles;
 use history::lookups::{Exists, FindInto};
-use history::{Kind, ObjectsFlaw, PutError, Unopened, lookups, open_objects};
+use history::{Kind, Objects, ObjectsRefusal, OpenError, PutError, lookups};
 use std::alloc::Global;
 
 /// A blob that is put and found; then a tag of it, which is malformed; and the part, which is opened with the blob, and isn't with ids of
 /// the other kind.
 pub fn put(alloc: Global, kind: Kind, content: &str, page: &mut Page) -> Option<()> {
-    let mut objects = open_objects(alloc, MemoryFiles::new(alloc), kind).ok()?;
+    let mut objects = Objects::open(alloc, MemoryFiles::new(alloc), kind).ok()?;
     let id = objects
         .put(alloc, lookups::Kind::Blob, read_bytes(alloc, content)?)
         .ok()?;
@@ -39,17 +39,17 @@ pub fn put(alloc: Global, kind: Kind, content: &str, page: &mut Page) -> Option<
 
 // Opens a part again, and then with ids of the other kind, of which it has none.
 fn reopen(alloc: Global, kind: Kind, files: MemoryFiles, page: &mut Page) -> Option<()> {
-    let objects = open_objects(alloc, files, kind).ok()?;
+    let objects = Objects::open(alloc, files, kind).ok()?;
     page.word("opened");
     let other = match kind {
         Kind::Sha1 => Kind::Sha256,
         Kind::Sha256 => Kind::Sha1,
     };
-    let opened = open_objects(alloc, objects.into_files(), other);
+    let opened = Objects::open(alloc, objects.into_files(), other);
     match &opened {
         Err(
-            Unopened {
-                flaw: ObjectsFlaw::Stray(path),
+            ObjectsRefusal {
+                error: OpenError::Stray(path),
                 ..
             },
         ) => page.named("Stray", path),

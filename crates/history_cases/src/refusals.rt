@@ -14,6 +14,8 @@ pub fn show_open_error(error: &OpenError, page: &mut Page) {
         OpenError::WrongId(path) => page.named("WrongId", path),
         OpenError::TooLarge(path) => page.named("TooLarge", path),
         OpenError::BadTree(id) => show_id("BadTree", id, page),
+        OpenError::BadTime(id) => show_id("BadTime", id, page),
+        OpenError::BadTag(id) => show_id("BadTag", id, page),
         OpenError::Missing(id, by) => show_named("Missing", id, by, page),
         OpenError::WrongKind(id, by) => show_named("WrongKind", id, by, page),
         OpenError::Cycle(id) => show_id("Cycle", id, page),

@@ -6,3 +6,4 @@ pub mod Sound
 pub mod Parts
 pub mod Causes
 pub mod Joined
+pub mod Told

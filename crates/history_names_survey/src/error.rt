@@ -2,12 +2,14 @@
 
 ghost use Rattle.std.specs.Prelude.{◌≡◌};
 ghost use Rattle.history_names_survey.specs.Causes.{file_fault, find_fault, log_error};
+ghost use Rattle.history_names_survey.specs.Told.{cause_of_names};
 ghost use Rattle.history_names_survey.specs.declared.error.NamesError.TheVariants.{Memory};
 
 use crate::log::LogFault;
 use gix_hash::ObjectId;
 use gix_object_lookup::find;
 use gix_ref_file::FileError;
+use history_texts::{NamedBy, OpenError};
 use std::alloc::{AllocError, AllocFailed};
 use thiserror::Error;
 
@@ -113,6 +115,32 @@ impl NamesError {
             LogFault::Bad(line) => NamesError::BadLog(path, line),
             LogFault::Long(line) => NamesError::LongLogLine(path, line),
             LogFault::Memory => NamesError::Memory,
+        }
+    }
+}
+
+impl From<NamesError> for OpenError {
+    ghost from_gives = { λ cause error. error ≡ cause_of_names cause };
+
+    fn from(cause: NamesError) -> OpenError {
+        match cause {
+            NamesError::NoHead => OpenError::NoHead,
+            NamesError::BadHead => OpenError::BadHead,
+            NamesError::Stray(path) => OpenError::Stray(path),
+            NamesError::Unfinished(path) => OpenError::Unfinished(path),
+            NamesError::BadName(path) => OpenError::BadName(path),
+            NamesError::PrivateName(name) => OpenError::PrivateName(name),
+            NamesError::Symbolic(name) => OpenError::Symbolic(name),
+            NamesError::Missing(id, name) => OpenError::Missing(id, NamedBy::Name(name)),
+            NamesError::WrongKind(id, name) => OpenError::WrongKind(id, NamedBy::Name(name)),
+            NamesError::BadPacked(line) => OpenError::BadPacked(line),
+            NamesError::BadPeeled(name) => OpenError::BadPeeled(name),
+            NamesError::Collides(name, other) => OpenError::Collides(name, other),
+            NamesError::BadLog(path, line) => OpenError::BadLog(path, line),
+            NamesError::LongLogLine(path, line) => OpenError::LongLogLine(path, line),
+            NamesError::LogWithoutName(path) => OpenError::LogWithoutName(path),
+            NamesError::File => OpenError::File,
+            NamesError::Memory => OpenError::Memory,
         }
     }
 }

@@ -29,8 +29,9 @@ use Rattle.history_texts.specs.ObjectTexts.{object_in}
 use Rattle.history_names.specs.Packing.{KeepsRecords}
 use Rattle.history_texts.proofs.TextObjects.{object_in-text}
 use Rattle.history_survey.specs.Flaws.{IsObjectsFlaw}
-use Rattle.history_survey.specs.Opened.{IsOpened, IsSoundStore, store_of}
-use Rattle.history_survey.specs.declared.flaw.ObjectsFlaw.{ObjectsFlaw}
+use Rattle.history_objects.specs.Opened.{IsOpened}
+use Rattle.history_survey.specs.Opened.{IsSoundStore, store_of}
+use Rattle.history_texts.specs.declared.open_error.OpenError.{OpenError}
 use Rattle.history_survey.proofs.Joins.{whole_on}
 use Rattle.history_names_survey.specs.Causes.{HasCause, IsFault}
 use Rattle.history_names_survey.specs.Joined.{StandsStore}
@@ -38,7 +39,8 @@ use Rattle.history_names_survey.specs.Parts.{IsNamesPart, StandsNames}
 use Rattle.history_names_survey.specs.Stored.{AreFactsOf, Fact, Facts, fact_of, fact_told, is_of_wrong_kind, is_tag_of, target_in}
 use Rattle.history_names_survey.specs.declared.error.NamesError.{NamesError}
 use Rattle.history_names_survey.specs.declared.error.NamesError.TheVariants.{NoHead, BadHead, Stray, Unfinished, BadName, PrivateName, Symbolic, Missing, WrongKind, BadPacked, BadPeeled, Collides, BadLog, LongLogLine, LogWithoutName, File, Memory}
-use Rattle.history_repository.specs.Causes.{IsOpenCause, IsOpenFault, cause_of_flaw, cause_of_names, facts_of}
+use Rattle.history_names_survey.specs.Told.{cause_of_names}
+use Rattle.history_repository.specs.Causes.{IsOpenCause, IsOpenFault, facts_of}
 use Rattle.history_repository.specs.Opened.{IsOpenedAs}
 use Rattle.history_repository.specs.declared.folder.OpenedFolder.{OpenedFolder}
 use Rattle.history_repository.proofs.NoFlaws.{fault_alone}
@@ -143,8 +145,8 @@ module _ (kind : Kind) (pair : Pair) (r : Repository) (stands : StandsWhole kind
   }
 
   -- a flaw of its objects part is a fault
-  pub fault_of_objects : (MayFail : Type 0) (flaw : ObjectsFlaw) → IsObjectsFlaw MayFail kind pair.objects flaw → IsOpenFault (cause_of_flaw flaw)
-  fault_of_objects MayFail flaw h = elim (fault_alone kind pair.objects r.objects holds_values is_sound MayFail flaw h) [ inl e ↦ inl (ap cause_of_flaw e) | inr e ↦ inr (ap cause_of_flaw e) ]
+  pub fault_of_objects : (MayFail : Type 0) (error : OpenError) → IsObjectsFlaw MayFail kind pair.objects error → IsOpenFault error
+  fault_of_objects MayFail error h = fault_alone kind pair.objects r.objects holds_values is_sound MayFail error h
 
 -- ---- an opened store, and the names part over it
 
@@ -246,9 +248,6 @@ module _ (kind : Kind) (pair : Pair) (ids : IdSet) (whole : IsOpened kind pair.o
       either : M ⊎ M → M
       either (inl m) = m
       either (inr m) = m
-
-pub objects_cause : (M : Type 0) (kind : Kind) (pair : Pair) (flaw : ObjectsFlaw) → IsObjectsFlaw M kind pair.objects flaw → IsOpenCause M kind pair (cause_of_flaw flaw)
-objects_cause M kind pair flaw h = inl (record { flaw = flaw; told = refl; holds = h })
 
 pub names_fault : (error : NamesError) → IsFault error → IsOpenFault (cause_of_names error)
 names_fault File h = inl refl

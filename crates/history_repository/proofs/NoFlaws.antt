@@ -1,5 +1,5 @@
 -- A part that holds the values of a whole store, each in written form, has no flaw.
-use Rattle.std.proofs.Common.{◌≡◌, ◌⊎◌, true, not, ◌&&◌, [], ◌∷◌, ◌++◌, map, refl, sym, ◌∙◌, ap, subst, arith, inl, inr, Option, Some, None, is_some, option_map, append_assoc, append-nil, length-append}
+use Rattle.std.proofs.Common.{◌≡◌, true, not, ◌&&◌, [], ◌∷◌, ◌++◌, map, refl, sym, ◌∙◌, ap, subst, arith, inl, inr, Option, Some, None, is_some, option_map, append_assoc, append-nil, length-append}
 use Rattle.std.specs.FinMap.{contains_key, empty, get}
 use Rattle.gix_hash_id.specs.Id.{Id, id_of, null_id}
 use Rattle.gix_hash_id.specs.Order.{id_eq}
@@ -31,19 +31,18 @@ use Rattle.history_steps.specs.TreeReads.{HasObject}
 use Rattle.history_texts.specs.ObjectTexts.{is_empty_tree}
 use Rattle.history_texts.specs.Written.{IsMalformed, NamesObjects, named_by_commit, named_by_item}
 use Rattle.history_texts.proofs.CommitTexts.{content_of_parts, value_parts}
-use Rattle.history_survey.specs.Flaws.{HasEntry, HasFile, HasMissing, HasPath, HasReserved, HasText, HasWrongKind, IsBadText, IsBadTree, IsObjectsFlaw, IsOther, IsStray, IsTooLong, Leads, Names, by_way_of, deep, deeper, entry, malformed, names, no_commit, no_object, no_tag, stray_file, stray_folder}
+use Rattle.history_texts.proofs.Malformeds.{before_malformed, of_other_malformed}
+use Rattle.history_survey.specs.Flaws.{HasBadTag, HasBadTime, HasEntry, HasFile, HasMissing, HasPath, HasReserved, HasText, HasWrongKind, IsBadText, IsBadTree, IsObjectsFlaw, IsOther, IsStray, IsTooLong, Leads, Names, by_way_of, deep, deeper, entry, malformed, names, no_commit, no_object, no_tag, stray_file, stray_folder}
 use Rattle.history_survey.specs.Opened.{IsSoundStore, store_of}
-use Rattle.history_survey.specs.declared.flaw.ObjectsFlaw.{ObjectsFlaw}
-use Rattle.history_survey.specs.declared.flaw.ObjectsFlaw.TheVariants as flaws
+use Rattle.history_texts.specs.declared.open_error.NamedBy.TheVariants.{Object}
+use Rattle.history_texts.specs.declared.open_error.OpenError.{OpenError}
+use Rattle.history_texts.specs.declared.open_error.OpenError.TheVariants as flaws
 use Rattle.history_survey.proofs.Empties.{root-empty}
+use Rattle.history_repository.specs.Causes.{IsOpenFault}
 use Rattle.history_repository.proofs.Items.{IsItem, are_written, bytes_stored, folder_stored, item_is, of_file, of_folder, same_files}
 use Rattle.history_repository.proofs.Named.{IsNamed, named_value}
 use Rattle.std.proofs.lemmas.Bool.{and_parts, or_cases}
 use Rattle.std.proofs.lemmas.Option.{same_Some}
-
--- a call of the files failed, or memory was refused
-abbrev pub IsFlawFault : ObjectsFlaw → Type 0
-IsFlawFault flaw = (flaw ≡ flaws.File) ⊎ (flaw ≡ flaws.Memory)
 
 module _ (kind : Kind) (tree : Tree) (stored : Values) (holds : HoldsValues kind tree stored) (sound : IsSoundStore kind stored) where
   abbrev r : Repository
@@ -211,13 +210,22 @@ module _ (kind : Kind) (tree : Tree) (stored : Values) (holds : HoldsValues kind
   no_bad_tag id (StoredBytes bytes) at content k c none = cc
   no_bad_tag id (StoredFolder files) at content k c none = cc
 
+  no_bad_time : (id : Id) → HasBadTime kind tree id → ⊥
+  no_bad_time id (kinds.Tree, content, has, before) = before
+  no_bad_time id (kinds.Blob, content, has, before) = before
+  no_bad_time id (kinds.Commit, content, has, before) = let v = object_value id kinds.Commit content has in no_bad_commit id v.value v.at content v.of_kind v.of_content (before_malformed kind kinds.Commit content before)
+  no_bad_time id (kinds.Tag, content, has, before) = let v = object_value id kinds.Tag content has in no_bad_tag id v.value v.at content v.of_kind v.of_content (before_malformed kind kinds.Tag content before)
+
+  no_bad_tag_of_other : (id : Id) → HasBadTag kind tree id → ⊥
+  no_bad_tag_of_other id (content, has, of_other) = let v = object_value id kinds.Tag content has in no_bad_tag id v.value v.at content v.of_kind v.of_content (of_other_malformed kind content of_other)
+
   no_bad_text : (path : Bytes) → HasText kind tree path (λ id text. IsBadText kind text) → ⊥
   no_bad_text path (id, text, has, bad) = let found = file_value path id text has in go found.0 found.1 found.2 bad
     where
       go : (v : Value) → get stored id ≡ Some v → text ≡ value_text kind v → IsBadText kind text → ⊥
       go v at is (no_object none) = none (object_kind v) (content_of kind v) is
-      go v at is (no_commit content told none) = let same = object_same (object_kind v) kinds.Commit (content_of kind v) content (sym is ∙ told) in no_bad_commit id v at content same.0 same.1 none
-      go v at is (no_tag content told none) = let same = object_same (object_kind v) kinds.Tag (content_of kind v) content (sym is ∙ told) in no_bad_tag id v at content same.0 same.1 none
+      go v at is (no_commit content told none) = let same = object_same (object_kind v) kinds.Commit (content_of kind v) content (sym is ∙ told) in no_bad_commit id v at content same.0 same.1 none.malformed
+      go v at is (no_tag content told none) = let same = object_same (object_kind v) kinds.Tag (content_of kind v) content (sym is ∙ told) in no_bad_tag id v at content same.0 same.1 none.malformed
 
   no_wrong_id : (path : Bytes) → HasText kind tree path (IsOther kind) → ⊥
   no_wrong_id path (id, text, has, other) =
@@ -244,16 +252,19 @@ module _ (kind : Kind) (tree : Tree) (stored : Values) (holds : HoldsValues kind
 
   -- ---- all
 
-  pub fault_alone : (MayFail : Type 0) (flaw : ObjectsFlaw) → IsObjectsFlaw MayFail kind tree flaw → IsFlawFault flaw
+  pub fault_alone : (MayFail : Type 0) (flaw : OpenError) → IsObjectsFlaw MayFail kind tree flaw → IsOpenFault flaw
   fault_alone MayFail (flaws.Stray path) h = absurd (no_stray path.items h)
   fault_alone MayFail (flaws.Unfinished path) h = absurd (no_unfinished path.items (h.1).0 h.0 (h.1).1)
   fault_alone MayFail (flaws.BadObject path) h = absurd (no_bad_text path.items h)
   fault_alone MayFail (flaws.WrongId path) h = absurd (no_wrong_id path.items h)
   fault_alone MayFail (flaws.TooLarge path) h = absurd (no_long_text path.items h)
   fault_alone MayFail (flaws.BadTree id) h = absurd (no_bad_tree (id_of id) h)
-  fault_alone MayFail (flaws.Missing id by) h = absurd (no_missing (id_of id) (id_of by) h)
-  fault_alone MayFail (flaws.WrongKind id by) h = absurd (no_wrong_kind (id_of id) (id_of by) h)
+  fault_alone MayFail (flaws.BadTime id) h = absurd (no_bad_time (id_of id) h)
+  fault_alone MayFail (flaws.BadTag id) h = absurd (no_bad_tag_of_other (id_of id) h)
+  fault_alone MayFail (flaws.Missing id (Object by)) h = absurd (no_missing (id_of id) (id_of by) h)
+  fault_alone MayFail (flaws.WrongKind id (Object by)) h = absurd (no_wrong_kind (id_of id) (id_of by) h)
   fault_alone MayFail (flaws.Cycle id) h = absurd ((sound.whole).acyclic (id_of id) (reaches h))
   fault_alone MayFail flaws.IdReserved h = absurd (no_reserved h)
   fault_alone MayFail flaws.File h = inl refl
   fault_alone MayFail flaws.Memory h = inr refl
+  fault_alone MayFail _ h = absurd h

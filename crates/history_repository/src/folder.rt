@@ -11,7 +11,7 @@ ghost use Rattle.history_names.specs.Packing.{KeepsRecords};
 ghost use Rattle.history_names_survey.specs.Causes.{HasCause, IsFault};
 ghost use Rattle.history_names_survey.specs.Parts.{IsNamesPart, StandsNames};
 ghost use Rattle.history_names_survey.specs.Stored.{AreFactsOf, facts_in};
-ghost use Rattle.history_survey.specs.Opened.{IsOpened};
+ghost use Rattle.history_objects.specs.Opened.{IsOpened};
 ghost use Rattle.history_repository.specs.Causes.{IsOpenCause, IsOpenFault};
 ghost use Rattle.history_repository.specs.Opened.{IsOpenedAs, trees_of};
 
@@ -21,8 +21,7 @@ use gix_ref_file::Files;
 use gix_ref_format::packed::buffer as packed;
 use history_names::Names;
 use history_names_survey::{NamesError, survey_names};
-use history_objects::Objects;
-use history_survey::{Unopened, open_objects};
+use history_objects::{Objects, ObjectsRefusal};
 use std::alloc::Global;
 
 /// A folder that was opened: its objects, its names, and the branch that HEAD names.
@@ -65,10 +64,10 @@ pub fn open_folder<F: Files>(
     ensures handed_back { IfErr result (λ refusal. (refusal.objects ≡ objects)
         × (refusal.names ≡ names)) }
 {
-    match open_objects(alloc, objects, kind) {
+    match Objects::open(alloc, objects, kind) {
         Ok(objects) => open_names(alloc, objects, names),
-        Err(Unopened { flaw, files }) => Err(OpenRefusal {
-            error: flaw.into(),
+        Err(ObjectsRefusal { error, files }) => Err(OpenRefusal {
+            error,
             objects: files,
             names,
         }),

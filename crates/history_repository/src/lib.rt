@@ -15,8 +15,9 @@ mod words;
 
 pub use fields::{into_kept, is_bad_path, is_too_long, kept};
 pub use held::{Held, commit_held, id_before, id_held, read_held};
+pub use history_texts::{NamedBy, OpenError};
 pub use naming::{is_private, test_name};
-pub use open_error::{NamedBy, OpenError, OpenRefusal};
+pub use open_error::OpenRefusal;
 pub use repository::Repository;
 pub use shown::{ALL_NAMES, Shown, read_shown};
 pub use stopped::Stopped;

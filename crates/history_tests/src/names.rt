@@ -2,7 +2,7 @@
 
 use crate::common::{INPUT, KINDS, REPLIES, made_id, parts_after};
 use gix_ref_file::MemoryFiles;
-use history::{Objects, open_objects};
+use history::Objects;
 use history_names::Names;
 use history_names_survey::{NamesError, survey_names};
 use std::test::Fail;
@@ -25,7 +25,7 @@ fn names_are_surveyed_over_objects(rt: HostRuntime) -> Result<(), Fail> {
     let alloc = rt.alloc();
     for kind in KINDS {
         let (objects, files) = parts_after(&rt, alloc, kind, &[INPUT]);
-        let objects = open_objects(alloc, objects, kind).map_err(|unopened| unopened.flaw)?;
+        let objects = Objects::open(alloc, objects, kind).map_err(|refusal| refusal.error)?;
         let names = Names::new(files, kind);
         let branch = survey_names(alloc, &names, &objects)?;
         assert!(rt; branch.as_slice() == b"refs/heads/main".as_slice());

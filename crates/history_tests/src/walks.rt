@@ -1,7 +1,7 @@
 //! A list of commits over stored objects.
 
 use crate::common::{INPUT, KINDS, REPLIES, SECOND, SECOND_REPLY, made_id, parts_after};
-use history::open_objects;
+use history::Objects;
 use history_walks::{Order, Parents, Request, list_commits};
 use std::test::Fail;
 
@@ -10,7 +10,7 @@ fn a_commit_is_listed_before_its_parent(rt: HostRuntime) -> Result<(), Fail> {
     let alloc = rt.alloc();
     for kind in KINDS {
         let (objects, _) = parts_after(&rt, alloc, kind, &[INPUT, SECOND]);
-        let objects = open_objects(alloc, objects, kind).map_err(|unopened| unopened.flaw)?;
+        let objects = Objects::open(alloc, objects, kind).map_err(|refusal| refusal.error)?;
         let parent = made_id(REPLIES.of(kind)).ok_or("no id")?;
         let tip = made_id(SECOND_REPLY.of(kind)).ok_or("no id")?;
         let request = Request {

@@ -2,8 +2,7 @@ use Rattle.std.proofs.Common.{IfOk, subst, sym}
 use Rattle.gix_hash_id.specs.declared.kind.Kind.{Kind}
 use Rattle.history_model.specs.Repository.{Repository}
 use Rattle.history_objects.specs.Face.{ids_of_objects, kind_of_objects}
-use Rattle.history_survey.specs.Opened.{IsOpened}
-use Rattle.history_repository.specs.Causes.{IsOpenFault}
+use Rattle.history_objects.specs.Opened.{IsOpened}
 use Rattle.history_repository.specs.Opened.{IsOpenedAs, trees_of}
 use Rattle.history_repository.proofs.Joined.{fault_of_objects}
 use Rattle.history_repository.proofs.folder.open_folder.Goals as goal
@@ -24,5 +23,4 @@ returns-in-Ok-clause-stands g c = λ objects names.
 
 pub returns-in-Err-clause-accepted : goal.returns-in-Err-clause-accepted
 returns-in-Err-clause-accepted g c = λ r objects names stands.
-    subst IsOpenFault (sym c.into.ensures)
-    (fault_of_objects c.args.kind (trees_of g.F.Files.history c.args.objects c.args.names) r stands g.F.Files.reading_may_fail c.in-Err.field-0.flaw (c.in-Err.ensures.flaw objects))
+    fault_of_objects c.args.kind (trees_of g.F.Files.history c.args.objects c.args.names) r stands g.F.Files.reading_may_fail c.in-Err.field-0.error (c.in-Err.ensures.flaw objects)
