@@ -178,6 +178,8 @@ class Names:
         """The records before the first line that may not stand, and that line's number or none."""
         records, last, sorted_ = {}, None, False
         for number, line in enumerate(text.split(b"\n")[:-1], 1):
+            if b"\r" in line:
+                return records, number
             if number == 1 and line.startswith(b"#"):
                 if not line.startswith(PACKED_HEADER):
                     return records, number

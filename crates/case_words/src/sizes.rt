@@ -87,16 +87,23 @@ fn repeat(alloc: Global, part: &str, size: u32, page: &mut Page) -> Result<(), A
 
 fn put_numbered(alloc: Global, text: &str, number: u32, page: &mut Page) -> Result<(), AllocError> {
     let digits = format!(in alloc; "{number:04}")?;
-    let next = number.saturating_add(1);
-    for character in text.chars() {
-        match character {
-            '#' => page.text(digits.as_str()),
-            '~' => page.hex(digits.as_bytes()),
-            '^' => page.text(format!(in alloc; "{next:04}")?.as_str()),
-            _ => page.put(character),
-        }
-    }
+    let next = format!(in alloc; "{:04}", number.saturating_add(1))?;
+    let mut spelt = Page::new(alloc);
+    spelt.hex(digits.as_bytes());
+    let text = replace(alloc, text, '#', digits.as_str())?;
+    let text = replace(alloc, text.as_str(), '~', spelt.as_str())?;
+    page.text(replace(alloc, text.as_str(), '^', next.as_str())?.as_str());
     Ok(())
+}
+
+// The text with another in the place of each mark.
+fn replace(alloc: Global, text: &str, mark: char, other: &str) -> Result<String, AllocError> {
+    let mut page = Page::new(alloc);
+    for (place, piece) in text.split(mark).enumerate() {
+        page.text(if place == 0 { "" } else { other });
+        page.text(piece);
+    }
+    page.finish()
 }
 
 fn make_objects(alloc: Global, text: &str) -> Result<String, AllocError> {

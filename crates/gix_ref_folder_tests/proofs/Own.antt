@@ -56,12 +56,12 @@ own_remove part t p own q there = by_case (same_path q p) refl
     by_case true same = absurd (cc (sym there ∙ ap is_some (get-remove nat_list_cmp_total t p q ∙ ap (λ b. cond b None (get t q)) same)))
     by_case false apart = own q (sym (ap is_some (get-remove nat_list_cmp_total t p q ∙ ap (λ b. cond b None (get t q)) apart)) ∙ there)
 
-own_create : (part : Part) (t : Tree) (p : List ℕ) (there : Bool) → IsOwn part t → IsTrue (has part p) → IsOwn part (cond there t (insert t p (file [])))
-own_create part t p true own of = own
-own_create part t p false own of = own_insert part t p (file []) own of
+own_create : (part : Part) (t : Tree) (p bytes : List ℕ) (there : Bool) → IsOwn part t → IsTrue (has part p) → IsOwn part (cond there t (insert t p (file bytes)))
+own_create part t p bytes true own of = own
+own_create part t p bytes false own of = own_insert part t p (file bytes) own of
 
 own_after : (part : Part) (n : ℕ) (change : Change) (t : Tree) → IsOwn part t → AreOf part (paths_of change) → IsOwn part (after (cut n change) t)
-own_after part n (to_create path) t own of = own_create part t path (is_some (node_at t path)) own of.0
+own_after part n (to_create path bytes) t own of = own_create part t path (take n bytes) (is_some (node_at t path)) own of.0
 own_after part n (to_write path bytes) t own of = own_insert part t path (file (take n bytes)) own of.0
 own_after part n (to_append path bytes) t own of = own_insert part t path (file (bytes_at t path ++ take n bytes)) own of.0
 own_after part n (to_rename from to) t own of = own_insert part (remove t from) to (file (bytes_at t from)) (own_remove part t from own) of.1.0

@@ -1,17 +1,16 @@
 -- From what files return to what the system returns.
-use Rattle.std.proofs.Common.{◌≡◌, ℕ, ◌≤◌, Bool, true, false, List, [], ◌∷◌, ◌++◌, length, drop, map, Option, Some, None, refl, sym, ◌∙◌, ap, subst, arith}
+use Rattle.std.proofs.Common.{◌≡◌, ℕ, Bool, true, false, List, [], ◌++◌, length, map, Option, Some, None, refl, sym, ◌∙◌, ap, subst}
 use Rattle.std.specs.Prelude.{Result, Ok, Err, IfOk, IfErr, OnOk, IsTrue, IsSome, Vec, is_none, option_map, unwrap_or}
 use Rattle.std.specs.IoError.{error_kind}
 use Rattle.std.specs.declared.alloc.Global.{Global}
 use Rattle.std.specs.declared.io.Error.{Error}
 use Rattle.std.specs.declared.io.ErrorKind.{ErrorKind}
 use Rattle.std.specs.declared.io.ErrorKind.TheVariants.{AlreadyExists}
-use Rattle.std.proofs.lemmas.List.{append-nil, drop_all}
 use Rattle.gix_ref_file.specs.declared.files.FileError.{FileError}
 use Rattle.gix_ref_file.specs.declared.files.FileError.TheVariants.{Failed, Memory}
 use Rattle.gix_ref_file.specs.declared.files.Place.{Place}
 use Rattle.gix_ref_file.specs.declared.files.Place.TheVariants.{Absent, File, Folder}
-use Rattle.gix_ref_file.specs.Tree.{Tree, Node, file, folder, node_at, place_of, bytes_of, is_folder, names_at, part, overwritten}
+use Rattle.gix_ref_file.specs.Tree.{Tree, Node, file, folder, place_of, bytes_of, is_folder, names_at}
 use Rattle.gix_ref_file.specs.Changes.{Change, to_create, allows, after}
 use Rattle.gix_ref_file.specs.History.{History, Makes}
 use Rattle.gix_ref_folder.specs.Errors.{means_absent}
@@ -43,14 +42,14 @@ does_of change old new done (Ok value) is makes = record {
 }
 does_of change old new done (Err e) is makes = record { allowed = tt; made = tt; moments = makes.moments }
 
-pub does_new : (path : List ℕ) (old new : History) (made : Result Bool FileError) (told : Result (Unit {0}) Error) → OnOk told (made ≡ Ok true) → Makes (to_create path) old new made
-    → Does (to_create path) old new told
-does_new path old new made (Ok it) is makes = record {
-  allowed = subst (λ r. OnOk r (IsTrue (allows old.tree (to_create path)))) is makes.allowed;
-  made = subst (λ r. OnOk r (new.tree ≡ after (to_create path) old.tree)) is makes.made;
+pub does_new : (path bytes : List ℕ) (old new : History) (made : Result Bool FileError) (told : Result (Unit {0}) Error) → OnOk told (made ≡ Ok true) → Makes (to_create path bytes) old new made
+    → Does (to_create path bytes) old new told
+does_new path bytes old new made (Ok it) is makes = record {
+  allowed = subst (λ r. OnOk r (IsTrue (allows old.tree (to_create path bytes)))) is makes.allowed;
+  made = subst (λ r. OnOk r (new.tree ≡ after (to_create path bytes) old.tree)) is makes.made;
   moments = makes.moments;
 }
-does_new path old new made (Err e) is makes = record { allowed = tt; made = tt; moments = makes.moments }
+does_new path bytes old new made (Err e) is makes = record { allowed = tt; made = tt; moments = makes.moments }
 
 none_of : (node : Option Node) → true ≡ is_none node → node ≡ None
 none_of None is = refl
@@ -96,12 +95,24 @@ names_found tree path done (Ok names) is says =
     permuted _ _ (subst (λ r. IfOk r (λ ns. map (λ (name : Vec ℕ Global). name.items) ns.items ≡ names_at tree path)) is says)
 names_found tree path done (Err e) is says = tt
 
--- a buffer that was filled to its end
-pub whole_read : (o : Option (List ℕ)) (from count : ℕ) (before after : List ℕ) → Some count ≡ option_map (λ bytes. length (part bytes from (length before))) o → length before ≤ count
-    → after ≡ overwritten before (part (unwrap_or o []) from (length before)) → after ≡ part (unwrap_or o []) from (length before)
-whole_read None from count before after is full read = absurd (cc is)
-whole_read (Some bytes) from count before after is full read =
-    let read_of = part bytes from (length before) in
-    let long : count ≡ length read_of = ap (λ o. unwrap_or o 0) is in
-    let none : drop (length read_of) before ≡ [] = drop_all (length read_of) before (omega (arith, long, full)) in
-    read ∙ ap (λ rest. read_of ++ rest) none ∙ append-nil read_of
+-- an error for an error of the files says nothing of what exists
+pub error_silent : {T : Type 0} (P : Type 0) (done : Result T FileError) (told : Result T Error) → IsReport done told → IfErr told (λ error. IsTrue (means_absent (error_kind error)) → P)
+error_silent P done (Ok value) report = tt
+error_silent P done (Err e) report = λ is. never_absent done e report is
+
+-- ---- bytes
+pub read_whole : (o : Option (List ℕ)) (count : ℕ) (before read : List ℕ) → Some count ≡ option_map length o → before ≡ [] → read ≡ before ++ unwrap_or o [] → Some read ≡ o
+read_whole None count before read is none says = absurd (cc is)
+read_whole (Some bytes) count before read is none says = ap Some (says ∙ ap (λ b. b ++ bytes) none)
+
+pub read_none : (o : Option (List ℕ)) → None ≡ option_map length o → None ≡ o
+read_none None is = refl
+read_none (Some bytes) is = absurd (cc is)
+
+pub count_told : (o : Option ℕ) (done : Result (Option ℕ) FileError) (told : Result (Option ℕ) Error) → IsReport done told → IfOk done (λ count. count ≡ o) → IfOk told (λ count. count ≡ o)
+count_told o done (Ok count) is says = subst (λ r. IfOk r (λ n. n ≡ o)) is says
+count_told o done (Err e) is says = tt
+
+pub read_told : {T : Type 0} (P : Type 0) (done : Result T FileError) (told : Result T Error) → IsReport done told → OnOk done P → OnOk told P
+read_told P done (Ok value) is says = subst (λ r. OnOk r P) is says
+read_told P done (Err e) is says = tt

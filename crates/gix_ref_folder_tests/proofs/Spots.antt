@@ -1,9 +1,8 @@
 -- From a system's places to the paths of its parts.
-use Rattle.std.proofs.Common.{◌≡◌, ◌≢◌, ◌⊎◌, inl, inr, ⊎_elim, ℕ, Bool, true, false, not, ◌&&◌, List, [], ◌∷◌, ◌++◌, length, refl, sym, ◌∙◌, ap, subst, arith, length-append}
-use Rattle.std.specs.Prelude.{IsTrue, IsFalse, Result, bytes_eq}
+use Rattle.std.proofs.Common.{◌≡◌, ◌≢◌, ◌⊎◌, inl, inr, ⊎_elim, ℕ, Bool, true, false, not, ◌&&◌, List, [], ◌∷◌, ◌++◌, refl, sym, ◌∙◌, ap, subst}
+use Rattle.std.specs.Prelude.{IsTrue, IsFalse, Result}
 use Rattle.std.specs.declared.io.Error.{Error}
 use Rattle.std.proofs.lemmas.List.{append_cancel_left}
-use Rattle.std.proofs.lemmas.Slice.Eq.{bytes_eq-Decides}
 use Rattle.gix_ref_file.specs.Tree.{Tree, is_path}
 use Rattle.gix_ref_file.specs.Changes.{Change, to_rename, paths_of, is_file_at}
 use Rattle.gix_ref_file.specs.History.{History}
@@ -49,19 +48,6 @@ at_own_root IsHonest history system root part path place honest there = (there.0
 pub nowhere : {F A : Type 0} (IsHonest : F → Type 0) (history : F → History) (system : OverFiles F) (root : List ℕ) (part : Part) (path place : List ℕ)
     → ((own : List ℕ) → place ≢ root_of system ++ 47 ∷ own) → IsHonestAt IsHonest history system root → IsPlaceOf root part path place → A
 nowhere IsHonest history system root part path place none honest there = absurd (none path (at_own_root IsHonest history system root part path place honest there).0)
-
--- the root is no place in it
-pub not_in_itself : {A : Type 0} (root path : List ℕ) → root ≡ root ++ 47 ∷ path → A
-not_in_itself root path is = absurd (omega (arith, ap length is, length-append root (47 ∷ path)))
-
-pub one_text : (xs ys : List ℕ) → IsTrue (bytes_eq xs ys) → xs ≡ ys
-one_text xs ys = (bytes_eq-Decides xs ys).0
-
-pub not_one_text : {A : Type 0} (xs ys : List ℕ) → IsFalse (bytes_eq xs ys) → xs ≡ ys → A
-not_one_text xs ys isnt is = absurd (differ (sym isnt ∙ (bytes_eq-Decides xs ys).1 is))
-  where
-    differ : false ≡ true → ⊥
-    differ e = cc
 
 pub reads : {F : Type 0} (IsHonest : F → Type 0) (history : F → History) (system : OverFiles F) (place : List ℕ) (mine : Part) (own : List ℕ) (files : F) (What : Tree → List ℕ → Type 0)
     → IsSpot (root_of system) mine own place → files ≡ files_of system mine → (IsHonest files → What (history files).tree own)

@@ -102,30 +102,37 @@ impl<F: Files> System for OverFiles<F> {
         }
     }
 
-    fn read_at(&self, place: &str, at: u64, buffer: &mut [u8]) -> io::Result<()> {
+    fn read(&self, alloc: Global, place: &str) -> io::Result<Option<Vec<u8>>> {
         let (part, path) = self.spot(place)?;
-        let Some(count) = reported(self.files(part).read_at(path, at, buffer))? else {
-            return Err(io::Error::new(ErrorKind::NotFound, "no file is there"));
-        };
-        if count < buffer.len() {
-            return Err(io::Error::new(ErrorKind::UnexpectedEof, "the file ends"));
+        let mut bytes = Vec::new(alloc);
+        match reported(self.files(part).read(path, &mut bytes))? {
+            Some(_) => Ok(Some(bytes)),
+            None => Ok(None),
         }
-        Ok(())
+    }
+
+    fn read_at(&self, place: &str, at: u64, buffer: &mut [u8]) -> io::Result<Option<usize>> {
+        let (part, path) = self.spot(place)?;
+        reported(self.files(part).read_at(path, at, buffer))
     }
 
     fn list(&self, alloc: Global, place: &str) -> io::Result<Vec<Vec<u8>>> {
-        if place.as_bytes() == self.root.as_bytes() {
-            return self.root_names(alloc);
-        }
         let (part, path) = self.spot(place)?;
         reported(self.files(part).list(alloc, path))
     }
 
-    fn create_new(&mut self, place: &str) -> io::Result<()> {
+    fn list_root(&self, alloc: Global, place: &str) -> io::Result<Vec<Vec<u8>>> {
+        if place.as_bytes() == self.root.as_bytes() {
+            return self.root_names(alloc);
+        }
+        Err(io::Error::new(ErrorKind::NotFound, "not the folder"))
+    }
+
+    fn create_new(&mut self, place: &str, bytes: &[u8]) -> io::Result<()> {
         let (part, path) = self.spot(place)?;
         match part {
-            Part::Objects => newly(self.objects.create_new(self.alloc, path)),
-            Part::Names => newly(self.names.create_new(self.alloc, path)),
+            Part::Objects => newly(self.objects.create_new(self.alloc, path, bytes)),
+            Part::Names => newly(self.names.create_new(self.alloc, path, bytes)),
         }
     }
 

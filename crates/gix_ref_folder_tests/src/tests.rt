@@ -72,8 +72,8 @@ fn filled(alloc: Global) -> io::Result<OverFiles<MemoryFiles>> {
     let mut system = system_in_memory(alloc, String::from_str(alloc, ROOT)?);
     system.make_folder("repository/objects")?;
     system.write("repository/objects/ab", b"blob")?;
-    system.create_new("repository/HEAD")?;
-    system.append("repository/HEAD", b"ref")?;
+    system.create_new("repository/HEAD", b"re")?;
+    system.append("repository/HEAD", b"f")?;
     Ok(system)
 }
 
@@ -108,10 +108,14 @@ fn a_system_says_why_it_fails(rt: HostRuntime) -> Result<(), Fail> {
     let mut buffer = [0u8; 4];
     assert!(rt; kind_of(system.kind("repository/none")) == Some(ErrorKind::NotFound));
     assert!(rt; kind_of(system.kind("elsewhere/HEAD")) == Some(ErrorKind::NotFound));
+    assert_eq!(rt; system.read_at("repository/HEAD", 1, &mut buffer)?, Some(2));
+    assert_eq!(rt; buffer.as_slice(), b"ef\0\0".as_slice());
+    assert!(rt; system.read(alloc, "repository/objects")?.is_none());
+    assert!(rt; kind_of(system.read(alloc, "elsewhere/HEAD")) == Some(ErrorKind::NotFound));
+    assert!(rt; kind_of(system.list_root(alloc, "elsewhere")) == Some(ErrorKind::NotFound));
     assert!(rt;
-        kind_of(system.read_at("repository/HEAD", 0, &mut buffer)) == Some(ErrorKind::UnexpectedEof)
+        kind_of(system.create_new("repository/HEAD", b"")) == Some(ErrorKind::AlreadyExists)
     );
-    assert!(rt; kind_of(system.create_new("repository/HEAD")) == Some(ErrorKind::AlreadyExists));
     assert!(rt; kind_of(system.write("elsewhere/HEAD", b"x")) == Some(ErrorKind::NotFound));
     assert!(rt;
         kind_of(system.rename("repository/HEAD", "repository/objects/x"))

@@ -172,6 +172,11 @@ def flaws(kind, first, log):
     row(k, CREATE, first, files("names", "write", b"packed-refs", header + kind.commit + b" refs/heads/main\n"), files("names", "remove", b"refs/heads/main"), CHECK, RECOVER, CHECK)
     for number, text in ((b"1", b"hello\n"), (b"2", packed + packed), (b"3", header + packed + again), (b"2", packed + b"^" + kind.commit), (b"1", kind.commit + b" HEAD\n")):
         unopened([b"BadPacked", number], files("names", "write", b"packed-refs", text))
+    # A carriage return, before the line feed or within a line: the first such line is told, if none before it is bad.
+    ended, lines = (lambda text: text.replace(b"\n", b"\r\n")), header + again + packed
+    for number, text in ((b"1", ended(packed)), (b"1", ended(lines)), (b"2", header + ended(again) + packed), (b"3", header + again + ended(packed)), (b"3", header + packed + ended(b"hello\n")),
+                         (b"2", header + b"hello\n" + ended(packed)), (b"2", header + b"\r" + packed), (b"3", header + packed + ended(b"^" + kind.commit + b"\n")), (b"2", packed + b"\r")):
+        unopened([b"BadPacked", number], files("names", "write", b"packed-refs", text))
     unopened([b"PrivateName", b"refs/bisect/x"], files("names", "write", b"packed-refs", kind.commit + b" refs/bisect/x\n"))
     unopened([b"BadPeeled", b"refs/heads/b"], files("names", "write", b"packed-refs", packed + b"^" + kind.commit + b"\n"))
     unopened([b"Collides", b"refs/heads/main", b"refs/heads/main/x"], files("names", "write", b"packed-refs", kind.commit + b" refs/heads/main/x\n"))

@@ -9,13 +9,13 @@ use Rattle.gix_ref_format.specs.declared.packed.buffer.Error.{Error}
 use Rattle.gix_ref_format.specs.declared.packed.buffer.Error.TheVariants as faults
 use Rattle.history_model.specs.Places.{file_at, packed_place}
 use Rattle.history_model.specs.Bytes.{Bytes}
-use Rattle.history_model.specs.PackedNames.{says_sorted}
+use Rattle.history_model.specs.PackedNames.{packed_with}
 use Rattle.history_names_survey.specs.Packed.{is_good_file, is_packed_text}
 use Rattle.history_names.proofs.ReadRecords.{bad_header, bad_line}
 
 no_records : (kind : Kind) (text : Bytes) → is_packed_text kind text ≡ true → packed_records kind text ≡ None → ⊥
 no_records kind text good none =
-    absurd (cc (sym good ∙ ap (λ (o : Option (List Record)). unwrap_or (option_map is_good_file (option_map (λ records. record { sorted = says_sorted text; records = records }) o)) false) none))
+    absurd (cc (sym good ∙ ap (λ (o : Option (List Record)). unwrap_or (option_map is_good_file (option_map (packed_with text) o)) false) none))
 
 -- no line of it is bad, and its header is one
 pub no_bad_line : (kind : Kind) (file : Option Bytes) (n : ℕ) → is_packed_text kind (unwrap_or file []) ≡ true → FileFault kind file (faults.Iter n) → ⊥

@@ -18,7 +18,7 @@ apart : (p q : Bytes) → same_path p q ≡ false → p ≢ q
 apart p q is same = cc (sym is ∙ ap (λ x. same_path x q) same ∙ same_path_itself q)
 
 -- ---- a clear part
-pub clear_none : (part : Part) (permitted : Bytes) (tree : Tree) → IsClear part permitted tree → (path : Bytes) → path ≢ permitted → file_at tree path ≡ None
+clear_none : (part : Part) (permitted : Bytes) (tree : Tree) → IsClear part permitted tree → (path : Bytes) → path ≢ permitted → file_at tree path ≡ None
 clear_none part permitted tree clear [] other = refl
 clear_none part permitted tree clear (b ∷ path) other = by_case (get tree (b ∷ path)) (clear (b ∷ path))
   where

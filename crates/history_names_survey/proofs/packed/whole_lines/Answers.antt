@@ -1,4 +1,4 @@
-use Rattle.std.proofs.Common.{◌+◌, arith, refl}
+use Rattle.std.proofs.Common.{arith, refl}
 use Rattle.history_names_survey.proofs.LogPieces.{behind_shorter}
 use Rattle.history_names_survey.proofs.Returns.{all_counted, count_small, none_counted, one_counted}
 use Rattle.history_names_survey.proofs.packed.whole_lines.Goals as goal

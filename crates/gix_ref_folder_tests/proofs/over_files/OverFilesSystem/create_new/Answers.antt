@@ -18,9 +18,9 @@ returns-in_err-part-clause-taken g c root part path honest there = nowhere _ _ _
 
 pub returns-in-Objects-clause-change : goal.returns-in-Objects-clause-change
 returns-in-Objects-clause-change g c =
-    in_objects g.F.Files.is_honest g.F.Files.history _ _ c.args.place.now c.in_ok-part.part c.in_ok-part.path.now to_create _
+    in_objects g.F.Files.is_honest g.F.Files.history _ _ c.args.place.now c.in_ok-part.part c.in_ok-part.path.now (λ path. to_create path c.args.bytes.now) _
     c.in_ok-part.ensures.spot c.in-Objects.is (λ path. refl) refl refl c.create_new.ensures.honest
-    (λ honest. does_new _ _ _ _ _ c.newly.ensures.ok (c.create_new.ensures.change honest))
+    (λ honest. does_new _ _ _ _ _ _ c.newly.ensures.ok (c.create_new.ensures.change honest))
 
 pub returns-in-Objects-clause-free : goal.returns-in-Objects-clause-free
 returns-in-Objects-clause-free g c =
@@ -36,9 +36,9 @@ returns-in-Objects-clause-taken g c =
 
 pub returns-in-Names-clause-change : goal.returns-in-Names-clause-change
 returns-in-Names-clause-change g c =
-    in_names g.F.Files.is_honest g.F.Files.history _ _ c.args.place.now c.in_ok-part.part c.in_ok-part.path.now to_create _
+    in_names g.F.Files.is_honest g.F.Files.history _ _ c.args.place.now c.in_ok-part.part c.in_ok-part.path.now (λ path. to_create path c.args.bytes.now) _
     c.in_ok-part.ensures.spot c.in-Names.is (λ path. refl) refl refl c.create_new-in-Names.ensures.honest
-    (λ honest. does_new _ _ _ _ _ c.newly-in-Names.ensures.ok (c.create_new-in-Names.ensures.change honest))
+    (λ honest. does_new _ _ _ _ _ _ c.newly-in-Names.ensures.ok (c.create_new-in-Names.ensures.change honest))
 
 pub returns-in-Names-clause-free : goal.returns-in-Names-clause-free
 returns-in-Names-clause-free g c =
