@@ -10,7 +10,7 @@ use Rattle.history_model.specs.Repository.{Repository}
 use Rattle.history_model.specs.Steps.{Step, goes_on, next, some_failed}
 use Rattle.history_model.specs.Stops.{is_changing}
 use Rattle.history_model.specs.declared.Cause.{Cause}
-use Rattle.history.specs.NameFiles.{LeavesFiles, AllLeaveAsSaid, GoesBetween, LeavesAsSaid}
+use Rattle.history.specs.NameFiles.{LeavesFiles, AllLeaveAsSaid, ChangesAsSaid, GoesBetween, LeavesAsSaid}
 use Rattle.history_repository.specs.declared.stopped.Stopped.{Stopped}
 use Rattle.history.proofs.RowsKept.{goes_unchanged, no_failure}
 use Rattle.history_model.specs.declared.Fault as faults
@@ -27,7 +27,7 @@ stopped_packs r (Delete name at) stopped old new = tt
 stopped_packs r (Switch name) stopped old new = tt
 stopped_packs r order stopped old new = tt
 
-pub packs_refused : (names : History) (r : Repository) (begin : Moment) (order : Command) (cause : Cause) (finish : Moment) → LeavesAsSaid names r begin order (RefusedFor cause) finish
+pub packs_refused : (names : History) (r : Repository) (begin : Moment) (order : Command) (cause : Cause) (finish : Moment) → ChangesAsSaid names r begin order (RefusedFor cause) finish
 packs_refused names r begin Pack cause finish = tt
 packs_refused names r begin (Commit c) cause finish = tt
 packs_refused names r begin (Tag c) cause finish = tt
@@ -36,7 +36,7 @@ packs_refused names r begin (Delete name at) cause finish = tt
 packs_refused names r begin (Switch name) cause finish = tt
 packs_refused names r begin order cause finish = tt
 
-pub packs_faulted : (names : History) (r : Repository) (begin : Moment) (order : Command) (fault : faults.Fault) (finish : Moment) → LeavesAsSaid names r begin order (Faulted fault) finish
+pub packs_faulted : (names : History) (r : Repository) (begin : Moment) (order : Command) (fault : faults.Fault) (finish : Moment) → ChangesAsSaid names r begin order (Faulted fault) finish
 packs_faulted names r begin Pack fault finish = tt
 packs_faulted names r begin (Commit c) fault finish = tt
 packs_faulted names r begin (Tag c) fault finish = tt
@@ -47,7 +47,7 @@ packs_faulted names r begin order fault finish = tt
 
 -- what an answered command leaves packed, between the moments of its two trees
 pub packs_answered : (names : History) (r : Repository) (begin : Moment) (order : Command) (reply : Reply) (finish : Moment) (text : Vec ℕ Global) (old new : Tree)
-    → StoodAt names begin.names old → StoodAt names finish.names new → LeavesFiles r order (Ok text) old new → LeavesAsSaid names r begin order reply finish
+    → StoodAt names begin.names old → StoodAt names finish.names new → LeavesFiles r order (Ok text) old new → ChangesAsSaid names r begin order reply finish
 packs_answered names r begin Pack Packed finish text old new first last goes = record { old = old; new = new; begins = first; ends = last; goes = goes }
 packs_answered names r begin (Commit c) (Committed id) finish text old new first last goes = record { old = old; new = new; begins = first; ends = last; goes = goes }
 packs_answered names r begin (Tag c) (Tagged id) finish text old new first last goes = record { old = old; new = new; begins = first; ends = last; goes = goes }
@@ -75,14 +75,17 @@ between_later old new on begin finish Goes h = record {
   goes = h.goes;
 }
 
+files_later : (old new : History) → GoesOnFrom old new → (r : Repository) (begin : Moment) (order : Command) (reply : Reply) (finish : Moment) → ChangesAsSaid old r begin order reply finish → ChangesAsSaid new r begin order reply finish
+files_later old new on r begin Pack Packed finish h = between_later old new on begin finish _ h
+files_later old new on r begin (Commit c) (Committed id) finish h = between_later old new on begin finish _ h
+files_later old new on r begin (Tag c) (Tagged id) finish h = between_later old new on begin finish _ h
+files_later old new on r begin (Rename from to) Renamed finish h = between_later old new on begin finish _ h
+files_later old new on r begin (Delete name at) Deleted finish h = between_later old new on begin finish _ h
+files_later old new on r begin (Switch name) Switched finish h = between_later old new on begin finish _ h
+files_later old new on r begin order reply finish h = tt
+
 then_later : (old new : History) → GoesOnFrom old new → (r : Repository) (begin : Moment) (order : Command) (reply : Reply) (finish : Moment) → LeavesAsSaid old r begin order reply finish → LeavesAsSaid new r begin order reply finish
-then_later old new on r begin Pack Packed finish h = between_later old new on begin finish _ h
-then_later old new on r begin (Commit c) (Committed id) finish h = between_later old new on begin finish _ h
-then_later old new on r begin (Tag c) (Tagged id) finish h = between_later old new on begin finish _ h
-then_later old new on r begin (Rename from to) Renamed finish h = between_later old new on begin finish _ h
-then_later old new on r begin (Delete name at) Deleted finish h = between_later old new on begin finish _ h
-then_later old new on r begin (Switch name) Switched finish h = between_later old new on begin finish _ h
-then_later old new on r begin order reply finish h = tt
+then_later old new on r begin order reply finish h = (files_later old new on r begin order reply finish h.0, h.1)
 
 pub each_later : (old new : History) → GoesOnFrom old new → (r : Repository) (begin : Moment) (orders : List Command) (replies : List Reply) (moments : List Moment) → AllLeaveAsSaid old r begin orders replies moments
     → AllLeaveAsSaid new r begin orders replies moments

@@ -1,18 +1,19 @@
--- What accepted commands do to the files of the names part.
+-- What accepted commands do to the files of the names part; and which reply tells of a failed call.
 use Rattle.std.specs.Prelude.{◌≡◌, ◌≢◌, ⊤, ℕ, List, ◌∷◌, Result, Vec, OnOk, IsFalse}
 use Rattle.std.specs.declared.alloc.Global.{Global}
 use Rattle.gix_ref_file.specs.History.{History}
 use Rattle.gix_ref_file.specs.Tree.{Tree}
 use Rattle.history_model.specs.Bytes.{Bytes}
 use Rattle.history_model.specs.Commands.{Command, Commit, Delete, Pack, Rename, Switch, Tag}
-use Rattle.history_model.specs.Moments.{Moment, StoodAt}
+use Rattle.history_model.specs.Moments.{CountsStay, Moment, StoodAt}
 use Rattle.history_model.specs.Places.{file_at, head_place, is_lock_file, log_place, packed_place}
-use Rattle.history_model.specs.Replies.{Committed, Deleted, Packed, Renamed, Reply, Switched, Tagged}
+use Rattle.history_model.specs.Replies.{Committed, Deleted, Faulted, Packed, Renamed, Reply, Switched, Tagged}
 use Rattle.history_model.specs.Steps.{next}
 use Rattle.history_steps.specs.OneNameSteps.{commit_move, tag_move}
 use Rattle.history_steps.specs.PackSteps.{PacksNames}
 use Rattle.history_repository.specs.declared.stopped.Stopped.{Stopped}
 use Rattle.history_model.specs.Repository as plain
+use Rattle.history_model.specs.declared.Fault.TheVariants.{File}
 
 -- each file but HEAD's stands as before; of lock files nothing is said
 abbrev pub ChangesHeadAlone : Tree → Tree → Type 0
@@ -69,21 +70,30 @@ pub record GoesBetween (names : History) (begin finish : Moment) (Goes : Tree �
   pub goes : Goes old new
 
 -- Between its two moments a command that was answered as accepted did so.
-abbrev pub LeavesAsSaid : History → plain.Repository → Moment → Command → Reply → Moment → Type 0
-LeavesAsSaid names r begin (Commit c) (Committed id) finish =
+abbrev pub ChangesAsSaid : History → plain.Repository → Moment → Command → Reply → Moment → Type 0
+ChangesAsSaid names r begin (Commit c) (Committed id) finish =
     GoesBetween names begin finish (ChangesNameAlone (commit_move r c).name)
-LeavesAsSaid names r begin (Tag c) (Tagged id) finish =
+ChangesAsSaid names r begin (Tag c) (Tagged id) finish =
     GoesBetween names begin finish (ChangesNameAlone (tag_move r c).name)
-LeavesAsSaid names r begin (Rename from to) Renamed finish =
+ChangesAsSaid names r begin (Rename from to) Renamed finish =
     GoesBetween names begin finish (RenamesAlone from to)
-LeavesAsSaid names r begin (Delete name at) Deleted finish =
+ChangesAsSaid names r begin (Delete name at) Deleted finish =
     GoesBetween names begin finish (TakesNameAlone name)
-LeavesAsSaid names r begin (Switch name) Switched finish =
+ChangesAsSaid names r begin (Switch name) Switched finish =
     GoesBetween names begin finish ChangesHeadAlone
-LeavesAsSaid names r begin Pack Packed finish = GoesBetween names begin finish (PacksNames r)
-LeavesAsSaid names r begin command reply finish = ⊤
+ChangesAsSaid names r begin Pack Packed finish = GoesBetween names begin finish (PacksNames r)
+ChangesAsSaid names r begin command reply finish = ⊤
 
--- So did each of these commands, from this repository on, where each ends and the next begins at these moments.
+-- A failed call that was counted is told as `fault File`: with another reply both parts count as many as before.
+abbrev pub CountsAsSaid : Moment → Reply → Moment → Type 0
+CountsAsSaid begin reply finish = reply ≢ Faulted File → CountsStay begin finish
+
+-- Both hold of a command that was answered, between its two moments.
+abbrev pub LeavesAsSaid : History → plain.Repository → Moment → Command → Reply → Moment → Type 0
+LeavesAsSaid names r begin command reply finish =
+    ChangesAsSaid names r begin command reply finish × CountsAsSaid begin reply finish
+
+-- They hold of each of these commands, from this repository on, where each ends and the next begins at these moments.
 abbrev pub AllLeaveAsSaid : History → plain.Repository → Moment → List Command → List Reply
     → List Moment → Type 0
 AllLeaveAsSaid names r begin (command ∷ commands) (reply ∷ replies) (finish ∷ moments) =

@@ -1,12 +1,12 @@
 //! A command that changes files: its objects are stored, its reply is made, and then names move.
 
-ghost use Rattle.std.specs.Prelude.{◌≡◌, [], ◌∷◌, codes, IfErr, IfOk, OnOk};
+ghost use Rattle.std.specs.Prelude.{◌≡◌, [], ◌∷◌, codes, IfErr, IfOk, OnOk, IsErrOf};
 ghost use Rattle.gix_hash_id.specs.Id.{id_of};
 ghost use Rattle.history_model.specs.Moments.{LeavesStopped};
 ghost use Rattle.history_model.specs.Objects.{hex};
 ghost use Rattle.history_model.specs.Places.{Pair};
 ghost use Rattle.history_model.specs.Spelling.{Line, parts_text};
-ghost use Rattle.history.specs.Acts.{Acts, CountsFailure, CountsRise, KeepsCounts, StaysHonest};
+ghost use Rattle.history.specs.Acts.{Acts, CountsFailure, CountsRise, KeepsCounts, StaysHonest, OnlyFileCounts};
 ghost use Rattle.history_repository.specs.Face.{has_failed, rows_in};
 ghost use Rattle.history_repository.specs.Faults.{IsRefusal};
 ghost use Rattle.history_repository.specs.Stands.{Stands};
@@ -17,6 +17,7 @@ ghost use Rattle.history.specs.Replies.{TellsDone, done_word};
 ghost use Rattle.history.specs.Storing.{AreMovesOf, AskedChange};
 ghost use Rattle.history_model.specs.Commands as orders;
 ghost use Rattle.history_model.specs.Repository as plain;
+ghost use Rattle.history_repository.specs.declared.stopped.Stopped.TheVariants as stopped;
 
 use crate::moves::{Moves, move_names, store_objects};
 use gix_hash::{Kind, ObjectId};
@@ -92,6 +93,8 @@ pub(crate) fn change<F: Files>(
     ensures honest { StaysHonest F.is_honest repository.old repository.new }
     ensures counts { CountsRise F.failures repository.old repository.new }
     ensures unfailed { OnOk result (KeepsCounts F.failures repository.old repository.new) }
+    ensures memory { OnlyFileCounts F.failures repository.old repository.new
+        (λ fault. IsErrOf result (stopped.Fault fault)) }
     ensures later { (r : plain.Repository) (order : orders.Command)
         → AskedChange F.is_honest F.history repository.old command r order
         → GoesLater F.history F.failures repository.old repository.new }

@@ -1,6 +1,6 @@
 //! The command `delete`: a name goes, with its log and its record.
 
-ghost use Rattle.std.specs.Prelude.{◌≡◌, Option, IsTrue, OnOk};
+ghost use Rattle.std.specs.Prelude.{◌≡◌, Option, IsTrue, OnOk, IsErrOf};
 ghost use Rattle.gix_ref_file.specs.History.{Adds};
 ghost use Rattle.history_model.specs.Bytes.{Bytes};
 ghost use Rattle.history_model.specs.Repository.{stands};
@@ -8,7 +8,7 @@ ghost use Rattle.history_steps.specs.TakeSteps.{TakesName, TakesOnTheWay};
 ghost use Rattle.history_names.specs.Face.{kind_of_names};
 ghost use Rattle.history_names.specs.Packing.{KeepsRecords};
 ghost use Rattle.history_word.specs.Commands.{IsDelete};
-ghost use Rattle.history.specs.Acts.{CountsFailure, CountsRise, KeepsCounts};
+ghost use Rattle.history.specs.Acts.{CountsFailure, CountsRise, KeepsCounts, OnlyFileCounts};
 ghost use Rattle.history.specs.Moving.{LeavesMoved};
 ghost use Rattle.history.specs.Storing.{GivesMoves};
 ghost use Rattle.history_repository.specs.Face.{KeepsAllButNames, names_part};
@@ -50,6 +50,8 @@ pub(crate) fn delete_name<F: Files>(
     ensures kind { kind_of_names repository.new.names ≡ kind_of_names repository.old.names }
     ensures counts { CountsRise F.failures repository.old repository.new }
     ensures unfailed { OnOk result (KeepsCounts F.failures repository.old repository.new) }
+    ensures memory { OnlyFileCounts F.failures repository.old repository.new
+        (λ fault. IsErrOf result fault) }
     ensures passes { (r : plain.Repository) → NamesStand F.is_honest F.history repository.old r
         → IsTrue (stands r name.now)
         → Adds (TakesOnTheWay r.kind name.now (names_tree F.history repository.old))

@@ -2,7 +2,7 @@
 //!
 //! A run changes files by these two calls alone, in this order. The methods of `Repository` that have their names make one of them each.
 
-ghost use Rattle.std.specs.Prelude.{◌≡◌, Ok, IsOk, IfErr, OnOk, false};
+ghost use Rattle.std.specs.Prelude.{◌≡◌, Ok, IsOk, IfErr, OnOk, false, IsErrOf};
 ghost use Rattle.gix_ref_file.specs.History.{Adds};
 ghost use Rattle.history_model.specs.Meaning.{after};
 ghost use Rattle.history_steps.specs.Passing.{HoldsBetween};
@@ -12,7 +12,7 @@ ghost use Rattle.history_repository.specs.Face.{KeepsAllButObjects, names_part, 
 ghost use Rattle.history_repository.specs.Faults.{IsRefusal, file_fault};
 ghost use Rattle.history_repository.specs.Stands.{Stands};
 ghost use Rattle.history_plans.specs.Halves.{names_tree};
-ghost use Rattle.history.specs.Acts.{CountsFailure, CountsRise, KeepsCounts};
+ghost use Rattle.history.specs.Acts.{CountsFailure, CountsRise, KeepsCounts, OnlyFileCounts};
 ghost use Rattle.history.specs.Moments.{ObjectsPass};
 ghost use Rattle.history.specs.Moving.{LeavesMoved, MovesNamesAlone};
 ghost use Rattle.history.specs.NameFiles.{LeavesAsAsked};
@@ -20,6 +20,7 @@ ghost use Rattle.history.specs.Runs.{changes_files};
 ghost use Rattle.history.specs.Storing.{AreMovesOf, AskedChange, HasStored, StoresObjects};
 ghost use Rattle.history_model.specs.Commands as orders;
 ghost use Rattle.history_model.specs.Repository as plain;
+ghost use Rattle.history_repository.specs.declared.stopped.Stopped.TheVariants as stopped;
 
 use crate::commit::{move_name, store_commit};
 use crate::deleting::{delete_name, plan_deletion};
@@ -80,6 +81,8 @@ pub(crate) fn store_objects<F: Files>(
     ensures kind { kind_of_objects repository.new.objects ≡ kind_of_objects repository.old.objects }
     ensures counts { CountsRise F.failures repository.old repository.new }
     ensures unfailed { OnOk result (KeepsCounts F.failures repository.old repository.new) }
+    ensures memory { OnlyFileCounts F.failures repository.old repository.new
+        (λ fault. IsErrOf result (stopped.Fault fault)) }
     ensures reads { changes_files command ≡ false
         → (result ≡ Ok Moves.Nothing) × (repository.new ≡ repository.old) }
     ensures stores { (r : plain.Repository) (order : orders.Command)
@@ -114,6 +117,8 @@ pub(crate) fn move_names<F: Files>(
     ensures kind { kind_of_names repository.new.names ≡ kind_of_names repository.old.names }
     ensures counts { CountsRise F.failures repository.old repository.new }
     ensures unfailed { OnOk result (KeepsCounts F.failures repository.old repository.new) }
+    ensures memory { OnlyFileCounts F.failures repository.old repository.new
+        (λ fault. IsErrOf result fault) }
     ensures nothing { moves ≡ Moves.Nothing → IsOk result × (repository.new ≡ repository.old) }
     // On the way each name, once recovered, is as before the command or as after it.
     ensures passes { (r : plain.Repository) (order : orders.Command)

@@ -1,12 +1,12 @@
 //! The command `move`: names that move together, each to its word's commit.
 
-ghost use Rattle.std.specs.Prelude.{◌≡◌, OnOk};
+ghost use Rattle.std.specs.Prelude.{◌≡◌, OnOk, IsErrOf};
 ghost use Rattle.gix_ref_file.specs.History.{Adds};
 ghost use Rattle.history_model.specs.Meaning.{after};
 ghost use Rattle.history_steps.specs.Passing.{HoldsBetween};
 ghost use Rattle.history_names.specs.Face.{kind_of_names};
 ghost use Rattle.history_word.specs.Commands.{IsMove};
-ghost use Rattle.history.specs.Acts.{CountsFailure, CountsRise, KeepsCounts};
+ghost use Rattle.history.specs.Acts.{CountsFailure, CountsRise, KeepsCounts, OnlyFileCounts};
 ghost use Rattle.history_repository.specs.Face.{KeepsAllButNames, names_part};
 ghost use Rattle.history.specs.Moving.{AskedMoves, LeavesMoved};
 ghost use Rattle.history.specs.Storing.{GivesMoves};
@@ -48,6 +48,8 @@ pub(crate) fn move_each<F: Files>(
     ensures kind { kind_of_names repository.new.names ≡ kind_of_names repository.old.names }
     ensures counts { CountsRise F.failures repository.old repository.new }
     ensures unfailed { OnOk result (KeepsCounts F.failures repository.old repository.new) }
+    ensures memory { OnlyFileCounts F.failures repository.old repository.new
+        (λ fault. IsErrOf result fault) }
     // On the way each name, once recovered, is as before the command or as after it.
     ensures passes { (r : plain.Repository) (order : orders.MoveCommand)
         → AskedMoves F.is_honest F.history repository.old moves.now r order

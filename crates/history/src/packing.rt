@@ -1,11 +1,11 @@
 //! The command `pack`: each name gets a record in `packed-refs`, and its own file goes.
 
-ghost use Rattle.std.specs.Prelude.{◌≡◌, OnOk};
+ghost use Rattle.std.specs.Prelude.{◌≡◌, OnOk, IsErrOf};
 ghost use Rattle.gix_ref_file.specs.History.{Adds};
 ghost use Rattle.history_steps.specs.PackSteps.{PacksNames, PacksOnTheWay};
 ghost use Rattle.history_names.specs.Face.{kind_of_names};
 ghost use Rattle.history_names.specs.Packing.{KeepsRecords};
-ghost use Rattle.history.specs.Acts.{CountsFailure, CountsRise, KeepsCounts};
+ghost use Rattle.history.specs.Acts.{CountsFailure, CountsRise, KeepsCounts, OnlyFileCounts};
 ghost use Rattle.history.specs.Moving.{LeavesMoved};
 ghost use Rattle.history.specs.Storing.{GivesMoves};
 ghost use Rattle.history_repository.specs.Face.{KeepsAllButNames, names_part};
@@ -45,6 +45,8 @@ pub(crate) fn pack_names<F: Files>(
     ensures kind { kind_of_names repository.new.names ≡ kind_of_names repository.old.names }
     ensures counts { CountsRise F.failures repository.old repository.new }
     ensures unfailed { OnOk result (KeepsCounts F.failures repository.old repository.new) }
+    ensures memory { OnlyFileCounts F.failures repository.old repository.new
+        (λ fault. IsErrOf result fault) }
     ensures passes { (r : plain.Repository) → Stands F.is_honest F.history repository.old r
         → AreAllNames r names.now
         → Adds (PacksOnTheWay r (names_tree F.history repository.old))

@@ -1,13 +1,13 @@
 //! The command `rename`: a name is made at what another holds, and that one goes, with its log.
 
-ghost use Rattle.std.specs.Prelude.{◌≡◌, OnOk};
+ghost use Rattle.std.specs.Prelude.{◌≡◌, OnOk, IsErrOf};
 ghost use Rattle.gix_ref_file.specs.History.{Adds};
 ghost use Rattle.history_model.specs.Bytes.{Bytes};
 ghost use Rattle.history_model.specs.Meaning.{after};
 ghost use Rattle.history_steps.specs.Passing.{HoldsBetween};
 ghost use Rattle.history_names.specs.Face.{kind_of_names};
 ghost use Rattle.history_word.specs.Commands.{IsRename};
-ghost use Rattle.history.specs.Acts.{CountsFailure, CountsRise, KeepsCounts};
+ghost use Rattle.history.specs.Acts.{CountsFailure, CountsRise, KeepsCounts, OnlyFileCounts};
 ghost use Rattle.history_repository.specs.Face.{KeepsAllButNames, names_part};
 ghost use Rattle.history_plans.specs.Halves.{NamesStand, names_tree};
 ghost use Rattle.history.specs.Moving.{LeavesMoved};
@@ -57,6 +57,8 @@ pub(crate) fn rename_name<F: Files>(
     ensures kind { kind_of_names repository.new.names ≡ kind_of_names repository.old.names }
     ensures counts { CountsRise F.failures repository.old repository.new }
     ensures unfailed { OnOk result (KeepsCounts F.failures repository.old repository.new) }
+    ensures memory { OnlyFileCounts F.failures repository.old repository.new
+        (λ fault. IsErrOf result fault) }
     // Each file of others than these names is as it was, but for `packed-refs`.
     ensures alone { (r : plain.Repository) (to : Bytes)
         → AskedRename F.is_honest F.history repository.old moves.now r from.now to

@@ -1,6 +1,6 @@
 //! A repository whose fields no caller writes.
 
-ghost use Rattle.std.specs.Prelude.{◌≡◌, ◌||◌, false, None, Ok, IsOk, IfOk, IfErr, OnOk, is_err, option_map};
+ghost use Rattle.std.specs.Prelude.{◌≡◌, ◌||◌, false, None, Ok, IsOk, IfOk, IfErr, OnOk, is_err, option_map, IsErrOf};
 ghost use Rattle.gix_ref_file.specs.History.{Adds};
 ghost use Rattle.history_model.specs.Meaning.{after};
 ghost use Rattle.history_model.specs.Repository.{fresh};
@@ -15,7 +15,7 @@ ghost use Rattle.history_repository.specs.Face.{has_failed, names_part, objects_
 ghost use Rattle.history_repository.specs.Faults.{IsRefusal};
 ghost use Rattle.history_repository.specs.Stands.{Stands};
 ghost use Rattle.history_plans.specs.Halves.{names_tree};
-ghost use Rattle.history.specs.Acts.{CountsFailure, CountsRise, KeepsCounts};
+ghost use Rattle.history.specs.Acts.{CountsFailure, CountsRise, KeepsCounts, OnlyFileCounts};
 ghost use Rattle.history.specs.Moments.{ObjectsPass};
 ghost use Rattle.history.specs.Moving.{LeavesMoved};
 ghost use Rattle.history.specs.NameFiles.{LeavesAsAsked};
@@ -23,6 +23,7 @@ ghost use Rattle.history.specs.Runs.{changes_files};
 ghost use Rattle.history.specs.Storing.{AreMovesOf, AskedChange, HasStored, StoresObjects, is_fault_of};
 ghost use Rattle.history_model.specs.Commands as orders;
 ghost use Rattle.history_model.specs.Repository as plain;
+ghost use Rattle.history_repository.specs.declared.stopped.Stopped.TheVariants as stopped;
 
 use crate::moves::{Moves, move_names, store_objects};
 use gix_hash::Kind;
@@ -122,7 +123,7 @@ impl<F: Files> Repository<F> {
     /// answers how its names are to move. The names stay as they are. Of a command that changes no file it stores nothing.
     ///
     /// It asks for a repository that hasn't failed. After a fault it has, and some of the objects may stand: the folder is to be opened
-    /// again.
+    /// again. A failed change of the files that was counted is reported as the fault `File`, never as `Memory`.
     pub fn store_objects(&mut self, alloc: Global, command: Command) -> Result<Moves, Stopped>
         ensures refused { IfErr result (λ stopped. IsRefusal stopped → self.new ≡ self.old) }
         ensures failed { has_failed self.new ≡ (has_failed self.old || is_fault_of result) }
@@ -132,6 +133,8 @@ impl<F: Files> Repository<F> {
         ensures kind { kind_of_objects self.new.objects ≡ kind_of_objects self.old.objects }
         ensures counts { CountsRise F.failures self.old self.new }
         ensures unfailed { OnOk result (KeepsCounts F.failures self.old self.new) }
+        ensures memory { OnlyFileCounts F.failures self.old self.new
+            (λ fault. IsErrOf result (stopped.Fault fault)) }
         ensures reads { changes_files command ≡ false
             → (result ≡ Ok Moves.Nothing) × (self.new ≡ self.old) }
         ensures stores { (r : plain.Repository) (order : orders.Command)
@@ -157,7 +160,8 @@ impl<F: Files> Repository<F> {
     ///
     /// It asks for a repository that hasn't failed, and for moves that `store_objects` answered for it: then each id that a name moves to
     /// is stored, no name stands twice or collides, and each holds what is expected of it. After a fault it has failed, and some of the
-    /// names may have moved: the folder is to be recovered and opened again.
+    /// names may have moved: the folder is to be recovered and opened again. A failed change of the files that was counted is reported as
+    /// the fault `File`, never as `Memory`.
     pub fn move_names(&mut self, alloc: Global, moves: Moves) -> Result<(), Fault>
         ensures failed { has_failed self.new ≡ (has_failed self.old || is_err result) }
         ensures kept { (self.new.objects ≡ self.old.objects)
@@ -166,6 +170,8 @@ impl<F: Files> Repository<F> {
         ensures kind { kind_of_names self.new.names ≡ kind_of_names self.old.names }
         ensures counts { CountsRise F.failures self.old self.new }
         ensures unfailed { OnOk result (KeepsCounts F.failures self.old self.new) }
+        ensures memory { OnlyFileCounts F.failures self.old self.new
+            (λ fault. IsErrOf result fault) }
         ensures nothing { moves ≡ Moves.Nothing → IsOk result × (self.new ≡ self.old) }
         // On the way each name, once recovered, is as before the command or as after it.
         ensures passes { (r : plain.Repository) (order : orders.Command)

@@ -1,12 +1,12 @@
 //! The command `switch`: HEAD names another branch.
 
-ghost use Rattle.std.specs.Prelude.{◌≡◌, None, OnOk};
+ghost use Rattle.std.specs.Prelude.{◌≡◌, None, OnOk, IsErrOf};
 ghost use Rattle.gix_ref_file.specs.History.{Adds};
 ghost use Rattle.history_model.specs.Causes.{first_cause};
 ghost use Rattle.history_model.specs.Meaning.{after};
 ghost use Rattle.history_steps.specs.Passing.{HoldsBetween};
 ghost use Rattle.history_names.specs.Face.{kind_of_names};
-ghost use Rattle.history.specs.Acts.{CountsFailure, CountsRise, KeepsCounts};
+ghost use Rattle.history.specs.Acts.{CountsFailure, CountsRise, KeepsCounts, OnlyFileCounts};
 ghost use Rattle.history.specs.Moving.{LeavesMoved, MovesNamesAlone};
 ghost use Rattle.history.specs.NameFiles.{ChangesHeadAlone};
 ghost use Rattle.history.specs.Storing.{GivesMoves};
@@ -46,6 +46,8 @@ pub(crate) fn switch_head<F: Files>(
     ensures kind { kind_of_names repository.new.names ≡ kind_of_names repository.old.names }
     ensures counts { CountsRise F.failures repository.old repository.new }
     ensures unfailed { OnOk result (KeepsCounts F.failures repository.old repository.new) }
+    ensures memory { OnlyFileCounts F.failures repository.old repository.new
+        (λ fault. IsErrOf result fault) }
     // Each other file is as it was, but for lock files.
     ensures alone { F.is_honest (names_part repository.old) → OnOk result (ChangesHeadAlone
         (names_tree F.history repository.old) (names_tree F.history repository.new)) }

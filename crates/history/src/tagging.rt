@@ -1,9 +1,9 @@
 //! The command `tag`: a tag of a commit is stored, and then a name moves to it.
 
-ghost use Rattle.std.specs.Prelude.{◌≡◌, IfErr, OnOk};
+ghost use Rattle.std.specs.Prelude.{◌≡◌, IfErr, OnOk, IsErrOf};
 ghost use Rattle.history_word.specs.Commands.{IsTag};
 ghost use Rattle.history_objects.specs.Face.{kind_of_objects};
-ghost use Rattle.history.specs.Acts.{CountsFailure, CountsRise, KeepsCounts};
+ghost use Rattle.history.specs.Acts.{CountsFailure, CountsRise, KeepsCounts, OnlyFileCounts};
 ghost use Rattle.history_repository.specs.Face.{KeepsAllButObjects, objects_part};
 ghost use Rattle.history_repository.specs.Faults.{IsRefusal};
 ghost use Rattle.history.specs.Moments.{ObjectsPass};
@@ -11,6 +11,7 @@ ghost use Rattle.history.specs.Storing.{HasStored, StoresObjects};
 ghost use Rattle.history_repository.specs.Stands.{Stands};
 ghost use Rattle.history_model.specs.Commands as orders;
 ghost use Rattle.history_model.specs.Repository as plain;
+ghost use Rattle.history_repository.specs.declared.stopped.Stopped.TheVariants as stopped;
 
 use crate::commit::put;
 use crate::moves::Moves;
@@ -32,6 +33,8 @@ pub(crate) fn store_tag<F: Files>(
     ensures kind { kind_of_objects repository.new.objects ≡ kind_of_objects repository.old.objects }
     ensures counts { CountsRise F.failures repository.old repository.new }
     ensures unfailed { OnOk result (KeepsCounts F.failures repository.old repository.new) }
+    ensures memory { OnlyFileCounts F.failures repository.old repository.new
+        (λ fault. IsErrOf result (stopped.Fault fault)) }
     ensures stores { (r : plain.Repository) (order : orders.TagCommand)
         → Stands F.is_honest F.history repository.old r → IsTag command order
         → StoresObjects (CountsFailure F.failures F.reading_may_fail repository.old repository.new)

@@ -6,6 +6,7 @@ use Rattle.history.specs.Replies.{is_fault}
 use Rattle.history.specs.Runs.{is_changing}
 use Rattle.history.proofs.ActLemmas.{received_changes}
 use Rattle.history.proofs.Acted.{text_acted, refusal_acted, fault_acted, failed_so}
+use Rattle.history.proofs.Told.{replied}
 use Rattle.history.proofs.act.answer.Goals as goal
 use Rattle.history.proofs.act.answer.Given as Given
 use Rattle.history.proofs.act.answer.Goals.{in-Ok, in-Err-Refused, in-Err-Fault, else-is_changing-via-then-is_changing+else-is_fault, else-is_changing-via-else-is_changing}
@@ -21,7 +22,7 @@ returns-then-is_fault-clause-acted g c = rw (← c.repository.view_is) (λ r ord
       | in-Err-Refused w ↦ absurd (cc (faulted, ap is_fault w.reply-is))
       | in-Err-Fault w ↦ failed_so _ _ _ _ _ _ _ _ _ _ r order c.match-act.reply (fault_acted g.F.Files.is_honest g.F.Files.history g.F.Files.failures g.F.Files.reading_may_fail c.repository.inside.state c.act.new.repository r order
           (c.act.ensures.later r order asked) (c.act.ensures.stops r order asked) c.act.ensures.counts c.act.result w.in-Err-Fault.fault c.match-act.reply true
-          (w.in-Err-Fault.is ∙ ap Err w.in-Err-Fault.field-0-is) w.reply-is changing (λ none. absurd (cc (changing, none))) (c.act.ensures.rows r order asked) stands (c.act.ensures.acts r order asked))
+          (w.in-Err-Fault.is ∙ ap Err w.in-Err-Fault.field-0-is) w.reply-is changing (c.act.ensures.memory w.in-Err-Fault.fault (w.in-Err-Fault.is ∙ ap Err w.in-Err-Fault.field-0-is)) (λ none. absurd (cc (changing, none))) (c.act.ensures.rows r order asked) stands (c.act.ensures.acts r order asked))
     ])
 
 -- where no mark is made the repository is as `act` left it
@@ -55,7 +56,7 @@ returns-else-is_changing-clause-acted g c = rw (← c.repository.view_is, kept_e
             | else-is_changing-via-else-is_changing v ↦ sym c.is_changing-is_changing.ensures ∙ v.if-is_changing.false
           ] in
           fault_acted g.F.Files.is_honest g.F.Files.history g.F.Files.failures g.F.Files.reading_may_fail c.repository.inside.state c.act.new.repository r order later stop c.act.ensures.counts
-          c.act.result w.in-Err-Fault.fault c.match-act.reply (has_failed c.act.new.repository) (w.in-Err-Fault.is ∙ ap Err w.in-Err-Fault.field-0-is) w.reply-is (same ∙ sym (told unchanging)) (λ n. w.in-Err-Fault.ensures.unread (received_changes c.args.received order reads ∙ n)) rows stands acts
+          c.act.result w.in-Err-Fault.fault c.match-act.reply (has_failed c.act.new.repository) (w.in-Err-Fault.is ∙ ap Err w.in-Err-Fault.field-0-is) w.reply-is (same ∙ sym (told unchanging)) (c.act.ensures.memory w.in-Err-Fault.fault (w.in-Err-Fault.is ∙ ap Err w.in-Err-Fault.field-0-is)) (λ n. w.in-Err-Fault.ensures.unread (received_changes c.args.received order reads ∙ n)) rows stands acts
     ])
 
 pub returns-then-is_fault-clause-later : goal.returns-then-is_fault-clause-later
@@ -69,3 +70,21 @@ returns-then-is_fault-clause-honest g c = rw (← c.repository.view_is) (record 
 
 pub returns-else-is_changing-clause-honest : goal.returns-else-is_changing-clause-honest
 returns-else-is_changing-clause-honest g c = rw (← c.repository.view_is, kept_else g c) (record { objects = c.act.ensures.honest.objects; names = c.act.ensures.honest.names })
+
+pub returns-then-is_fault-clause-memory : goal.returns-then-is_fault-clause-memory
+returns-then-is_fault-clause-memory g c = rw (← c.repository.view_is) (λ fault told other.
+    elim c.match-act.branch [
+      | in-Ok w ↦ absurd (cc (told, w.reply-is))
+      | in-Err-Refused w ↦ absurd (cc (told, w.reply-is))
+      | in-Err-Fault w ↦
+          let counts = c.act.ensures.memory fault (replied c.act.result _ c.match-act.reply w.in-Err-Fault.fault fault w.in-Err-Fault.is w.in-Err-Fault.field-0-is w.reply-is told) other in
+          record { objects = counts.objects; names = counts.names }
+    ])
+
+pub returns-else-is_changing-clause-memory : goal.returns-else-is_changing-clause-memory
+returns-else-is_changing-clause-memory g c = rw (← c.repository.view_is, kept_else g c) (λ fault told other.
+    elim c.match-act.branch [
+      | in-Ok w ↦ absurd (cc (told, w.reply-is))
+      | in-Err-Refused w ↦ absurd (cc (told, w.reply-is))
+      | in-Err-Fault w ↦ c.act.ensures.memory fault (replied c.act.result _ c.match-act.reply w.in-Err-Fault.fault fault w.in-Err-Fault.is w.in-Err-Fault.field-0-is w.reply-is told) other
+    ])

@@ -8,6 +8,8 @@ use Rattle.history_repository.specs.Stands.{Stands}
 use Rattle.history.proofs.ChangeLemmas.{acts_done, acts_unmoved, acts_unstored, acts_without_memory, packs_done, packs_nothing}
 use Rattle.history.proofs.Counts.{counts_joined, failed_before, honest_moved, honest_stored, stay_joined}
 use Rattle.history.proofs.Stops.{moving_later, stopped_moving, stopped_storing, storing_later}
+use Rattle.history.proofs.Told.{fault_passed, passed_on}
+use Rattle.history_repository.specs.declared.stopped.Stopped.TheVariants.{Fault}
 use Rattle.history.proofs.changing.change.Goals as goal
 
 pub returns-in_err-move_names-clause-counts : goal.returns-in_err-move_names-clause-counts
@@ -139,3 +141,21 @@ returns-clause-leaves g c = λ r order asked.
     let stores = c.in_ok-moves.ensures.stores r order asked in
     packs_done r order c.in_ok-text.text (names_tree F.history c.args.repository.now) (names_tree F.history c.store_objects.new.repository) (names_tree F.history c.move_names.new.repository)
     (ap (λ names. (F.history names.files).tree) c.store_objects.ensures.kept.names) (c.in_ok-move_names.ensures.leaves r order stores.1 stores.0)
+
+-- ---- what a fault counts
+
+pub returns-in_err-moves-clause-memory : goal.returns-in_err-moves-clause-memory
+returns-in_err-moves-clause-memory g c = λ fault told other.
+    let stopped = err_from_is_err_and c.from_residual.result c.from_residual.ensures.1 in
+    c.store_objects.ensures.memory fault
+    (passed_on c.store_objects.result c.from_residual.result c.in_err-moves.field-0.0 (Fault fault) c.in_err-moves.was (stopped.1 ∙ ap Err stopped.2) told) other
+
+pub returns-in_err-text-clause-memory : goal.returns-in_err-text-clause-memory
+returns-in_err-text-clause-memory g c = λ fault told other. c.in_ok-moves.ensures.unfailed
+
+pub returns-in_err-move_names-clause-memory : goal.returns-in_err-move_names-clause-memory
+returns-in_err-move_names-clause-memory g c = λ fault told other.
+    let stopped = err_from_is_err_and c.from_residual-in_err-move_names.result c.from_residual-in_err-move_names.ensures.1 in
+    stay_joined g.F.Files.failures c.args.repository.now c.store_objects.new.repository c.move_names.new.repository c.in_ok-moves.ensures.unfailed
+    (c.move_names.ensures.memory fault
+    (fault_passed c.move_names.result c.from_residual-in_err-move_names.result c.in_err-move_names.field-0.0 fault c.in_err-move_names.was (stopped.1 ∙ ap Err stopped.2) told) other)

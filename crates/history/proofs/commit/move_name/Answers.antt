@@ -5,6 +5,7 @@ use Rattle.history_texts.specs.Formats.{entry_of}
 use Rattle.history.proofs.MoveFaults.{met_fault}
 use Rattle.history.proofs.MovedNames.{fits_here, moved, names_pass}
 use Rattle.history_plans.proofs.NameWays.{way, log_way, lock_room}
+use Rattle.history.proofs.Told.{file_counts}
 use Rattle.history.proofs.commit.move_name.Goals as goal
 
 counted : {A B C : Type 0} → B ⊎ C → A ⊎ B ⊎ C
@@ -62,3 +63,8 @@ pub returns-in-Ok-clause-records : goal.returns-in-Ok-clause-records
 returns-in-Ok-clause-records g c = λ r stand fits.
     let here = fits_here r c.args.moves.now c.deref.result.now c.deref.ensures.value fits in
     c.in-Ok.ensures.keeps here.named stand.honest stand.records
+
+pub returns-in-Err-clause-memory : goal.returns-in-Err-clause-memory
+returns-in-Err-clause-memory g c = λ fault told other.
+    file_counts c.in-Err.error c.fault_of.result fault c.fault_of.ensures (cc told) other
+    (λ is. record { objects = refl; names = c.move_name.ensures.memory (c.in-Err.is ∙ ap Err is) })

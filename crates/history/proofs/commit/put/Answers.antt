@@ -3,6 +3,8 @@ use Rattle.std.proofs.Common.{◌≡◌, refl, Err, [], ◌∷◌, ◌⊎◌, ap
 use Rattle.history_objects.specs.KeptIds.{kept}
 use Rattle.history.proofs.Puts.{folders_now, value_passes, value_stored, value_free, value_taken, value_known, put_stopped}
 use Rattle.history_objects.proofs.ObjectParts.{values_are_objects}
+use Rattle.history.proofs.Told.{put_counts, same_fault}
+use Rattle.history_repository.specs.Faults.{fault_of_put}
 use Rattle.history.proofs.commit.put.Goals as goal
 
 unchanged : {F T A : Type 0} (tree : F → T) (new old : F) → A ⊎ (new ≡ old) → A ⊎ (tree new ≡ tree old)
@@ -62,3 +64,11 @@ returns-clause-passes g c = λ values value stand is.
     let new = g.F.Files.history c.put_made.new.self.files in
     value_passes c.args.repository.now.objects.kind old new values value c.args.object.now is stand.holds stand.own_ids
     (λ taken. ap g.F.Files.history (c.put_made.ensures.untouched stand.honest taken)) (c.put_made.ensures.moments stand.honest)
+
+pub returns-in_err-put_made-clause-memory : goal.returns-in_err-put_made-clause-memory
+returns-in_err-put_made-clause-memory g c = λ fault told other.
+    let stopped = err_from_is_err_and c.from_residual.result c.from_residual.ensures.1 in
+    let error = c.in_err-put_made.field-0.0 in
+    put_counts error fault (same_fault c.from_residual.result (fault_of_put error) fault (stopped.1 ∙ ap Err stopped.2) told) other
+    (λ is. record { objects = c.put_made.ensures.memory (c.in_err-put_made.was ∙ ap Err is); names = refl })
+    (λ id is. record { objects = ap g.F.Files.failures (c.put_made.ensures.unwritten id (c.in_err-put_made.was ∙ ap Err is)); names = refl })

@@ -1,8 +1,10 @@
 use Rattle.std.proofs.Common.{◌∙◌, ap, Err}
 use Rattle.std.proofs.lemmas.Result.{err_from_is_err_and}
 use Rattle.history.specs.Acts.{CountsFailure}
-use Rattle.history.proofs.Counts.{counts_joined, failed_before}
+use Rattle.history.proofs.Counts.{counts_joined, failed_before, stay_joined}
 use Rattle.history.proofs.Puts.{kept_then_kept, none_put, object_put, object_passes, object_stopped, all_put}
+use Rattle.history.proofs.Told.{passed_on}
+use Rattle.history_repository.specs.declared.stopped.Stopped.TheVariants.{Fault}
 use Rattle.history.proofs.commit.put_all.Goals as goal
 
 pub loop-object-init : goal.loop-object-init
@@ -67,3 +69,9 @@ returns-clause-known g c = λ values more known are.
 pub returns-clause-passes : goal.returns-clause-passes
 returns-clause-passes g c = λ values more stand are.
     (all_put g.F.Files.is_honest g.F.Files.history g.F.Files.failures c.args.objects.now c.loop-object.object-index c.args.repository.now c.loop-object.repository c.loop-object-test.false c.loop-object.invariant more are).passes values stand
+
+pub returns-in_err-put-clause-memory : goal.returns-in_err-put-clause-memory
+returns-in_err-put-clause-memory g c = λ fault told other.
+    let stopped = err_from_is_err_and c.from_residual.result c.from_residual.ensures.1 in
+    stay_joined g.F.Files.failures c.args.repository.now c.loop-object.repository c.put.new.repository c.loop-object.invariant.unfailed
+    (c.put.ensures.memory fault (passed_on c.put.result c.from_residual.result c.in_err-put.field-0.0 (Fault fault) c.in_err-put.was (stopped.1 ∙ ap Err stopped.2) told) other)

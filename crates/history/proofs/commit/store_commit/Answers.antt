@@ -8,6 +8,9 @@ use Rattle.history_repository.specs.Face.{objects_part}
 use Rattle.history_plans.specs.Halves.{objects_tree}
 use Rattle.history.proofs.Storing.{objects_stopped, planned_stored, planned_pass, planned_known}
 use Rattle.history.proofs.Stood.{adds_same}
+use Rattle.history.proofs.Told.{passed_on}
+use Rattle.history.proofs.Counts.{stay_same}
+use Rattle.history_repository.specs.declared.stopped.Stopped.TheVariants.{Fault}
 use Rattle.history.proofs.commit.store_commit.Goals as goal
 
 pub returns-in_err-put_all-clause-stores : goal.returns-in_err-put_all-clause-stores
@@ -59,3 +62,12 @@ returns-clause-passes g c = λ r order asked.
     let plan = c.in_ok-plan.ensures r order asked in
     let pass = planned_pass g.F.Files.is_honest g.F.Files.history c.args.repository.now r order c.in_ok-plan.plan h plan.1 c.deref.result.now c.deref.ensures.value c.put_all.new.repository c.put_all.ensures.passes in
     adds_weaker (g.F.Files.history (objects_part c.args.repository.now)) (g.F.Files.history (objects_part c.put_all.new.repository)) pass (λ tree held. (plan.0, held))
+
+pub returns-in_err-plan-clause-memory : goal.returns-in_err-plan-clause-memory
+returns-in_err-plan-clause-memory g c = λ fault told other. stay_same g.F.Files.failures c.args.repository.now c.args.repository.now refl
+
+pub returns-in_err-put_all-clause-memory : goal.returns-in_err-put_all-clause-memory
+returns-in_err-put_all-clause-memory g c = λ fault told other.
+    let stopped = err_from_is_err_and c.from_residual-in_err-put_all.result c.from_residual-in_err-put_all.ensures.1 in
+    c.put_all.ensures.memory fault
+    (passed_on c.put_all.result c.from_residual-in_err-put_all.result c.in_err-put_all.field-0.0 (Fault fault) c.in_err-put_all.was (stopped.1 ∙ ap Err stopped.2) told) other

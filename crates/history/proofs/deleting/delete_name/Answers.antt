@@ -5,6 +5,7 @@ use Rattle.history_names.specs.Packing.{IsPackedForm, IsTaken, MayTake}
 use Rattle.history.proofs.DeleteLemmas.{files_gone, goes_on_the_way, packed_formed, packed_room}
 use Rattle.history_steps.specs.TakeSteps.{TakesName}
 use Rattle.history.proofs.MoveFaults.{met_fault}
+use Rattle.history.proofs.Told.{file_counts}
 use Rattle.history.proofs.deleting.delete_name.Goals as goal
 
 counted : {A B C : Type 0} → B ⊎ C → A ⊎ B ⊎ C
@@ -55,3 +56,8 @@ returns-in-Ok-clause-deletes g c = λ r stand stood.
 
 pub returns-in-Ok-clause-records : goal.returns-in-Ok-clause-records
 returns-in-Ok-clause-records g c = λ r stand stood. c.in-Ok.ensures.keeps (stand.named c.args.name.now stood) stand.records stand.honest
+
+pub returns-in-Err-clause-memory : goal.returns-in-Err-clause-memory
+returns-in-Err-clause-memory g c = λ fault told other.
+    file_counts c.in-Err.error c.fault_of.result fault c.fault_of.ensures (cc told) other
+    (λ is. record { objects = refl; names = c.take_name.ensures.memory (c.in-Err.is ∙ ap Err is) })

@@ -4,8 +4,9 @@ use Rattle.history_model.specs.Commands.{Move}
 use Rattle.history_model.specs.Meaning.{after}
 use Rattle.history.specs.Acts.{CountsFailure}
 use Rattle.history_plans.specs.Halves.{NamesStand}
-use Rattle.history.proofs.Counts.{counts_joined, failed_before}
+use Rattle.history.proofs.Counts.{counts_joined, failed_before, stay_joined}
 use Rattle.history.proofs.MovesMade.{all_moved, kept_then, name_moved, names_passed, names_stopped, none_moved}
+use Rattle.history.proofs.Told.{passed_on}
 use Rattle.history.proofs.moving.move_each.Goals as goal
 
 pub loop-one-init : goal.loop-one-init
@@ -60,3 +61,9 @@ returns-clause-moves g c = λ r order asked.
 
 pub returns-clause-passes : goal.returns-clause-passes
 returns-clause-passes g c = λ r order asked. (c.loop-one.invariant.lines r order asked).passes
+
+pub returns-in_err-move_name-clause-memory : goal.returns-in_err-move_name-clause-memory
+returns-in_err-move_name-clause-memory g c = λ fault told other.
+    let stopped = err_from_is_err_and c.from_residual.result c.from_residual.ensures.1 in
+    stay_joined g.F.Files.failures c.args.repository.now c.loop-one.repository c.move_name.new.repository c.loop-one.invariant.unfailed
+    (c.move_name.ensures.memory fault (passed_on c.move_name.result c.from_residual.result c.in_err-move_name.field-0.0 fault c.in_err-move_name.was (stopped.1 ∙ ap Err stopped.2) told) other)

@@ -8,6 +8,7 @@ use Rattle.history_plans.proofs.PackedLines.{all_records}
 use Rattle.history_steps.specs.PackSteps.{PacksNames}
 use Rattle.history.proofs.MoveFaults.{met_fault}
 use Rattle.history.proofs.PackLemmas.{holds_names}
+use Rattle.history.proofs.Told.{file_counts}
 use Rattle.history.proofs.packing.pack_names.Goals as goal
 
 counted : {A B C : Type 0} → B ⊎ C → A ⊎ B ⊎ C
@@ -62,3 +63,8 @@ returns-in-Ok-clause-packs g c = λ r s are.
 
 pub returns-in-Ok-clause-records : goal.returns-in-Ok-clause-records
 returns-in-Ok-clause-records g c = λ r s. c.in-Ok.ensures.keeps s.honest_names
+
+pub returns-in-Err-clause-memory : goal.returns-in-Err-clause-memory
+returns-in-Err-clause-memory g c = λ fault told other.
+    file_counts c.in-Err.error c.fault_of.result fault c.fault_of.ensures (cc told) other
+    (λ is. record { objects = refl; names = c.pack_names.ensures.memory (c.in-Err.is ∙ ap Err is) })

@@ -7,10 +7,11 @@ use Rattle.history_steps.specs.TreeSteps.{MovesName}
 use Rattle.history_texts.specs.Formats.{entry_of}
 use Rattle.history.specs.Acts.{CountsFailure}
 use Rattle.history_plans.specs.Halves.{NamesStand, names_tree}
-use Rattle.history.proofs.Counts.{counts_joined, failed_before, ok_joined}
+use Rattle.history.proofs.Counts.{counts_joined, failed_before, ok_joined, stay_joined}
 use Rattle.history.proofs.MoveFaults.{stopped_too}
 use Rattle.history.proofs.MovesMade.{kept_then}
 use Rattle.history.proofs.RenameLemmas.{both_pass, first_passes, fits_first, old_stands, rename_ends, renames_alone, stand_first, stand_second}
+use Rattle.history.proofs.Told.{passed_on}
 use Rattle.history.proofs.renaming.rename_name.Goals as goal
 
 pub returns-in_err-move_name-clause-passes : goal.returns-in_err-move_name-clause-passes
@@ -107,3 +108,12 @@ returns-clause-alone g c = λ r to asked.
     let there = old_stands F.is_honest F.history old moves r from to asked mid honest kind records moved in
     renames_alone r.kind from to (names_tree F.history old) (names_tree F.history mid) (names_tree F.history c.delete_name.new.repository) moves.name.items (entry_of moves.entry) asked.makes.name moved
     (CountsFailure F.failures F.reading_may_fail mid c.delete_name.new.repository) c.delete_name.result (c.delete_name.ensures.deletes (with_both r from to) stand_then there)
+
+pub returns-in_err-move_name-clause-memory : goal.returns-in_err-move_name-clause-memory
+returns-in_err-move_name-clause-memory g c = λ fault told other.
+    let stopped = err_from_is_err_and c.from_residual.result c.from_residual.ensures.1 in
+    c.move_name.ensures.memory fault (passed_on c.move_name.result c.from_residual.result c.in_err-move_name.field-0.0 fault c.in_err-move_name.was (stopped.1 ∙ ap Err stopped.2) told) other
+
+pub returns-clause-memory : goal.returns-clause-memory
+returns-clause-memory g c = λ fault told other.
+    stay_joined g.F.Files.failures c.args.repository.now c.move_name.new.repository c.delete_name.new.repository c.in_ok-move_name.ensures.unfailed (c.delete_name.ensures.memory fault told other)

@@ -8,6 +8,7 @@ use Rattle.history_names.specs.References.{MayBeWritten, PutsBeside}
 use Rattle.history_repository.specs.Stands.{Stands}
 use Rattle.history.proofs.BranchSwitched.{folders_now, head_alone, head_room, switch_passes, switch_serves}
 use Rattle.history.proofs.MoveFaults.{met_fault}
+use Rattle.history.proofs.Told.{file_counts}
 use Rattle.history.proofs.switching.switch_head.Goals as goal
 
 pub returns-in-Err-clause-counts : goal.returns-in-Err-clause-counts
@@ -54,3 +55,8 @@ returns-in-Ok-clause-alone g c = λ honest.
     let old = g.F.Files.history c.args.repository.now.names.files in
     let new = g.F.Files.history c.switch.new.self.files in
     head_alone _ old.tree new.tree (c.in-Ok.ensures.switched honest)
+
+pub returns-in-Err-clause-memory : goal.returns-in-Err-clause-memory
+returns-in-Err-clause-memory g c = λ fault told other.
+    file_counts c.in-Err.error c.fault_of.result fault c.fault_of.ensures (cc told) other
+    (λ is. record { objects = refl; names = c.switch.ensures.memory (c.in-Err.is ∙ ap Err is) })

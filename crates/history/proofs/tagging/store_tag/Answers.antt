@@ -7,6 +7,9 @@ use Rattle.history_plans.specs.Halves.{objects_tree}
 use Rattle.history.proofs.Stood.{adds_same}
 use Rattle.history.proofs.Storing.{objects_stopped}
 use Rattle.history.proofs.TagStored.{tag_known, tag_passes, tag_stored, tag_unplanned}
+use Rattle.history.proofs.Told.{passed_on}
+use Rattle.history.proofs.Counts.{stay_same}
+use Rattle.history_repository.specs.declared.stopped.Stopped.TheVariants.{Fault}
 use Rattle.history.proofs.tagging.store_tag.Goals as goal
 
 pub returns-in_err-tagged-clause-stores : goal.returns-in_err-tagged-clause-stores
@@ -57,3 +60,12 @@ returns-in_err-put-clause-passes g c = λ r order h is.
 pub returns-clause-passes : goal.returns-clause-passes
 returns-clause-passes g c = λ r order h is.
     tag_passes g.F.Files.is_honest g.F.Files.history c.args.repository.now r order c.in_ok-tagged.tagged h (c.in_ok-tagged.ensures r order h is) c.put.new.repository c.put.ensures.passes
+
+pub returns-in_err-tagged-clause-memory : goal.returns-in_err-tagged-clause-memory
+returns-in_err-tagged-clause-memory g c = λ fault told other. stay_same g.F.Files.failures c.args.repository.now c.args.repository.now refl
+
+pub returns-in_err-put-clause-memory : goal.returns-in_err-put-clause-memory
+returns-in_err-put-clause-memory g c = λ fault told other.
+    let stopped = err_from_is_err_and c.from_residual-in_err-put.result c.from_residual-in_err-put.ensures.1 in
+    c.put.ensures.memory fault
+    (passed_on c.put.result c.from_residual-in_err-put.result c.in_err-put.field-0.0 (Fault fault) c.in_err-put.was (stopped.1 ∙ ap Err stopped.2) told) other
