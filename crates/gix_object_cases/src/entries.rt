@@ -5,7 +5,7 @@ mod modes;
 use case_words::{Case, Page};
 use gix_hash::ObjectId;
 use gix_object_entries::tree::{Entry, EntryKind, EntryMode, EntryRef, name_order};
-use gix_object_entries::{Tree, TreeRef};
+use gix_object_entries::{Tree, TreeRef, TreeRefIter};
 use gix_object_lines::{ByteString, WriteTo};
 use std::alloc::{AllocError, Global};
 
@@ -92,8 +92,8 @@ fn put_owned(alloc: Global, case: &Case, page: &mut Page) {
     page.test("; well-formed", tree.is_well_formed());
     page.test("; empty", tree == Tree::empty(alloc));
     show_written(alloc, case.kind, &tree, page);
-    if let Ok(borrowed) = TreeRef::from_bytes(alloc, case.text(0), case.kind) {
-        match borrowed.to_owned() {
+    if let Ok(entries) = TreeRefIter::from_bytes(case.text(0), case.kind).entries(alloc) {
+        match (TreeRef { entries }).to_owned() {
             Ok(other) => page.test("; alike", tree == other),
             Err(AllocError) => page.text("; not owned"),
         }

@@ -15,7 +15,7 @@ mod signature;
 mod tag;
 mod written;
 
-use case_words::{Case, Page};
+use case_words::{Case, Page, answer_sizes};
 use gix_hash::ObjectId;
 use std::alloc::{AllocError, Global};
 use std::io;
@@ -77,7 +77,11 @@ fn answer(rt: &HostRuntime, list: &mut Vec<ObjectId>, line: &str) -> Result<Stri
 fn main(rt: HostRuntime) -> io::Result<()> {
     let mut list: Vec<ObjectId> = Vec::new(rt.alloc());
     for line in rt.lines(rt.alloc()) {
-        let text = answer(&rt, &mut list, line?.as_str())?;
+        let text = answer_sizes(
+            rt.alloc(),
+            line?.as_str(),
+            &mut |row: &str| { Ok(answer(&rt, &mut list, row)?) },
+        )?;
         println!(rt; "{text}")?;
     }
     Ok(())

@@ -10,7 +10,7 @@ mod packed;
 mod store;
 mod transaction;
 
-use case_words::Page;
+use case_words::{Page, answer_sizes};
 use std::alloc::{AllocError, Global};
 use std::io;
 
@@ -43,7 +43,11 @@ fn main(rt: HostRuntime) -> io::Result<()> {
     let mut number = 0u64;
     for line in rt.lines(rt.alloc()) {
         number = number.saturating_add(1);
-        let text = answer(&rt, number, line?.as_str())?;
+        let text = answer_sizes(
+            rt.alloc(),
+            line?.as_str(),
+            &mut |row: &str| { answer(&rt, number, row) },
+        )?;
         println!(rt; "{text}")?;
     }
     Ok(())

@@ -12,7 +12,7 @@ mod tree;
 mod walks;
 
 use crate::history::History;
-use case_words::Page;
+use case_words::{Page, answer_sizes};
 use std::alloc::{AllocError, Global};
 use std::io;
 
@@ -33,7 +33,11 @@ fn answer(alloc: Global, history: &mut History, line: &str) -> Result<String, Al
 fn main(rt: HostRuntime) -> io::Result<()> {
     let mut history = History::new(rt.alloc());
     for line in rt.lines(rt.alloc()) {
-        let text = answer(rt.alloc(), &mut history, line?.as_str())?;
+        let text = answer_sizes(
+            rt.alloc(),
+            line?.as_str(),
+            &mut |row: &str| { Ok(answer(rt.alloc(), &mut history, row)?) },
+        )?;
         println!(rt; "{text}")?;
     }
     Ok(())

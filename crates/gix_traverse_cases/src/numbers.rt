@@ -4,10 +4,12 @@ use case_words::Page;
 use gix_hash::ObjectId;
 use std::alloc::Global;
 
-/// The id of the number that a word spells, which is its last byte.
+/// The id of the number that a word spells, which is its last two bytes.
 pub fn read_id(word: &str) -> Option<ObjectId> {
     let mut bytes = [0u8; 20];
-    bytes[19] = word.parse::<u8>().ok()?;
+    let [first, last] = word.parse::<u16>().ok()?.to_be_bytes();
+    bytes[18] = first;
+    bytes[19] = last;
     Some(ObjectId::Sha1(bytes))
 }
 
@@ -23,8 +25,11 @@ pub fn read_ids(alloc: Global, text: &str) -> Option<Vec<ObjectId>> {
 }
 
 /// The number of an id.
-pub fn number(id: &ObjectId) -> u8 {
-    id.as_bytes().last().copied().unwrap_or(0)
+pub fn number(id: &ObjectId) -> u16 {
+    match id.as_bytes() {
+        [.., first, last] => u16::from_be_bytes([*first, *last]),
+        _ => 0,
+    }
 }
 
 /// Adds the numbers of these ids, each with a space behind it.
