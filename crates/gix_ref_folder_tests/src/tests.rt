@@ -126,7 +126,7 @@ fn a_system_says_why_it_fails(rt: HostRuntime) -> Result<(), Fail> {
 }
 
 /// The call of the names' files that fails, what it leaves of its bytes, words, and what they return.
-const FAILING: [(u64, Option<usize>, &str, &str); 11] = [
+const FAILING: [(u64, Option<usize>, &str, &str); 13] = [
     (
         1,
         None,
@@ -158,10 +158,22 @@ const FAILING: [(u64, Option<usize>, &str, &str); 11] = [
         "done failed 3:so%20ref",
     ),
     (
-        3,
+        2,
         None,
-        "write:HEAD:ref read:HEAD read:HEAD",
-        "done failed 3:so%20ref",
+        "write:HEAD:ref read-at:HEAD:1 read-at:HEAD:1",
+        "done failed 2:ef....",
+    ),
+    (
+        2,
+        None,
+        "folder:refs list:refs list:refs",
+        "done failed names",
+    ),
+    (
+        1,
+        Some(2),
+        "create:HEAD:ref read:HEAD create:HEAD:x",
+        "failed 2:so%20re stands",
     ),
     (
         2,
