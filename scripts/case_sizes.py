@@ -2,7 +2,7 @@
 import hashlib
 import re
 
-SIZES = (0, 1, 2, 63, 64, 65, 1000, 1001, 1024, 1025, 4097)
+SIZES = (0, 1, 2, 63, 64, 65, *range(1000, 1026), 4097)
 
 
 def hexed(text):

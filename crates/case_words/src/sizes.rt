@@ -11,7 +11,7 @@ use std::io;
 
 /// What a line is answered with.
 ///
-/// Behind `sizes ` the answers to the rest are told for the sizes 0, 1, 2, 63, 64, 65, 1,000, 1,001, 1,024, 1,025 and 4,097, each by the
+/// Behind `sizes ` the answers to the rest are told for the sizes 0, 1, 2, 63 to 65, each of 1,000 to 1,025, and 4,097, each by the
 /// first four digits of a SHA-1 digest. The rest is lines with `&` between them; the digest is that of their answers, each with a line feed behind.
 /// In a line `[PART]` is the part, so many times as the size says; where it ends with a comma, there is none behind the last, and `-` at
 /// size 0. In it `#` is the running number, from 0, and `^` the next one, both in four digits, and `~` is the digits of the first in
@@ -29,7 +29,7 @@ pub fn answer_sizes<F: FnMut(&str) -> io::Result<String>>(
     };
     let mut page = Page::new(alloc);
     for size in 0..4098u32 {
-        if matches!(size, 0..=2 | 63..=65 | 1000 | 1001 | 1024 | 1025 | 4097) {
+        if matches!(size, 0..=2 | 63..=65 | 1000..=1025 | 4097) {
             let lines = make_objects(alloc, expand(alloc, row, size)?.as_str())?;
             page.word("");
             put_digest(lines.as_str(), answer, &mut page)?;
