@@ -1,10 +1,10 @@
 -- Logs are cut, one after another, and what is cut stays so.
-use Rattle.std.proofs.Common.{◌≡◌, ◌≢◌, ◌⊎◌, inl, inr, refl, sym, ◌∙◌, ap, subst, ℕ, ◌<◌, Bool, true, false, cond, not, ◌&&◌, ◌||◌, List, [], ◌∷◌, ◌++◌, length, take, drop, Option, Some, None, option_map, is_some, unwrap_or, codes, append_assoc}
+use Rattle.std.proofs.Common.{◌≡◌, ◌≢◌, ◌⊎◌, inl, inr, refl, sym, ◌∙◌, ap, subst, ℕ, ◌<◌, Bool, true, false, cond, not, ◌&&◌, ◌||◌, List, [], ◌∷◌, ◌++◌, length, drop, Option, Some, None, option_map, is_some, unwrap_or, codes, append_assoc}
 use Rattle.std.specs.Prelude.{IsTrue}
 use Rattle.std.proofs.Math.ListN.{get_or}
 use Rattle.std.specs.FinMap.{get, insert, remove}
 use Rattle.gix_ref_file.specs.Tree.{Tree, Node, file, folder, same_path, bytes_of, bytes_at, names_at, is_folder, IsRooted, under}
-use Rattle.gix_ref_file.specs.Changes.{to_write, to_rename, after, is_file_at, may_hold_file, MayLeave}
+use Rattle.gix_ref_file.specs.Changes.{to_rename, after, is_file_at, may_hold_file, MayLeave}
 use Rattle.gix_ref_file.specs.History.{History, Adds}
 use Rattle.gix_ref_file.proofs.Histories.{adds_weaker, adds_joined}
 use Rattle.gix_ref_file.proofs.Rooted.{adds_now}
@@ -17,7 +17,7 @@ use Rattle.history_model.specs.Recovery.{is_deserted, recovered_files, recovered
 use Rattle.history_model.proofs.RecoveryLemmas.{get-recovered_names}
 use Rattle.gix_hash_id.specs.declared.kind.Kind.{Kind}
 use Rattle.history_model.proofs.WholePaths.{begins_parts, begins_front}
-use Rattle.gix_ref_way.specs.Ways.{above}
+use Rattle.gix_ref_way.specs.Ways.{ChangesOneFile, above}
 use Rattle.history_recovery.specs.Clearing.{lock_place, is_over, AreAllKept, IsCut, AreCutBelow, IsLogFolder, Cuts, MayCut, Replaces}
 use Rattle.history_recovery.specs.Recovering.{NamesAlike}
 use Rattle.history_recovery.proofs.Below.{all_below}
@@ -147,6 +147,25 @@ plain_get : (tree : Tree) (k : Bytes) → IsTrue (may_hold_file tree k) → is_f
 plain_get tree [] may = cc
 plain_get tree (b ∷ k) may = no_folder tree (b ∷ k) may
 
+-- a tree with this at a path
+abbrev at_most : Tree → Bytes → Option Node → Tree
+at_most tree k None = remove tree k
+at_most tree k (Some node) = insert tree k node
+
+get-at_most : (tree : Tree) (k : Bytes) (o : Option Node) (q : Bytes) → get (at_most tree k o) q ≡ cond (same_path q k) o (get tree q)
+get-at_most tree k None q = get-removed tree k q
+get-at_most tree k (Some node) q = get-inserted tree k node q
+
+one_changed : (tree x : Tree) (k : Bytes) → ChangesOneFile k tree x → x ≡ at_most tree k (get x k)
+one_changed tree x k one = same_tree x (at_most tree k (get x k)) (λ q. at q (same_path q k) refl ∙ sym (get-at_most tree k (get x k) q))
+  where
+    not_here : true ≡ false → ⊥
+    not_here wrong = cc wrong
+
+    at : (q : Bytes) (same : Bool) → same_path q k ≡ same → get x q ≡ cond (same_path q k) (get x k) (get tree q)
+    at q true same = ap (get x) (one_path q k same) ∙ sym (ap (λ b. cond b (get x k) (get tree q)) same)
+    at q false apart = one.others q (λ is. not_here (sym (ap (λ p. same_path q p) (sym is) ∙ same_path_itself q) ∙ apart)) ∙ sym (ap (λ b. cond b (get x k) (get tree q)) apart)
+
 file_is : (tree : Tree) (log text : Bytes) → is_log_place log ≡ true → file_at tree log ≡ Some text → get tree log ≡ Some (file text)
 file_is tree [] text log stands = cc
 file_is tree (b ∷ path) text log stands = go (get tree (b ∷ path)) stands
@@ -160,9 +179,14 @@ module _ (kind : Kind) (tree : Tree) (log whole : Bytes) (may : MayCut kind log 
   lock : Bytes
   lock = lock_place log
 
-  while_locked : (x : Tree) → MayLeave (to_write (lock_place log) whole) tree x → NamesAlike kind tree x
-  while_locked x (inl same) = ap (recovered_names kind) same
-  while_locked x (inr (n, may_hold, is)) = ap (recovered_names kind) is ∙ with_lock kind tree (lock_place log) (take n whole) (lock_is_lock log) may_hold
+  while_locked : IsTrue (may_hold_file tree (lock_place log)) → (x : Tree) → ChangesOneFile (lock_place log) tree x → NamesAlike kind tree x
+  while_locked allowed x one =
+      ap (recovered_names kind) (one_changed tree x (lock_place log) one) ∙ go (get x (lock_place log)) (one.here ∙ plain_get tree (lock_place log) allowed)
+    where
+      go : (o : Option Node) → is_folder o ≡ false → recovered_names kind (at_most tree (lock_place log) o) ≡ recovered_names kind tree
+      go None plain = ap (recovered_names kind) (without_none tree (lock_place log) (lock_none kind tree (lock_place log) may.kept (lock_is_lock log) (plain_get tree (lock_place log) allowed)))
+      go (Some (file bytes)) plain = with_lock kind tree (lock_place log) bytes (lock_is_lock log) allowed
+      go (Some folder) plain = cc
 
   module _ (locked : Tree) (allowed : IsTrue (may_hold_file tree (lock_place log))) (is : locked ≡ insert tree (lock_place log) (file whole)) where
     log_stands : get locked log ≡ Some (file may.text)
@@ -194,13 +218,13 @@ module _ (kind : Kind) (tree : Tree) (log whole : Bytes) (may : MayCut kind log 
         (ap (λ t. remove t (lock_place log)) is ∙ remove-insert tree (lock_place log) (file whole)
         ∙ without_none tree (lock_place log) (lock_none kind tree (lock_place log) may.kept (lock_is_lock log) (plain_get tree (lock_place log) allowed)))
 
-pub locked_alike : (kind : Kind) (log whole : Bytes) (old new : History) → MayCut kind log whole old.tree → Adds (MayLeave (to_write (lock_place log) whole) old.tree) old new → Adds (NamesAlike kind old.tree) old new
-locked_alike kind log whole old new may adds = adds_weaker old new adds (while_locked kind old.tree log whole may)
+pub locked_alike : (kind : Kind) (log whole : Bytes) (old new : History) → MayCut kind log whole old.tree → IsTrue (may_hold_file old.tree (lock_place log)) → Adds (ChangesOneFile (lock_place log) old.tree) old new → Adds (NamesAlike kind old.tree) old new
+locked_alike kind log whole old new may allowed adds = adds_weaker old new adds (while_locked kind old.tree log whole may allowed)
 
 pub renamed_alike : (kind : Kind) (log whole : Bytes) (old locked new : History) → MayCut kind log whole old.tree → IsTrue (may_hold_file old.tree (lock_place log)) → locked.tree ≡ insert old.tree (lock_place log) (file whole)
-    → Adds (MayLeave (to_write (lock_place log) whole) old.tree) old locked → Adds (MayLeave (to_rename (lock_place log) log) locked.tree) locked new → Adds (NamesAlike kind old.tree) old new
+    → Adds (ChangesOneFile (lock_place log) old.tree) old locked → Adds (MayLeave (to_rename (lock_place log) log) locked.tree) locked new → Adds (NamesAlike kind old.tree) old new
 renamed_alike kind log whole old locked new may allowed is first second =
-    then_alike kind old locked new (locked_alike kind log whole old locked may first) (adds_weaker locked new second (while_renamed kind old.tree log whole may locked.tree allowed is))
+    then_alike kind old locked new (locked_alike kind log whole old locked may allowed first) (adds_weaker locked new second (while_renamed kind old.tree log whole may locked.tree allowed is))
 
 -- ---- one log
 

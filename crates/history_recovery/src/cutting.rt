@@ -10,6 +10,7 @@ ghost use Rattle.history_recovery.specs.Recovering.{NamesAlike};
 
 use gix_ref_file::paths::{is_deeper, joined};
 use gix_ref_file::{FileError, Files, Place};
+use gix_ref_way::write_anew;
 use std::alloc::{AllocError, Global};
 
 /// Cuts the logs below a folder of logs, in a tree without leftovers.
@@ -93,7 +94,7 @@ fn is_torn<F: Files>(files: &F, path: &[u8]) -> Result<bool, FileError>
     Ok(last[0] != b'\n')
 }
 
-// Puts its whole lines in the place of a log: writes them in its lock file, and renames that.
+// Puts its whole lines in the place of a log: writes them in its lock file, which is made anew, and renames that.
 fn replace_log<F: Files>(
     alloc: Global,
     files: &mut F,
@@ -113,7 +114,7 @@ fn replace_log<F: Files>(
         → HasFault F.failures F.reading_may_fail files.old files.new }
 {
     let lock = lock_path(alloc, log)?;
-    files.write(alloc, &lock, whole)?;
+    write_anew(alloc, files, &lock, whole)?;
     files.rename(alloc, &lock, log)
 }
 
