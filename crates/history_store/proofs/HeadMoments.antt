@@ -1,5 +1,5 @@
 -- What stands while a repository is made.
-use Rattle.std.proofs.Common.{◌≡◌, ◌⊎◌, inl, inr, ◌∙◌, ap, take}
+use Rattle.std.proofs.Common.{◌≡◌, ◌⊎◌, inl, inr, ◌∙◌, ap}
 use Rattle.std.specs.Prelude.{IsTrue}
 use Rattle.std.specs.FinMap.{get}
 use Rattle.gix_ref_file.specs.Tree.{Tree, file, is_folder}
@@ -13,24 +13,20 @@ use Rattle.history_model.specs.StandsFor.{head_text}
 use Rattle.history_model.specs.Places.{file_at, head_place, unfinished_place}
 use Rattle.history_names.specs.References.{head_lock}
 use Rattle.history_store.specs.Creation.{HasHead, IsCleared, IsNew, LeftoverMayGo, HeadMayStand}
-use Rattle.gix_ref_way.specs.Ways.{SameFolders}
+use Rattle.gix_ref_way.specs.Ways.{ChangesOneFile, SameFolders}
 use Rattle.history_texts.specs.Parts.{IsClear}
 use Rattle.history_texts.specs.declared.parts.Part.TheVariants.{Objects, Names}
 use Rattle.history_store.proofs.Made.{head_written}
 use Rattle.history_store.proofs.News.{new_parts}
 use Rattle.gix_ref_way.proofs.FoldersStay.{written_folders, removed_folders, renamed_folders, same_twice}
+use Rattle.gix_ref_way.proofs.OneFile.{one_files, one_folders}
 use Rattle.gix_ref_way.proofs.Stored.{apart_from_inserted, apart_from_removed}
 
-while_locked : (text : Bytes) (t x : Tree) → MayLeave (to_write head_lock text) t x → HeadMayStand t x
-while_locked text t x (inl same) = record {
-  head = inl (ap (λ y. file_at y head_place) same);
-  others = λ path apart other. ap (λ y. file_at y path) same;
-  folders = λ path. ap (λ y. is_folder (get y path)) same;
-}
-while_locked text t x (inr (n, may, is)) = record {
-  head = inl (ap (λ y. file_at y head_place) is ∙ apart_from_inserted t head_lock (file (take n text)) head_place (λ same. cc));
-  others = λ path apart other. ap (λ y. file_at y path) is ∙ apart_from_inserted t head_lock (file (take n text)) path other;
-  folders = written_folders t x head_lock (take n text) may is;
+while_locked : (t x : Tree) → ChangesOneFile head_lock t x → HeadMayStand t x
+while_locked t x one = record {
+  head = inl (one_files head_lock t x one head_place (λ same. cc));
+  others = λ path apart other. one_files head_lock t x one path other;
+  folders = one_folders head_lock t x one;
 }
 
 while_renamed : (text : Bytes) (t locked x : Tree) → text ≡ head_text first_branch → IsTrue (allows t (to_write head_lock text)) → locked ≡ after (to_write head_lock text) t
@@ -49,13 +45,13 @@ while_renamed text t locked x is_text may is_locked (inr (n, may_move, made)) =
     }
 
 -- HEAD is written beside, and then renamed
-pub lock_moments : (text : Bytes) (old locked : History) → Adds (MayLeave (to_write head_lock text) old.tree) old locked → Adds (HeadMayStand old.tree) old locked
-lock_moments text old locked adds = adds_weaker old locked adds (λ x left. while_locked text old.tree x left)
+pub lock_moments : (old locked : History) → Adds (ChangesOneFile head_lock old.tree) old locked → Adds (HeadMayStand old.tree) old locked
+lock_moments old locked adds = adds_weaker old locked adds (λ x one. while_locked old.tree x one)
 
 pub head_moments : (text : Bytes) (old locked new : History) → text ≡ head_text first_branch → IsTrue (allows old.tree (to_write head_lock text)) → locked.tree ≡ after (to_write head_lock text) old.tree
-    → Adds (MayLeave (to_write head_lock text) old.tree) old locked → Adds (MayLeave (to_rename head_lock head_place) locked.tree) locked new → Adds (HeadMayStand old.tree) old new
+    → Adds (ChangesOneFile head_lock old.tree) old locked → Adds (MayLeave (to_rename head_lock head_place) locked.tree) locked new → Adds (HeadMayStand old.tree) old new
 head_moments text old locked new is_text may is_locked first second =
-    adds_joined old locked new (lock_moments text old locked first)
+    adds_joined old locked new (lock_moments old locked first)
     (adds_weaker locked new second (λ x left. while_renamed text old.tree locked.tree x is_text may is_locked left))
 
 -- so where it stands the repository is made
