@@ -4,10 +4,9 @@ PROGRAM := crates/history_program/out/history_program
 # Names a source that is newer than the program, if there is one.
 NEWER = find crates.txt crates -name out -prune -o -type f -newer $(PROGRAM) -print -quit
 SHARE = $(DESTDIR)$(PREFIX)/share
-# The engine that is installed, and what the package is named after.
+# The engine that is installed.
 ENGINE ?= $(PROGRAM)
 UNPROVED := out/unproved/wunthavel-history
-VERSION = $(shell sed -n 's,.*VERSION: &str = "\([^ ]*\) .*,\1,p' crates/history_actions/src/command_line/version.rt)
 
 .PHONY: help test quick wrong-bodies demo folder-demo clients-test bench faults install install-unproved install-files deb \
 	program unproved
@@ -29,8 +28,8 @@ quick: ## the example and the programs of cases by rt try, without a proof; some
 wrong-bodies: ## tries the wrong bodies of planted/ and must-fail/; CRATES="gix_hash_id history" those of some crates, NAMED=1 the named; many hours for all
 	planted/try $(CRATES)
 
-# The proved program where it stands and is of these sources, else the sources of the program to copy, by rt try.
-demo: ## the program on a stream of several commands: the proved one where it stands, else the sources without a proof; a minute
+# The proved program if it is built of these sources, else the crate `example` by rt try.
+demo: ## the program on a stream of several commands: the proved one if it is built, else the sources without a proof; a minute
 	@if [ -x $(PROGRAM) ] && [ -z "$$($(NEWER))" ]; then \
 	  $(PROGRAM) < demo/first.stream; \
 	else \
@@ -38,25 +37,16 @@ demo: ## the program on a stream of several commands: the proved one where it st
 	  cd crates/example && rt try --steps 60000000 < ../../demo/first.stream; \
 	fi
 
-folder-demo: program ## shows the proved program on real folders, against demo/folder.wanted; seconds once it is proved
-	demo/folder $(PROGRAM)
-
 clients-test: ## the tests of clients/python, over the proved program if it is built, else over an unproved one, which is built; minutes
 	@[ -x $(PROGRAM) ] || $(MAKE) --no-print-directory unproved
 	clients/python/run-tests
 
-bench: program ## no test: the program's workloads on real folders beside git's, with ratios; SIZE=small for a quick one; minutes once all is proved
-	bench/report $(PROGRAM)
-
-faults: program ## refuses each growth of memory of the program's own run in turn; minutes, and a C compiler
-	faults/report $(PROGRAM)
-
-install: program ## proves the program, and puts it as PREFIX/bin/wunthavel-history, with a link history; hours the first time
-	@$(MAKE) --no-print-directory install-files
-
-install-unproved: unproved ## the same of a program that nothing proves, and that says so; minutes
-	@$(MAKE) --no-print-directory install-files ENGINE=$(UNPROVED)
-	@echo 'Nothing of what was installed is proved: make install installs the proved program.'
+folder-demo: SCRIPT = demo/folder ## shows the proved program on real folders, against demo/folder.wanted; seconds once it is proved
+bench: SCRIPT = bench/report ## no test: the program's workloads on real folders beside git's, with ratios; SIZE=small for a quick one; minutes once all is proved
+faults: SCRIPT = bench/faults ## refuses each growth of memory of the program's own run in turn; minutes, and a C compiler
+deb: SCRIPT = package/deb ## a Debian package of the proved program, its manual pages and completions, in the folder out/; hours the first time
+folder-demo bench faults deb: program
+	$(SCRIPT) $(PROGRAM)
 
 # It is built of a copy, in which the version says that it isn't proved.
 unproved: ## compiles the program without a proof, as out/unproved/wunthavel-history; minutes
@@ -66,23 +56,25 @@ unproved: ## compiles the program without a proof, as out/unproved/wunthavel-his
 	"$$room/scripts/unproved-build" $(UNPROVED)
 
 # `history` alone is a builtin of bash, so the program's own name is another.
-install-files:
+install: program ## proves the program, and puts it as PREFIX/bin/wunthavel-history, with a link history; hours the first time
+install-unproved: unproved ## the same of a program that nothing proves, and that says so; minutes
+install-unproved: ENGINE = $(UNPROVED)
+install-unproved: LAST = echo 'Nothing of what was installed is proved: make install installs the proved program.'
+install install-unproved install-files:
 	install -D -m 755 $(ENGINE) $(DESTDIR)$(PREFIX)/bin/wunthavel-history
 	ln -sf wunthavel-history $(DESTDIR)$(PREFIX)/bin/history
-	install -D -m 644 -t $(SHARE)/man/man1 man/wunthavel-history.1 man/wunthavel.1
-	install -D -m 644 -t $(SHARE)/man/man5 man/wunthavel-protocol.5
-	install -D -m 644 completions/wunthavel-history.bash $(SHARE)/bash-completion/completions/wunthavel-history
-	install -D -m 644 completions/wunthavel.bash $(SHARE)/bash-completion/completions/wunthavel
-	install -D -m 644 -t $(SHARE)/zsh/site-functions completions/_wunthavel-history completions/_wunthavel
+	install -D -m 644 -t $(SHARE)/man/man1 package/man/wunthavel-history.1 package/man/wunthavel.1
+	install -D -m 644 -t $(SHARE)/man/man5 package/man/wunthavel-protocol.5
+	install -D -m 644 package/completions/wunthavel-history.bash $(SHARE)/bash-completion/completions/wunthavel-history
+	install -D -m 644 package/completions/wunthavel.bash $(SHARE)/bash-completion/completions/wunthavel
+	install -D -m 644 -t $(SHARE)/zsh/site-functions package/completions/_wunthavel-history package/completions/_wunthavel
 	@if [ -f clients/python/wunthavel/__main__.py ]; then echo 'installing the front end for Python'; \
 	  (cd clients/python && find wunthavel -name __pycache__ -prune -o -type f -exec install -D -m 644 {} $(abspath $(SHARE))/wunthavel/{} \;) && \
 	  printf '#!/bin/sh\nPYTHONPATH="%s$${PYTHONPATH:+:$$PYTHONPATH}" exec python3 -m wunthavel "$$@"\n' $(PREFIX)/share/wunthavel \
 	    > $(DESTDIR)$(PREFIX)/bin/wunthavel && chmod 755 $(DESTDIR)$(PREFIX)/bin/wunthavel; fi
+	@$(LAST)
 
-deb: program ## a Debian package of the proved program, its manual pages and completions, in the folder out/; hours the first time
-	debian/package $(PROGRAM) $(VERSION) out
-
-# It is run on the stream kept beside it. The first time every crate below it is proved.
+# It is run on the stream that is stored beside it. The first time every crate below it is proved.
 program: ## proves, compiles and links the program; hours the first time
 	@echo 'building the program'
 	@cd crates/history_program && log=$$(mktemp) && \

@@ -2,7 +2,7 @@
 ls-tree). An edit is made on a map from paths to modes and ids, as git's glossary speaks of files in folders, and git writes the tree."""
 import os, random, sys
 
-sys.path.append(os.path.join(os.path.dirname(os.path.abspath(__file__)), "../../../scripts"))
+sys.path.append(os.path.join(os.path.dirname(os.path.abspath(__file__)), "../../../scripts/cases"))
 import git_repository
 from families import write
 

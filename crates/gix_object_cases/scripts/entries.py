@@ -3,7 +3,7 @@ git (mktree, cat-file, ls-tree, hash-object, fsck); the error of an entry that i
 import hashlib, itertools, os, re, subprocess, sys, tempfile
 from pathlib import Path
 
-sys.path.append(str(Path(__file__).resolve().parents[3] / "scripts"))
+sys.path.append(str(Path(__file__).resolve().parents[3] / "scripts/cases"))
 from families import write
 
 LENGTH = {"sha1": 20, "sha256": 32}

@@ -3,7 +3,7 @@
 import os, subprocess, sys, tempfile
 from pathlib import Path
 
-sys.path.append(str(Path(__file__).resolve().parents[3] / "scripts"))
+sys.path.append(str(Path(__file__).resolve().parents[3] / "scripts/cases"))
 from families import write
 
 NAMES = {"040000": "tree", "100644": "blob", "100755": "exe", "120000": "link", "160000": "commit"}

@@ -14,7 +14,7 @@ import tempfile
 import zlib
 from pathlib import Path
 
-sys.path.append(str(Path(__file__).resolve().parents[3] / "scripts"))
+sys.path.append(str(Path(__file__).resolve().parents[3] / "scripts/cases"))
 from families import write
 
 ROWS = []

@@ -5,7 +5,7 @@ What is wanted follows from the forms of objects and from the library's document
 import sys
 from pathlib import Path
 
-sys.path.insert(0, str(Path(__file__).resolve().parents[3] / "scripts"))
+sys.path.insert(0, str(Path(__file__).resolve().parents[3] / "scripts/cases"))
 from case_sizes import content, expand, hexed, oid, row
 from families import write
 

@@ -11,7 +11,7 @@ import tempfile
 import unicodedata
 from pathlib import Path
 
-sys.path.append(str(Path(__file__).resolve().parents[3] / "scripts"))
+sys.path.append(str(Path(__file__).resolve().parents[3] / "scripts/cases"))
 from families import write
 
 rows = []

@@ -9,7 +9,7 @@ import unicodedata
 from pathlib import Path
 
 sys.dont_write_bytecode = True
-sys.path.append(str(Path(__file__).resolve().parents[3] / "scripts"))
+sys.path.append(str(Path(__file__).resolve().parents[3] / "scripts/cases"))
 import transaction_rows
 from families import write
 from repository import Repository, base, rows, run

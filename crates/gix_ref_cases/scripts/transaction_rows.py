@@ -4,11 +4,8 @@ The files and what edits make of them are those that git writes (`gix_ref_cases`
 leaves comes from the order of the calls, which the documents of the crate tell: the lock is made (call 1), the file is read (2), the text is
 written into the lock (3), the lock is renamed (4), and a call that fails is followed by the lock's removal. None comes from the program.
 """
-import sys
 import tempfile
-from pathlib import Path
 
-sys.path.append(str(Path(__file__).resolve().parents[3] / "scripts"))
 import loose_rows
 from git_packed import git, packed
 

@@ -5,7 +5,7 @@ What is wanted follows from the rules for the orders: at one time, or in one lin
 import sys
 from pathlib import Path
 
-sys.path.insert(0, str(Path(__file__).resolve().parents[3] / "scripts"))
+sys.path.insert(0, str(Path(__file__).resolve().parents[3] / "scripts/cases"))
 from case_sizes import hexed, row
 from families import write
 

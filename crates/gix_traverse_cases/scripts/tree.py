@@ -4,7 +4,7 @@ in depth order are those of `git ls-tree -r -t`, which tells a tree before what 
 import os, random, subprocess, sys, tempfile
 from pathlib import Path
 
-sys.path.append(str(Path(__file__).resolve().parents[3] / "scripts"))
+sys.path.append(str(Path(__file__).resolve().parents[3] / "scripts/cases"))
 from families import write
 
 MODES = {"040000": "tree", "100644": "blob", "100755": "exe", "120000": "link", "160000": "commit"}

@@ -10,7 +10,7 @@ import os
 import sys
 from pathlib import Path
 
-sys.path.append(str(Path(__file__).resolve().parents[3] / "scripts"))
+sys.path.append(str(Path(__file__).resolve().parents[3] / "scripts/cases"))
 from case_words import word, write
 from folder_causes import as_line, causes, place
 from small_folder import Few, judged

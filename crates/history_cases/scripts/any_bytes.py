@@ -1,4 +1,4 @@
-"""A small folder, each of whose files in turn has other bytes: it isn't opened, for the one cause that holds by scripts/folder_causes.py, or is
+"""A small folder, each of whose files in turn has other bytes: it isn't opened, for the one cause that holds by scripts/cases/folder_causes.py, or is
 opened, and then every reading command tells what the plain repository with that change tells. Changes for which several causes hold
 stand in history_actions_cases."""
 

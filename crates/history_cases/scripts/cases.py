@@ -7,7 +7,7 @@ import random
 import sys
 from pathlib import Path
 
-sys.path.insert(0, str(Path(__file__).resolve().parents[3] / "scripts"))
+sys.path.insert(0, str(Path(__file__).resolve().parents[3] / "scripts/cases"))
 sys.path.insert(0, str(Path(__file__).resolve().parent))
 import any_bytes
 import rounds

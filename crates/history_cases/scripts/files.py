@@ -3,7 +3,7 @@ write-tree, ls-tree, cat-file, hash-object). An edit is made on a map from paths
 in folders, and git writes the tree of what is left. What is counted follows the rules that README.md tells."""
 import os, random, sys
 
-sys.path.append(os.path.join(os.path.dirname(os.path.abspath(__file__)), "../../../scripts"))
+sys.path.append(os.path.join(os.path.dirname(os.path.abspath(__file__)), "../../../scripts/cases"))
 from families import write
 from git_repository import LENGTH, Git
 

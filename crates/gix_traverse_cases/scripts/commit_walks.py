@@ -1,7 +1,7 @@
 #!/usr/bin/env python3
 """Writes cases of walks over commits, whose answers come from git, for the family `commit` of gix_traverse_cases.
 
-usage: scripts/commit_walks stdin|stdout
+usage: scripts/commit_walks.py stdin|stdout
 
 Each history is made in a repository of its own by `git fast-import`, with the times that are given. Its rows stand first, then the
 walks, whose answers are what `git rev-list` prints. Git lists by time where no option says otherwise, the newest first. So its list

@@ -9,7 +9,7 @@ import re
 import sys
 from pathlib import Path
 
-CRATES = Path(__file__).resolve().parent.parent / "crates"
+CRATES = Path(__file__).resolve().parents[2] / "crates"
 FACES = ("gix_hash", "gix_object", "gix_ref", "gix_traverse")
 USE = re.compile(r"pub use (gix_\w+)(?:::\w+)*::(?:\{([^}]*)\}|(\w+))")
 TEXT = re.compile(r'"(?:\\.|[^"\\])*"|b?\'(?:\\.|[^\'\\])\'|(?<!/)//[^/][^\n]*', re.S)

@@ -1,32 +1,21 @@
 #!/usr/bin/env python3
 """Writes cases of walks over objects in memory, whose answers come from git, for the family `walk` of gix_traverse_cases.
 
-usage: scripts/object_walks stdin|stdout
+usage: scripts/object_walks.py stdin|stdout
 
-The histories and walks are those of scripts/commit_walks, and `git rev-list` gives the answers. Each walk stands in all five orders,
+The histories and walks are those of scripts/commit_walks.py, and `git rev-list` gives the answers. Each walk stands in all five orders,
 as the set that all of them list; along first parents, or where git's order by time is the only one, as it comes.
 """
 
 import sys
 import tempfile
-from importlib.machinery import SourceFileLoader
-from importlib.util import module_from_spec, spec_from_loader
-from pathlib import Path
 
-
-def sibling(name):
-    loader = SourceFileLoader(name, str(Path(__file__).resolve().parent / name))
-    module = module_from_spec(spec_from_loader(name, loader))
-    loader.exec_module(module)
-    return module
-
-
-WALKS = sibling("commit_walks")
+from commit_walks import HISTORIES, git, made, numbers
 
 
 def listed(folder, ids, along, tips, hidden):
     words = ["rev-list"] + (["--first-parent"] if along == "first" else [])
-    found = WALKS.git(folder, *words, *(ids[it] for it in tips), *("^" + ids[it] for it in hidden)).split()
+    found = git(folder, *words, *(ids[it] for it in tips), *("^" + ids[it] for it in hidden)).split()
     number_of = {it: number for number, it in ids.items()}
     return [number_of[it] for it in found]
 
@@ -35,16 +24,16 @@ def cases(commits, walks):
     """Each line and its answer."""
     yield "history", "history"
     for number, (time, parents) in commits.items():
-        yield f"commit {number} {time} {WALKS.numbers(parents)}", "commit"
+        yield f"commit {number} {time} {numbers(parents)}", "commit"
     with tempfile.TemporaryDirectory() as folder:
-        ids = WALKS.made(folder, commits)
+        ids = made(folder, commits)
         for along, tips, hidden, how in walks:
             found = listed(folder, ids, along, tips, hidden)
             text = "".join(f"{it} " for it in found)
-            asked = f"simple {WALKS.numbers(tips)}"
-            hide = f"hide={WALKS.numbers(hidden)}"
+            asked = f"simple {numbers(tips)}"
+            hide = f"hide={numbers(hidden)}"
             if along == "all":
-                yield f"orders {WALKS.numbers(tips)} {WALKS.numbers(hidden)}", WALKS.numbers(sorted(found))
+                yield f"orders {numbers(tips)} {numbers(hidden)}", numbers(sorted(found))
             elif how == "order":
                 yield f"{asked} first {hide} end", f"first {hide} {text}end"
             if how == "newest":
@@ -52,7 +41,7 @@ def cases(commits, walks):
 
 
 def main(wanted):
-    for commits, walks in WALKS.HISTORIES:
+    for commits, walks in HISTORIES:
         for line, answer in cases(commits, walks):
             print(f"walk {line}" if wanted == "stdin" else answer)
 

@@ -1,9 +1,9 @@
 #!/usr/bin/env python3
 """Writes cases of walks by topology, whose answers come from git, for the family `topo` of gix_traverse_cases.
 
-usage: scripts/topo_walks stdin|stdout
+usage: scripts/topo_walks.py stdin|stdout
 
-As scripts/commit_walks does, it makes each history by `git fast-import`; the answers are what `git rev-list` prints under
+As scripts/commit_walks.py does, it makes each history by `git fast-import`; the answers are what `git rev-list` prints under
 `--topo-order` or `--date-order`. Which of equal times comes first by date is open, so that a walk by date is asked for only where
 all times of a history differ. Without a commit-graph git 2.39 counts the children along all parents, under `--first-parent` too, so
 one is written. With it a commit whose first parent is hidden is counted off its next parent that isn't, which on another tip's line
@@ -11,23 +11,11 @@ may then come before its child. So along first parents from several tips with en
 stands on the line of 60, so that only one order is right. Numbers stand for commits.
 """
 
-import importlib.machinery
-import importlib.util
 import random
 import sys
 import tempfile
-from pathlib import Path
 
-
-def load(name):
-    """Loads a script that stands beside this one."""
-    loader = importlib.machinery.SourceFileLoader(name, str(Path(__file__).with_name(name)))
-    module = importlib.util.module_from_spec(importlib.util.spec_from_loader(name, loader))
-    loader.exec_module(module)
-    return module
-
-
-walks = load("commit_walks")
+import commit_walks as walks
 
 
 def by_chance(seed, count):
