@@ -1,4 +1,4 @@
-/* Refuses the growth of memory whose number REFUSED_GROWTH tells, and then writes a byte to the descriptor 9.
+/* Refuses the growth of memory whose number is REFUSED_GROWTH, and then writes a byte to the descriptor 9.
    It is loaded before the C library (LD_PRELOAD). */
 #define _GNU_SOURCE
 #include <dlfcn.h>

@@ -35,6 +35,6 @@ def oid(kind, data):
 
 
 def row(line, answer):
-    """A line, with `&` between lines, and what is told of its answers, which the second argument gives as one text for a size."""
+    """A line, with `&` between lines, and a digest of its answers, which the second argument gives as one text for a size."""
     told = (hashlib.sha1((answer(size) + "\n").encode()).hexdigest()[:4] for size in SIZES)
     return line, " ".join(told)

@@ -1,8 +1,8 @@
 """Which causes hold of a folder, by docs/PROTOCOL.md and Git's formats alone: the judge of rows over changed files. It shares no code with
 the plain repository of crates/history_cases/scripts/plain.py.
 
-A cause is its name and its values, as `history check` tells them. Where an object's file is damaged, what its content says counts all the same,
-so several causes may hold; and an object is missing only where no file stands at its place. Names count where the objects have no cause,
+A cause is its name and its values, as `history check` reports them. If an object's file is damaged, what its content says counts all the same,
+so several causes may hold; and an object is missing only if no file is at its place. Names count if the objects have no cause,
 since those are surveyed first."""
 
 import hashlib
@@ -123,7 +123,7 @@ def longest(kind, files, content):
 
 
 def entries(kind, content):
-    """A tree's names, modes and ids; none where it isn't a run of entries."""
+    """A tree's names, modes and ids; none if it isn't a run of entries."""
     found, size = [], SIZES[kind] // 2
     while content:
         entry = re.match(rb"(\d+) ([^\0/]+)\0(?=.{%d})" % size, content, re.S)
@@ -135,7 +135,7 @@ def entries(kind, content):
 
 
 def of_tree(kind, content):
-    """The objects that a tree names, or none where it isn't in written form."""
+    """The objects that a tree names, or none if it isn't in written form."""
     found = entries(kind, content)
     if found is None or any(mode not in ENTRY_KINDS for _, mode, _ in found):
         return None
@@ -199,7 +199,7 @@ class Names:
         self.standing = self.loose | set(self.records)
 
     def packed(self, text):
-        """The records before the first line that may not stand, and that line's number or none."""
+        """The records before the first line that may not be there, and that line's number or none."""
         records, last, sorted_ = {}, None, False
         for number, line in enumerate(text.split(b"\n")[:-1], 1):
             if b"\r" in line:
@@ -278,13 +278,13 @@ class Names:
         return bool(found) and is_actor(found[1]) and len(found[2]) <= 1024
 
 
-# ---- how a cause is told
+# ---- how a cause is reported
 
 def as_word(cause, word):
-    """As `open` tells it in a case: lines and ids as they are."""
+    """As `open` reports it in a case: lines and ids as they are."""
     return ":".join([cause[0].decode(), *(word(it) for it in cause[1:])])
 
 
 def as_line(cause):
-    """As `history check` tells it."""
+    """As `history check` reports it."""
     return b"refused " + b" ".join(cause) + b"\n"

@@ -1,4 +1,4 @@
-"""A repository of git, of which generators of cases ask ids and contents of trees: scripts/cases.py in each crate that says so."""
+"""A repository of git, of which generators of cases have ids and contents of trees: scripts/cases.py in each crate that says so."""
 import os, subprocess, tempfile
 
 LENGTH = {"sha1": 40, "sha256": 64}
@@ -48,6 +48,6 @@ class Git:
             yield mode, found, path
 
     def entry(self, oid, path):
-        """The mode and id of what stands at a path, as git-ls-tree tells."""
+        """The mode and id of what is at a path, by git ls-tree."""
         words = self.run("ls-tree", "-z", oid, "--", path).split(b"\t")[0].decode().split()
         return (words[0], words[2]) if words else None

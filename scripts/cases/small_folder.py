@@ -17,7 +17,7 @@ LOGS = (b"logs/refs/heads/x", b"logs/refs/tags/v")
 
 
 class Small:
-    """The files of both parts, and what the replies tell."""
+    """The files of both parts, and the replies."""
 
     def __init__(self, kind):
         self.kind, self.objects = kind, {}
@@ -72,7 +72,7 @@ class Few(Small):
 
 def texts(text, choose):
     """What a file is replaced by: nothing, its first half, itself with each byte in turn changed to one of those that `choose` takes, in
-    its order, and 4,097 bytes of 255. Each stands with the place that was changed, or none."""
+    its order, and 4,097 bytes of 255. Each comes with the place that was changed, or none."""
     yield None, b""
     yield None, text[:len(text) // 2]
     for at, byte in enumerate(text):
@@ -110,5 +110,5 @@ def judged(small, path, more_of=lambda part: part):
 
 
 def without_packed_logs(names):
-    """The names part in which no log is of a name that has a record alone: a line that goes from `packed-refs` then leaves none behind."""
+    """The names part in which no log is of a name that has a record alone: a line that goes from `packed-refs` then leaves none over."""
     return {path: text for path, text in names.items() if path not in LOGS}
