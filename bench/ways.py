@@ -70,6 +70,10 @@ class Git:
         """So many runs, without the start of git."""
         return Way(f"git {words[0]}", ["git", *words], says, given, start, START, times, parts)
 
+    def whole(self, start, words, says, times):
+        """So many runs, with the start of git."""
+        return Way(f"git {words[0]}, whole", ["git", *words], says, b"", start, times=times, parts=times)
+
     def importing(self, how, given):
         """An import as loose objects, or as a pack."""
         start = self.kept(how, limit={"loose": LOOSE, "pack": PACKED}[how])

@@ -179,4 +179,5 @@ class Workloads:
 
     def start(self):
         says = {"output": lambda it: it.output}
-        return Workload("start", 100, self.ours.whole([], says, times=100), [self.others.plain(["/bin/true"], says, times=100)])
+        peers = [self.others.plain(["/bin/true"], says, times=100), self.git.whole(self.git.kept("empty"), ["cat-file", "--batch"], says, times=100)]
+        return Workload("start", 100, self.ours.whole([], says, times=100), peers)
