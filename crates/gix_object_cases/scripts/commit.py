@@ -1,8 +1,8 @@
 #!/usr/bin/env python3
-"""Writes the rows `read` of `commit` in stdin and stdout, behind the family's others, which stay; git 2.39 is asked, on the path.
+"""Writes the rows `read` of `commit` in stdin and stdout, after the family's others, which stay; git 2.39 is called, on the path.
 
 The commits are those that the family's rows have. The fields are those that `git log` prints of one, and its further headers the lines of
-`git cat-file` behind these. Where they spell the commit's content to the byte, and so in the form in which git writes one, there is a row.
+`git cat-file` after these. If they spell the commit's content to the byte, and so in the form in which git writes one, there is a row.
 """
 import re
 import subprocess
@@ -26,7 +26,7 @@ def repository(kind):
     subprocess.run(["git", "init", "-q", "--object-format=" + kind, folder], check=True)
 
     def git(*words, data=b""):
-        """What this command of git prints, or nothing where it fails."""
+        """What this command of git prints, or nothing if it fails."""
         done = subprocess.run(["git", "-C", folder, *words], input=data, capture_output=True)
         return done.stdout if done.returncode == 0 else b""
     return git

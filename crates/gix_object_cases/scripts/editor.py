@@ -143,7 +143,7 @@ def root_row(git, chance):
 
 
 def cursor_row(git, chance):
-    """Edits below cursors, each of which stands at some folder."""
+    """Edits below cursors, each of which is at some folder."""
     names = chance.sample(NAMES, chance.choice([2, 3]))
     files = some_files(git, chance, names, 12)
     root = git.tree(files)
@@ -306,24 +306,24 @@ def graft_rows(git):
     get = lambda *path: "get:" + path_word(path)
     at = lambda *path: "at:" + path_word(path)
     known = lambda path, mode, oid: f"{grafted(git, nested, path, mode, oid)} known+"
-    # no tree but those on the way is asked for, and the grafted one only by a later edit that leads into it
+    # no tree but those on the way is looked up, and the grafted one only by a later edit that leads into it
     for path, asked in [((d,), 0), ((a,), 0), ((a, c), 1), ((a, b), 1), ((a, b, c), 2), ((a, b, c, d), 2), ((a, f, d), 1), ((g, d, e), 0)]:
         row(git, nested, [deep], [graft(path, "40000", deep), "lookups", get(*path), "write"], ["ok", f"{asked} asked {asked}", f"40000 {deep}", known(path, "40000", deep)])
         into = git.tree({tuple(q.split(b"/")): (mode, oid) for mode, oid, q in git.listed(grafted(git, nested, path, "40000", deep)) if mode != "040000"} | {path + (m, c): ("100644", x)})
         row(git, nested, [deep], [graft(path, "40000", deep), upsert(path + (m, c), "100644", x), "lookups", "write"], ["ok", "ok", f"{asked + 2} asked {asked + 2}", f"{into} known+"])
         for mode, oid in [("100644", y), ("100755", x), ("120000", y)]:
             row(git, nested, [], [graft(path, mode, oid), "lookups", get(*path), "write"], ["ok", f"{asked} asked {asked}", f"{mode} {oid}", known(path, mode, oid)])
-    # nothing is asked of the id, so it needn't stand
+    # nothing is looked up at the id, so it needn't exist
     made = grafted(git, nested, (a, c), "40000", deep)
     row(git, nested, [], [graft((a, c), "40000", deep), "lookups", "write"], ["ok", "1 asked 1", f"{made} known-"])
-    # the empty tree, whatever the kind; a path that isn't full comes first; nothing is asked
+    # the empty tree, whatever the kind; a path that isn't full comes first; nothing is looked up
     for mode in KINDS:
         row(git, nested, [], [graft((a, b, c), mode, git.empty), "lookups", "written", "write"], ["EmptyTree", "0 asked 0", "1", f"{nested} known+"])
         row(git, nested, [], [graft((), mode, git.empty), graft((a, b""), mode, git.empty), graft((), mode, x), "lookups", "write"], ["EmptyPathComponent"] * 3 + ["0 asked 0", f"{nested} known+"])
         row(git, nested, [], [f"{at(a)}:{graft((b, c), mode, git.empty)}", f"{at(a)}:{graft((), mode, git.empty)}", "lookups", "written", "write"], ["EmptyTree", "EmptyPathComponent", "1 asked 1", "1", f"{nested} known+"])
     # a tree on the way that isn't stored
     rows.append((f"{git.kind} {git.content(nested).hex()} - {graft((a, c), '40000', deep)} {graft((a, c), '40000', git.empty)} lookups write", f"FindExistingObject EmptyTree 1 asked 1 {nested} known-"))
-    # what stands already, and the null id
+    # what is there already, and the null id
     same = graft((a, b), "40000", git.entry(nested, (a, b)).split()[1])
     row(git, nested, [], [same, "lookups", "written", "write"], ["ok", "1 asked 1", "1", f"{nested} known+"])
     left = git.tree({(a, f): ("100644", y), (g,): ("100755", x)})

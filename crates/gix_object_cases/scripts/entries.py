@@ -1,5 +1,5 @@
 """Writes the rows of `entries` in stdin and stdout. Trees, their ids and listings, the order of names and what is well-formed come from
-git (mktree, cat-file, ls-tree, hash-object, fsck); the error of an entry that isn't one from a reader of git's format that stands here."""
+git (mktree, cat-file, ls-tree, hash-object, fsck); the error of an entry that isn't one from a reader of git's format in this script."""
 import hashlib, itertools, os, re, subprocess, sys, tempfile
 from pathlib import Path
 
@@ -55,7 +55,7 @@ class Git:
         return self.run("hash-object", "-t", "tree", "--literally", "-w", "--stdin", data=content).decode().strip()
 
     def complaints(self, oid):
-        """What git-fsck tells of a tree, by the names of its messages."""
+        """What git fsck prints of a tree, by the names of its messages."""
         code, out, err = self.run("fsck", "--no-dangling", oid, check=False)
         return set(re.findall(rb"in tree %s: (\w+):" % oid.encode(), out + err))
 
@@ -86,7 +86,7 @@ def kind_name(value):
 
 
 def read(kind, content):
-    """The entries that begin a content, each with its mode, name and id, and the error of what stands behind them."""
+    """The entries that begin a content, each with its mode, name and id, and the error of what comes after them."""
     entries = []
     while content:
         text, space, rest = content.partition(b" ")
@@ -124,7 +124,7 @@ BAD = {b"badTree", b"treeNotSorted", b"duplicateEntries", b"emptyName", b"fullPa
 
 
 def tree_rows(git, content):
-    """A content as git reads it, where it does."""
+    """A content as git reads it, if it does."""
     kind = git.kind
     entries, error = read(kind, content)
     if error:

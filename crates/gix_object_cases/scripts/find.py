@@ -1,5 +1,5 @@
 """Writes the rows of `find` in stdin and stdout. Objects, their ids, kinds, sizes, contents and the entries of paths come from git
-(hash-object, mktree, commit-tree, mktag, cat-file, ls-tree); what a store that fails and one of none answer stands in the README."""
+(hash-object, mktree, commit-tree, mktag, cat-file, ls-tree); what a store that fails and one of none answer is in the README."""
 import os, subprocess, sys, tempfile
 from pathlib import Path
 
@@ -54,7 +54,7 @@ class Git:
         return f"{kind} {len(content)}\0".encode() + content
 
     def entries(self, tree):
-        """What stands at each path, as git-ls-tree tells it, and where it ends for want of a tree."""
+        """What is at each path, as git ls-tree prints it, and where it ends for want of a tree."""
         found = {}
         for part in self.run("ls-tree", "-r", "-t", "-z", tree).split(b"\0")[:-1]:
             head, name = part.split(b"\t", 1)
@@ -87,7 +87,7 @@ def plain(git, oid, given):
 
 
 def of_kind(git, oid, given, told):
-    """The object asked for as each kind: `told` is what is told of it as its own."""
+    """The object looked up as each kind: `told` is what is said of it as its own."""
     kind = git.objects[oid][0] if oid in given else None
     for asked in ("blob", "tree", "commit", "tag"):
         parts = 1 if asked == "blob" else 2

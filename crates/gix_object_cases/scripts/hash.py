@@ -1,5 +1,5 @@
 #!/usr/bin/env python3
-"""Writes the rows of `hash` in stdin and stdout; git 2.39 is asked, on the path.
+"""Writes the rows of `hash` in stdin and stdout; git 2.39 is called, on the path.
 
 Nothing of the crate is used. The ids of blobs are what `git hash-object` prints and their short forms what `git rev-parse --short=4`
 does, in repositories of both object formats; digests are `hashlib`'s; the others are what Git's forms of ids say of them, by slices and
@@ -22,7 +22,7 @@ PIECE = 65535
 
 
 def case(operation, *fields, answer):
-    """A number and a word stand as their texts."""
+    """A number and a word are written as their texts."""
     words = [field if isinstance(field, bytes) else str(field).encode() for field in fields]
     ROWS.append((" ".join([operation] + [word.hex() or "-" for word in words]), answer))
 
@@ -57,7 +57,7 @@ def samples(name):
             bytes(length - 1) + b"\x01", *EMPTY[name], *(blob(name, b"%d\n" % n) for n in range(12))]
 
 
-# ---- what git tells
+# ---- what git prints
 
 def git(folder, *words, given=b""):
     return subprocess.run(("git", "-C", folder) + words, input=given, check=True, capture_output=True).stdout.decode().strip()
@@ -200,7 +200,7 @@ def digests():
 
 
 def stream_of(name, count, number, stream):
-    """The pieces are of 65,535 bytes, and the one at which the interruption says yes is told."""
+    """The pieces are of 65,535 bytes, and the one at which the interruption says yes is reported."""
     pieces = -(-count // PIECE)
     if 0 < number <= pieces and len(stream) >= min(number * PIECE, count):
         read = min(number * PIECE, count)

@@ -1,7 +1,7 @@
 #!/usr/bin/env python3
-"""Writes the rows of `lines` in stdin and stdout; git 2.39 is asked, on the path.
+"""Writes the rows of `lines` in stdin and stdout; git 2.39 is called, on the path.
 
-Nothing of the crate is used. The answers are git's where git tells them: its loose objects' headers, the lines that `git var` prints and that `git cat-file` gives back, what `git check-ref-format` says. The others
+Nothing of the crate is used. The answers are git's if git prints them: its loose objects' headers, the lines that `git var` prints and that `git cat-file` gives back, what `git check-ref-format` says. The others
 are what the formats' descriptions say, as regular expressions and numbers of Python.
 """
 import datetime
@@ -24,7 +24,7 @@ KINDS = [b"tree", b"blob", b"commit", b"tag"]
 
 
 def case(operation, *fields, answer):
-    """A number stands as its decimal text."""
+    """A number is written as its decimal text."""
     ROWS.append((" ".join([operation] + [(b"%d" % field if isinstance(field, int) else field).hex() or "-" for field in fields]), answer))
 
 

@@ -1,10 +1,10 @@
 #!/usr/bin/env python3
-"""Writes the rows of `message` in stdin and stdout; git 2.39 is asked, on the path.
+"""Writes the rows of `message` in stdin and stdout; git 2.39 is called, on the path.
 
 Nothing of the crate is used. The answers of the first part are git's: the subject line and the body that `git show` prints of a commit
 with that message, and the trailers that `git interpret-trailers --parse` prints. All its messages have their title first, at most one
-empty line behind it, and at their end a paragraph of trailers alone or one whose first line is none, where this port's rules and git's
-tell the same. The answers of the others are what this port's rules, in the README of `gix_object_message`, say of them, as regular
+empty line after it, and at their end a paragraph of trailers alone or one whose first line is none, if this port's rules and git's
+say the same. The answers of the others are what this port's rules, in the README of `gix_object_message`, say of them, as regular
 expressions.
 """
 import itertools
@@ -37,7 +37,7 @@ def quoted(text):
     return f'"{"".join(shown)}"'
 
 
-# ---- what git tells
+# ---- what git prints
 
 TITLES = ["title", "title ", "first\nsecond", "first  \n second\t\nthird", "Ž: ü", "fix: it", "a\tb  c", "one\ntwo\nthree\nfour", "Don't \"quote\" \\ it", "日本"]
 BODIES = ["", "text\n", "text", "text\n\nmore text\nand more\n", "text\n\n\n\nmore\n", "this is\nnote: text\n", "- one\n- two\n", "  indented\n\n\ttab\n", "Fix: a\n\nbut text\n"]
@@ -78,7 +78,7 @@ def by_git():
             told_by_git(folder, tree, message.encode())
 
 
-# ---- what the rules tell
+# ---- what the rules say
 
 WHITE = b" \t\n\f\r"
 TRAILER = re.compile(rb"([A-Za-z0-9-]+): (.*)", re.DOTALL)
@@ -103,7 +103,7 @@ def trailers_in(text):
 
 
 def paragraphs_of(body):
-    """Each with the empty lines behind it; empty lines that begin the body are one of their own."""
+    """Each with the empty lines after it; empty lines that begin the body are one of their own."""
     line = rb"(?!\r?\n)(?:[^\n]*\n|[^\n]+)"
     return re.findall(rb"\A(?:\r?\n)+|(?:%s)+(?:\r?\n)*" % line, body)
 

@@ -1,6 +1,6 @@
 #!/usr/bin/env python3
 """Writes the rows of `file` in stdin and stdout. The answers come from the definitions of a tree of files, written once more here: what a path is,
-which change a tree allows and what it makes, and what a call that is stopped or fails leaves. The rows that stand first have answers
+which change a tree allows and what it makes, and what a call that is stopped or fails leaves. The rows that come first have answers
 that were written by hand, and this model must agree with them."""
 
 import random
@@ -27,7 +27,7 @@ class Tree:
         return "folder" if path == b"" else "absent" if path not in self.at else "folder" if self.at[path] is None else "file"
 
     def has_room(self, path):
-        """Whether a file or a folder may stand there, as far as the folders above it say."""
+        """Whether a file or a folder may be there, as far as the folders above it say."""
         return is_path(path) and self.place(path.rpartition(b"/")[0]) == "folder"
 
     def below(self, folder):
@@ -98,7 +98,7 @@ class Tree:
         return f"{len(part) if place == 'file' else 'none'}:{word(part + b'......'[len(part):])}"
 
     def act(self, words):
-        """What a word answers; None where it answers nothing."""
+        """What a word answers; None if it answers nothing."""
         name, *rest = words
         if name in ("stop", "fail"):
             self.calls, self.chosen, self.kept, self.stops = 0, rest[0], rest[1], name == "stop"
@@ -173,7 +173,7 @@ def paths():
         row(folders + [("write", path, b"")], ["done" if path in good else "failed"])
 
 
-# At which call, and what it keeps; which of four changes are made; the names that are left, and what stands at `new` and `a0` then.
+# At which call, and what it keeps; which of four changes are made; the names that are left, and what is at `new` and `a0` then.
 STOPPING = [(0, None, "1111", "a:a-:a0", None, b"onetwo"), (1, None, "0000", "a:a-:a0:z", None, b"zero"),
             (1, 2, "0000", "a:a-:a0:new:z", b"on", b"zero"), (2, 1, "1000", "a:a-:a0:new:z", b"onet", b"zero"),
             (3, None, "1100", "a:a-:a0:new:z", b"onetwo", b"zero"), (3, 0, "1100", "a:a-:a0:z", None, b"onetwo"),
@@ -197,7 +197,7 @@ BYTES = [b"", b"1", b"two", b"a longer text", b"\0\n"]
 
 
 def by_chance(chance):
-    """Changes and readings, of which one may fail, and all that stands then."""
+    """Changes and readings, of which one may fail, and all that is there then."""
     def act():
         name = chance.choice(["create", "write", "append", "rename", "remove", "folder", "folder", "folder", "remove-folder", "kind",
                               "read", "read-at", "list"])

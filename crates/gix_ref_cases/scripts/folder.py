@@ -121,7 +121,7 @@ PATHS = [b"a", b"a/b", b"a/b/c", b"a-", b"b", b"b/c", b"c", b"..", b"a//b", b"",
 
 
 def by_chance(chance):
-    """Changes and readings, and all that stands then."""
+    """Changes and readings, and all that is there then."""
     def call():
         name = chance.choice(["create", "write", "append", "rename", "remove", "folder", "folder", "folder", "remove-folder", "kind",
                               "read", "read-at", "list"])

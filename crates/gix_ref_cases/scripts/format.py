@@ -1,8 +1,8 @@
 """Writes the rows of `format` in ../stdin and ../stdout. Each answer comes from git itself, asked in a repository made for it, or from a table of
 Git's documents; none from the program.
 
-`git pack-refs` writes the packed files, `git for-each-ref` tells their records; a loose text is put into a file of the
-repository, and `git symbolic-ref` or `git rev-parse` tells what it points to; `git rev-parse` looks words up.
+`git pack-refs` writes the packed files, `git for-each-ref` prints their records; a loose text is put into a file of the
+repository, and `git symbolic-ref` or `git rev-parse` prints what it points to; `git rev-parse` looks words up.
 """
 import os
 import shutil
@@ -44,14 +44,14 @@ def write(name, data):
 
 
 def records():
-    """What git tells of all references: target, name, and the object behind a tag."""
+    """What git prints of all references: target, name, and the object that a tag leads to."""
     told = git("for-each-ref", "--format=%(objectname) %(refname)")
     lines = [line.split(" ") for line in told.split("\n")] if told else []
     return [(target, name, git("rev-parse", "--verify", "-q", name + "^{}")) for target, name in lines]
 
 
 def completed(word):
-    """The record that git finds for a word: it tells the id, and of the names of gitrevisions the first that stands has it."""
+    """The record that git finds for a word: it prints the id, and of the names of gitrevisions the first that exists has it."""
     id = git("rev-parse", "--verify", "-q", word, fails=True)
     names = [word] if word.startswith("refs/") else [f"refs/{word}", f"refs/tags/{word}", f"refs/heads/{word}", f"refs/remotes/{word}", f"refs/remotes/{word}/HEAD"]
     hits = [r for name in names for r in told if r[1] == name]
@@ -154,7 +154,7 @@ add("find x " + twice.hex(), f"{one} refs/heads/x {one}")
 upper = b"D53C4B0F91F1B29769C9430F2D1C0BCAB1170C75 refs/heads/uppercase\n^E9CDC958E7CE2290E2D7958CDB5AA9323EF35D37\n"
 add("items " + upper.hex(), "d53c4b0f91f1b29769c9430f2d1c0bcab1170c75 refs/heads/uppercase e9cdc958e7ce2290e2d7958cdb5aa9323ef35d37; ")
 
-# ---- loose texts: git reads them where the program should
+# ---- loose texts: git reads them if the program should
 
 git("pack-refs", "--all", "--prune")
 ids = [one.encode() + b"\n", one.encode(), one.upper().encode() + b"\n", one.encode() + b"\r\n", one.encode() + b" x\n", one.encode() + b"\t\tbranch 'main' of /x\n",

@@ -98,7 +98,7 @@ assert len(items) == 4
 longest = max(len(line) for line in written.split(b"\n"))
 log_rows(written, items, list(range(1, longest + 4)) + [2 * longest, len(written) - 1, len(written), len(written) + 1])
 for line in written.splitlines(keepends=True):
-    # Git leaves the tab out where the message is empty; it is written here.
+    # Git leaves the tab out if the message is empty; it is written here.
     wanted = line if b"\t" in line else line[:-1] + b"\t\n"
     add("again", line, wanted.hex())
     add("again", line.rstrip(b"\n"), wanted.hex())
@@ -109,7 +109,7 @@ held = [NULL, first, second, third, first]
 for number, line in enumerate(written.splitlines(keepends=True)):
     add("ids", line, f"{held[number]} {held[number + 1]}")
 
-# ---- lines that git reads but doesn't write, each put behind a line of its own
+# ---- lines that git reads but doesn't write, each put after a line of its own
 
 front = f"{first} {second} ".encode()
 spellings = [front + b"A <a@b> 1 +0000\tx\ty\tz", front + b"A <a@b> 1 +0000\tends with CR\r", front + b"A <a@b> 1 +0000\t\r",

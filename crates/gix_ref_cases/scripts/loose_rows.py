@@ -1,8 +1,8 @@
 """Rows of transactions of references' own files, for transaction_rows.py: the files before and after are those that git leaves.
 
 git makes a repository, its references and logs; its files are the case's. Then `git update-ref --stdin` or `git symbolic-ref` makes the same
-edits, or refuses them, and the files that stand then are the answer. What a stop or a failed call leaves comes from the order of the calls,
-which the documents of the crates tell.
+edits, or refuses them, and the files that are there then are the answer. What a stop or a failed call leaves comes from the order of the calls,
+which the documents of the crates say.
 """
 import os
 import subprocess
@@ -42,7 +42,7 @@ def shown(files):
 
 
 class Repository:
-    """HEAD is on a branch that doesn't stand, so that no update of another is written to its log."""
+    """HEAD is on a branch that doesn't exist, so that no update of another is written to its log."""
 
     def __init__(self, packed=False, head="refs/heads/unborn"):
         self.room = tempfile.mkdtemp()
@@ -157,7 +157,7 @@ def packed_files(edits, prune, start):
 
 
 def packing():
-    """Updates that are packed: all names of a repository, or some where the others are packed already."""
+    """Updates that are packed: all names of a repository, or some if the others are packed already."""
     found = []
     everything = [("update", "refs/heads/a", "two", "two"), ("update", "refs/heads/main", "one", "one"), ("update", "refs/tags/v", "one", "one")]
     moved = [("update", "refs/heads/a", "three", "any"), ("update", "refs/heads/main", "two", "any"), ("update", "refs/tags/v", "two", "any")]
@@ -197,7 +197,7 @@ def private():
 
 
 def tags():
-    """A record of a tag tells the object that it leads to."""
+    """A record of a tag has the object that it leads to."""
     found = []
 
     def start():
@@ -254,14 +254,14 @@ def symbolic():
     repository = Repository()
     before = repository.files()
     git(repository.room, "symbolic-ref", "HEAD", "refs/heads/main")
-    # git tells HEAD's log of it; here an update to another reference's name is in no log.
+    # git writes it into HEAD's log; here an update to another reference's name is in no log.
     after = {path: text for path, text in repository.files().items() if path != "logs/HEAD"}
     found.append(row("loose", "", before, "update HEAD ref:refs/heads/main any\n", f"made 1; {shown(after)}"))
     return found
 
 
 def locked():
-    """Another's lock stands, or a file where a folder is needed: nothing changes."""
+    """Another's lock exists, or a file is in the place of a needed folder: nothing changes."""
     found = []
     files = Repository().files()
     one = "1" * 40

@@ -68,7 +68,7 @@ table = [
     b"main-worktree/refs/bisect/bad", b"worktrees/w/HEAD", b"worktrees/w/refs/heads/x", b"worktrees/refs/HEAD", b"refs/heads/a/refs/b",
 ]
 for name in table:
-    # What stands behind the whole front is told again, unless it begins with the front.
+    # What comes after the whole front is repeated, unless it begins with the front.
     add("again", name, {b"refs/heads/refs/heads/x": "refs/heads/x"}.get(name, name.decode()))
 
 # A view and a name of its own, and both again of a full name; bytes that are no text as Unicode's recommendation has them.
@@ -98,7 +98,7 @@ def times(name, number, is_name):
     return " ".join([name.decode() if is_name else "refused"] * number)
 
 
-# What names of their own and their views hold, however they are made: the name, where git takes it.
+# What names of their own and their views hold, however they are made: the name, if git takes it.
 for name in some:
     partial, full = rules(name)
     add("partial", name, times(name, 3, True) if partial else broken)
@@ -151,7 +151,7 @@ def files_of_git(kind):
         return texts
 
 
-# A target prints as the file that git writes for it; its id is what git was asked to write.
+# A target prints as the file that git writes for it; its id is what git was to write.
 zeros = [(("0" * length), None, b"0" * length + b"\n") for length in (40, 64)]
 written = files_of_git("sha1") + files_of_git("sha256")[:2] + zeros
 for digits, _, text in written:
@@ -167,7 +167,7 @@ NEW = "64c5e58854b06001b3a0c20edb97900dd0131025"
 
 def ready(references, edits):
     """The edits after gix-ref's documents: in rounds, each of a symbolic reference leaves its log's part and adds the same edit of the
-    reference that it leads to; the fifth round finds none to split. In the end no name may stand twice, and the least is told."""
+    reference that it leads to; the fifth round finds none to split. In the end no name may be there twice, and the least is reported."""
     listed = [dict(word=word, name=name, log="log" if word == "drop-log" else "both", asks=True, leads=not word.endswith("-here"))
               for word, name in edits]
     first, places = 0, []
@@ -219,7 +219,7 @@ chain = {"HEAD": "ref: refs/heads/a", "refs/heads/a": "ref: refs/heads/b", "refs
          "refs/heads/x": "ref: refs/heads/y", "refs/heads/y": NEW, "refs/heads/s": "ref: refs/heads/s", "refs/heads/p": "ref: refs/heads/q",
          "refs/heads/q": "ref: refs/heads/p", "refs/heads/n": "ref: refs/heads/none", "refs/heads/z": "ref: refs/heads/y"}
 # git says the same of updates that none of its own rules refuses: a line for each name on the way, a change of the last alone. It also
-# adds a line to HEAD's log where the name that HEAD points to is updated, which is no edit of the list.
+# adds a line to HEAD's log if the name that HEAD points to is updated, which is no edit of the list.
 for edits in [["move HEAD"], ["move refs/heads/a"], ["move refs/heads/b"], ["move refs/heads/d", "move refs/heads/x"], ["move refs/heads/e"],
               ["move-here refs/heads/x", "move refs/heads/y"], ["move refs/heads/x", "move refs/heads/c"], ["move refs/heads/n"],
               ["move refs/heads/a", "move refs/heads/x"], []]:

@@ -45,7 +45,7 @@ def repository(kind):
 
 
 def try_edits(kind, edits):
-    """The file before, and the one that git leaves behind the edits; each of these lines stands for the edit of a row."""
+    """The file before, and the one that git leaves after the edits; each of these lines is the edit of a row."""
     room, one, two, tags = repository(kind)
     before = packed(room)
     lines = []

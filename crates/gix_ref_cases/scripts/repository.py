@@ -1,4 +1,4 @@
-"""Repositories that git makes, the cases that ask for their references, and what git says of these."""
+"""Repositories that git makes, the cases that look up their references, and what git says of these."""
 import os
 import subprocess
 import tempfile
@@ -56,7 +56,7 @@ class Repository:
         return run(folder, "rev-parse", "--verify", name).stdout.strip()
 
     def peeled(self, name):
-        """The id that a tag's record tells: of a tag without a file of its own, what it points to in the end."""
+        """The id that a tag's record has: of a tag without a file of its own, what it points to in the end."""
         if os.path.exists(self.path(name)) or self.git("cat-file", "-t", name) != "tag":
             return ""
         return " ^" + self.git("rev-parse", name + "^{}")
@@ -83,7 +83,7 @@ class Repository:
         rows.append((f"{operation} - {asked} {self.files()}{logs}{text}", answer))
 
     def peel(self, name, objects):
-        """The object that git peels a name to, and the last name on the way, which then tells it."""
+        """The object that git peels a name to, and the last name on the way, which then prints it."""
         id = self.git("rev-parse", name + "^{}")
         last = self.git("rev-parse", "--symbolic-full-name", name)
         self.lead("peel", name, f"{id} {id} {last} {id} ^{id}", objects)
@@ -101,7 +101,7 @@ class Repository:
         self.ask("within", folder, "".join(self.shown(name) + ";" for name in names))
 
     def find(self, word, name=None, operation="find"):
-        """A word: git says its full name, but for a symbolic one, where the caller gives it by the rules of gitrevisions."""
+        """A word: git says its full name, but for a symbolic one, which the caller gives by the rules of gitrevisions."""
         if name is None:
             name = self.git("rev-parse", "--symbolic-full-name", word)
         self.ask(operation, word, self.shown(name) if operation != "loose" else f"{name} {self.target(name)}")

@@ -119,7 +119,7 @@ def packed():
 
 
 HEAD = f"HEAD={hexed('ref: refs/heads/y' + chr(10))}"
-# `x` has a file among many and `y` a record among many, where not both have files.
+# `x` has a file among many and `y` a record among many, if not both have files.
 FILES = f"{HEAD};packed-refs={hexed(PACKED)}[;refs/heads/f#={hexed(ZERO + '~' + chr(10))}];refs/heads/x={hexed(ONE + chr(10))}"
 LOG = f"{HEAD};refs/heads/y={hexed(ONE + chr(10))};logs/refs/heads/y={hexed('{' + LINE + '}')}"
 
@@ -181,7 +181,7 @@ def transactions():
     yield row(f"transaction keep   {hexed(LOOSE + chr(10))} {hexed(made)}", lambda size:
               f"made {size}; {kept(size)}{told(size)}{own(size, BLOB)}")
     yield row(f"transaction pack   {hexed(LOOSE + chr(10))} {hexed(made)}", lambda size: f"made {size}; {kept(size)}{told(size)}")
-    # Of files below so many folders the program shows none. No lock is made where its path is too long.
+    # Of files below so many folders the program shows none. No lock is made if its path is too long.
     deep = "refs/heads{/d}/e/f/g/h/i/j/k/l/x"
     yield row(f"transaction loose   {hexed(f'update {deep} {BLOB} any' + chr(10))}", lambda size:
               "LockAcquire; " if len(at(deep, size) + ".lock") > LONGEST else "made 1; ")

@@ -1,6 +1,6 @@
 """Writes the rows of `store` and `transaction` in stdin and stdout: files of repositories that git made, and what git says of their references.
 
-Each answer comes from `git for-each-ref`, `git symbolic-ref`, `git rev-parse`, `git log -g` and `git ls-remote` over the very files, or, where it
+Each answer comes from `git for-each-ref`, `git symbolic-ref`, `git rev-parse`, `git log -g` and `git ls-remote` over the very files, or, if it
 says so, from a rule of git's documents; none from the program. transaction_rows.py has those of transactions.
 """
 import os
@@ -76,7 +76,7 @@ for word in ["feature", "light", "v1", "v2"]:
     packed.find(word, operation="record")
 packed.lacks("nosuch", operation="record")
 packed.ask("record", "refs/bisect/bad", "none")
-# Names that stand loose again hide their records, which still hold the older ids.
+# Names that are loose again hide their records, which still hold the older ids.
 packed.git("update-ref", "refs/heads/feature", packed.commits[3])
 packed.git("update-ref", "refs/heads/new", packed.commits[0])
 packed.git("update-ref", "refs/tags/v1", packed.commits[0])
@@ -102,7 +102,7 @@ for word in ["z", "b", "k", "main"]:
     hand.find(word)
 hand.lacks("c")
 
-# A file that tells no target: git calls the reference broken, and lists the others.
+# A file that has no target: git calls the reference broken, and lists the others.
 hand.write("refs/heads/c", "no id\n")
 told = run(hand.folder, "for-each-ref", "--format=%(refname)")
 assert "broken ref refs/heads/c" in told.stderr, told.stderr
@@ -135,7 +135,7 @@ def look_linked():
     for name in ["HEAD", "refs/heads/feature", "refs/bisect/mine", "refs/worktree/mine", "main-worktree/HEAD", "main-worktree/refs/bisect/bad",
                  "worktrees/linked/HEAD", "worktrees/linked/refs/bisect/mine"]:
         tree.ask("find", name, f"{name} {tree.target(name, linked)}", "worktrees/linked")
-    # By the categories of names, a shared name behind a worktree's front is the shared one; git 2.39 finds none.
+    # By the categories of names, a shared name after a worktree's front is the shared one; git 2.39 finds none.
     for front in ["main-worktree/", "worktrees/linked/", "worktrees/other/"]:
         tree.ask("find", front + "refs/heads/feature", f"{front}refs/heads/feature {tree.target('refs/heads/feature')}", "worktrees/linked")
     for name in ["refs/bisect/bad", "refs/worktree/own", "main-worktree/refs/bisect/mine", "worktrees/other/HEAD"]:
@@ -174,7 +174,7 @@ chain(links, "refs/heads/end", 7)
 for k in range(4):
     links.ask("follow", f"refs/chain/{k}", links.git("rev-parse", f"refs/chain/{k}"))
     in_place(f"refs/chain/{k}")
-# The crate's own rule: at most 5 names are followed, where git follows 4.
+# The crate's own rule: at most 5 names are followed, and git follows 4.
 links.ask("follow", "refs/chain/4", links.commits[2])
 links.ask("follow_in_place", "refs/chain/4", f"{links.commits[2]} refs/heads/end {links.commits[2]}")
 for k in [5, 6]:
@@ -196,7 +196,7 @@ for length in [1, 2, 5]:
     links.ask("follow", "refs/chain/0", "references point to one another in a ring")
     in_place("refs/chain/0", "references point to one another in a ring")
 
-# The next reference, and the object in the end: a tag of a tag, by files and by records that tell what they peel to.
+# The next reference, and the object in the end: a tag of a tag, by files and by records that say what they peel to.
 ends = Repository("ends")
 fill(ends)
 ends.git("tag", "-a", "-m", "x", "v3", "v2")
@@ -230,7 +230,7 @@ for name in ["HEAD", "refs/heads/feature", "refs/heads/main"]:
 ends.git("pack-refs", "--all")
 for name in ["refs/tags/v3", "refs/heads/twice", "refs/heads/main"]:
     ends.peel(name, every)
-# A record tells what its tag peels to, so no object is asked for.
+# A record has what its tag peels to, so no object is looked up.
 for name in ["refs/tags/v1", "refs/tags/v3"]:
     ends.peel(name, [])
 ends.lead("next", "twice", ends.shown("refs/heads/tagged"))
@@ -252,7 +252,7 @@ fresh.ask("pristine", "refs/heads/other", "false")
 fresh.git("update-ref", "-d", "refs/tags/t")
 os.remove(fresh.path("packed-refs"))
 fresh.ask("pristine", "refs/heads/other", "true")
-# A file that tells no target is no reference.
+# A file that has no target is no reference.
 fresh.write("refs/heads/broken", "no id\n")
 fresh.ask("pristine", "refs/heads/other", "true")
 os.remove(fresh.path("refs/heads/broken"))
@@ -267,8 +267,8 @@ look_linked()
 tree.git("pack-refs", "--all")
 look_linked()
 
-# Names with their characters composed, as Git knows them where `core.precomposeUnicode` is set (it is so on one system alone: what form
-# C of a name is comes from Python's tables). An uncomposed word stands for the composed name; a name that stands uncomposed isn't known.
+# Names with their characters composed, as Git knows them if `core.precomposeUnicode` is set (it is so on one system alone: what form
+# C of a name is comes from Python's tables). An uncomposed word means the composed name; a name that is uncomposed isn't known.
 marks = Repository("marks")
 UNCOMPOSED = {name: unicodedata.normalize("NFD", name) for name in ["refs/heads/ä", "refs/heads/é/x", "refs/tags/한글", "refs/heads/plain"]}
 for name in UNCOMPOSED:
@@ -306,7 +306,7 @@ marks.find("o\u0308", "refs/heads/o\u0308")
 marks.ask("find", "o\u0308", "none", "+")
 marks.ask("find", "ö", "none", "+")
 
-# The same where a record has the name, and not a file.
+# The same if a record has the name, and not a file.
 marks.git("pack-refs", "--all")
 assert not os.path.exists(marks.path("refs/heads/o\u0308"))
 for prefix in ["", "refs/heads/o", "refs/heads/o\u0308", "refs/heads/ö"]:
@@ -321,7 +321,7 @@ for word in ["o\u0308", "refs/heads/o\u0308"]:
         for asked in [word, unicodedata.normalize("NFC", word)]:
             marks.ask(operation, asked, "none", "+")
 
-# Namespaces: git tells the names of one, and what they point to, without its front.
+# Namespaces: git prints the names of one, and what they point to, without its front.
 spaces = Repository("spaces")
 for name, id in [("a/refs/heads/main", 0), ("a/refs/heads/x/y", 1), ("a/refs/tags/light", 2), ("a/refs/namespaces/b/refs/heads/deep", 3), ("ab/refs/heads/main", 1)]:
     spaces.git("update-ref", "refs/namespaces/" + name, spaces.commits[id])
@@ -343,7 +343,7 @@ def strip(space):
     for name in spaces.names():
         if name.startswith(front):
             rest = name.removeprefix(front)
-            # Of a target outside of the namespace git tells no name: by the rule it stays.
+            # Of a target outside of the namespace git prints no name: by the rule it stays.
             target = told[rest] if told[rest] != "ref: (null)" else spaces.target(name)
             answer = f"{rest} {rest} {target}{spaces.peeled(name)}"
         else:
@@ -359,7 +359,7 @@ for _ in range(2):
 spaces.git("update-ref", "refs/namespaces/a/x", spaces.commits[0])
 rows.append((f"strip - refs/namespaces/a/x {spaces.files()} a", "outside " + spaces.shown("refs/namespaces/a/x")))
 
-# git-rev-parse tells a worktree's own folder, the shared one and where packed references stand; a folder in the `refs` or `logs` of the
+# git rev-parse prints a worktree's own folder, the shared one and where packed references are; a folder in the `refs` or `logs` of the
 # other, and one that is no path, is of no store by the port's own rule.
 def folders(folder, asked, files):
     room = linked if folder.startswith("worktrees/") else tree.folder

@@ -1,7 +1,7 @@
 """Rows of transactions of files `packed-refs`, whole, refused and stopped, for rows.py.
 
 The files and what edits make of them are those that git writes (`gix_ref_cases` asks it in the same way). What a stop or a failed call
-leaves comes from the order of the calls, which the documents of the crate tell: the lock is made (call 1), the file is read (2), the text is
+leaves comes from the order of the calls, which the documents of the crate say: the lock is made (call 1), the file is read (2), the text is
 written into the lock (3), the lock is renamed (4), and a call that fails is followed by the lock's removal. None comes from the program.
 """
 import tempfile
@@ -25,7 +25,7 @@ def repository():
 
 
 def edited(edits):
-    """A file, lines of edits, and the file that git leaves behind them."""
+    """A file, lines of edits, and the file that git leaves after them."""
     room, one, two, tag = repository()
     before, lines = packed(room), []
     for word, name, what in edits:

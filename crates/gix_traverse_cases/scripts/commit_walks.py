@@ -3,11 +3,11 @@
 
 usage: scripts/commit_walks.py stdin|stdout
 
-Each history is made in a repository of its own by `git fast-import`, with the times that are given. Its rows stand first, then the
-walks, whose answers are what `git rev-list` prints. Git lists by time where no option says otherwise, the newest first. So its list
-is compared as it is with a walk by time, where no two commits are of one time; with other walks as a set, in ascending order; and as
-it is where each commit has one parent at most that is asked for, and there is one tip. Along first parents `Simple` goes in breadth
-order, so that from several tips a walk by time is asked for only where both orders are the same. Numbers stand for commits.
+Each history is made in a repository of its own by `git fast-import`, with the times that are given. Its rows come first, then the
+walks, whose answers are what `git rev-list` prints. Git lists by time if no option says otherwise, the newest first. So its list
+is compared as it is with a walk by time, if no two commits are of one time; with other walks as a set, in ascending order; and as
+it is if each commit has one parent at most that is wanted, and there is one tip. Along first parents `Simple` goes in breadth
+order, so that from several tips a walk by time is tried only if both orders are the same. Numbers mean commits.
 """
 
 import subprocess
@@ -49,7 +49,7 @@ def unrelated():
 
 
 def apart(commits):
-    """The same history, whose times differ: equal ones are told apart by the numbers."""
+    """The same history, whose times differ: equal ones are kept apart by the numbers."""
     return {number: (time * 200 + number, parents) for number, (time, parents) in commits.items()}
 
 
@@ -95,7 +95,7 @@ def made(folder, commits):
 
 
 def generations(commits):
-    """The generation of each commit, whose parents stand before it."""
+    """The generation of each commit, whose parents come before it."""
     found = {}
     for number, (_, parents) in commits.items():
         found[number] = 1 + max((found[parent] for parent in parents), default=0)

@@ -3,8 +3,8 @@
 
 usage: scripts/object_walks.py stdin|stdout
 
-The histories and walks are those of scripts/commit_walks.py, and `git rev-list` gives the answers. Each walk stands in all five orders,
-as the set that all of them list; along first parents, or where git's order by time is the only one, as it comes.
+The histories and walks are those of scripts/commit_walks.py, and `git rev-list` gives the answers. Each walk is there in all five orders,
+as the set that all of them list; along first parents, or if git's order by time is the only one, as it comes.
 """
 
 import sys

@@ -1,7 +1,7 @@
 #!/usr/bin/env python3
 """Writes the rows of `sizes`: walks at each size of the lists that they take, of tips, hidden commits, parents, rows, entries, trees and paths.
 
-What is wanted follows from the rules for the orders: at one time, or in one line, where only one answer is right."""
+What is wanted follows from the rules for the orders: at one time, or in one line, if only one answer is right."""
 import sys
 from pathlib import Path
 

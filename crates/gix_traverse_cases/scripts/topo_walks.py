@@ -4,11 +4,11 @@
 usage: scripts/topo_walks.py stdin|stdout
 
 As scripts/commit_walks.py does, it makes each history by `git fast-import`; the answers are what `git rev-list` prints under
-`--topo-order` or `--date-order`. Which of equal times comes first by date is open, so that a walk by date is asked for only where
+`--topo-order` or `--date-order`. Which of equal times comes first by date is open, so that a walk by date is tried only if
 all times of a history differ. Without a commit-graph git 2.39 counts the children along all parents, under `--first-parent` too, so
 one is written. With it a commit whose first parent is hidden is counted off its next parent that isn't, which on another tip's line
-may then come before its child. So along first parents from several tips with ends one walk alone is asked for, from 57 and 60: 57
-stands on the line of 60, so that only one order is right. Numbers stand for commits.
+may then come before its child. So along first parents from several tips with ends one walk alone is tried, from 57 and 60: 57
+is on the line of 60, so that only one order is right. Numbers mean commits.
 """
 
 import random

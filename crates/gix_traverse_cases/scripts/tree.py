@@ -1,5 +1,5 @@
 """Writes the rows of `tree` in stdin and stdout. Trees and their ids come from git (mktree, hash-object); the entries of a walk
-in depth order are those of `git ls-tree -r -t`, which tells a tree before what lies in it, and those of a walk in breadth order of
+in depth order are those of `git ls-tree -r -t`, which prints a tree before what lies in it, and those of a walk in breadth order of
 `git ls-tree` of each tree in turn."""
 import os, random, subprocess, sys, tempfile
 from pathlib import Path
@@ -39,7 +39,7 @@ class Git:
         return self.run("mktree", "-z", "--missing", data=b"".join(lines)).decode().strip()
 
     def listed(self, tree, *flags):
-        """Mode, id and path of each entry that git-ls-tree tells."""
+        """Mode, id and path of each entry that git-ls-tree says."""
         for part in self.run("ls-tree", "-z", "--full-tree", *flags, tree).split(b"\0")[:-1]:
             head, path = part.split(b"\t", 1)
             mode, kind, oid = head.decode().split()
@@ -81,7 +81,7 @@ def add_walks(git, root):
 
 
 def add_asked(git, root):
-    """How many trees a walk asks for: the root, and each folder as often as it is named."""
+    """How many trees a walk looks up: the root, and each folder as often as it is named."""
     trees = git.trees(root)
     for order, entries in (("breadth", git.breadth(root)), ("depth", git.depth(root))):
         count = 1 + sum(mode == "040000" for mode, _, _ in entries)
@@ -93,7 +93,7 @@ def names(path):
 
 
 def add_paths(git, root, paths):
-    """The entry at each path, and how many trees are asked for: those that something longer among the paths begins with."""
+    """The entry at each path, and how many trees are looked up: those that something longer among the paths begins with."""
     there = {names(path): f" {MODES[mode]} {oid}" for mode, oid, path in git.depth(root)}
     folders = {()} | {names(path) for mode, oid, path in git.depth(root) if mode == "040000"}
     fronts = {names(path)[:k] for path in paths for k in range(len(names(path)))} & folders
@@ -103,7 +103,7 @@ def add_paths(git, root, paths):
 
 
 def any_paths(git, root, chance):
-    """Paths that stand, what begins them, and such as don't stand, in any order, some of them twice."""
+    """Paths that exist, what begins them, and such as don't exist, in any order, some of them twice."""
     stand = [path for _, _, path in git.depth(root)]
     some = [chance.choice(stand) for _ in range(chance.randint(0, 6))] if stand else []
     some += [chance.choice(stand) + chance.choice([b"/a", b"/lib/a", b"a", b"/", b"//b"]) for _ in range(2 if stand else 0)]
@@ -136,7 +136,7 @@ def main():
             add_asked(git, git.tree(entries))
         for _ in range(40):
             add_walks(git, git.tree(any_tree(git, blobs, chance, 4)))
-        # what stands at several paths
+        # what is at several paths
         for paths in ([], [b""], [b"a"], [b"a", b"b"], [b"a/x", b"a", b"a/y", b"a/x"], [b"a/x/q", b"b/q", b"c/q"]):
             add_paths(git, git.tree(nested), paths)
             add_paths(git, git.tree({}), paths)
@@ -147,7 +147,7 @@ def main():
         depth, breadth = git.depth(root), git.breadth(root)
         add_walks(git, root)
         add_asked(git, root)
-        # copies tell the same: the path `a`, `a/b` that is queued, and the entries; buffers are empty when they are taken
+        # copies say the same: the path `a`, `a/b` that is queued, and the entries; buffers are empty when they are taken
         add("depth-copied", git, root, git.trees(root), "0 0 a a/b" + told(depth, lambda path: path))
         add("breadth-copied", git, root, git.trees(root), "a a/b" + told(breadth, lambda path: path))
         # a tree that isn't there comes at its turn
@@ -158,7 +158,7 @@ def main():
         add("breadth", git, root, whole[:1], missing + told([it for it in git.breadth(root)][:2], lambda path: path))
         again = missing.replace("refused", "2 of 2 refused")
         rows.append((" ".join(["paths", kind, root, b"b\0a/x\0a/y\0".hex(), whole[0]]), again + " again " + again))
-        # a tree under itself, which no digest has: the content of one tree stands under the id that it names
+        # a tree under itself, which no digest has: the content of one tree exists under the id that it names
         inner = git.depth(root)[0][1]
         content = git.run("cat-file", "tree", root).hex()
         add("depth", git, inner, [inner + content], "refused Cycle" + told([("040000", inner, b"a")], lambda path: path))

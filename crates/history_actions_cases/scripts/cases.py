@@ -1,7 +1,7 @@
 #!/usr/bin/env python3
 """Writes the cases of history_actions and its command line, and the answers that are wanted.
 
-Texts and statuses are those of docs/PROTOCOL.md, ids those of Git's object format by hashlib, and what stands on a bad line is what
+Texts and statuses are those of docs/PROTOCOL.md, ids those of Git's object format by hashlib, and what is on a bad line is what
 clap 4 prints. No answer is taken from the program.
 """
 
@@ -105,7 +105,7 @@ def actions(kind):
         files("names", "read", b"HEAD", told="21:" + word(b"so ref: refs/heads/main\n")),
         CHECK,
     )
-    # How a run ends, which nothing but its replies tells.
+    # How a run ends, which nothing but its replies says.
     for stream, reply in (
         (b"hello\n", b"refused Syntax\n"),
         (b"commit refs/heads/main new\n", b"refused Truncated\n"),
@@ -172,7 +172,7 @@ def flaws(kind, first, log):
     row(k, CREATE, first, files("names", "write", b"packed-refs", header + kind.commit + b" refs/heads/main\n"), files("names", "remove", b"refs/heads/main"), CHECK, RECOVER, CHECK)
     for number, text in ((b"1", b"hello\n"), (b"2", packed + packed), (b"3", header + packed + again), (b"2", packed + b"^" + kind.commit), (b"1", kind.commit + b" HEAD\n")):
         unopened([b"BadPacked", number], files("names", "write", b"packed-refs", text))
-    # A carriage return, before the line feed or within a line: the first such line is told, if none before it is bad.
+    # A carriage return, before the line feed or within a line: the first such line is reported, if none before it is bad.
     ended, lines = (lambda text: text.replace(b"\n", b"\r\n")), header + again + packed
     for number, text in ((b"1", ended(packed)), (b"1", ended(lines)), (b"2", header + ended(again) + packed), (b"3", header + again + ended(packed)), (b"3", header + packed + ended(b"hello\n")),
                          (b"2", header + b"hello\n" + ended(packed)), (b"2", header + b"\r" + packed), (b"3", header + packed + ended(b"^" + kind.commit + b"\n")), (b"2", packed + b"\r")):
@@ -361,8 +361,8 @@ def real(kind):
 
 
 def several(name):
-    """A file that has other bytes, for which several causes hold: with errors told where as many bytes are taken as all of them begin with, what
-    is told is the beginning of each, and no cause of another beginning and no fault."""
+    """A file that has other bytes, for which several causes hold: if only as many bytes are taken of the report as all of them begin with, it
+    is the beginning of each, and no cause of another beginning and no fault."""
     few = Few(name)
     made = [CREATE, ("run:" + word(few.STREAM), answer(0, few.replies))]
     assert not causes(name, few.objects, few.names)
@@ -376,7 +376,7 @@ def several(name):
         for text, found in judged(few, path):
             if len(found) > 1:
                 told(found, (f"{part}:write:{word(path)}:{long_word(text)}", "done"))
-    # Packed names that stand no more, or may not, beside their logs.
+    # Packed names that exist no more, or may not, beside their logs.
     pack = ("run:pack%0a", answer(0, b"ok pack\n"))
     for text in [few.packed[:60], b"\xff" * 4097, *(few.packed[:at] + b"x" + few.packed[at + 1:] for at, it in enumerate(few.packed) if few.packed[at - 1] == 10)]:
         found = causes(name, few.objects, {**without(few.names, b"refs/heads/main", b"refs/tags/v"), b"packed-refs": text})
@@ -399,7 +399,7 @@ def long_word(text):
 
 
 def narrow(k):
-    """A writer that fails behind each byte, and a reader that does."""
+    """A writer that fails after each byte, and a reader that does."""
     names, stream = b"ok names 0 refs/heads/main\n", b"names\nhello\nnames\n"
     whole = {"run": names, "check": b"whole\n", "recover": b"recovered\n"}
     for action, text in whole.items():
@@ -407,7 +407,7 @@ def narrow(k):
         row(k, CREATE, *cut, (f"narrow:{len(text)}:{action}", answer(0, text)), CHECK)
     for room in range(len(b"created\n")):
         row(k, (f"narrow:{room}:create", fault("", b"Write", b"created\n"[:room])[1]), CHECK)
-    # The second line is no command, where it comes whole.
+    # The second line is no command, if it comes whole.
     cut = [(f"drops:{good}:{word(stream)}", answer(1, names + b"refused Syntax\n") if good >= 12 else fault("", b"Read", names if good >= 6 else b"")[1])
            for good in range(len(stream) + 2)]
     row(k, CREATE, *cut, CHECK)

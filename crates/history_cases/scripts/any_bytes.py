@@ -1,6 +1,6 @@
 """A small folder, each of whose files in turn has other bytes: it isn't opened, for the one cause that holds by scripts/cases/folder_causes.py, or is
-opened, and then every reading command tells what the plain repository with that change tells. Changes for which several causes hold
-stand in history_actions_cases."""
+opened, and then every reading command says what the plain repository with that change says. Changes for which several causes hold
+are in history_actions_cases."""
 
 from streams import HEAD, KINDS, told
 from folder_causes import PACKED_HEADER, Names, as_word, causes, digits_at, header
@@ -79,7 +79,7 @@ def rows():
 
 
 def packed(small, plain):
-    """Files of packed names that may not stand, each for one line or one name; others that may; and headers with words that are none of git's,
+    """Files of packed names that may not exist, each for one line or one name; others that may; and headers with words that are none of git's,
     under which git lists the same names."""
     main, x, v, peeled = small.names[b"packed-refs"].splitlines(keepends=True)[1:]
     bad = [HEADER + main + x + x + v + peeled, HEADER + main + x + v + peeled + x, main + x + main, x + x, x + v + v, HEADER + x + main + v + peeled,

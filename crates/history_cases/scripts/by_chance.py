@@ -6,7 +6,7 @@ from streams import PACK, ROWS, SIGNED, branch, left, log_at, tag, told
 
 
 def by_chance(chance, kind, packs_too=False):
-    """A few commands by chance, each in a run of its own, and all that stands then."""
+    """A few commands by chance, each in a run of its own, and all that is there then."""
     plain, words, answers = Plain(kind), ["create", "open"], ["created", "opened"]
     paths = [b"a", b"b", b"a/b", b"a/b/c", b"a.b", b"a0", b"d/e", b"\xff", b"a//b", b""]
     names = [b"HEAD", b"refs/heads/main", b"refs/heads/x", b"refs/tags/v", b"refs/heads/x/y", b"x"]

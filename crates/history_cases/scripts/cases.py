@@ -1,7 +1,7 @@
 #!/usr/bin/env python3
 """Writes the cases of history. The answers are those of the plain repository of scripts/plain.py, which docs/PROTOCOL.md describes. The
-rows that stand first are written by hand with what they are refused for, and each commit and tree that they tell is one that git
-printed; behind them come commands by chance."""
+rows that come first are written by hand with what they are refused for, and each commit and tree that they say is one that git
+printed; after them come commands by chance."""
 
 import random
 import sys

@@ -68,7 +68,7 @@ def two_branches():
 
 
 def removals():
-    """What stands is taken out, in the order of the edits; of what doesn't stand nothing is."""
+    """What exists is taken out, in the order of the edits; of what doesn't exist nothing is."""
     runs((b"commit refs/heads/main new\nput file 1 1\na\n1\nput file 1 1\nb\n1\nput file 1 1\nc\n1\n" + ONE,),
          (b"commit refs/heads/main any\nremove 1\nb\nremove 1\nd\nremove-file 1\nc\nput file 1 1\nc\n1\nremove-file 1\na\n"
           b"remove 1\nx\n" + ONE,), (b"files main\n",), by_git_alone=False)
@@ -129,7 +129,7 @@ def limits():
         assert b"".join(it for it, _ in second[1]) == b"refused TooLarge\nok files 1\nfile %s 1\na\n" % blob
         ROWS.append((f"{kind} create open run:{spelled(stream)[0]} run:{spelled(large)[0]}",
                      f"created opened {told(*first)} {told(*second)}"))
-    # Whether a removal meets a folder is told before a content's length.
+    # Whether a removal meets a folder is reported before a content's length.
     answer([putting % (3, LIMIT + 1), b"d/x\n", Long(b"c", LIMIT + 1), b"\nremove-file 1\nd\n" + ONE], "IsFolder", kinds=["sha1"])
     # A long message is refused for its title where that is bad, and else for its length.
     answer([saying % (LIMIT + 1), Long(b"m", LIMIT + 1), b"\nend\n"], "BadMessage")

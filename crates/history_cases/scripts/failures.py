@@ -6,7 +6,7 @@ from streams import INPUT, KINDS, ONE, PACK, PUT_HELLO, SIGNED, branch, each, lo
 
 
 def index_faults():
-    """Each call of either part fails in turn, of a commit, two `index` and a log behind each: the command that makes it tells so, the run
+    """Each call of either part fails in turn, of a commit, two `index` and a log after each: the command that makes it says so, the run
     goes on, and what follows is right. `index` reads objects alone; a log over rows reads its word's name, and the object that it holds, which
     may be a tag."""
     fault, index, line = b"fault File\n", b"index\n", b"log topological all +main\n"
@@ -27,7 +27,7 @@ def index_faults():
 
 
 def faults():
-    """One call of either part fails, each in turn: the command that makes it tells so, and no other; a later run lists the files."""
+    """One call of either part fails, each in turn: the command that makes it says so, and no other; a later run lists the files."""
     fault, again = b"fault File\n", b"files main\n"
     for kind in KINDS:
         _, replies = Plain(kind).run(INPUT)
@@ -42,7 +42,7 @@ def faults():
 
 def reading_faults():
     """One call of either part fails, each in turn, of each command that changes nothing, given twice and once more in a later run, over names of
-    their own and packed ones: the one that makes it tells so, the run goes on, and the others are right."""
+    their own and packed ones: the one that makes it says so, the run goes on, and the others are right."""
     fault, x, v = b"fault File\n", b"refs/heads/x", b"refs/tags/v"
     loose = PUT_HELLO + branch(x + b" new", 2, b"parent main\n") + tag(v + b" new main", 3)
     of_names = [b"past main\n", b"past HEAD\n", b"past v\n", b"names refs/remotes\n"]
@@ -61,7 +61,7 @@ def reading_faults():
 
 
 def refused_or_failed():
-    """One call of either part fails or stops, each in turn, of commands that are refused for what they must have read: the fault is told, or the
+    """One call of either part fails or stops, each in turn, of commands that are refused for what they must have read: the fault is reported, or the
     refusal. Nothing is changed then, and the folder is recovered and opened again."""
     main, x, v, fault = b"refs/heads/main", b"refs/heads/x", b"refs/tags/v", b"fault File\n"
     made = (b"commit refs/heads/main new\nput file 3 1\na/b\n1\n" + ONE + branch(x + b" new", 2, b"parent main\n") + tag(v + b" new main", 3))
@@ -90,7 +90,7 @@ def refused_or_failed():
 
 def log_faults():
     """One call of either part fails, each in turn, of two commits and two logs in each order, and of two at a path: the log that makes it
-    tells so, and the other is right."""
+    says so, and the other is right."""
     fault = b"fault File\n"
     made = PUT_HELLO + b"commit refs/heads/main any\n" + SIGNED % (1, 1, 3, b"two")
     for kind in KINDS:

@@ -1,6 +1,6 @@
 """Writes the rows of `files` in stdin and stdout. Ids of trees and what is read of them come from git (update-index,
 write-tree, ls-tree, cat-file, hash-object). An edit is made on a map from paths to modes and ids, as git's glossary speaks of files
-in folders, and git writes the tree of what is left. What is counted follows the rules that README.md tells."""
+in folders, and git writes the tree of what is left. What is counted follows the rules that README.md says."""
 import os, random, sys
 
 sys.path.append(os.path.join(os.path.dirname(os.path.abspath(__file__)), "../../../scripts/cases"))
@@ -48,7 +48,7 @@ class Row:
         self.answers.extend(answers)
 
     def edit(self, edits, fail=0):
-        """Edits of the files, which are made where none is refused."""
+        """Edits of the files, which are made if none is refused."""
         self.words += [word_of(edit) for edit in edits]
         if fail:
             self.words.append(f"fail:{fail}")
@@ -70,7 +70,7 @@ class Row:
             self.say(word, "files", str(len(files)), *[f"{kind}:{oid}:{path.hex()}" for path, kind, oid in files], "asked", str(asked))
 
     def told(self, path):
-        """What stands at a path."""
+        """What is at a path."""
         entry = self.git.entry(self.root, path) if is_path(path) else None
         return "none" if not entry else f"folder:{entry[1]}" if entry[0] == "040000" else f"{KINDS[entry[0]]}:{entry[1]}" if entry[0] in KINDS else "none"
 
@@ -85,17 +85,17 @@ class Row:
         return found
 
     def ask_at(self, path):
-        """What stands at a path, with an asking for each folder on the way."""
+        """What is at a path, with a lookup of each folder on the way."""
         self.say(f"at:{path.hex() or '-'}", self.told(path), "asked", str(len(self.way(path))))
 
     def ask_each(self, paths):
-        """What stands at each of some paths, with one asking for each folder on their ways."""
+        """What is at each of some paths, with one lookup of each folder on their ways."""
         asked = str(len({folder for path in paths for folder in self.way(path)}))
         self.say(":".join(["each", *[path.hex() or "-" for path in paths]]), *[self.told(path) for path in paths], "told", asked, "asked", asked)
 
 
 class Made:
-    """Edits, one after another. A folder is asked for once, as the first edit leads into it, where it stands as it was stored."""
+    """Edits, one after another. A folder is looked up once, as the first edit leads into it, if it exists as it was stored."""
 
     def __init__(self, git, files, has_root):
         self.git, self.files, self.asked = git, dict(files), int(has_root)
@@ -216,7 +216,7 @@ def cut_row(git, chance):
 
 
 def failing_row(git, chance):
-    """Edits of which one asking fails, then the same without."""
+    """Edits of which one lookup fails, then the same without."""
     names = chance.sample(NAMES, 2)
     row = begun(git, chance, names)
     edits = [some_edit(git, chance, names, row.files) for _ in range(4)]
@@ -230,7 +230,7 @@ def failing_row(git, chance):
 
 
 def several_row(git, chance):
-    """What stands at lists of paths: such as stand, what begins them, what is longer, and others, in any order, some of them twice."""
+    """What is at lists of paths: such as exist, what begins them, what is longer, and others, in any order, some of them twice."""
     names = chance.sample(NAMES, chance.choice([2, 3, 5]))
     row = begun(git, chance, names)
     for _ in range(3):
@@ -243,7 +243,7 @@ def several_row(git, chance):
 
 
 def edit_row(git, *lists, begin=(), at=()):
-    """Lists of edits, one behind the other, and then all files."""
+    """Lists of edits, one after the other, and then all files."""
     row = Row(git)
     row.edit(list(begin))
     for edits in lists:
@@ -273,11 +273,11 @@ def chosen_rows(git):
     edit_row(git, [("remove", b"a/b/e")], [("remove", b"a/f")], [("remove", b"g"), ("remove-file", b"h/i")], [put(b"h/i/j")], begin=nested)
     edit_row(git, [("remove", b"a/b/e"), ("remove", b"a/b"), ("remove-file", b"a/b"), put(b"a/b/n")], begin=nested)
     edit_row(git, [put(b"n/m/o"), ("remove", b"n/m/o")], [put(b"n/m/o"), ("remove", b"n")], begin=nested)
-    # What stands is put again; only its mode, only its bytes.
+    # What exists is put again; only its mode, only its bytes.
     edit_row(git, nested, [put(b"a/b/e", y)], [put(b"a/b/e", ("100755", git.blobs[0]))], [put(b"a/b/e", ("120000", git.blobs[0]))], begin=nested)
     # Removals of nothing, with the folders on their way.
     edit_row(git, [("remove", b"a/b/z"), ("remove-file", b"q"), ("remove", b"q/r/s"), ("remove", b"g/x"), ("remove-file", b"a/f/x")], begin=nested)
-    # Names that stand around the slash, and as prefixes of one another.
+    # Names that exist around the slash, and as prefixes of one another.
     around = [put(name) for name in (b"a", b"a-b", b"a.b", b"a0", b"a b", b"ab", b"\xff")]
     edit_row(git, [put(b"a/z", y)], [("remove", b"a/z")], [put(b"a.b/c"), put(b"a-b/c"), put(b"a0/c")], [("remove", b"a.b"), ("remove-file", b"a b")], begin=around)
     edit_row(git, [put(b"b/" * n + b"a", y) for n in range(1, 12)], [("remove", b"b/b/b/b/b")], [put(b"b/" * 40 + b"a")], begin=around)
@@ -306,7 +306,7 @@ def chosen_rows(git):
 
 
 def graft_rows(git):
-    """Grafts of folders and files of another root, whose trees stand."""
+    """Grafts of folders and files of another root, whose trees exist."""
     x, y, link = ("100644", git.blobs[0]), ("100755", git.blobs[1]), ("120000", git.blobs[2])
     library = [("put", b"lib/x", *x), ("put", b"lib/y/z", *y), ("put", b"lib/y/w", *link), ("put", b"q", *y)]
     nested = [("put", b"a/b/e", *x), ("put", b"a/f", *y), ("put", b"g", *link), ("put", b"h/i", *y)]
@@ -335,7 +335,7 @@ def graft_rows(git):
         row.edit(edits)
         row.ask_files()
         row.end()
-    # What stands is grafted to where it stands.
+    # What exists is grafted to where it is.
     row = Row(git)
     row.edit(library)
     row.edit([graft(b"lib", b"lib")])
@@ -381,15 +381,15 @@ def stored_rows(git):
     def whole(changed, written, asked):
         return [git.tree(changed), "written", str(written), "lookups", str(asked), "asked", str(asked)]
 
-    # Nothing stands.
+    # Nothing is there.
     row = Row(git)
     row.say(f"root:{root}")
     for word in ["files", f"at:{b'a'.hex()}", "edit"]:
         row.say(word, f"Broken({root})", "asked", "1")
-    # What isn't there is asked for once more, to be told.
+    # What isn't there is looked up once more, to be reported.
     row.say("by-trees", f"Broken({root})", "asked", "2")
     row.end()
-    # The root stands alone: what leads into none of its folders is answered.
+    # The root is alone: what leads into none of its folders is answered.
     row = Row(git)
     given(row, [root], root)
     row.say("files", f"Broken({a})", "asked", "2")

@@ -74,7 +74,7 @@ class Moved(Git):
         return dict(line.split() for line in found)
 
     def switch(self, name):
-        """What stands in HEAD where git makes it name this branch. The log of HEAD itself, which git keeps too, isn't looked at."""
+        """What is in HEAD if git makes it name this branch. The log of HEAD itself, which git keeps too, isn't looked at."""
         self.run("symbolic-ref", "HEAD", name.decode())
         return (self.folder / "HEAD").read_bytes()
 

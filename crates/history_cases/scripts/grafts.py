@@ -12,7 +12,7 @@ def graft(path, target, source):
 
 
 def as_git_grafts(made, command, target, source, path):
-    """Stops where `git read-tree --prefix`, which takes a folder alone, makes another tree of an empty one."""
+    """Stops if `git read-tree --prefix`, which takes a folder alone, makes another tree of an empty one."""
     for kind in KINDS:
         plain = Plain(kind)
         plain.run(made)
@@ -25,7 +25,7 @@ def as_git_grafts(made, command, target, source, path):
 
 
 def grafts():
-    """Files and folders of another commit, at paths where something stood and where nothing did, and each cause."""
+    """Files and folders of another commit, at paths where something was and where nothing was, and each cause."""
     made = b"commit refs/heads/main new\nput file 5 1\nlib/x\n1\nput file 7 1\nlib/y/z\n2\n" + ONE
     app = b"commit refs/heads/app new\n"
     shown = b"files app\nshow app\n"
@@ -43,7 +43,7 @@ def grafts():
                   graft(b"a", b"main", b"lib") + graft(b"a", b"main", b"lib/x"), graft(b"a", b"main", b"lib") + graft(b"a/y", b"main", b""),
                   b"put exec 3 1\na/q\n3\n" + graft(b"a", b"main", b"lib/y")):
         runs((made,), (app + edits + ONE,), (shown,), by_git_alone=False)
-    # A graft of what stands there makes the same root tree.
+    # A graft of what is there makes the same root tree.
     runs((made,), (b"commit refs/heads/main any\n" + graft(b"lib", b"main", b"lib") + SIGNED % (2, 2, 3, b"two"),), (b"show main\n",),
          by_git_alone=False)
     for kind in KINDS:
@@ -92,8 +92,8 @@ def grafts():
 
 
 def graft_readings():
-    """Of a graft the trees on the way to its source are read, and those below it, of which the same one may stand at several paths, each
-    different one once. The command is refused behind what it reads, so that nothing is stored."""
+    """Of a graft the trees on the way to its source are read, and those below it, of which the same one may be at several paths, each
+    different one once. The command is refused after what it reads, so that nothing is stored."""
     made = b"commit refs/heads/main new\n" + b"".join(b"put file 7 1\ns/%s/x/f\n1\n" % it for it in (b"a", b"b")) + b"put file 1 1\nt\n2\n" + ONE
     unsigned = b"author 0 3 1 +0000\n\na@b\ncommitter 1 3 1 +0000\nA\na@b\nmessage 3\none\nend\n"
     for kind in KINDS:
@@ -127,7 +127,7 @@ def graft_stops():
 
 
 def grafts_by_chance(chance, kind):
-    """Commits of grafts and puts by chance on two branches, and all that stands then."""
+    """Commits of grafts and puts by chance on two branches, and all that is there then."""
     plain, words, answers = Plain(kind), ["create", "open"], ["created", "opened"]
     paths = [b"a", b"b", b"a/b", b"a/b/c", b"a.b", b"a0", b"d/e", b"a/x"]
 

@@ -7,7 +7,7 @@ from streams import INPUT, KINDS, PUT_HELLO, ROWS, answer, branch, log_at, readi
 
 
 def as_git_lists(made):
-    """Stops where a log isn't the list that git printed."""
+    """Stops if a log isn't the list that git printed."""
     plain = Plain("sha1")
     numbers = {reply.split()[-1]: number for (reply, _), number in zip(plain.run(made)[1], "123459678")}
     for (order, how), lists in by_git.LISTS.items():
@@ -50,7 +50,7 @@ def eight():
 
 
 def indexes():
-    """Rows: how many there are, what each tells, and logs over all, some and none of them, which list what they list without rows; how many
+    """Rows: how many there are, what each says, and logs over all, some and none of them, which list what they list without rows; how many
     objects a log then reads; and a call that fails, which leaves the rows as they were."""
     made, index = eight(), b"index\n"
     lines = [b"log %s %s\n" % (order, items) for order in (b"breadth all", b"newest all", b"oldest all", b"date all", b"topological all",
@@ -81,7 +81,7 @@ def indexes():
         for line in log:
             for before in (made + index, made + index + branch(b"refs/heads/x new", 12)):
                 reading(kind, before, line, 1)
-        # Each word asks for the object that it reads as, which may be a tag; the rest is what the walk asks for.
+        # Each word looks up the object that it reads as, which may be a tag; the rest is what the walk looks up.
         for before, line, count in [(made, b"log breadth all +j\n", 1 + 8), (made, b"log topological all +j\n", 1 + 8),
                                     (made, b"log newest all +j\n", 1 + 8),
                                     (made + index, b"log breadth all +j\n", 1), (made + index, b"log topological all +j -s\n", 2),
@@ -111,7 +111,7 @@ def path_logs():
                (b"d/f", [13, 9, 4]), (b"d/", None), (b"d/e/x", []), (b"a/x", [15, 14]), (b"a/x/y", []), (b"A", []), (b"aa", []),
                (b"d" * 4096, [])]
     as_numbered(made, [((path,), numbers) for path, numbers in listed_])
-    # At several paths: at one of them or below it, in any order, some twice or below others. In `git log --topo-order` 9 stands before 10.
+    # At several paths: at one of them or below it, in any order, some twice or below others. In `git log --topo-order` 9 comes before 10.
     several = [((b"a", b"b"), [15, 14, 12, 9, 10, 3, 2, 1]), ((b"b", b"a"), [15, 14, 12, 9, 10, 3, 2, 1]), ((b"a", b"nope"), [15, 14, 12, 9, 3, 1]),
                ((b"nope", b"none"), []), ((b"b", b"b"), [15, 10, 2]), ((b"d", b"d/e"), [15, 13, 9, 6, 5, 4]), ((b"d/e", b"d/f"), [13, 9, 6, 5, 4]),
                ((b"d/f", b"a/x"), [15, 14, 13, 9, 4]), ((b"b", b"d/f", b"b", b"c"), [15, 13, 9, 10, 4, 2]), ((b"d", b"d/"), None),
@@ -129,7 +129,7 @@ def path_logs():
     as_numbered(three, [((b"a", b"b"), [3, 2, 1]), ((b"a", b"nope"), [3, 1]), ((b"b",), [2])])
     runs((three,), *((log_at(b"topological all +m", *paths),) for paths in [(b"a", b"b"), (b"a", b"nope"), (b"b",), (b"b", b"a", b"a"), ()]),
          by_git_alone=False)
-    # Each path is tested, behind the words and before the cutoff and the parents; what stands behind the line goes on with the next command.
+    # Each path is tested, after the words and before the cutoff and the parents; what comes after the line goes on with the next command.
     worse = [(b"breadth all +m", (b"a", b""), "BadPath"), (b"breadth all +m", (b"", b"a"), "BadPath"), (b"breadth all +m", (b"a", b"b", b"c//d"), "BadPath"),
              (b"breadth all +m", (b"a", b"d" * 4097, b"b"), "BadPath"), (b"newest first +m", (b"a", b"/"), "BadPath"),
              (b"breadth all +nosuch", (b"a", b""), "UnknownWord"), (b"newest first +m", (b"a", b"b"), "OrderWithParents"),
@@ -145,7 +145,7 @@ def path_logs():
 
 
 def as_numbered(made, listed_):
-    """Stops where a log with a path doesn't list the commits of these numbers."""
+    """Stops if a log with a path doesn't list the commits of these numbers."""
     plain = Plain("sha1")
     numbers = {reply.split()[-1]: number for number, (reply, _) in enumerate(plain.run(made)[1], 1)}
     for paths, wanted in listed_:

@@ -6,7 +6,7 @@ from streams import INPUT, KINDS, PUT_HELLO, answer, branch, move, runs
 
 
 def of_names():
-    """The names of a repository, those of a folder, and what a name has held; each cause where it is the first."""
+    """The names of a repository, those of a folder, and what a name has held; each cause as the first."""
     main, x, tag = b"refs/heads/main", b"refs/heads/x/y", b"refs/tags/v"
     answer(b"names\nnames refs\nnames refs/heads\npast HEAD\npast main\npast refs/heads/main\n", "NoSuchName", "BadName", "NoSuchName")
     made = branch(main + b" new", 1) + branch(tag + b" new", 2, b"parent main\n") + branch(main + b" any", 3) + branch(x + b" new", 4)
@@ -22,13 +22,13 @@ def of_names():
 
 
 def at_word(plain, name, expected):
-    """The id that git must be told to expect: that which the name holds where it stands for the word's commit, else the commit's."""
+    """The id that git must be given to expect: that which the name holds if it means the word's commit, else the commit's."""
     commit = plain.resolve(expected)
     return plain.names[name] if plain.held(name) == commit else commit
 
 
 def as_git_moves(kind, made, command):
-    """Stops where git makes of a move's transaction other names or logs, or where git makes it and the plain repository doesn't."""
+    """Stops if git makes of a move's transaction other names or logs, or if git makes it and the plain repository doesn't."""
     plain = Plain(kind)
     plain.run(made)
     git = Moved(plain)
@@ -42,7 +42,7 @@ def as_git_moves(kind, made, command):
 
 
 def moves():
-    """One name and several, new, expected and not, and what their logs tell then; each cause, and which of two is told."""
+    """One name and several, new, expected and not, and what their logs say then; each cause, and which of two is reported."""
     main, x, y, v = b"refs/heads/main", b"refs/heads/x", b"refs/heads/y", b"refs/tags/v"
     made = branch(main + b" new", 1) + branch(x + b" new", 2, b"parent main\n") + branch(main + b" any", 3) + branch(y + b" new", 4)
     accepted = [
@@ -75,7 +75,7 @@ def moves():
 
 
 def switches():
-    """HEAD on branches that stand and that don't, in one run and from run to run, as `git symbolic-ref` writes it; and each refusal."""
+    """HEAD on branches that exist and that don't, in one run and from run to run, as `git symbolic-ref` writes it; and each refusal."""
     main, x, new = b"refs/heads/main", b"refs/heads/x", b"refs/heads/new/one"
     made = branch(main + b" new", 1) + branch(x + b" new", 2, b"parent main\n") + branch(main + b" any", 3)
     asked = [b"names\n", b"show HEAD\n", b"past HEAD\n", b"log breadth all +HEAD\n"]
@@ -85,7 +85,7 @@ def switches():
     runs((made,), (b"switch %s\n" % new,), *unborn, (b"switch %s\n" % new, "NothingMoves"), (branch(b"HEAD new", 4, b"parent x\n"),),
          *((it,) for it in asked), by_git_alone=False)
     runs((b"switch %s\n" % x,), *unborn, (branch(b"HEAD new", 1),), *((it,) for it in asked), by_git_alone=False)
-    # A branch that can't stand beside the others may be HEAD's all the same: it is refused where it is to be made.
+    # A branch that can't be beside the others may be HEAD's all the same: it is refused where it is to be made.
     runs((made,), (b"switch %s/y\n" % x,), *unborn, (branch(b"HEAD any", 4), "Collides"), (b"switch %s\n" % x,), (asked[0],),
          by_git_alone=False)
     everything = b"".join(b"switch %s\n" % it for it in (x, new, main)) + b"".join(asked)
@@ -105,7 +105,7 @@ def switches():
 
 
 def as_git_switches(kind, made, name):
-    """Stops where git writes another HEAD, or changes another file of the names."""
+    """Stops if git writes another HEAD, or changes another file of the names."""
     plain = Plain(kind)
     plain.run(made)
     git = Moved(plain)
@@ -114,7 +114,7 @@ def as_git_switches(kind, made, name):
 
 
 def refused_moves(made):
-    """The causes of a move, each where it is the first of two that hold, on one line or on two, and nothing is changed."""
+    """The causes of a move, each as the first of two that hold, on one line or on two, and nothing is changed."""
     main, x, y, v = b"refs/heads/main", b"refs/heads/x", b"refs/heads/y", b"refs/tags/v"
     bad = b"actor 0 3 9 +0000\n\na@b\nmessage 0\n\nend\n"
     late = b"actor 1 3 9 +0060\nA\na@b\nmessage 0\n\nend\n"
@@ -146,7 +146,7 @@ def refused_moves(made):
 
 
 def as_git_deletes(kind, made, command):
-    """Stops where git deletes a name that the plain repository doesn't, or the other way, or where it leaves other names or logs."""
+    """Stops if git deletes a name that the plain repository doesn't, or the other way, or if it leaves other names or logs."""
     plain = Plain(kind)
     plain.run(made)
     git = Moved(plain)
@@ -159,7 +159,7 @@ def as_git_deletes(kind, made, command):
 
 
 def deletions():
-    """Names that go with their logs, HEAD's branch too, and come anew; what is in nobody's way then; each cause, and which of two is told."""
+    """Names that go with their logs, HEAD's branch too, and come anew; what is in nobody's way then; each cause, and which of two is reported."""
     main, x, y, v = b"refs/heads/main", b"refs/heads/x", b"refs/heads/x/y", b"refs/tags/v"
     made = branch(main + b" new", 1) + branch(x + b" new", 2, b"parent main\n") + branch(main + b" any", 3) + branch(v + b" new", 4)
     deleted = [b"delete %s\n" % it for it in (x + b" any", x + b" at x", x + b" at refs/heads/x", v + b" at v", main + b" any",

@@ -34,7 +34,7 @@ def opening():
 
 
 def reopening():
-    """A folder with a commit, as it is or changed: opened again, or not, for its cause; what `recover` makes whole opens behind it."""
+    """A folder with a commit, as it is or changed: opened again, or not, for its cause; what `recover` makes whole opens after it."""
     again = b"names\nfiles main\nshow main path 1\na\n"
     for kind in KINDS:
         plain = Plain(kind)
@@ -65,12 +65,12 @@ def reopening():
         row("BadHead", f"names:write:HEAD:{word(digits['commit'].encode() + NEW_LINE)}")
         row("Stray:refs/heads/q.lock", "names:folder:refs/heads/q.lock")
         ROWS.append((f"{made} close names:folder:refs/heads/q open run:{word(again)}", f"{whole} done opened {answers}"))
-        # The empty blob may stand with no name of it; under its id no other bytes may.
+        # The empty blob may be with no name of it; under its id no other bytes may.
         folder = [] if any(path.startswith(empty[:10]) for path in objects.values()) else [f"objects:folder:{word(empty[:10])}"]
         ROWS.append((" ".join([made, "close", *folder, f"objects:write:{word(empty)}:{word(b'blob 0' + ZERO)}", f"open run:{word(again)}"]),
                      " ".join([whole, *["done"] * (len(folder) + 1), f"opened {answers}"])))
         row(f"WrongId:{word(empty)}", *folder, f"objects:write:{word(empty)}:{word(b'blob 1' + ZERO + b'x')}")
-        # What is named must stand, in its kind.
+        # What is named must exist, in its kind.
         row(f"Missing:{digits['tree']}:{digits['commit']}", f"objects:remove:{word(objects['tree'])}")
         row(f"Missing:{digits['blob']}:{digits['tree']}", f"objects:remove:{word(objects['blob'])}")
         row(f"Missing:{digits['commit']}:refs/heads/main", f"objects:remove:{word(objects['commit'])}")

@@ -7,7 +7,7 @@ from streams import KINDS, PACK, PUT_HELLO, answer, branch, each, left, left_wit
 
 
 def as_git_packs(kind, made, *commands):
-    """Stops where git packs other names, or another text, or where its transactions over packed names leave other names, logs or records."""
+    """Stops if git packs other names, or another text, or if its transactions over packed names leave other names, logs or records."""
     plain = Plain(kind)
     plain.run(made)
     git = Moved(plain)
@@ -54,10 +54,10 @@ def packs():
     runs((made,), (PACK,), *((it,) for it in deleted), (b"names\n",), (made,), (b"names\n",), (PACK,), by_git_alone=False)
     runs((made,), (PACK,), (renamed[0],), (b"past y\n",), (renamed[3],), (b"past main\n",), *((it,) for it in moved), (b"names\n",),
          *((it,) for it in deleted[:3]), (b"names\n",), by_git_alone=False)
-    # A file of its own wins over a record, and goes behind it.
+    # A file of its own wins over a record, and goes after it.
     runs((made,), (PACK,), (branch(main + b" at main", 6),), (tag(v + b" at v x/y", 7),), (b"names\n",), (b"past main\n",),
          (b"delete %s at main\n" % main,), (b"delete %s any\n" % v,), (b"names\n",), (PACK,), by_git_alone=False)
-    # Packed names stand in each other's way, and are expected, as any other; their folders are in nobody's.
+    # Packed names are in each other's way, and are expected, as any other; their folders are in nobody's.
     refused = [(branch(main + b"/a any", 6), "Collides"), (branch(b"refs/heads/x any", 6), "Collides"), (branch(main + b" new", 6), "Taken"),
                (tag(v + b"/a any main"), "Collides"), (tag(b"refs/tags/a at v main"), "NoSuchName"), (tag(v + b" new main"), "Taken"),
                (branch(v + b" any", 6), "HoldsTag"), (branch(main + b" at w", 6), "NotExpected"), (move(main + b"/a new w"), "Collides"),
@@ -92,7 +92,7 @@ def as_on_the_way(plain, alone, logs=None, records=None):
 
 
 def pack_stops():
-    """A run of two commits and a pack that is stopped at each call, or of which each call fails: `packed-refs` stands first, whole, and then
+    """A run of two commits and a pack that is stopped at each call, or of which each call fails: `packed-refs` comes first, whole, and then
     the names' own files go, one after another; each name reads as before all the while."""
     main, x = b"refs/heads/main", b"refs/heads/x"
     second = branch(x + b" new", 2, b"parent main\n")

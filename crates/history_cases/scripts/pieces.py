@@ -1,6 +1,6 @@
 """Files by their sizes: logs of more than one of the pieces in which they are read, with lines that end where a piece does, a byte before
 and a byte after, and lines that aren't taken there; names' files and HEAD of the most bytes that they may have, of one more, and of many.
-Which causes hold says scripts/cases/folder_causes.py; where a line is too long, which is a bad line too, `LongLogLine` is told."""
+Which causes hold says scripts/cases/folder_causes.py; if a line is too long, which is a bad line too, `LongLogLine` is reported."""
 
 from any_bytes import begun, whole
 from case_words import word

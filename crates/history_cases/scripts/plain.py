@@ -96,7 +96,7 @@ class Reader:
         return ("past", words[0])
 
     def log(self, words):
-        """A log: its order, the seconds behind it or none, whether it follows first parents alone, its items, and its paths."""
+        """A log: its order, the seconds after it or none, whether it follows first parents alone, its items, and its paths."""
         order, words = words[0] if words else b"", words[1:]
         refuse_where(order not in ORDERS, "Syntax")
         since, words = (words[0] if words else None, words[1:]) if order.endswith(b"-since") else (None, words)
@@ -192,7 +192,7 @@ class Walk:
         self.times = {it: int(commit["committer"][2]) for it, commit in commits.items()}
 
     def reached(self, tips, since):
-        """What is reached from the tips, where each commit on the way is no older."""
+        """What is reached from the tips, if each commit on the way is no older."""
         found, left = set(), list(tips)
         while left:
             at = left.pop()
@@ -202,7 +202,7 @@ class Walk:
         return found
 
     def listed(self, order, tips, inside):
-        """All that are inside, in this order. Where two of one time might both come next, either may be told: then this stops. By topology
+        """All that are inside, in this order. If two of one time might both come next, either may be listed: then this stops. By topology
         the tip that was given last comes first then."""
         found = []
         while len(found) < len(inside):
@@ -231,8 +231,8 @@ class Walk:
 
 
 class Plain:
-    """A repository: objects by id, names, logs, and HEAD's branch. Its tags tell the commits that they are of. Of its files it knows which
-    names have a record alone, and the records of `packed-refs`, where that stands."""
+    """A repository: objects by id, names, logs, and HEAD's branch. Its tags say the commits that they are of. Of its files it knows which
+    names have a record alone, and the records of `packed-refs`, if that exists."""
 
     def __init__(self, kind):
         self.kind, self.objects, self.names, self.logs, self.commits, self.tags = kind, {}, {}, {}, {}, {}
@@ -266,7 +266,7 @@ class Plain:
         return self.resolved([word])[0]
 
     def read(self, word):
-        """The commit that a word stands for, or why it stands for none."""
+        """The commit that a word means, or why it means none."""
         if word == b"HEAD":
             return self.held(self.branch) or "UnbornHead"
         name = self.candidate(word)
@@ -278,11 +278,11 @@ class Plain:
         return self.peeled(found[0]) or "NotACommit"
 
     def peeled(self, digits):
-        """The commit that an id stands for, if it does: a commit for itself, a tag for the one that it is of."""
+        """The commit that an id means, if it does: a commit for itself, a tag for the one that it is of."""
         return digits if digits in self.commits else self.tags.get(digits)
 
     def held(self, name):
-        """The commit that a name stands for, if it stands."""
+        """The commit that a name means, if it exists."""
         return self.peeled(self.names.get(name))
 
     def begun(self, word):
@@ -291,7 +291,7 @@ class Plain:
         return [it for it in self.objects if it.startswith(word.lower())] if is_short else []
 
     def candidate(self, word):
-        """The first of a word's names that stands, if one does."""
+        """The first of a word's names that exists, if one does."""
         names = [b"refs/%s", b"refs/tags/%s", b"refs/heads/%s", b"refs/remotes/%s", b"refs/remotes/%s/HEAD"]
         found = ([word] if word.startswith(b"refs/") else []) + [it % word for it in names]
         return next((name for name in found if name in self.names), None)
@@ -330,7 +330,7 @@ class Plain:
             raise
 
     def expected(self, name, expect, wanted):
-        """Refuses where the name isn't as it is expected: new, or at this commit."""
+        """Refuses if the name isn't as it is expected: new, or at this commit."""
         stands = self.held(name)
         refuse_where(wanted and not stands, "NoSuchName")
         refuse_where(expect == [b"new"] and stands, "Taken")
@@ -371,7 +371,7 @@ class Plain:
         return b"ok commit %s\n" % found
 
     def hold(self, name, digits, actor, title):
-        """The name holds this id from now on, and its log tells so."""
+        """The name holds this id from now on, and its log says so."""
         before = self.names.get(name, self.null)
         if digits != before:
             line = b"%s %s %s <%s> %s %s\t%s\n" % (before, digits, *actor, title)
@@ -391,7 +391,7 @@ class Plain:
         return b"ok pack\n"
 
     def packed_text(self):
-        """What `packed-refs` has in it: a record for each name, and behind that of a tag the commit that it is of."""
+        """What `packed-refs` has in it: a record for each name, and after that of a tag the commit that it is of."""
         text = b"# pack-refs with: peeled fully-peeled sorted \n"
         for name, digits in sorted(self.records.items()):
             text += b"%s %s\n" % (digits, name) + (b"^%s\n" % self.tags[digits] if digits in self.tags else b"")
@@ -472,7 +472,7 @@ class Plain:
         return commit["tree"], commit["parents"], commit["committer"][2], reached[digits]
 
     def in_the_way(self, name, more=()):
-        """Whether a name that doesn't stand is a folder of one that stands, or of one of these, or the other way round."""
+        """Whether a name that doesn't exist is a folder of one that exists, or of one of these, or the other way round."""
         return name not in self.names and any((it + b"/").startswith(name + b"/") or (name + b"/").startswith(it + b"/")
                                               for it in [*self.names, *more] if it != name)
 

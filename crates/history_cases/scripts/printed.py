@@ -21,7 +21,7 @@ def put(kind, path, content):
 
 
 def as_git_commits(kind, *commands):
-    """Stops where git makes another commit of one of these, which put files on a branch: blobs by `git hash-object`, trees by `git write-tree`,
+    """Stops if git makes another commit of one of these, which put files on a branch: blobs by `git hash-object`, trees by `git write-tree`,
     commits by `git commit-tree`."""
     plain, git, files, parents = Plain(kind), Git(kind), {}, []
     for command in commands:
@@ -58,7 +58,7 @@ def histories():
 
 
 def five_packed():
-    """Five names that are packed, and read, met, moved and deleted then: which names are in their way git tells by refusing to make them."""
+    """Five names that are packed, and read, met, moved and deleted then: which names are in their way git shows by refusing to make them."""
     slash, seconds = b"refs/heads/a/b", 1_700_000_000
     commit = NEW + SIGNED % (seconds, seconds, 4, b"one\n")
     made = commit + move(b"refs/heads/a-c new main", slash + b" new main", b"refs/tags/light new main") + tag(b"refs/tags/v1 new main", seconds, b"v1\n")
@@ -88,7 +88,7 @@ def plain_after(kind, stream):
 
 
 def orders():
-    """Names that lie around `/`, made in another order, and told in git's: all, those of folders, and none of what is no folder."""
+    """Names that lie around `/`, made in another order, and listed in git's: all, those of folders, and none of what is no folder."""
     made = branch(b"refs/heads/b/c/d/e/f new", 1)
     rest = [it for it in [*LISTED[1::2], *LISTED[::2]] if it != b"refs/heads/b/c/d/e/f"]
     moved = move(*(it + b" new b/c/d/e/f" for it in rest))

@@ -7,7 +7,7 @@ from streams import FEW, INPUT, KINDS, MANY, ONE, PUT_HELLO, ROWS, branch, log_a
 
 
 def asking(kind, made, commands):
-    """Which of these commands ask for an object, and which for a name."""
+    """Which of these commands look up an object, and which for a name."""
     plain, rows_, objects, names = Plain(kind), (), [], []
     plain.run(made)
     for at, text in enumerate(commands):
@@ -20,14 +20,14 @@ def asking(kind, made, commands):
 
 def readings():
     """How many objects are read: what the name holds, to see whether it is a tag, then the commit, the trees on the way, and no content but
-    the one that is asked for."""
+    the one that is looked up."""
     asked = [(b"show main\n", 2), (b"files main\n", 5), (b"show main path 5\na/b/c\n", 6), (b"show main path 1\nd\n", 4),
              (b"show main path 3\na/b\n", 4), (b"show main path 5\na/b/x\n", 5)]
     for kind in KINDS:
         for commit in (FEW, MANY):
             for command, count in asked:
                 reading(kind, commit + ONE, command, count)
-        # A tag is read, and then its commit, of which a row may tell.
+        # A tag is read, and then its commit, which a row may have.
         tagged = PUT_HELLO + tag(b"refs/tags/v new main")
         held = Plain(kind)
         held.run(tagged)
@@ -45,7 +45,7 @@ def readings():
 
 
 def readers():
-    """A reader that fails behind so many bytes: the commands that came whole are answered."""
+    """A reader that fails after so many bytes: the commands that came whole are answered."""
     for kind in KINDS:
         ended, replies = Plain(kind).run(INPUT)
         for room in range(len(INPUT) + 2):

@@ -1,16 +1,16 @@
-"""Which objects a command must ask for, told over the plain repository's whole file maps: the counts of readings by hand are held
+"""Which objects a command must look up, derived over the plain repository's whole file maps: the counts of readings by hand are held
 against this.
 
-Each word asks once for the object that its name holds, or whose id it begins, since that may be a commit, a tag or neither. Besides, a
-command asks once for each commit, tree and content that its answer is made of, but for a commit that has a row. A log with paths asks for
-what it compares each time that it compares two commits. A graft asks for its word's commit, for the trees on the way to its source, and for
+Each word looks up once the object that its name holds, or whose id it begins, since that may be a commit, a tag or neither. Besides, a
+command looks up once each commit, tree and content that its answer is made of, but for a commit that has a row. A log with paths looks up
+what it compares each time that it compares two commits. A graft looks up its word's commit, for the trees on the way to its source, and for
 each different tree below it once."""
 
 from plain import Plain, Reader
 
 
 def of_word(plain, word):
-    """The object of a word: none, where none of its names stands and it isn't one stored object's id."""
+    """The object of a word: none, if none of its names exists and it isn't one stored object's id."""
     name = plain.branch if word == b"HEAD" else plain.candidate(word)
     found = plain.begun(word) if name is None else [plain.names[name]] if name in plain.names else []
     return found if len(found) == 1 else []
@@ -25,7 +25,7 @@ def of_folders(plain, files, paths=None):
 
 
 def of_walk(plain, rows, commits):
-    """The commits that these reach, themselves too, but for those that have rows: a row tells its parents, which have rows too."""
+    """The commits that these reach, themselves too, but for those that have rows: a row has its parents, which have rows too."""
     found, left = [], list(commits)
     while left:
         at = left.pop()
@@ -56,7 +56,7 @@ def of_grafts(plain, edits):
 
 
 def objects(plain, rows, command):
-    """The objects that a command asks for, as often as it does."""
+    """The objects that a command looks up, as often as it does."""
     name, *parts = command
     if name == "index":
         return list(plain.objects)
@@ -75,7 +75,7 @@ def objects(plain, rows, command):
 
 
 def names(command):
-    """The words of a command, each of which asks for names."""
+    """The words of a command, each of which looks up names."""
     name, *parts = command
     if name == "commit":
         return [edit[2] for edit in parts[3]]
@@ -83,7 +83,7 @@ def names(command):
 
 
 def behind(kind, before, command):
-    """The objects that a command asks for behind these."""
+    """The objects that a command looks up after these."""
     plain, rows, reader = Plain(kind), (), Reader(before)
     while reader.at < len(before):
         start, (name, *_) = reader.at, reader.command()

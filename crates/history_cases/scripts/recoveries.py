@@ -27,7 +27,7 @@ def recoveries(kind):
                  [f"{before} File {after}", f"{before} recovered {after}"])
     # The objects part is changed before the names part.
     each(3, kind, f"{' '.join(words)} objects:stop:#:- recover names:kind:HEAD.lock", [f"{before} File file:3", f"{before} recovered absent"])
-    # Where packed-refs can't be read, no name is absent, and what is no name is.
+    # If packed-refs can't be read, no name is absent, and what is no name is.
     for packed in (b"half", b"# pack\n"):
         files = {b"packed-refs": packed, b"logs/refs/heads/gone": line + b"half", b"logs/refs/heads/a.lock/b": line, b"logs/refs/a..b": line}
         words_2 = placed("names", files)

@@ -6,7 +6,7 @@ from streams import KINDS, PUT_HELLO, answer, branch, move, runs, tag
 
 
 def as_git_renames(kind, made, old, new):
-    """Stops where git makes a rename that the plain repository doesn't, or the other way, or where it leaves other names or logs."""
+    """Stops if git makes a rename that the plain repository doesn't, or the other way, or if it leaves other names or logs."""
     plain = Plain(kind)
     plain.run(made)
     git = Moved(plain)
@@ -18,8 +18,8 @@ def as_git_renames(kind, made, old, new):
 
 
 def renames():
-    """Names that are renamed, HEAD's branch too, there and back, with the one line that their logs have then; and each refusal, where it
-    is the first of two that hold."""
+    """Names that are renamed, HEAD's branch too, there and back, with the one line that their logs have then; and each refusal, as
+    the first of two that hold."""
     main, x, y, v, trunk = b"refs/heads/main", b"refs/heads/x", b"refs/heads/y", b"refs/tags/v", b"refs/heads/trunk"
     made = branch(main + b" new", 1) + branch(x + b" new", 2, b"parent main\n") + branch(main + b" any", 3) + branch(v + b" new", 4)
     accepted = [(x, y), (x, b"refs/tags/x"), (v, b"refs/heads/v"), (main, trunk), (main, b"refs/a/b/c"), (x, b"refs/heads/xy"),
@@ -65,7 +65,7 @@ def renames():
 
 def renamed_tags():
     """Names that hold a tag and are renamed, there and back: the new name holds the tag itself, its log is one line with the tag's id, and what
-    other commands tell of it then; each refusal."""
+    other commands say of it then; each refusal."""
     main, x, v, w, new = b"refs/heads/main", b"refs/heads/x", b"refs/tags/v1", b"refs/tags/w", b"refs/tags/new"
     made = (branch(main + b" new", 1) + branch(x + b" new", 2, b"parent main\n") + branch(main + b" any", 3)
             + branch(w + b" new", 4, b"parent x\n") + tag(v + b" new main", 5))
@@ -88,7 +88,7 @@ def renamed_tags():
         for kind in KINDS:
             as_git_renames(kind, made, old, name)
     runs((made,), (b"rename %s %s\n" % (v, v), "NameTwice"), (b"names\n",), by_git_alone=False)
-    # Git lets no branch hold a tag. Here a renamed name holds what the old one did, wherever it stands.
+    # Git lets no branch hold a tag. Here a renamed name holds what the old one did, wherever it is.
     y = b"refs/heads/y"
     runs((made,), (b"rename %s %s\n" % (v, y),), (b"names\n",), (b"past y\n",), (branch(y + b" any", 6), "HoldsTag"), (b"switch %s\n" % y,),
          (branch(b"HEAD any", 6), "HoldsTag"), (b"show HEAD\n",), (b"past HEAD\n",), (move(y + b" any y"),), (branch(b"HEAD at y", 6),),

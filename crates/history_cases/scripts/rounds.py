@@ -1,5 +1,5 @@
-"""Rounds: a command whose folder stops or fails at each call, then a recovery, the folder opened again, what is told then, the command once
-more, and a round behind it. What each stop leaves is the repository before the command, after it, or on its way as docs/PROTOCOL.md tells."""
+"""Rounds: a command whose folder stops or fails at each call, then a recovery, the folder opened again, what is reported then, the command once
+more, and a round after it. What each stop leaves is the repository before the command, after it, or on its way as docs/PROTOCOL.md says."""
 
 from copy import deepcopy
 
@@ -17,7 +17,7 @@ FAULT = b"fault File\n"
 
 
 class Way:
-    """A command behind others, the repositories that stand while it is on its way, the first and the last ones among them, and what is asked of
+    """A command after others, the repositories that there are while it is on its way, the first and the last ones among them, and what is tried on
     each."""
 
     def __init__(self, kind, made, command, between, asked):
@@ -33,7 +33,7 @@ class Way:
         return plain
 
     def goes_on(self, state):
-        """What is told of a repository, and then of the rounds behind."""
+        """What is reported of a repository, and then of the rounds after."""
         state, streams = deepcopy(state), (self.asked, self.command, NEXT, b"names\n")
         return " ".join(told(*state.run(it)) for it in streams)
 
@@ -69,8 +69,8 @@ def gone_logs(old, *made):
 
 
 def ways(kind):
-    """Commands and what stands on their way in the names part: whether the last call makes the last change, as it does but where a lock goes
-    behind it."""
+    """Commands and what is on their way in the names part: whether the last call makes the last change, as it does but if a lock goes
+    after it."""
     packed = MADE + PACK
     two = move(MAIN + b" at main x", W + b" new main")
     swap = move(MAIN + b" any x", X + b" any main")
@@ -94,7 +94,7 @@ def ways(kind):
         "pack": Way(kind, MADE, PACK, [], [MAIN, V])}
 
 
-# Commands that put objects or ask for one, and those behind whose last change a call still comes that changes no name.
+# Commands that put objects or look up one, and those after whose last change a call still comes that changes no name.
 ASKING = ("commit", "commit-packed", "graft", "graft-packed", "tag", "tag-moved", "move", "move-two", "pack")
 CLEARED = ("rename-packed", "rename-tag", "delete-packed", "pack")
 # Those that are tried with both hash functions.
@@ -128,7 +128,7 @@ def row(kind, way, part, how, kept, states):
 
 def leftovers():
     """What a stopped command may leave, written by hand; a recovery of it that stops or fails at each call and is made again; and the rounds
-    behind it."""
+    after it."""
     for kind in KINDS:
         for name, (way, state, words) in left_by_hand(kind).items():
             cut = [("stop", "-"), ("stop", 10), ("fail", 10)] if kind == "sha1" else [("stop", 30)]
@@ -146,7 +146,7 @@ def leftovers():
 
 
 def left_by_hand(kind):
-    """For each command: its way, the repository that stands once it is recovered, and the words that write what is left."""
+    """For each command: its way, the repository that exists once it is recovered, and the words that write what is left."""
     all_ = ways(kind)
 
     def file(part, call, path, text):

@@ -23,7 +23,7 @@ def like(kind, front):
 
 def short_ids():
     """Words that are ids, whole or short: of a commit, a blob and a tree, of one alone and of two, in any case of letters; names that
-    look like one; and each cause of a word where it is the first."""
+    look like one; and each cause of a word as the first."""
     for kind in KINDS:
         one, other, both = twins(kind)
         plain = Plain(kind)
@@ -63,13 +63,13 @@ def short_ids():
         runs((made,), *((line + ONE, cause) for line, cause in commits), (b"commit HEAD at %s\nput file 1 1\na\n1\n" % first[:8] + ONE,),
              (b"log breadth all +main\n",), by_git_alone=False, kinds=[kind])
         short_moves(kind, made, unborn, first, both, blob)
-        # A name that stands wins over an id.
+        # A name that exists wins over an id.
         runs((PUT_HELLO,), (b"commit refs/heads/%s new\nput file 1 1\nz\nz\n" % first[:4] + ONE,), (b"files %s\n" % first[:4],),
              (b"files %s\n" % first[:5],), by_git_alone=False, kinds=[kind])
 
 
 def short_moves(kind, made, unborn, first, both, blob):
-    """Moves to ids and from them; and each cause of a word where it is the first over all words of all lines."""
+    """Moves to ids and from them; and each cause of a word as the first over all words of all lines."""
     x, v = b"refs/heads/x", b"refs/tags/v"
     refused = [
         (move(x + b" any %s" % both, v + b" at nosuch main"), "UnknownWord"), (move(x + b" at %s nosuch" % blob), "UnknownWord"),

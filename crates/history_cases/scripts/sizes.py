@@ -61,7 +61,7 @@ def logs(size):
 
 
 def histories(size):
-    """A history of as many commits behind the first, a log with as many paths, and, up to the most, a commit of as many parents."""
+    """A history of as many commits after the first, a log with as many paths, and, up to the most, a commit of as many parents."""
     chain = branch(MAIN + b" new", 1) + b"".join(branch(MAIN + b" any", 2 + number) for number in range(size))
     sized(chain + b"log newest all +main\nindex\nlog topological all +main\nlog breadth first +main\n")
     paths = [b"p%d" % number for number in range(size)]

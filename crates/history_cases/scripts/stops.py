@@ -48,7 +48,7 @@ def delete_stops():
 
 
 def rename_stops():
-    """A run of a commit and a rename of HEAD's branch that is stopped at each call, or of which each call fails: the old name stands
+    """A run of a commit and a rename of HEAD's branch that is stopped at each call, or of which each call fails: the old name exists
     alone, or both do, and then the old one without its log, or the new one alone. A log without its name is none's."""
     stream = PUT_HELLO + b"rename refs/heads/main refs/heads/trunk\n"
     fault = b"fault File\n"
@@ -70,7 +70,7 @@ def rename_stops():
 
 
 def tag_rename_stops():
-    """The same of a name that holds a tag, which the commit that the tag is of stands for all the while."""
+    """The same of a name that holds a tag, and all the while means the commit that the tag is of."""
     tagging, renaming = tag(b"refs/tags/v1 new main"), b"rename refs/tags/v1 refs/tags/first\n"
     stream, fault = PUT_HELLO + tagging + renaming, b"fault File\n"
     for kind in KINDS:
@@ -142,7 +142,7 @@ def reopened_stops():
 
 def move_stops():
     """A run of two commits and a move of two names that is stopped at each call, or of which each call fails: a stopped move leaves its
-    first name as before, or with its log's line alone, or moved; and then the second, whose log is none's where it doesn't stand."""
+    first name as before, or with its log's line alone, or moved; and then the second, whose log is none's if it doesn't exist."""
     second = branch(b"refs/heads/x new", 2, b"parent main\n")
     moving = move(b"refs/heads/main at main x", b"refs/tags/v new main")
     one_alone = move(b"refs/heads/main at main x")

@@ -1,4 +1,4 @@
-"""What rows are made of: streams of commands, what a run over the plain repository tells of them, and the files that it leaves."""
+"""What rows are made of: streams of commands, what a run over the plain repository replies to them, and the files that it leaves."""
 
 import hashlib
 
@@ -35,7 +35,7 @@ def told(end, replies):
 
 
 def known(kind, text):
-    """Stops where a commit, a tree or a tag is told that git didn't print."""
+    """Stops if a commit, a tree or a tag is reported that git didn't print."""
     for line in text.split(b"\n"):
         if line.startswith((b"ok commit ", b"ok tag ", b"tree ")):
             assert line.split()[-1].decode() in KINDS[kind], line
@@ -86,7 +86,7 @@ def listed(files):
 
 
 def left(plain, objects=None, names=True):
-    """The files that stand for a repository, or for one with its first objects alone and without names."""
+    """The files of a repository, or of one with its first objects alone and without names."""
     texts = list(plain.objects.items())[:objects]
     stored = {b"objects/" + digits[:2] + b"/" + digits[2:]: text for digits, text in texts}
     named = {b"HEAD": b"ref: %s\n" % plain.branch}
@@ -122,7 +122,7 @@ def tag(target, seconds=9, message=b"x", tagger=None):
 
 
 def reading(kind, before, command, count):
-    """How many objects a command reads behind these: as many as it must, told in scripts/reads.py."""
+    """How many objects a command reads after these: as many as it must, listed in scripts/reads.py."""
     assert len(reads.behind(kind, before, command)) == count, (command, count)
     ROWS.append((f"{kind} reads:{word(before)}:{word(command)}", f"reads:{count}"))
 
@@ -132,13 +132,13 @@ def log_at(words, *paths):
 
 
 def object_file(kind, text):
-    """Where the object of this text stands."""
+    """Where the object of this text is."""
     digits = hashlib.new(kind, text).hexdigest().encode()
     return b"objects/" + digits[:2] + b"/" + digits[2:]
 
 
 def reopen_between(streams):
-    """These streams in a row, each accepted whole, with the folder closed and opened again behind each."""
+    """These streams in a row, each accepted whole, with the folder closed and opened again after each."""
     for kind in KINDS:
         plain, words, answers = Plain(kind), ["create", "open"], ["created", "opened"]
         for stream in streams:
@@ -167,7 +167,7 @@ def left_with(plain, first, count):
 
 
 def left_logged(plain, first):
-    """All objects, and the second line in the log of a name that stands as after the first commit."""
+    """All objects, and the second line in the log of a name that exists as after the first commit."""
     both = Plain(plain.kind)
     both.objects, both.names, both.logs = plain.objects, first.names, plain.logs
     return left(both)
@@ -189,6 +189,6 @@ def creation(kind):
 
 
 def placed(part, files):
-    """Words that write these files of a part, each folder before what stands in it."""
+    """Words that write these files of a part, each folder before what is in it."""
     folders = sorted({path[:at] for path in files for at in range(len(path)) if path[at:at + 1] == b"/"})
     return [*(f"{part}:folder:{word(it)}" for it in folders), *(f"{part}:write:{word(path)}:{word(text)}" for path, text in files.items())]

@@ -7,8 +7,8 @@ from streams import KINDS, LIMIT, ONE, PUT_HELLO, ROWS, Long, answer, branch, mo
 
 
 def as_git_tags(kind, made, command):
-    """Stops where git makes another tag of it, or leaves other names or logs. A tag's object is made by `git tag -a` and by `git mktag`, and
-    its name is moved by `git update-ref`, which writes into the log what it is told to."""
+    """Stops if git makes another tag of it, or leaves other names or logs. A tag's object is made by `git tag -a` and by `git mktag`, and
+    its name is moved by `git update-ref`, which writes into the log what it is given."""
     plain = Plain(kind)
     plain.run(made)
     makes, spells, moves_ = Moved(plain), Moved(plain), Moved(plain)
@@ -24,8 +24,8 @@ def as_git_tags(kind, made, command):
 
 
 def tags():
-    """Tags new, moved and made anew, as git makes them, and what every command tells of names and words that are tags; each cause, and
-    which of two is told."""
+    """Tags new, moved and made anew, as git makes them, and what every command says of names and words that are tags; each cause, and
+    which of two is reported."""
     main, x, v, w = b"refs/heads/main", b"refs/heads/x", b"refs/tags/v1", b"refs/tags/w"
     first = b"commit refs/heads/main new\n" + ONE
     answer(first + tag(v + b" new main") + b"names refs/tags\ncommit refs/tags/v1 any\n" + ONE + b"delete refs/tags/v1 at main\nnames\n",
@@ -52,7 +52,7 @@ def tags():
 
 
 def refused_tags(made):
-    """The causes of a tag, each where it is the first of two that hold, and nothing is changed."""
+    """The causes of a tag, each as the first of two that hold, and nothing is changed."""
     main, v, w, new = b"refs/heads/main", b"refs/tags/v1", b"refs/tags/w", b"refs/tags/new"
     bad = b"tagger 0 3 9 +0060\n\na@b\n"
     late = b"tagger 1 3 9 -0000\nA\na@b\n"
@@ -96,7 +96,7 @@ def refused_tags(made):
 
 
 def words_of_tags(made):
-    """Words and names that are tags, with every command: each stands for the tag's commit, and a name holds the tag's id all the same."""
+    """Words and names that are tags, with every command: each means the tag's commit, and a name holds the tag's id all the same."""
     main, x, v, y = b"refs/heads/main", b"refs/heads/x", b"refs/tags/v1", b"refs/heads/y"
     for kind in KINDS:
         plain = Plain(kind)
@@ -105,7 +105,7 @@ def words_of_tags(made):
         whole = [b"v1", b"tags/v1", v, held, held[:9], held.upper()]
         runs((made,), *((b"show %s\n" % it,) for it in whole), *((b"log breadth all +x -%s\n" % it,) for it in whole), (b"past v1\n",),
              (b"past %s\n" % held, "BadName"), by_git_alone=False, kinds=[kind])
-        # A tag that no name holds any more stands for its commit by its id.
+        # A tag that no name holds any more means its commit by its id.
         runs((made,), (b"delete %s any\n" % v,), *((b"show %s\n" % it,) for it in whole[3:]), (b"show v1\n", "UnknownWord"),
              (tag(v + b" new %s" % held[:9], 5),), (b"names refs/tags\n",), by_git_alone=False, kinds=[kind])
         accepted = [
