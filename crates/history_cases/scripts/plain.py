@@ -3,6 +3,8 @@ of history have their answers from here, and from what git printed (scripts/case
 
 import hashlib
 import re
+from bisect import bisect_left
+from collections import Counter
 
 MODES = {b"file": b"100644", b"exec": b"100755", b"link": b"120000"}
 ORDERS = (b"breadth", b"newest", b"oldest", b"newest-since", b"oldest-since", b"date", b"topological")
@@ -156,6 +158,12 @@ def is_path(path):
     return len(path) <= 4096 and b"\0" not in path and b"" not in path.split(b"/")
 
 
+def fronts(path):
+    """The folders that a path or a name leads through."""
+    names = path.split(b"/")
+    return [b"/".join(names[:count]) for count in range(1, len(names))]
+
+
 def at_paths(files, paths):
     """The files at one of the paths or below it."""
     return {it: file for it, file in files.items() if any((it + b"/").startswith(path + b"/") for path in paths)}
@@ -204,25 +212,31 @@ class Walk:
     def listed(self, order, tips, inside):
         """All that are inside, in this order. If two of one time might both come next, either may be listed: then this stops. By topology
         the tip that was given last comes first then."""
-        found = []
-        while len(found) < len(inside):
-            found.append(self.following(order, tips, inside, found))
+        found, left, opened = [], set(inside), {it: None for it in tips if it in inside}
+        children = Counter(at for it in inside for at in self.parents[it])
+        while left:
+            it = self.following(order, tips, opened, children)
+            del opened[it]
+            left.remove(it)
+            found.append(it)
+            for number, at in enumerate(self.parents[it]):
+                children[at] -= 1
+                if at in left:
+                    opened[at] = (len(found), number)
         return found
 
-    def following(self, order, tips, inside, found):
-        named = [(at, place, number) for place, it in enumerate(found) for number, at in enumerate(self.parents[it])]
-        after_all = [it for it in inside if all(it not in self.parents[child] or child in found for child in inside)]
-        opened = [it for it in [*tips, *(at for at, _, _ in named)] if it in inside and it not in found]
+    def following(self, order, tips, opened, children):
+        """The next of the opened ones, which have the place and the number by which they were named last, if they were; `children` counts
+        those that are still to come."""
         if order == b"breadth":
-            return opened[0]
-        if order == b"topological":
-            last = {at: (place, number) for at, place, number in named}
-            ready = [it for it in after_all if it not in found]
-            behind = [it for it in ready if it in last]
-            return max(behind, key=last.get) if behind else max(ready, key=lambda it: (self.times[it], tips.index(it)))
+            return next(iter(opened))
+        if order in (b"newest", b"oldest"):
+            return self.only(min if order == b"oldest" else max, opened)
+        ready = [it for it in opened if not children[it]]
         if order == b"date":
-            return self.only(max, [it for it in after_all if it not in found])
-        return self.only(min if order == b"oldest" else max, opened)
+            return self.only(max, ready)
+        named = [it for it in ready if opened[it]]
+        return max(named, key=opened.get) if named else max(ready, key=lambda it: (self.times[it], tips.index(it)))
 
     def only(self, choose, some):
         time = choose(self.times[it] for it in some)
@@ -344,16 +358,18 @@ class Plain:
 
     def make(self, name, parents, edits, author, committer, message):
         files = dict(self.commits[parents[0]]["files"]) if parents else {}
+        folders = {front for it in files for front in fronts(it)}
         for kind, path, *content in edits:
-            below = [it for it in files if it.startswith(path + b"/")]
+            below = [it for it in files if it.startswith(path + b"/")] if path in folders else []
             refuse_where(kind == b"remove-file" and below, "IsFolder")
-            above = [it for it in files if path.startswith(it + b"/")] if content else []
+            above = [it for it in fronts(path) if it in files] if content else []
             for gone in below + above + [path]:
                 files.pop(gone, None)
             if kind == b"graft":
                 files.update(content[0])
             elif content:
                 files[path] = (MODES[kind], self.id(b"blob", content[0])[0])
+            folders.update(front for it in (content[0] if kind == b"graft" else [path]) for front in fronts(it))
         refuse_where(any(it[0] == b"graft" and not it[2] for it in edits), "NoSuchPath")
         refuse_where(any(it[0] == b"" or not is_part(it[0]) or not is_part(it[1]) for it in (author, committer)), "BadActor")
         refuse_where(any(not is_time(*it[2:]) for it in (author, committer)), "BadTime")
@@ -427,7 +443,7 @@ class Plain:
         refuse_where(any(name not in self.names for name, _ in wanted), "NoSuchName")
         refuse_where(any(name in self.names for name, expect, _ in lines if expect == [b"new"]), "Taken")
         refuse_where(any(self.held(name) != digits for name, digits in wanted), "NotExpected")
-        refuse_where(any(self.in_the_way(name, names) for name in names), "Collides")
+        refuse_where(self.in_the_way(*names), "Collides")
         refuse_where(actor[0] == b"" or not is_part(actor[0]) or not is_part(actor[1]), "BadActor")
         refuse_where(not is_time(*actor[2:]), "BadTime")
         refuse_where(not is_title(message) or b"\n" in message, "BadMessage")
@@ -471,10 +487,15 @@ class Plain:
             reached[at] = 1 + max((reached[it] for it in self.commits[at]["parents"]), default=0)
         return commit["tree"], commit["parents"], commit["committer"][2], reached[digits]
 
-    def in_the_way(self, name, more=()):
-        """Whether a name that doesn't exist is a folder of one that exists, or of one of these, or the other way round."""
-        return name not in self.names and any((it + b"/").startswith(name + b"/") or (name + b"/").startswith(it + b"/")
-                                              for it in [*self.names, *more] if it != name)
+    def in_the_way(self, *names):
+        """Whether one of these names that doesn't exist is a folder of one that exists or of another of these, or the other way round."""
+        all_ = {*self.names, *names}
+        listed = sorted(all_)
+
+        def is_folder(name):
+            return any(it.startswith(name + b"/") for it in listed[bisect_left(listed, name + b"/"):][:1])
+
+        return any(is_folder(it) or not all_.isdisjoint(fronts(it)) for it in names if it not in self.names)
 
     def files(self, word):
         files = self.commits[self.resolve(word)]["files"]
