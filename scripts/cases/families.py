@@ -14,3 +14,10 @@ def write(script, rows):
     (crate / "stdin").write_text("".join(f"{line}\n" for line in lines))
     (crate / "stdout").write_text("".join(f"{answer}\n" for answer in answers))
     print(len(rows), "rows")
+
+
+def kept(script, *families):
+    """The rows of these families, each a line and its answer, as they are in `stdin` and `stdout` of the crate."""
+    crate = Path(script).resolve().parent.parent
+    lines, answers = ((crate / name).read_text().split("\n")[:-1] for name in ("stdin", "stdout"))
+    return [row for row in zip(lines, answers) if row[0].split(" ")[0] in families]

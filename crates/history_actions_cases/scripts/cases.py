@@ -11,6 +11,7 @@ import sys
 from pathlib import Path
 
 sys.path.append(str(Path(__file__).resolve().parents[3] / "scripts/cases"))
+from case_sizes import row as sized
 from case_words import word, write
 from folder_causes import as_line, causes, place
 from small_folder import Few, judged
@@ -303,6 +304,13 @@ def lines():
         bad(("check", flag), unexpected(flag, f"{NAME} check [OPTIONS] <folder>", f"to pass '{flag}' as a value, use '-- {flag}'"))
 
 
+def sizes():
+    """A folder's name as long, and as many words that a line has no place for."""
+    yield sized(words("run", "a") + "[f]", lambda size: "run sha1:a" + "f" * size)
+    beyond = "line:" + word(unexpected("b", f"{NAME} run [OPTIONS] <folder>").encode())
+    yield sized(words("run", "a") + "[,b]", lambda size: beyond if size else "run sha1:a")
+
+
 ABOUT = {
     "create": "Makes a repository",
     "run": "Runs the commands of standard input, and answers them on standard output",
@@ -419,4 +427,4 @@ for name in ("sha1", "sha256"):
     narrow(name)
 lines()
 real(Kind("sha1", "real"))
-write(Path(__file__), ROWS)
+write(Path(__file__), ROWS + [(f"sizes sha1 {line}", answers) for line, answers in sizes()])

@@ -9,7 +9,7 @@ mod real;
 mod session;
 
 use crate::session::Folder;
-use case_words::answer;
+use case_words::{answer, answer_sizes};
 use std::io;
 
 fn main(rt: HostRuntime) -> io::Result<()> {
@@ -19,7 +19,11 @@ fn main(rt: HostRuntime) -> io::Result<()> {
         number = number.saturating_add(1);
         let text = match line.as_str().split_once(' ') {
             Some(("real", words)) => real::answer(&rt, number, words)?,
-            _ => answer::<Folder>(rt.alloc(), line.as_str())?,
+            _ => answer_sizes(
+                rt.alloc(),
+                line.as_str(),
+                &mut |row: &str| { Ok(answer::<Folder>(rt.alloc(), row)?) },
+            )?,
         };
         println!(rt; "{text}")?;
     }

@@ -14,6 +14,7 @@ import rounds
 from by_chance import by_chance, logs_by_chance
 from case_words import write
 from commits import first_causes, limits, nested, removals, rows, times, two_branches
+from families import kept
 from failures import faults, index_faults, log_faults, reading_faults, refused_or_failed
 from grafts import graft_readings, graft_stops, grafts, grafts_by_chance
 from logs import indexes, logs, one_time, path_logs
@@ -26,7 +27,7 @@ from readings import readers, readings
 from recoveries import recoveries
 from renames import renamed_tags, renames
 from short_ids import short_ids
-from sizes import sizes
+from sizes import histories, lengths, roots, tags as many_tags
 from stops import delete_stops, move_stops, rename_stops, reopened_stops, stops, switch_stops, tag_rename_stops, tag_stops
 from streams import KINDS, ROWS
 from tags import tags
@@ -35,7 +36,8 @@ BY_HAND = (
     rows, first_causes, two_branches, of_names, moves, renames, deletions, switches, tags, renamed_tags, indexes, logs, path_logs, short_ids,
     removals, nested, limits, times, one_time, opening, reopening, reopened_between, readings, readers, faults, index_faults, reading_faults,
     refused_or_failed, log_faults, move_stops, rename_stops, delete_stops, switch_stops, tag_stops, tag_rename_stops, stops, reopened_stops,
-    packs, pack_stops, packed_delete_stops, packed_rename_stops, reopened_packs, grafts, graft_readings, graft_stops, printed, sizes)
+    packs, pack_stops, packed_delete_stops, packed_rename_stops, reopened_packs, grafts, graft_readings, graft_stops, printed, histories, many_tags,
+    roots, lengths)
 
 
 if __name__ == "__main__":

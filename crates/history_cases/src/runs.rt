@@ -2,12 +2,14 @@
 
 use case_drops::Drops;
 use case_words::{Page, Trial, read_bytes, sound};
+use gix_hash::hasher::hasher;
 use gix_ref_file::MemoryFiles;
 use history::in_memory::{Answer, AnswerError, answer_stream, rows};
 use history::{Bytes, Collected, End, Kind, Repository, RunError, create};
 use std::alloc::Global;
 
-/// Runs commands on a repository: `STREAM`, or `COUNT:STREAM` through a reader that fails behind so many bytes.
+/// Runs commands on a repository: `STREAM`, or `COUNT:STREAM` through a reader that fails behind so many bytes. What is written is told as
+/// it is, or by a digest at `sum`.
 pub fn run(
     alloc: Global,
     repository: &mut Repository<Trial>,
@@ -18,7 +20,7 @@ pub fn run(
 ) -> Option<()> {
     let mut written = Collected::new(alloc);
     let ended = match operation {
-        "run" => {
+        "run" | "sum" => {
             let input = read_bytes(alloc, rest)?;
             history::run(alloc, &mut Bytes::new(&input), &mut written, repository)
         }
@@ -37,8 +39,20 @@ pub fn run(
             )
         }
     };
-    page.named(end_name(ended), written.as_slice());
+    match operation {
+        "sum" => show_sum(end_name(ended), written.as_slice(), page),
+        _ => page.named(end_name(ended), written.as_slice()),
+    }
     Some(())
+}
+
+// The first four digits of the SHA-1 digest.
+fn show_sum(name: &str, written: &[u8], page: &mut Page) {
+    let mut digest = hasher(Kind::Sha1);
+    digest.update(written);
+    page.word(name);
+    page.text(":");
+    page.hex(digest.try_finalize().as_bytes().get(..2).unwrap_or(b""));
 }
 
 fn end_name(ended: Result<End, RunError>) -> &'static str {

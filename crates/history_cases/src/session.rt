@@ -51,7 +51,7 @@ impl Session for Store {
                 self.show_failed(page);
                 Some(())
             }
-            "run" | "drops" => match &mut self.opened {
+            "run" | "sum" | "drops" => match &mut self.opened {
                 Some(repository) => runs::run(alloc, repository, operation, rest, number, page),
                 None => {
                     page.word("closed");
