@@ -1,8 +1,8 @@
 #!/usr/bin/env python3
-"""Compares the public functions of the ports that take memory with the lists in crates/*_cases/memory_calls.
+"""Compares the public functions of the ports and of the engine that take memory with the lists in crates/*_cases/memory_calls.
 
-A function is public that one of the four faces gives: free, of a type or of a trait. It takes memory if it is given an allocator, if its
-error is want of memory or of files, or if its documentation speaks of memory. A list has lines `FAMILY OPERATION: CALL CALL ..`, which say
+A function is public that one of the six faces gives, or a public module of one: free, of a type or of a trait. It takes memory if it is
+given an allocator, if its error is want of memory or of files, or if its documentation speaks of memory. A list has lines `FAMILY OPERATION: CALL CALL ..`, which say
 that the rows of `sizes` with this operation make these calls. Prints what is in one place alone; the status is then 1.
 """
 import re
@@ -10,8 +10,8 @@ import sys
 from pathlib import Path
 
 CRATES = Path(__file__).resolve().parents[2] / "crates"
-FACES = ("gix_hash", "gix_object", "gix_ref", "gix_traverse")
-USE = re.compile(r"pub use (gix_\w+)(?:::\w+)*::(?:\{([^}]*)\}|(\w+))")
+FACES = ("gix_hash", "gix_object", "gix_ref", "gix_traverse", "history", "history_files")
+USE = re.compile(r"pub use (\w+)(?:::\w+)*::(?:\{([^}]*)\}|(\w+))")
 TEXT = re.compile(r'"(?:\\.|[^"\\])*"|b?\'(?:\\.|[^\'\\])\'|(?<!/)//[^/][^\n]*', re.S)
 CLAUSE = re.compile(r"\n\s*(?:ensures|requires|decreases)\b[^{};]*\{|\bghost (?!use)[^{};]*\{")
 # An item that has functions in it, a function with its documentation, or the end of a block.
@@ -34,16 +34,23 @@ def plain(text):
     return text
 
 
+def used(crate):
+    """The crates, this one or those below it, of which a crate gives names, and those names."""
+    source = CRATES / crate / "src"
+    text = plain((source / "lib.rt").read_text())
+    text += "".join(plain((source / f"{it}.rt").read_text()) for it in re.findall(r"pub mod (\w+);", text))
+    for first, many, one in USE.findall(text):
+        yield first if (CRATES / first).is_dir() else crate, set(re.findall(r"\w+", re.sub(r" as \w+", "", many or one)))
+
+
 def exported():
     """The names that the faces give, by their crates."""
     names = {}
-    for face in FACES:
-        text = plain((CRATES / face / "src" / "lib.rt").read_text())
-        for crate, many, one in USE.findall(text):
-            names.setdefault(crate, set()).update(re.findall(r"\w+", re.sub(r" as \w+", "", many or one)))
+    for crate, given in (it for face in FACES for it in used(face)):
+        names.setdefault(crate, set()).update(given)
     for crate in list(names):
-        for below, many, one in USE.findall(plain((CRATES / crate / "src" / "lib.rt").read_text())):
-            names.setdefault(below, set()).update(names[crate].intersection(re.findall(r"\w+", many or one)))
+        for below, given in used(crate):
+            names.setdefault(below, set()).update(names[crate] & given)
     return names
 
 

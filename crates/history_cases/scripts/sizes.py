@@ -8,7 +8,7 @@ import sys
 from pathlib import Path
 from urllib.parse import unquote_to_bytes
 
-sys.path.insert(0, str(Path(__file__).resolve().parents[3] / "scripts"))
+sys.path.insert(0, str(Path(__file__).resolve().parents[3] / "scripts/cases"))
 sys.path.insert(0, str(Path(__file__).resolve().parent))
 from case_sizes import SIZES, expand, row
 from case_words import word
