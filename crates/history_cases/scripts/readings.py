@@ -19,10 +19,10 @@ def asking(kind, made, commands):
 
 
 def readings():
-    """How many objects are read: what the name holds, to see whether it is a tag, then the commit, the trees on the way, and no content but
-    the one that is looked up."""
-    asked = [(b"show main\n", 2), (b"files main\n", 5), (b"show main path 5\na/b/c\n", 6), (b"show main path 1\nd\n", 4),
-             (b"show main path 3\na/b\n", 4), (b"show main path 5\na/b/x\n", 5)]
+    """How many objects are read: what the name holds, after a tag its commit, the trees on the way, and no content but the one that is
+    asked for."""
+    asked = [(b"show main\n", 1), (b"files main\n", 4), (b"show main path 5\na/b/c\n", 5), (b"show main path 1\nd\n", 3),
+             (b"show main path 3\na/b\n", 3), (b"show main path 5\na/b/x\n", 4)]
     for kind in KINDS:
         for commit in (FEW, MANY):
             for command, count in asked:
@@ -42,6 +42,9 @@ def readings():
                              ((b"a/x", b"q/r"), 4 + 10), ((), 4)]:
             reading(kind, three, log_at(b"breadth all +m", *paths), count)
             reading(kind, three + b"index\n", log_at(b"breadth all +m", *paths), count - 3)
+        # Three commits, four trees and three contents.
+        for again, count in [(b"", 10 + 6), (b"index\n", 10)]:
+            reading(kind, three + again, b"index\n", count)
 
 
 def readers():

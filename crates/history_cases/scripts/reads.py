@@ -2,9 +2,10 @@
 against this.
 
 Each word looks up once the object that its name holds, or whose id it begins, since that may be a commit, a tag or neither. Besides, a
-command looks up once each commit, tree and content that its answer is made of, but for a commit that has a row. A log with paths looks up
-what it compares each time that it compares two commits. A graft looks up its word's commit, for the trees on the way to its source, and for
-each different tree below it once."""
+command looks up once each commit, tree and content that its answer is made of, but for a commit that was looked up as a word's object or
+has a row. A log with paths looks up what it compares each time that it compares two commits. `index` reads the first bytes of each
+object, and twice for each commit that has no row. A graft looks up its word's commit,
+the trees on the way to its source, and each different tree below it once."""
 
 from plain import Plain, Reader
 
@@ -59,7 +60,7 @@ def objects(plain, rows, command):
     """The objects that a command looks up, as often as it does."""
     name, *parts = command
     if name == "index":
-        return list(plain.objects)
+        return [*plain.objects, *(2 * [it for it in plain.commits if it not in rows])]
     if name == "commit":
         # One with grafts alone, on a new name, without parents, and refused before it stores anything.
         return [it for edit in parts[3] for it in of_word(plain, edit[2])] + of_grafts(plain, parts[3])
@@ -71,7 +72,8 @@ def objects(plain, rows, command):
     files, path = plain.commits[commit]["files"], parts[1] if name == "show" else None
     content = [files[path][1]] if path in files else []
     paths = [path] if path else None
-    return [*held, commit, *(of_folders(plain, files, paths) if name == "files" or path else []), *content]
+    behind_tag = [it for it in [commit] if it not in held]
+    return [*held, *behind_tag, *(of_folders(plain, files, paths) if name == "files" or path else []), *content]
 
 
 def names(command):

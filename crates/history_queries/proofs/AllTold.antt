@@ -8,16 +8,16 @@ use Rattle.gix_hash_id.specs.Id.{Id, id_of}
 use Rattle.gix_hash_id.specs.Order.{id_eq}
 use Rattle.gix_hash_id.specs.Packed.{object_id_of, object_id_of-id_of}
 use Rattle.gix_hash_id.specs.declared.object_id.ObjectId.{ObjectId}
-use Rattle.gix_object_lines.specs.declared.kind.Kind.{Kind as ObjectKind}
 use Rattle.gix_traverse_commit_graph.specs.Commits.{Commits, Listed, Reached, WalkRequest, tip, parent}
 use Rattle.gix_traverse_commit_graph.specs.Order.{At}
 use Rattle.gix_traverse_commit_graph.specs.Walks.{topological}
 use Rattle.gix_traverse_commit_graph.specs.declared.parents.Parents.TheVariants.{All}
+use Rattle.gix_traverse_commit_graph.specs.declared.rows.Row.{Row}
 use Rattle.gix_traverse_commit_graph.proofs.Listing.{has_listed}
 use Rattle.gix_traverse_commit_graph.proofs.Lists.{at_append, at_from_contains, at_from_take, contains_from_at}
 use Rattle.history_model.specs.Answers.{commits_of, parents_at}
 use Rattle.history_model.specs.Forms.{IsWritten}
-use Rattle.history_model.specs.Objects.{Actor, CommitValue, Value, StoredCommit, StoredTag, StoredBytes, StoredFolder, object_kind}
+use Rattle.history_model.specs.Objects.{Actor, CommitValue, Value, StoredCommit, StoredTag, StoredBytes, StoredFolder}
 use Rattle.history_model.specs.Repository.{Repository, HoldsCommit, IsWholeStore, as_commit, commit_at}
 use Rattle.history_model.proofs.IdLemmas.{id_itself, one_id}
 use Rattle.history_model.proofs.WholeGrowth.{holds_value}
@@ -31,10 +31,20 @@ use Rattle.gix_object_commit.specs.declared.commit.owned.Commit.{Commit}
 use Rattle.history_walks.specs.Asking.{IsInOrder, walk_from}
 use Rattle.history_walks.specs.declared.listing.Order.TheVariants.{Topological}
 use Rattle.history_walks.proofs.Named.{contains_map}
+use Rattle.history_repository.specs.KeptRows.{TellsRow}
 use Rattle.history_queries.specs.Indexing.{AreTheCommits, AreToldOf}
 use Rattle.history_queries.specs.Walked.{AllHold}
 use Rattle.history_queries.proofs.CommitsWalked.{held_parent}
-use Rattle.gix_object_lines.specs.declared.kind.Kind.TheVariants as kinds
+
+-- a row tells its commit as it is stored
+pub row_stored : (r : Repository) (row : Row) (told : Told) → TellsRow r.kind r.objects row → told.id ≡ row.id → told.tree ≡ row.tree → told.parents.items ≡ row.parents.items → told.time ≡ row.time → TellsStored r told
+row_stored r row told is same tree_is parents_are time_is = record {
+  commit = is.commit;
+  stored = ap (λ x. commit_at r (id_of x)) same ∙ ap (option_and_then as_commit) is.stored;
+  tree = ap id_of tree_is ∙ is.tree;
+  parents = ap (map id_of) parents_are ∙ is.parents;
+  time = time_is ∙ is.time;
+}
 
 -- no tips reach none
 none_reached : (g : Commits Id) {y : Id} → Reached (λ z. (g z).parents) (λ _. ⊤) [] y → ⊥
@@ -168,18 +178,6 @@ tells_stored r id told commit value at says same tree_is parents_are time_is = r
     seconds_are = ((says.plain).committer).plain_time.since ∙ ap (λ (a : Actor). pos a.seconds) says.committer
 
 -- ---- the ids of commits
-
-pub is_commit_kind : (value : Value) (kind : ObjectKind) → object_kind value ≡ kind → kind ≡ kinds.Commit → is_some (as_commit value) ≡ true
-is_commit_kind (StoredCommit c) kind same is = refl
-is_commit_kind (StoredTag t) kind same is = let e : kinds.Tag ≡ kinds.Commit = same ∙ is in let z : ⊥ = cc in absurd z
-is_commit_kind (StoredBytes b) kind same is = let e : kinds.Blob ≡ kinds.Commit = same ∙ is in let z : ⊥ = cc in absurd z
-is_commit_kind (StoredFolder f) kind same is = let e : kinds.Tree ≡ kinds.Commit = same ∙ is in let z : ⊥ = cc in absurd z
-
-pub other_kind : (value : Value) (kind : ObjectKind) → object_kind value ≡ kind → (kind ≡ kinds.Commit → ⊥) → is_some (as_commit value) ≡ false
-other_kind (StoredCommit c) kind same other = absurd (other (sym same))
-other_kind (StoredTag t) kind same other = refl
-other_kind (StoredBytes b) kind same other = refl
-other_kind (StoredFolder f) kind same other = refl
 
 some_value : (found : Option Value) → is_some found ≡ true → (value : Value) × (found ≡ Some value)
 some_value (Some value) is = (value, refl)

@@ -27,7 +27,7 @@ use Rattle.history_steps.proofs.OfferedFiles.{files_are_stored}
 use Rattle.history_model.proofs.WholeLists.{texts_differ}
 use Rattle.history_texts.specs.Commits.{SaysCommit}
 use Rattle.gix_hash_id.specs.declared.object_id.ObjectId.{ObjectId}
-use Rattle.history_repository.specs.Reads.{OnlyAnswers, GivesMeant, ReadsWord, IsReadingFault}
+use Rattle.history_repository.specs.Reads.{OnlyAnswers, GivesMeant, ReadsMeant, IsReadingFault}
 use Rattle.history_repository.specs.Meanings.{commit_or_cause}
 use Rattle.history_queries.specs.Shown.{shown_commit, shown_content}
 use Rattle.history_repository.specs.declared.stopped.Stopped.{Stopped}
@@ -44,7 +44,7 @@ reading_fault MayFail r order (Fault fault) h = h
 
 -- a word that stands for no commit is told by its cause
 pub unread : (MayFail : Type 0) (r : Repository) (order : Command) (word : Bytes) (stopped : Stopped) → ((cause : Cause) → commit_or_cause r word ≡ Err cause → first_cause r order ≡ Some cause)
-    → ReadsWord MayFail r word (Err stopped) → OnlyAnswers MayFail r order (Err stopped)
+    → ReadsMeant MayFail r word (Err stopped) → OnlyAnswers MayFail r order (Err stopped)
 unread MayFail r order word (Refused cause) told h = told cause h
 unread MayFail r order word (Fault fault) told h = h
 
@@ -160,10 +160,14 @@ module _ (r : Repository) (w : IsWhole r) where
 
 -- ---- what is read on the way
 
--- the folder of a stored commit
+-- the root of a stored commit
+pub root_at : (r : Repository) → IsWholeStore r → (id : Id) (value : CommitValue) (root : ObjectId) → get r.objects id ≡ Some (StoredCommit value) → id_of root ≡ folder_id r.kind value.files
+    → get r.objects (id_of root) ≡ Some (StoredFolder value.files)
+root_at r store id value root at is = ap (get r.objects) is ∙ (store.closed id (StoredCommit value) at).1
+
 pub folder_at : (r : Repository) → IsWholeStore r → (id : Id) (value : CommitValue) (commit : commits.Commit) → get r.objects id ≡ Some (StoredCommit value) → SaysCommit r.kind commit value
     → get r.objects (id_of commit.tree) ≡ Some (StoredFolder value.files)
-folder_at r store id value commit at is = ap (get r.objects) is.tree ∙ (store.closed id (StoredCommit value) at).1
+folder_at r store id value commit at is = root_at r store id value commit.tree at is.tree
 
 pub no_file_mode : {A : Type 0} (kind : FileKind) → mode_of kind ≡ codes "40000" → A
 no_file_mode File e = texts_differ _ _ refl e

@@ -3,7 +3,7 @@ pub mod Answered
 pub mod CommitsWalked
 pub mod DifferingLemmas
 pub mod FoundLemmas
-pub mod Headers
+pub mod Fronts
 pub mod LineTexts
 pub mod LogItems
 pub mod LogLemmas

@@ -9,11 +9,11 @@ ghost use Rattle.history_model.specs.Repository as plain;
 ghost use Rattle.history_model.specs.Commands as model;
 
 use crate::lines::{field, kind_word, line};
-use crate::reading::{files_below, read_commit};
+use crate::reading::files_below;
 use gix_hash::Kind;
 use gix_ref_file::Files;
 use history_files::File;
-use history_repository::{Repository, Stopped, commit_of};
+use history_repository::{Repository, Stopped, read_commit_of, root_meant};
 use history_store::hex_digits;
 use std::alloc::{AllocError, Global};
 
@@ -56,8 +56,8 @@ pub fn list_files<F: Files>(
     ensures { (r : plain.Repository) → Stands F.is_honest F.history repository.now r
         → OnlyAnswers F.reading_may_fail r (model.Files word.now) result }
 {
-    let id = commit_of(repository, alloc, word)?;
-    let commit = read_commit(repository, alloc, &id)?;
-    let files = files_below(repository, alloc, &commit.tree)?;
+    let commit = read_commit_of(repository, alloc, word)?;
+    let root = root_meant(repository, alloc, &commit)?;
+    let files = files_below(repository, alloc, &root)?;
     Ok(files_text(alloc, &files)?)
 }

@@ -5,13 +5,14 @@ ghost use Rattle.std.specs.FinMap.{entries, get};
 ghost use Rattle.history_model.specs.Answers.{file_line};
 ghost use Rattle.history_files.specs.Reading.{line_of};
 ghost use Rattle.history_model.specs.FileMap.{FileMap};
-ghost use Rattle.history_model.specs.Objects.{CommitValue, StoredCommit, StoredFolder};
+ghost use Rattle.history_model.specs.Objects.{CommitValue, StoredCommit, StoredFolder, commit_content};
 ghost use Rattle.history_texts.specs.Commits.{SaysCommit};
-ghost use Rattle.gix_hash_id.specs.Id.{id_of};
+ghost use Rattle.gix_hash_id.specs.Id.{Id, id_of};
 ghost use Rattle.gix_traverse_commit_graph.specs.Rows.{AllHeld};
 ghost use Rattle.gix_traverse_commit_known.specs.Told.{rows_of};
 ghost use Rattle.history_model.specs.declared.Fault.TheVariants.{Memory};
 ghost use Rattle.history_repository.specs.Stands.{Stands};
+ghost use Rattle.history_repository.specs.Meant.{HasContent};
 ghost use Rattle.history_repository.specs.Reads.{GivesMeant};
 ghost use Rattle.history_repository.specs.Face.{rows_in};
 ghost use Rattle.history_queries.specs.Walked.{AllHold, IsLogged};
@@ -24,14 +25,28 @@ use gix_ref_file::Files;
 use gix_traverse_commit_graph::Graph;
 use history_files::{File, files};
 use history_model::Fault;
-use history_repository::{Repository, Stopped, content};
+use history_repository::{MeantCommit, Repository, Stopped, content};
 use history_store::parse_commit;
 use history_walks::{Request, list_commits};
 use std::alloc::{AllocError, Global};
 
 // In a whole repository each id that is read names an object of its kind, so only a failed call leads to `fault File`.
 
-/// A stored commit.
+/// The commit of this content.
+fn commit_in<F: Files>(
+    repository: &Repository<F>,
+    alloc: Global,
+    content: &[u8],
+) -> Result<Commit, Stopped>
+    ensures { (r : plain.Repository) (id : Id) (value : CommitValue)
+        → Stands F.is_honest F.history repository.now r
+        → get r.objects id ≡ Some (StoredCommit value) → content.now ≡ commit_content r.kind value
+        → GivesMeant F.reading_may_fail (λ commit. SaysCommit r.kind commit value) result }
+{
+    Ok(parse_commit(alloc, repository.objects.kind(), content)?.ok_or(Fault::File)?)
+}
+
+/// A stored commit, whose content is read.
 pub(crate) fn read_commit<F: Files>(
     repository: &Repository<F>,
     alloc: Global,
@@ -43,7 +58,25 @@ pub(crate) fn read_commit<F: Files>(
         → GivesMeant F.reading_may_fail (λ commit. SaysCommit r.kind commit value) result }
 {
     let content = content(repository, alloc, gix_object::Kind::Commit, id)?;
-    Ok(parse_commit(alloc, repository.objects.kind(), &content)?.ok_or(Fault::File)?)
+    commit_in(repository, alloc, &content)
+}
+
+/// A commit that is meant. Its content is read only if it wasn't read before.
+pub(crate) fn commit_meant<F: Files>(
+    repository: &Repository<F>,
+    alloc: Global,
+    meant: &MeantCommit,
+) -> Result<Commit, Stopped>
+    ensures { (r : plain.Repository) (value : CommitValue)
+        → Stands F.is_honest F.history repository.now r
+        → get r.objects (id_of meant.now.id) ≡ Some (StoredCommit value)
+        → HasContent r meant.now
+        → GivesMeant F.reading_may_fail (λ commit. SaysCommit r.kind commit value) result }
+{
+    match &meant.content {
+        Some(content) => commit_in(repository, alloc, content),
+        None => read_commit(repository, alloc, &meant.id),
+    }
 }
 
 /// The files below a stored tree, their paths ascending. No content of theirs is read.

@@ -1,11 +1,15 @@
 //! The rows of all stored commits.
 
-ghost use Rattle.std.specs.Prelude.{◌≡◌, IfOk, Some, is_some};
+ghost use Rattle.std.specs.Prelude.{◌≡◌, Contains, IfOk, IfSome, Some, is_some};
 ghost use Rattle.std.specs.FinMap.{get};
 ghost use Rattle.gix_hash_id.specs.Id.{id_of};
 ghost use Rattle.gix_traverse_commit_graph.specs.Rows.{AreRows};
+ghost use Rattle.gix_traverse_commit_known.specs.Told.{rows_of as graph_rows};
 ghost use Rattle.history_model.specs.Objects.{Value};
+ghost use Rattle.history_model.specs.Repository.{HoldsCommit};
 ghost use Rattle.history_walks.specs.Rows.{AreTheRows};
+ghost use Rattle.history_walks.specs.Telling.{TellsStored};
+ghost use Rattle.history_repository.specs.Face.{rows_in};
 ghost use Rattle.history_repository.specs.Reads.{GivesMeant};
 ghost use Rattle.history_queries.specs.Indexing.{AreTheCommits, AreToldOf};
 ghost use Rattle.history_repository.specs.Stands.{Stands};
@@ -15,25 +19,31 @@ ghost use Rattle.history_model.specs.Repository as plain;
 
 use crate::reading::{commits, read_commit};
 use gix_hash::ObjectId;
-use gix_object::{Commit, FindHeader, Kind as ObjectKind};
+use gix_object::Commit;
 use gix_ref_file::Files;
-use gix_traverse_commit_graph::Row;
-use history_model::Fault;
+use gix_traverse_commit_graph::{ParentIds, Row};
 use history_repository::{Repository, Stopped};
+use history_store::object_place;
 use history_walks::{Order, Parents, Request, Told, rows_of};
 use std::alloc::Global;
 
-/// Whether a stored object is a commit, as its header tells.
-fn is_commit<F: Files>(repository: &Repository<F>, id: &ObjectId) -> Result<bool, Stopped>
+/// How a commit's text begins, and that of no other object.
+const COMMIT_FRONT: &[u8] = b"commit ";
+
+/// Whether a stored object is a commit. Of its file the first 7 bytes are read.
+fn is_commit<F: Files>(
+    repository: &Repository<F>,
+    alloc: Global,
+    id: &ObjectId,
+) -> Result<bool, Stopped>
     ensures { (r : plain.Repository) (value : Value) → Stands F.is_honest F.history repository.now r
         → get r.objects (id_of id.now) ≡ Some value
         → GivesMeant F.reading_may_fail (λ is. is ≡ is_some (plain.as_commit value)) result }
 {
-    let header = repository
-        .objects
-        .try_header(id.as_oid())?
-        .ok_or(Fault::File)?;
-    Ok(matches!(header.kind, ObjectKind::Commit))
+    let place = object_place(alloc, id)?;
+    let mut front = [0; 7];
+    repository.objects.files().read_at(&place, 0, &mut front)?;
+    Ok(front.as_slice() == COMMIT_FRONT)
 }
 
 /// The ids of all stored commits.
@@ -46,11 +56,51 @@ fn stored_commits<F: Files>(
 {
     let mut commits = Vec::new(alloc);
     'ids: for id in repository.objects.ids() {
-        if is_commit(repository, &id)? {
+        if is_commit(repository, alloc, &id)? {
             commits.push(id)?;
         }
     }
     Ok(commits)
+}
+
+/// The row that is kept of a commit, if it has one.
+fn row_of<'a, F: Files>(repository: &'a Repository<F>, id: &ObjectId) -> Option<&'a Row>
+    ensures { IfSome result (λ row. Contains (graph_rows (rows_in repository.now)) row.now
+        × (row.now.id ≡ id.now)) }
+{
+    repository.rows()?.commit_by_id(id)
+}
+
+/// What is told of a stored commit: by its row, if it has one; else its content is read.
+pub(crate) fn told_of<F: Files>(
+    repository: &Repository<F>,
+    alloc: Global,
+    id: &ObjectId,
+) -> Result<Told, Stopped>
+    ensures { (r : plain.Repository) → Stands F.is_honest F.history repository.now r
+        → HoldsCommit r (id_of id.now) → GivesMeant F.reading_may_fail
+        (λ told. (told.id ≡ id.now) × TellsStored r told) result }
+{
+    if let Some(row) = row_of(repository, id) {
+        return Ok(Told {
+            id: *id,
+            tree: row.tree,
+            parents: ParentIds::from_slice(alloc, row.parents.as_slice())?,
+            time: row.time,
+        });
+    }
+    let Commit {
+        tree,
+        parents,
+        committer,
+        ..
+    } = read_commit(repository, alloc, id)?;
+    Ok(Told {
+        id: *id,
+        tree,
+        parents,
+        time: committer.time.seconds,
+    })
 }
 
 /// What is told of stored commits, in their order.
@@ -65,18 +115,7 @@ fn told<F: Files>(
 {
     let mut commits = Vec::new(alloc);
     'ids: for id in ids {
-        let Commit {
-            tree,
-            parents,
-            committer,
-            ..
-        } = read_commit(repository, alloc, id)?;
-        commits.push(Told {
-            id: *id,
-            tree,
-            parents,
-            time: committer.time.seconds,
-        })?;
+        commits.push(told_of(repository, alloc, id)?)?;
     }
     Ok(commits)
 }

@@ -15,6 +15,7 @@ ghost use Rattle.history_word.specs.Commands.{IsPath};
 ghost use Rattle.history_word.specs.Fields.{Keeps};
 ghost use Rattle.std.specs.FinMap.{get};
 ghost use Rattle.history_repository.specs.Meanings.{commit_or_cause};
+ghost use Rattle.history_repository.specs.Meant.{HasContent};
 ghost use Rattle.history_repository.specs.Stands.{Stands};
 ghost use Rattle.history_repository.specs.Reads.{OnlyAnswers, GivesMeant};
 ghost use Rattle.gix_hash_id.specs.declared.kind.Kind as hash;
@@ -22,14 +23,17 @@ ghost use Rattle.history_model.specs.Repository as plain;
 ghost use Rattle.history_model.specs.Commands as model;
 
 use crate::lines::{field, kind_word, line};
-use crate::reading::read_commit;
+use crate::reading::commit_meant;
 use gix_hash::{Kind, ObjectId};
 use gix_object::Commit;
 use gix_object::lines::{Actor, write_time};
 use gix_ref_file::Files;
 use history_files::Found;
 use history_model::{Cause, FileKind};
-use history_repository::{Repository, Stopped, commit_of, content, found_below, is_bad_path, kept};
+use history_repository::{
+    MeantCommit, Repository, Stopped, content, found_below, is_bad_path, kept, read_commit_of,
+    root_meant,
+};
 use history_store::hex_digits;
 use history_word::{Field, Show};
 use std::alloc::{AllocError, Global};
@@ -149,14 +153,14 @@ fn content_text(
 fn show_commit<F: Files>(
     repository: &Repository<F>,
     alloc: Global,
-    id: &ObjectId,
+    meant: &MeantCommit,
 ) -> Result<Vec<u8>, Stopped>
     ensures { (r : plain.Repository) (word : Bytes) → Stands F.is_honest F.history repository.now r
-        → commit_or_cause r word ≡ Ok (id_of id.now)
+        → commit_or_cause r word ≡ Ok (id_of meant.now.id) → HasContent r meant.now
         → OnlyAnswers F.reading_may_fail r (model.Show word None) result }
 {
-    let commit = read_commit(repository, alloc, id)?;
-    Ok(commit_text(alloc, id, &commit)?)
+    let commit = commit_meant(repository, alloc, meant)?;
+    Ok(commit_text(alloc, &meant.id, &commit)?)
 }
 
 /// The text that shows a file whose content has this id.
@@ -179,19 +183,19 @@ fn show_file<F: Files>(
 fn show_content<F: Files>(
     repository: &Repository<F>,
     alloc: Global,
-    id: &ObjectId,
+    meant: &MeantCommit,
     path: &Field,
 ) -> Result<Vec<u8>, Stopped>
     ensures { (r : plain.Repository) (word bytes : Bytes)
         → Stands F.is_honest F.history repository.now r
-        → commit_or_cause r word ≡ Ok (id_of id.now) → Keeps max_path path.now bytes
-        → OnlyAnswers F.reading_may_fail r (model.Show word (Some bytes)) result }
+        → commit_or_cause r word ≡ Ok (id_of meant.now.id) → HasContent r meant.now
+        → Keeps max_path path.now bytes → OnlyAnswers F.reading_may_fail r (model.Show word (Some bytes)) result }
 {
     if is_bad_path(path) {
         return Err(Stopped::Refused(Cause::BadPath));
     }
-    let commit = read_commit(repository, alloc, id)?;
-    match found_below(repository, alloc, &commit.tree, kept(path))? {
+    let root = root_meant(repository, alloc, meant)?;
+    match found_below(repository, alloc, &root, kept(path))? {
         None => Err(Stopped::Refused(Cause::NoSuchPath)),
         Some(Found::Folder { .. }) => Err(Stopped::Refused(Cause::IsFolder)),
         Some(Found::File { kind, id }) => show_file(repository, alloc, kind, &id),
@@ -208,9 +212,9 @@ pub fn show<F: Files>(
         → Stands F.is_honest F.history repository.now r → IsPath command.now.path path
         → OnlyAnswers F.reading_may_fail r (model.Show command.now.word.items path) result }
 {
-    let id = commit_of(repository, alloc, &command.word)?;
+    let commit = read_commit_of(repository, alloc, &command.word)?;
     match &command.path {
-        None => show_commit(repository, alloc, &id),
-        Some(path) => show_content(repository, alloc, &id, path),
+        None => show_commit(repository, alloc, &commit),
+        Some(path) => show_content(repository, alloc, &commit, path),
     }
 }

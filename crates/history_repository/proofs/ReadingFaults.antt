@@ -5,9 +5,12 @@ use Rattle.history_files.specs.Reading.{OwnFault}
 use Rattle.history_files.specs.declared.error.ReadError.{ReadError}
 use Rattle.history_files.specs.declared.error.ReadError.TheVariants.{Failed, Broken, Memory}
 use Rattle.history_repository.specs.Faults.{read_fault}
-use Rattle.history_repository.specs.Reads.{GivesMeant, IsReadingFault}
+use Rattle.history_model.specs.Bytes.{Bytes}
+use Rattle.history_model.specs.Repository.{Repository}
+use Rattle.history_repository.specs.Reads.{GivesMeant, IsReadingFault, ReadsMeant}
+use Rattle.history_repository.specs.declared.stored.MeantCommit.{MeantCommit}
 use Rattle.history_repository.specs.declared.stopped.Stopped.{Stopped}
-use Rattle.history_repository.specs.declared.stopped.Stopped.TheVariants.{Fault}
+use Rattle.history_repository.specs.declared.stopped.Stopped.TheVariants.{Fault, Refused}
 
 -- ---- readings
 
@@ -23,3 +26,13 @@ read_told MayFail IsMeant (Ok value) error is fails = absurd is
 read_told MayFail IsMeant (Err stopped) Failed is fails = subst (IsReadingFault MayFail) (sym is) fails
 read_told MayFail IsMeant (Err stopped) (Broken oid) is fails = absurd fails
 read_told MayFail IsMeant (Err stopped) Memory is fails = subst (IsReadingFault MayFail) (sym is) tt
+
+-- why a call gave nothing is handed on
+pub fault_told : {T : Type 0} (MayFail : Type 0) (IsMeant : T → Type 0) (result : Result T Stopped) (stopped : Stopped) → IsErrAnd result (λ other. other ≡ stopped) → IsReadingFault MayFail stopped → GivesMeant MayFail IsMeant result
+fault_told MayFail IsMeant (Ok value) stopped same fault = absurd same
+fault_told MayFail IsMeant (Err other) stopped same fault = subst (IsReadingFault MayFail) (sym same) fault
+
+pub meant_unread : (MayFail : Type 0) (r : Repository) (word : Bytes) (result : Result MeantCommit Stopped) (stopped : Stopped) → IsErrAnd result (λ other. other ≡ stopped) → IsReadingFault MayFail stopped → ReadsMeant MayFail r word result
+meant_unread MayFail r word (Ok meant) stopped same fault = absurd same
+meant_unread MayFail r word (Err (Refused cause)) stopped same fault = absurd (subst (IsReadingFault MayFail) (sym same) fault)
+meant_unread MayFail r word (Err (Fault it)) stopped same fault = subst (IsReadingFault MayFail) (sym same) fault

@@ -1,16 +1,14 @@
 -- What the names that a word may mean tell of it, read one after another.
-use Rattle.std.proofs.Common.{◌≡◌, ℕ, suc, ◌+◌, ◌<◌, length, drop, get_or, drop-cons, subst, ◌≤◌, arith, Bool, true, false, cond, not, ◌&&◌, List, [], ◌∷◌, ◌++◌, map, filter, find, refl, sym, ◌∙◌, ap, Option, Some, None, is_some, option_map, unwrap_or, bytes_eq, codes, Bor, Err}
+use Rattle.std.proofs.Common.{◌≡◌, ℕ, suc, ◌+◌, ◌<◌, length, drop, get_or, drop-cons, subst, ◌≤◌, arith, Bool, true, false, cond, not, ◌&&◌, List, [], ◌∷◌, ◌++◌, map, filter, find, refl, sym, ◌∙◌, ap, Option, Some, None, is_some, option_map, unwrap_or, bytes_eq, codes, Bor}
 use Rattle.std.specs.FinMap.{get}
 use Rattle.std.proofs.lemmas.List.{append-nil, drop_all}
 use Rattle.history_model.specs.Bytes.{Bytes, begins}
 use Rattle.history_model.specs.Forms.{is_name, is_private}
 use Rattle.history_model.specs.Repository.{Repository, Reference, id_at, stands}
-use Rattle.history_model.specs.Words.{ReadsAs, word_meaning, name_meaning, id_meaning, candidates, head_word}
-use Rattle.history_model.specs.declared.Cause.TheVariants.{UnbornHead}
+use Rattle.history_model.specs.Words.{ReadsAs, Unborn, word_meaning, name_meaning, id_meaning, candidates, head_word}
 use Rattle.gix_ref_file.specs.History.{History}
 use Rattle.history_names.specs.Packing.{NameReads}
 use Rattle.gix_hash_id.specs.declared.object_id.ObjectId.{ObjectId}
-use Rattle.history_repository.specs.Meanings.{commit_or_cause, stands_for}
 use Rattle.history_repository.specs.Stands.{Stands}
 use Rattle.history_repository.specs.Face.{names_part}
 use Rattle.history_repository.proofs.NameReads.{held}
@@ -102,11 +100,14 @@ module _ (r : Repository) (word : Bytes) where
   pub reads_branch : bytes_eq word head_word ≡ true → word_meaning r word ≡ name_meaning (id_at r r.branch)
   reads_branch is = ap (λ b. cond b (name_meaning (id_at r r.branch)) (unwrap_or (option_map (λ name. name_meaning (id_at r name)) (find (stands r) (candidates word))) (id_meaning r word))) is
 
-  pub found_reads : bytes_eq word head_word ≡ false → (name : Bytes) (id : Id) → find (stands r) (candidates word) ≡ Some name → id_at r name ≡ Some id → stands_for r (ReadsAs id) ≡ commit_or_cause r word
-  found_reads other name id e at = sym (ap (stands_for r) (reads_found other (Some name) e ∙ ap name_meaning at))
+  pub found_reads : bytes_eq word head_word ≡ false → (name : Bytes) (id : Id) → find (stands r) (candidates word) ≡ Some name → id_at r name ≡ Some id → word_meaning r word ≡ ReadsAs id
+  found_reads other name id e at = reads_found other (Some name) e ∙ ap name_meaning at
 
-  pub none_reads : bytes_eq word head_word ≡ false → find (stands r) (candidates word) ≡ None → stands_for r (id_meaning r word) ≡ commit_or_cause r word
-  none_reads other e = sym (ap (stands_for r) (reads_found other None e))
+  pub none_reads : bytes_eq word head_word ≡ false → find (stands r) (candidates word) ≡ None → word_meaning r word ≡ id_meaning r word
+  none_reads other e = reads_found other None e
+
+  pub branch_reads : (id : Id) → bytes_eq word head_word ≡ true → id_at r r.branch ≡ Some id → word_meaning r word ≡ ReadsAs id
+  branch_reads id is at = reads_branch is ∙ ap name_meaning at
 
 -- a name that holds an id stands, and one that holds none doesn't
 pub stands_so : (r : Repository) (name : Bytes) (held : Option Id) → id_at r name ≡ held → stands r name ≡ is_some held
@@ -143,11 +144,6 @@ module _ {F : Type 0} (IsHonest : F → Type 0) (history : F → History) (repos
       → (id : ObjectId) → found ≡ Some id → id_at r r.branch ≡ Some (id_of id)
   branch_at place same found holds id there = branch_held place same found holds ∙ ap (option_map id_of) there
 
-  pub branch_reads : (word : Bytes) (id : Id) → bytes_eq word head_word ≡ true → id_at r r.branch ≡ Some id → stands_for r (ReadsAs id) ≡ commit_or_cause r word
-  branch_reads word id is at = sym (ap (stands_for r) (reads_branch r word is ∙ ap name_meaning at))
-
   pub branch_unborn : (word place : Bytes) → bytes_eq word head_word ≡ true → place ≡ repository.branch.items → (found : Option ObjectId) → NameReads repository.names.kind (history (names_part repository)).tree place found
-      → found ≡ None → Err UnbornHead ≡ commit_or_cause r word
-  branch_unborn word place is same found holds none =
-      let at : id_at r r.branch ≡ None = branch_held place same found holds ∙ ap (option_map id_of) none in
-      sym (ap (stands_for r) (reads_branch r word is ∙ ap name_meaning at))
+      → found ≡ None → word_meaning r word ≡ Unborn
+  branch_unborn word place is same found holds none = reads_branch r word is ∙ ap name_meaning (branch_held place same found holds ∙ ap (option_map id_of) none)

@@ -5,6 +5,7 @@ pub mod Fields
 pub mod Held
 pub mod KeptRows
 pub mod Meanings
+pub mod Meant
 pub mod NameForms
 pub mod NamesShown
 pub mod Opened

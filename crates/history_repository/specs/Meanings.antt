@@ -1,10 +1,13 @@
 -- What a word was read as, the commit that it stands for, and why words that were read stand for none.
 use Rattle.std.specs.Prelude.{◌≡◌, Bool, true, false, List, Option, Some, None, Result, Ok, Err, IsTrue, find, ok_or, if◌then◌else◌}
+use Rattle.std.specs.FinMap.{get}
 use Rattle.history_model.specs.Bytes.{Bytes}
+use Rattle.history_model.specs.Objects.{Value}
 use Rattle.history_model.specs.Repository.{Repository, id_at, peeled, stands}
 use Rattle.history_model.specs.Words.{candidates, is_short_id, word_meaning}
 use Rattle.history_model.specs.declared.Cause.{Cause}
 use Rattle.history_model.specs.declared.Cause.TheVariants.{UnknownWord, AmbiguousWord, UnbornHead, NotACommit, NotExpected}
+use Rattle.history_repository.specs.declared.words.LookedUp.{LookedUp}
 use Rattle.history_repository.specs.declared.words.Standing.{Standing}
 use Rattle.history_repository.specs.declared.words.WordMeaning.{WordMeaning}
 use Rattle.history_repository.specs.declared.words.WordMeaning.TheVariants.{Commit, NoCommit, Unborn, Unknown, Ambiguous}
@@ -15,6 +18,7 @@ use Rattle.gix_hash_id.specs.Spelling.{IsHexOf}
 use Rattle.std.specs.List.{list_any}
 use Rattle.gix_hash_id.specs.Order.{id_eq}
 use Rattle.history_model.specs.Words as model
+use Rattle.history_repository.specs.declared.words.LookedUp.TheVariants as looked
 
 -- the commit that a word of this meaning stands for, or why it stands for none
 abbrev pub stands_for : Repository → model.WordMeaning → Result Id Cause
@@ -34,6 +38,19 @@ meaning_of NoCommit = Err NotACommit
 meaning_of Unborn = Err UnbornHead
 meaning_of Unknown = Err UnknownWord
 meaning_of Ambiguous = Err AmbiguousWord
+
+-- a word of this meaning stands for the object of this id, which is stored
+pub record ReadsAsStored (r : Repository) (meaning : model.WordMeaning) (id : Id) : Type 0 where
+  pub reads : meaning ≡ model.ReadsAs id
+  pub value : Value
+  pub stored : get r.objects id ≡ Some value
+
+-- a word of this meaning was looked up so
+abbrev pub IsLookedUp : Repository → model.WordMeaning → LookedUp → Type 0
+IsLookedUp r meaning (looked.Object id) = ReadsAsStored r meaning (id_of id)
+IsLookedUp r meaning looked.Unborn = meaning ≡ model.Unborn
+IsLookedUp r meaning looked.Unknown = meaning ≡ model.Unknown
+IsLookedUp r meaning looked.Ambiguous = meaning ≡ model.Ambiguous
 
 -- the commit that a word was read as
 abbrev pub commit_in : WordMeaning → Option ObjectId

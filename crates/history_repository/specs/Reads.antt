@@ -6,8 +6,9 @@ use Rattle.history_model.specs.Replies.{reply_text}
 use Rattle.history_model.specs.Causes.{first_cause}
 use Rattle.history_model.specs.Answers.{Answers}
 use Rattle.history_model.specs.declared.Fault.TheVariants.{Memory, File, IdTaken}
-use Rattle.gix_hash_id.specs.declared.object_id.ObjectId.{ObjectId}
 use Rattle.history_repository.specs.Meanings.{commit_or_cause}
+use Rattle.history_repository.specs.Meant.{HasContent}
+use Rattle.history_repository.specs.declared.stored.MeantCommit.{MeantCommit}
 use Rattle.history_repository.specs.declared.stopped.Stopped.{Stopped}
 use Rattle.history_repository.specs.declared.stopped.Stopped.TheVariants.{Refused, Fault}
 use Rattle.gix_hash_id.specs.Id.{id_of}
@@ -31,11 +32,12 @@ GivesMeant MayFail IsMeant (Err stopped) = IsReadingFault MayFail stopped
 
 -- ---- words
 
--- the word stands for this commit, or for none, for this cause
-abbrev pub ReadsWord : Type 0 → plain.Repository → Bytes → Result ObjectId Stopped → Type 0
-ReadsWord MayFail r word (Ok id) = commit_or_cause r word ≡ Ok (id_of id)
-ReadsWord MayFail r word (Err (Refused cause)) = commit_or_cause r word ≡ Err cause
-ReadsWord MayFail r word (Err (Fault fault)) = IsReadingFault MayFail (Fault fault)
+-- the word stands for this commit, of which no content but its own was read, or for none, for this cause
+abbrev pub ReadsMeant : Type 0 → plain.Repository → Bytes → Result MeantCommit Stopped → Type 0
+ReadsMeant MayFail r word (Ok meant) =
+    (commit_or_cause r word ≡ Ok (id_of meant.id)) × HasContent r meant
+ReadsMeant MayFail r word (Err (Refused cause)) = commit_or_cause r word ≡ Err cause
+ReadsMeant MayFail r word (Err (Fault fault)) = IsReadingFault MayFail (Fault fault)
 
 -- ---- commands
 

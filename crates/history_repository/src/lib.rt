@@ -21,5 +21,5 @@ pub use open_error::OpenRefusal;
 pub use repository::Repository;
 pub use shown::{ALL_NAMES, Shown, read_shown};
 pub use stopped::Stopped;
-pub use stored::{content, found_below, root_of, tree_before};
-pub use words::{Standing, WordMeaning, commit_of, first_standing, read_word, test_all};
+pub use stored::{MeantCommit, content, found_below, root_meant, root_of, tree_before};
+pub use words::{Standing, WordMeaning, first_standing, read_commit_of, read_word, test_all};

@@ -3,13 +3,14 @@
 ghost use Rattle.std.specs.Prelude.{◌≡◌, Some, map, option_map};
 ghost use Rattle.std.specs.FinMap.{get};
 ghost use Rattle.history_model.specs.FileMap.{FileMap};
-ghost use Rattle.history_model.specs.Objects.{CommitValue, StoredCommit, StoredFolder, Value, content_of, entry_at, folder_id, object_kind};
+ghost use Rattle.history_model.specs.Objects.{CommitValue, StoredCommit, StoredFolder, StoredTag, TagValue, Value, commit_content, content_of, entry_at, folder_id, object_kind, tag_content};
 ghost use Rattle.history_files.specs.Reading.{entry_of};
-ghost use Rattle.gix_hash_id.specs.Id.{id_of};
+ghost use Rattle.gix_hash_id.specs.Id.{Id, id_of};
 ghost use Rattle.history_repository.specs.Stands.{Stands};
 ghost use Rattle.history_repository.specs.Reads.{GivesMeant};
 ghost use Rattle.std.specs.List.{AllByRecursion};
 ghost use Rattle.history_model.specs.Repository.{HoldsCommit};
+ghost use Rattle.history_repository.specs.Meant.{HasContent, IsMeantBy, IsObject};
 ghost use Rattle.history_repository.specs.TreesBefore.{IsTreeBefore};
 ghost use Rattle.history_model.specs.Repository as plain;
 
@@ -19,7 +20,7 @@ use gix_hash::ObjectId;
 use gix_ref_file::Files;
 use history_files::{Found, entry_at};
 use history_model::Fault;
-use history_store::{commit_tree, tag_target};
+use history_store::{Object, commit_tree, tag_target};
 use std::alloc::Global;
 
 // In a whole repository each id that is read names an object of its kind, so only a failed call leads to `fault File`.
@@ -42,7 +43,64 @@ pub fn content<F: Files>(
     }
 }
 
-/// The commit that a stored object stands for: a commit for itself, a tag for the one that it is of; `None` of another object.
+/// A stored object.
+fn read_object<F: Files>(
+    repository: &Repository<F>,
+    alloc: Global,
+    id: &ObjectId,
+) -> Result<Object, Stopped>
+    ensures { (r : plain.Repository) (value : Value) → Stands F.is_honest F.history repository.now r
+        → get r.objects (id_of id.now) ≡ Some value
+        → GivesMeant F.reading_may_fail (IsObject r.kind value) result }
+{
+    Ok(repository.objects.read(alloc, id)?.ok_or(Fault::File)?)
+}
+
+/// The commit that a tag of this content is of.
+fn tagged<F: Files>(repository: &Repository<F>, content: &[u8]) -> Result<ObjectId, Stopped>
+    ensures { (r : plain.Repository) (id : Id) (tag : TagValue)
+        → Stands F.is_honest F.history repository.now r
+        → get r.objects id ≡ Some (StoredTag tag) → content.now ≡ tag_content tag
+        → GivesMeant F.reading_may_fail (λ target. id_of target ≡ tag.target) result }
+{
+    Ok(tag_target(repository.objects.kind(), content).ok_or(Fault::File)?)
+}
+
+/// A commit that a word or a name means: its id, and its content, if the object that was read is the commit itself. Of a tag's
+/// commit no content was read.
+#[derive(Drop)]
+pub struct MeantCommit {
+    pub id: ObjectId,
+    pub content: Option<Vec<u8>>,
+}
+
+/// The commit that a stored object stands for: a commit for itself, a tag for the one that it is of; `None` of another object. One
+/// object is read.
+pub(crate) fn read_meant<F: Files>(
+    repository: &Repository<F>,
+    alloc: Global,
+    id: ObjectId,
+) -> Result<Option<MeantCommit>, Stopped>
+    ensures { (r : plain.Repository) (value : Value) → Stands F.is_honest F.history repository.now r
+        → get r.objects (id_of id) ≡ Some value
+        → GivesMeant F.reading_may_fail (IsMeantBy r (id_of id)) result }
+{
+    let object = read_object(repository, alloc, &id)?;
+    match object.kind {
+        gix_object::Kind::Commit => Ok(Some(MeantCommit {
+            id,
+            content: Some(object.content),
+        })),
+        gix_object::Kind::Tag => Ok(Some(MeantCommit {
+            id: tagged(repository, &object.content)?,
+            content: None,
+        })),
+        gix_object::Kind::Tree => Ok(None),
+        gix_object::Kind::Blob => Ok(None),
+    }
+}
+
+/// The commit that a stored object stands for, as `read_meant` reads it.
 pub(crate) fn peeled<F: Files>(
     repository: &Repository<F>,
     alloc: Global,
@@ -53,19 +111,24 @@ pub(crate) fn peeled<F: Files>(
         → GivesMeant F.reading_may_fail
         (λ commit. option_map id_of commit ≡ plain.peeled r (id_of id)) result }
 {
-    let object = repository.objects.read(alloc, &id)?.ok_or(Fault::File)?;
-    match object.kind {
-        gix_object::Kind::Commit => Ok(Some(id)),
-        gix_object::Kind::Tag => {
-            let target = tag_target(repository.objects.kind(), &object.content);
-            Ok(Some(target.ok_or(Fault::File)?))
-        }
-        gix_object::Kind::Tree => Ok(None),
-        gix_object::Kind::Blob => Ok(None),
+    match read_meant(repository, alloc, id)? {
+        Some(meant) => Ok(Some(meant.id)),
+        None => Ok(None),
     }
 }
 
-/// The root of a stored commit: the id of its tree, which its first line names. Nothing behind that line is taken apart.
+/// The root of a commit of this content: the id of its tree, which its first line names. Nothing behind that line is taken apart.
+fn root_in<F: Files>(repository: &Repository<F>, content: &[u8]) -> Result<ObjectId, Stopped>
+    ensures { (r : plain.Repository) (id : Id) (value : CommitValue)
+        → Stands F.is_honest F.history repository.now r
+        → get r.objects id ≡ Some (StoredCommit value) → content.now ≡ commit_content r.kind value
+        → GivesMeant F.reading_may_fail
+        (λ root. id_of root ≡ folder_id r.kind value.files) result }
+{
+    Ok(commit_tree(repository.objects.kind(), content).ok_or(Fault::File)?)
+}
+
+/// The root of a stored commit, whose content is read.
 pub fn root_of<F: Files>(
     repository: &Repository<F>,
     alloc: Global,
@@ -78,7 +141,25 @@ pub fn root_of<F: Files>(
         (λ root. id_of root ≡ folder_id r.kind value.files) result }
 {
     let content = content(repository, alloc, gix_object::Kind::Commit, id)?;
-    Ok(commit_tree(repository.objects.kind(), &content).ok_or(Fault::File)?)
+    root_in(repository, &content)
+}
+
+/// The root of a commit that is meant. Its content is read only if it wasn't read before.
+pub fn root_meant<F: Files>(
+    repository: &Repository<F>,
+    alloc: Global,
+    meant: &MeantCommit,
+) -> Result<ObjectId, Stopped>
+    ensures { (r : plain.Repository) (value : CommitValue)
+        → Stands F.is_honest F.history repository.now r
+        → get r.objects (id_of meant.now.id) ≡ Some (StoredCommit value)
+        → HasContent r meant.now → GivesMeant F.reading_may_fail
+        (λ root. id_of root ≡ folder_id r.kind value.files) result }
+{
+    match &meant.content {
+        Some(content) => root_in(repository, content),
+        None => root_of(repository, alloc, &meant.id),
+    }
 }
 
 /// The tree of a commit's first parent; `None` without one.

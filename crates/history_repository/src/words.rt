@@ -4,11 +4,11 @@ ghost use Rattle.std.specs.Prelude.{◌≡◌, ◌++◌, ◌&&◌, not, Some, No
 ghost use Rattle.std.specs.List.{list_any};
 ghost use Rattle.history_model.specs.Bytes.{begins};
 ghost use Rattle.history_model.specs.Forms.{is_private, refs_front};
-ghost use Rattle.history_model.specs.Words.{is_short_id, ReadsAs, id_meaning};
-ghost use Rattle.history_repository.specs.Meanings.{reads_as, words_cause, commit_in, is_ambiguous_word, is_not_a_commit, is_unborn_head, is_unknown_word, meaning_of, SpellsPrefix, commit_or_cause, stands_for, IsFirstStanding};
+ghost use Rattle.history_model.specs.Words.{is_short_id, ReadsAs, id_meaning, word_meaning};
+ghost use Rattle.history_repository.specs.Meanings.{reads_as, words_cause, commit_in, is_ambiguous_word, is_not_a_commit, is_unborn_head, is_unknown_word, meaning_of, SpellsPrefix, commit_or_cause, stands_for, IsFirstStanding, IsLookedUp};
 ghost use Rattle.gix_hash_id.specs.Id.{id_of};
 ghost use Rattle.history_repository.specs.Stands.{Stands};
-ghost use Rattle.history_repository.specs.Reads.{GivesMeant, ReadsWord};
+ghost use Rattle.history_repository.specs.Reads.{GivesMeant, ReadsMeant};
 ghost use Rattle.history_model.specs.Objects.{Value};
 ghost use Rattle.std.specs.FinMap.{get};
 ghost use Rattle.history_model.specs.Repository as plain;
@@ -16,7 +16,7 @@ ghost use Rattle.history_model.specs.Repository as plain;
 use crate::naming::is_private;
 use crate::repository::Repository;
 use crate::stopped::Stopped;
-use crate::stored::peeled;
+use crate::stored::{MeantCommit, peeled, read_meant};
 use gix_hash::{Kind, ObjectId, Prefix};
 use gix_ref_file::Files;
 use history_model::Cause;
@@ -32,6 +32,19 @@ pub enum WordMeaning {
     Commit(ObjectId),
     /// The id of an object that is neither a commit nor a tag of one.
     NoCommit,
+    /// HEAD, whose branch doesn't stand.
+    Unborn,
+    /// No candidate stands, and no stored object's id begins with the word.
+    Unknown,
+    /// No candidate stands, and several ids begin with the word.
+    Ambiguous,
+}
+
+/// What a word means, before any object is read.
+#[derive(Clone, Copy)]
+enum LookedUp {
+    /// The object that its name holds, or whose id alone begins with it.
+    Object(ObjectId),
     /// HEAD, whose branch doesn't stand.
     Unborn,
     /// No candidate stands, and no stored object's id begins with the word.
@@ -231,8 +244,44 @@ pub fn first_standing<F: Files>(
     Ok(None)
 }
 
-/// What a word stands for: HEAD for its branch, another word for the first candidate that stands, and else for the stored object
-/// whose id alone begins with it.
+/// What a word means: HEAD its branch, another word the first candidate that stands, and else the stored object whose id alone
+/// begins with it. No object is read.
+fn look_up<F: Files>(
+    repository: &Repository<F>,
+    alloc: Global,
+    word: &[u8],
+) -> Result<LookedUp, Stopped>
+    ensures { (r : plain.Repository) → Stands F.is_honest F.history repository.now r
+        → GivesMeant F.reading_may_fail (IsLookedUp r (word_meaning r word.now)) result }
+{
+    if word == HEAD {
+        return match repository.names.find(alloc, &repository.branch)? {
+            Some(id) => Ok(LookedUp::Object(id)),
+            None => Ok(LookedUp::Unborn),
+        };
+    }
+    match first_standing(repository, alloc, word)? {
+        Some(standing) => Ok(LookedUp::Object(standing.id)),
+        None => Ok(look_up_id(repository, word)),
+    }
+}
+
+/// What a word means that is no name: the stored object whose id alone begins with it, where it is a short id.
+fn look_up_id<F: Files>(repository: &Repository<F>, word: &[u8]) -> LookedUp
+    ensures { (r : plain.Repository) → Stands F.is_honest F.history repository.now r
+        → IsLookedUp r (id_meaning r word.now) result }
+{
+    let Some(prefix) = short_id(repository.objects.kind(), word) else {
+        return LookedUp::Unknown;
+    };
+    match repository.objects.lookup_prefix(&prefix).hit {
+        Hit::Absent => LookedUp::Unknown,
+        Hit::One(id) => LookedUp::Object(id),
+        Hit::Several => LookedUp::Ambiguous,
+    }
+}
+
+/// What a word stands for, once its object is read.
 pub fn read_word<F: Files>(
     repository: &Repository<F>,
     alloc: Global,
@@ -242,35 +291,11 @@ pub fn read_word<F: Files>(
         → GivesMeant F.reading_may_fail (λ meaning.
         meaning_of meaning ≡ commit_or_cause r word.now) result }
 {
-    if word == HEAD {
-        return match repository.names.find(alloc, &repository.branch)? {
-            Some(id) => read_stored(repository, alloc, id),
-            None => Ok(WordMeaning::Unborn),
-        };
-    }
-    match first_standing(repository, alloc, word)? {
-        Some(standing) => read_stored(repository, alloc, standing.id),
-        None => read_short_id(repository, alloc, word),
-    }
-}
-
-/// What a word stands for that is no name: the stored object whose id alone begins with it, where it is a short id.
-fn read_short_id<F: Files>(
-    repository: &Repository<F>,
-    alloc: Global,
-    word: &[u8],
-) -> Result<WordMeaning, Stopped>
-    ensures { (r : plain.Repository) → Stands F.is_honest F.history repository.now r
-        → GivesMeant F.reading_may_fail (λ meaning.
-        meaning_of meaning ≡ stands_for r (id_meaning r word.now)) result }
-{
-    let Some(prefix) = short_id(repository.objects.kind(), word) else {
-        return Ok(WordMeaning::Unknown);
-    };
-    match repository.objects.lookup_prefix(&prefix).hit {
-        Hit::Absent => Ok(WordMeaning::Unknown),
-        Hit::One(id) => read_stored(repository, alloc, id),
-        Hit::Several => Ok(WordMeaning::Ambiguous),
+    match look_up(repository, alloc, word)? {
+        LookedUp::Object(id) => read_stored(repository, alloc, id),
+        LookedUp::Unborn => Ok(WordMeaning::Unborn),
+        LookedUp::Unknown => Ok(WordMeaning::Unknown),
+        LookedUp::Ambiguous => Ok(WordMeaning::Ambiguous),
     }
 }
 
@@ -291,14 +316,22 @@ fn read_stored<F: Files>(
     })
 }
 
-/// The commit that a word stands for.
-pub fn commit_of<F: Files>(
+/// The commit that a word stands for, with its content, unless a tag stands between them. One object is read.
+pub fn read_commit_of<F: Files>(
     repository: &Repository<F>,
     alloc: Global,
     word: &[u8],
-) -> Result<ObjectId, Stopped>
+) -> Result<MeantCommit, Stopped>
     ensures { (r : plain.Repository) → Stands F.is_honest F.history repository.now r
-        → ReadsWord F.reading_may_fail r word.now result }
+        → ReadsMeant F.reading_may_fail r word.now result }
 {
-    Ok(read_word(repository, alloc, word)?.commit()?)
+    match look_up(repository, alloc, word)? {
+        LookedUp::Object(id) => match read_meant(repository, alloc, id)? {
+            Some(meant) => Ok(meant),
+            None => Err(Stopped::Refused(Cause::NotACommit)),
+        },
+        LookedUp::Unborn => Err(Stopped::Refused(Cause::UnbornHead)),
+        LookedUp::Unknown => Err(Stopped::Refused(Cause::UnknownWord)),
+        LookedUp::Ambiguous => Err(Stopped::Refused(Cause::AmbiguousWord)),
+    }
 }

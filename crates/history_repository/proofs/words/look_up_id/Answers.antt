@@ -1,18 +1,17 @@
-use Rattle.std.proofs.Common.{◌∙◌, ap, sym, subst}
+use Rattle.std.proofs.Common.{◌∙◌, subst}
 use Rattle.gix_hash_id.specs.Id.{id_of}
 use Rattle.gix_hash_id.specs.declared.kind.Kind.{Kind}
 use Rattle.history_objects.specs.Prefixes.{CanName, IsHit}
 use Rattle.history_repository.specs.Face.{known_ids}
-use Rattle.history_repository.specs.Meanings.{stands_for, SpellsPrefix}
-use Rattle.history_repository.proofs.ShortIds.{absent_told, can_name, given_alike, kinds_known, no_short_id, one_stored, one_told, several_told}
-use Rattle.history_repository.proofs.words.read_short_id.Goals as goal
+use Rattle.history_repository.specs.Meanings.{SpellsPrefix}
+use Rattle.history_repository.proofs.ShortIds.{absent_told, can_name, kinds_known, no_short_id, one_stored, one_told, several_told}
+use Rattle.history_repository.proofs.words.look_up_id.Goals as goal
 
 pub lookup_prefix-requires : goal.lookup_prefix-requires
 lookup_prefix-requires g c = subst (λ (kind : Kind). CanName kind c.in-Some.prefix) c.kind.ensures (can_name c.kind.result c.args.word.now c.in-Some.prefix c.in-Some.ensures)
 
 pub returns-in_default : goal.returns-in_default
-returns-in_default g c = λ r s.
-    sym (ap (stands_for r) (no_short_id r c.kind.result c.args.word.now (c.kind.ensures ∙ s.objects_kind) c.in_default.ensures))
+returns-in_default g c = λ r s. no_short_id r c.kind.result c.args.word.now (c.kind.ensures ∙ s.objects_kind) c.in_default.ensures
 
 pub returns-in-Absent : goal.returns-in-Absent
 returns-in-Absent g c = λ r s.
@@ -23,7 +22,7 @@ returns-in-Absent g c = λ r s.
     let prefix = c.in-Some.prefix in
     let spelled = subst (λ (kind : Kind). SpellsPrefix kind word prefix) c.kind.ensures c.in-Some.ensures in
     let hit = subst (IsHit (known_ids own) prefix) c.in-Absent.is (c.lookup_prefix.ensures.hit (kinds_known H history own r s)) in
-    sym (ap (stands_for r) (absent_told H history own r s word prefix spelled hit))
+    absent_told H history own r s word prefix spelled hit
 
 pub returns-in-One : goal.returns-in-One
 returns-in-One g c = λ r s.
@@ -34,9 +33,8 @@ returns-in-One g c = λ r s.
     let prefix = c.in-Some.prefix in
     let spelled = subst (λ (kind : Kind). SpellsPrefix kind word prefix) c.kind.ensures c.in-Some.ensures in
     let hit = subst (IsHit (known_ids own) prefix) c.in-One.is (c.lookup_prefix.ensures.hit (kinds_known H history own r s)) in
-    let id = c.in-One.id in
-    let stored = one_stored H history own r s word prefix spelled id hit in
-    given_alike g.F.Files.reading_may_fail _ _ (ap (stands_for r) (sym (one_told H history own r s word prefix spelled id hit))) c.read_stored.result (c.read_stored.ensures r stored.0 s stored.1)
+    let stored = one_stored H history own r s word prefix spelled c.in-One.id hit in
+    record { reads = one_told H history own r s word prefix spelled c.in-One.id hit; value = stored.0; stored = stored.1 }
 
 pub returns-in-Several : goal.returns-in-Several
 returns-in-Several g c = λ r s.
@@ -47,4 +45,4 @@ returns-in-Several g c = λ r s.
     let prefix = c.in-Some.prefix in
     let spelled = subst (λ (kind : Kind). SpellsPrefix kind word prefix) c.kind.ensures c.in-Some.ensures in
     let hit = subst (IsHit (known_ids own) prefix) c.in-Several.is (c.lookup_prefix.ensures.hit (kinds_known H history own r s)) in
-    sym (ap (stands_for r) (several_told H history own r s word prefix spelled hit))
+    several_told H history own r s word prefix spelled hit

@@ -1,0 +1,31 @@
+-- What was read of an object, and of the commit that it stands for.
+use Rattle.std.specs.Prelude.{◌≡◌, ⊤, Option, Some, None, MatchOption}
+use Rattle.std.specs.FinMap.{get}
+use Rattle.gix_hash_id.specs.Id.{Id, id_of}
+use Rattle.gix_hash_id.specs.declared.kind.Kind.{Kind}
+use Rattle.history_model.specs.Bytes.{Bytes}
+use Rattle.history_model.specs.Objects.{CommitValue, StoredCommit, Value, commit_content, content_of, object_kind}
+use Rattle.history_model.specs.Repository.{Repository, peeled}
+use Rattle.history_objects.specs.declared.objects.Object.{Object}
+use Rattle.history_repository.specs.declared.stored.MeantCommit.{MeantCommit}
+
+-- this is the object of a value
+abbrev pub IsObject : Kind → Value → Object → Type 0
+IsObject kind value object =
+    (object.kind ≡ object_kind value) × (object.content.items ≡ content_of kind value)
+
+-- this is what the commit of an id has for its content, if it is stored
+abbrev pub IsContentOf : Repository → Id → Bytes → Type 0
+IsContentOf r id content =
+    (value : CommitValue) → get r.objects id ≡ Some (StoredCommit value)
+    → content ≡ commit_content r.kind value
+
+-- what was read of the commit, if anything was, is its content
+abbrev pub HasContent : Repository → MeantCommit → Type 0
+HasContent r meant =
+    MatchOption meant.content ⊤ (λ content. IsContentOf r (id_of meant.id) content.items)
+
+-- the commit that the object of an id stands for; none where it stands for none
+abbrev pub IsMeantBy : Repository → Id → Option MeantCommit → Type 0
+IsMeantBy r id (Some meant) = (peeled r id ≡ Some (id_of meant.id)) × HasContent r meant
+IsMeantBy r id None = peeled r id ≡ None
