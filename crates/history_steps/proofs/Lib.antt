@@ -18,3 +18,7 @@ pub mod Takings
 pub mod Packs
 pub mod Renames
 pub mod HeadSwitched
+pub mod EditedNames
+pub mod EditsPassed
+pub mod EditsStood
+pub mod EditsOfCommands

@@ -49,14 +49,14 @@ later_apart q (x ∷ xs) ys once among =
         (or_parts (list_any (bytes_eq x) xs) (list_any (bytes_eq x) ys) (sym (list_any-append (bytes_eq x) xs ys) ∙ none)).1
     go false e none rest = rest
 
-once_behind : (xs ys : List Bytes) → has_twice bytes_eq (xs ++ ys) ≡ false → has_twice bytes_eq ys ≡ false
+pub once_behind : (xs ys : List Bytes) → has_twice bytes_eq (xs ++ ys) ≡ false → has_twice bytes_eq ys ≡ false
 once_behind [] ys once = once
 once_behind (x ∷ xs) ys once = once_behind xs ys (or_parts (list_any (bytes_eq x) (xs ++ ys)) (has_twice bytes_eq (xs ++ ys)) once).1
 
-abbrev name_of : To → Bytes
+abbrev pub name_of : To → Bytes
 name_of to = to.name
 
-names_joined : (xs ys : List To) → map name_of (xs ++ ys) ≡ map name_of xs ++ map name_of ys
+pub names_joined : (xs ys : List To) → map name_of (xs ++ ys) ≡ map name_of xs ++ map name_of ys
 names_joined [] ys = refl
 names_joined (to ∷ xs) ys = ap (λ names. to.name ∷ names) (names_joined xs ys)
 
@@ -82,14 +82,14 @@ module _ (r : Repository) (actor : Actor) (message : Bytes) where
   lines_joined [] ys names = refl
   lines_joined (to ∷ xs) ys names = lines_joined xs ys (with_name r to.name (id_for to) actor message names)
 
-  others_stay : (lines : List To) (names : References) (q : Bytes) → list_any (bytes_eq q) (map name_of lines) ≡ false → get (lines_then lines names) q ≡ get names q
+  pub others_stay : (lines : List To) (names : References) (q : Bytes) → list_any (bytes_eq q) (map name_of lines) ≡ false → get (lines_then lines names) q ≡ get names q
   others_stay [] names q apart = refl
   others_stay (to ∷ lines) names q apart =
       let parts = or_parts (bytes_eq q to.name) (list_any (bytes_eq q) (map name_of lines)) apart in
       others_stay lines (with_name r to.name (id_for to) actor message names) q parts.1
       ∙ get-with names to.name (ref_for to) q ∙ ap (λ b. cond b (Some (ref_for to)) (get names q)) parts.0
 
-  line_moved : (first rest : List To) (to : To) (names : References) → list_any (bytes_eq to.name) (map name_of rest) ≡ false → get (lines_then (first ++ to ∷ rest) names) to.name ≡ Some (ref_for to)
+  pub line_moved : (first rest : List To) (to : To) (names : References) → list_any (bytes_eq to.name) (map name_of rest) ≡ false → get (lines_then (first ++ to ∷ rest) names) to.name ≡ Some (ref_for to)
   line_moved first rest to names apart =
       let before = lines_then first names in
       ap (λ (m : References). get m to.name) (lines_joined first (to ∷ rest) names)

@@ -56,11 +56,11 @@ cut_or_all (b ∷ body) h (suc n) =
       | inr e ↦ inr (ap (λ t. b ∷ t) e)
     ]
 
-none_whole : (text : Bytes) → has_byte 10 text ≡ false → whole_lines text ≡ []
+pub none_whole : (text : Bytes) → has_byte 10 text ≡ false → whole_lines text ≡ []
 none_whole [] h = refl
 none_whole (b ∷ text) h = ap (λ c. cond c (b ∷ whole_lines text) []) h
 
-lines_then : (moves : List LogEntry) (more : Bytes) → whole_lines (flat_map log_line moves ++ more) ≡ flat_map log_line moves ++ whole_lines more
+pub lines_then : (moves : List LogEntry) (more : Bytes) → whole_lines (flat_map log_line moves ++ more) ≡ flat_map log_line moves ++ whole_lines more
 lines_then [] more = refl
 lines_then (move ∷ moves) more =
     ap whole_lines (append_assoc (log_line move) (flat_map log_line moves) more)
@@ -68,13 +68,13 @@ lines_then (move ∷ moves) more =
     ∙ ap (λ t. log_line move ++ t) (lines_then moves more)
     ∙ sym (append_assoc (log_line move) (flat_map log_line moves) (whole_lines more))
 
-whole_line : (entry : LogEntry) → whole_lines (log_line entry) ≡ log_line entry
+pub whole_line : (entry : LogEntry) → whole_lines (log_line entry) ≡ log_line entry
 whole_line entry = ap whole_lines (sym (append-nil (log_line entry))) ∙ after_line _ [] ∙ append-nil (log_line entry)
 
 body_of : LogEntry → Bytes
 body_of entry = hex entry.before ++ 32 ∷ hex entry.after ++ 32 ∷ actor_text entry.actor ++ 9 ∷ entry.message
 
-one_feed : (kind : Kind) (entry : LogEntry) → is_log_entry kind entry ≡ true → (n : ℕ) → (has_byte 10 (take n (log_line entry)) ≡ false) ⊎ (take n (log_line entry) ≡ log_line entry)
+pub one_feed : (kind : Kind) (entry : LogEntry) → is_log_entry kind entry ≡ true → (n : ℕ) → (has_byte 10 (take n (log_line entry)) ≡ false) ⊎ (take n (log_line entry) ≡ log_line entry)
 unfolding body_of
 one_feed kind entry h n = cut_or_all (body_of entry) plain n
   where

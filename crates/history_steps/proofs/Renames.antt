@@ -49,7 +49,7 @@ id_in o = option_map (λ (ref : Reference). ref.id) o
 abbrev moves_in : Option Reference → List LogEntry
 moves_in o = unwrap_or (option_map (λ (ref : Reference). ref.moves) o) []
 
-not_false : (b : Bool) → not b ≡ false → b ≡ true
+pub not_false : (b : Bool) → not b ≡ false → b ≡ true
 not_false true e = refl
 not_false false e = cc
 
@@ -81,13 +81,13 @@ module _ (r : Repository) (from to : Bytes) (sound : IsSound r) (none : first_ca
   abbrev new : Repository
   new = after r (Rename from to)
 
-  differ : bytes_eq from to ≡ false
+  pub differ : bytes_eq from to ≡ false
   differ = no_cause r (Rename from to) none NameTwice (inr (inr (inl refl)))
 
   stood : stands r from ≡ true
   stood = not_false (stands r from) (none_passes (λ name. not (stands r name)) (from ∷ []) (no_cause r (Rename from to) none NoSuchName (inr (inr (inr (inr (inr (inr (inr (inl refl))))))))) from (inl refl))
 
-  held : id_at r from ≡ Some id
+  pub held : id_at r from ≡ Some id
   held = kept_id (null_id r.kind) (get r.names from) stood
 
   get_both : (q : Bytes) → get both.names q ≡ cond (bytes_eq q to) (Some made) (get r.names q)
@@ -96,7 +96,7 @@ module _ (r : Repository) (from to : Bytes) (sound : IsSound r) (none : first_ca
   get_removed : (names : References) (q : Bytes) → get (remove names from) q ≡ cond (bytes_eq q from) None (get names q)
   get_removed names q = get-remove nat_list_cmp_total names from q ∙ ap (λ b. cond b None (get names q)) (is_eq-slice_cmp q from)
 
-  get_new : (q : Bytes) → get new.names q ≡ cond (bytes_eq q to) (Some made) (cond (bytes_eq q from) None (get r.names q))
+  pub get_new : (q : Bytes) → get new.names q ≡ cond (bytes_eq q to) (Some made) (cond (bytes_eq q from) None (get r.names q))
   get_new q = get-with (remove r.names from) to made q ∙ ap (λ o. cond (bytes_eq q to) (Some made) o) (get_removed r.names q)
 
   apart_from : (q : Bytes) → bytes_eq q from ≡ true → bytes_eq q to ≡ true → ⊥
@@ -114,7 +114,7 @@ module _ (r : Repository) (from to : Bytes) (sound : IsSound r) (none : first_ca
   made_both : get both.names to ≡ Some made
   made_both = get_both to ∙ ap (λ b. cond b (Some made) (get r.names to)) (text_itself to)
 
-  made_new : get new.names to ≡ Some made
+  pub made_new : get new.names to ≡ Some made
   made_new = get_new to ∙ ap (λ b. cond b (Some made) (cond (bytes_eq to from) None (get r.names to))) (text_itself to)
 
   others_both : (q : Bytes) → bytes_eq q to ≡ false → get both.names q ≡ get r.names q
@@ -144,7 +144,7 @@ module _ (r : Repository) (from to : Bytes) (sound : IsSound r) (none : first_ca
       let ref = some_is (get r.names q) there in
       (and_parts (is_name q) (not (is_private q)) (and_parts (is_name q && not (is_private q)) (is_reference r.kind ref.0) ((sound.written).names q ref.0 ref.1)).0).0
 
-  from_named : is_name from ≡ true
+  pub from_named : is_name from ≡ true
   from_named = named from stood
 
   fits : FitsThen r to

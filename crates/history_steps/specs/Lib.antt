@@ -10,3 +10,5 @@ pub mod RenameSteps
 pub mod SwitchSteps
 pub mod TakeSteps
 pub mod PackSteps
+pub mod EditSteps
+pub mod CommandEdits

@@ -6,6 +6,8 @@ ghost use Rattle.history_steps.specs.RenameSteps.{RenamesFit, RenamesBring, Brin
 ghost use Rattle.history_steps.specs.TakeSteps.{TakingsStand, TakingsPass};
 ghost use Rattle.history_steps.specs.PackSteps.{PacksReadAlike, PacksPass, PacksStand};
 ghost use Rattle.history_steps.specs.SwitchSteps.{SwitchesStand, SwitchesPass};
+ghost use Rattle.history_steps.specs.EditSteps.{EditsPass, EditsStand};
+ghost use Rattle.history_steps.specs.CommandEdits.{CommitsEdit, TagsEdit, MovesEdit, RenamesEdit, DeletesEdit};
 
 /// While a value is put that takes no id, the values that stood are there once recovered, and the value whole or not at all.
 pub fn puts_pass()
@@ -141,4 +143,39 @@ pub fn packs_pass()
 /// Where all names are packed, what stands stands for the repository as before.
 pub fn packs_stand()
     ensures { PacksStand }
+{}
+
+/// While names move, in any order between them, and one goes after them, each name is as before the command or as after it.
+pub fn edits_pass()
+    ensures { EditsPass }
+{}
+
+/// After all of it the tree holds the names of the repository after the command.
+pub fn edits_stand()
+    ensures { EditsStand }
+{}
+
+/// A commit moves its name to the commit, and changes no other.
+pub fn commits_edit()
+    ensures { CommitsEdit }
+{}
+
+/// A tag moves its name to the tag.
+pub fn tags_edit()
+    ensures { TagsEdit }
+{}
+
+/// A move moves the names of its lines.
+pub fn moves_edit()
+    ensures { MovesEdit }
+{}
+
+/// A rename moves the new name to the id that the old one holds, and takes the old one.
+pub fn renames_edit()
+    ensures { RenamesEdit }
+{}
+
+/// A deletion takes its name.
+pub fn deletes_edit()
+    ensures { DeletesEdit }
 {}
