@@ -12,6 +12,7 @@ use Rattle.history_model.specs.PackedNames.{PackedFile, PackedAgrees, packed_fil
 use Rattle.history_model.specs.Places.{Pair, file_at, head_place, packed_place, log_name, is_log_place}
 use Rattle.history_model.specs.StandsFor.{StandsFor}
 use Rattle.history_steps.specs.Passing.{reads_as}
+use Rattle.history_steps.specs.TreeHalves.{HoldsNames}
 use Rattle.history_model.proofs.NameLemmas.{name-log}
 use Rattle.history_model.proofs.RecoveredLemmas.{some_is}
 use Rattle.history_model.proofs.WholeLists.{either, same_text}
@@ -34,12 +35,9 @@ name_file false false true log there e f g k = refl
 name_file false false false true there e f g k = cc
 name_file false false false false there e f g k = cc
 
-module _ (old : Repository) (pair : Pair) (s : StandsFor old.kind pair old) where
-  abbrev tree : Tree
-  tree = pair.names
-
-  pub held : (name : Bytes) → stands old name ≡ true → (id : Id) × (name_state old.kind tree name ≡ Holds id)
-  held name e = let found = some_is (get old.names name) e in (found.0.id, (s.names name found.0.id).1 (ap (option_map (λ (ref : Reference). ref.id)) found.1))
+module _ (old : Repository) (tree : Tree) (s : HoldsNames tree old) where
+  held_in : (name : Bytes) → stands old name ≡ true → (id : Id) × (name_state old.kind tree name ≡ Holds id)
+  held_in name e = let found = some_is (get old.names name) e in (found.0.id, (s.names name found.0.id).1 (ap (option_map (λ (ref : Reference). ref.id)) found.1))
 
   plain_packed : (name : Bytes) (o : Option Bytes) → file_at tree packed_place ≡ o → IsPlain (unwrap_or (option_map (packed_text_state old.kind name) o) Absent)
   plain_packed name None e = inr refl
@@ -58,7 +56,7 @@ module _ (old : Repository) (pair : Pair) (s : StandsFor old.kind pair old) wher
           subst IsPlain (sym (ap (λ b. cond b (unwrap_or (option_map (loose_state old.kind) (file_at tree name)) (unwrap_or (option_map (packed_text_state old.kind name) (file_at tree packed_place)) Absent)) Absent) e
           ∙ ap (λ o. unwrap_or (option_map (loose_state old.kind) o) (unwrap_or (option_map (packed_text_state old.kind name) (file_at tree packed_place)) Absent)) f))
           (plain_packed name (file_at tree packed_place) refl)
-      go true e (Some text) f = inl (held name (name_file (bytes_eq name head_place) (bytes_eq name packed_place) (stands old name) (is_log_place name) (stands old (log_name name))
+      go true e (Some text) f = inl (held_in name (name_file (bytes_eq name head_place) (bytes_eq name packed_place) (stands old name) (is_log_place name) (stands old (log_name name))
           (apart head_place (head_apart name e)) (apart packed_place (packed_apart name e)) (name-log name e) (s.places name text f)))
         where
           apart : (place : Bytes) → (place ≡ name → ⊥) → bytes_eq name place ≡ false
@@ -67,8 +65,8 @@ module _ (old : Repository) (pair : Pair) (s : StandsFor old.kind pair old) wher
             | inr k ↦ k
           ]
 
-  pub reads_begin : (name : Bytes) → name_state old.kind tree name ≡ reads_as (id_at old name)
-  reads_begin name = elim (plain_begin name) [
+  pub reads_held : (name : Bytes) → name_state old.kind tree name ≡ reads_as (id_at old name)
+  reads_held name = elim (plain_begin name) [
     | inl (id, e) ↦ e ∙ ap reads_as (sym ((s.names name id).0 e))
     | inr e ↦ go (id_at old name) refl e
   ]
@@ -76,3 +74,12 @@ module _ (old : Repository) (pair : Pair) (s : StandsFor old.kind pair old) wher
       go : (o : Option Id) → id_at old name ≡ o → name_state old.kind tree name ≡ Absent → name_state old.kind tree name ≡ reads_as (id_at old name)
       go None k e = e ∙ ap reads_as (sym k)
       go (Some id) k e = (s.names name id).1 k ∙ ap reads_as (sym k)
+
+abbrev pub names_half : (r : Repository) (pair : Pair) → StandsFor r.kind pair r → HoldsNames pair.names r
+names_half r pair s = record { head = s.head; names = s.names; logs = s.logs; packed = s.packed; places = s.places; folders = s.folders }
+
+pub held : (r : Repository) (pair : Pair) → StandsFor r.kind pair r → (name : Bytes) → stands r name ≡ true → (id : Id) × (name_state r.kind pair.names name ≡ Holds id)
+held r pair s name e = held_in r pair.names (names_half r pair s) name e
+
+pub reads_begin : (r : Repository) (pair : Pair) → StandsFor r.kind pair r → (name : Bytes) → name_state r.kind pair.names name ≡ reads_as (id_at r name)
+reads_begin r pair s name = reads_held r pair.names (names_half r pair s) name
