@@ -64,6 +64,7 @@ pub record NameGoes (kind : Kind) (moved : List MovedName) (name : Bytes) (old t
       × (file_at tree name ≡ file_at old name))
       ⊎ AllByRecursion (ShowsMove tree) moved
 
+-- where none goes, packed records are as before
 abbrev pub MayGo : Kind → List MovedName → Option Bytes → Tree → Tree → Type 0
 MayGo kind moved None old tree = file_at tree packed_place ≡ file_at old packed_place
 MayGo kind moved (Some name) old tree = NameGoes kind moved name old tree
@@ -97,6 +98,7 @@ pub record NameGone (kind : Kind) (name : Bytes) (old new : Tree) : Type 0 where
   pub log : file_at new (log_place name) ≡ None
   pub packed : TakesRecord kind name old new
 
+-- where none has gone, packed records are as before
 abbrev pub HasGone : Kind → Option Bytes → Tree → Tree → Type 0
 HasGone kind None old new = file_at new packed_place ≡ file_at old packed_place
 HasGone kind (Some name) old new = NameGone kind name old new
@@ -122,7 +124,7 @@ pub record MovesTo (r : Repository) (command : Command) (m : MovedName) : Type 0
   pub unmoved : m.entry.before ≡ m.entry.after
       → moves_at (after r command) m.name ≡ moves_at r m.name
 
--- The command deletes the name, and moves it not.
+-- The command deletes the name, which is none of those that move.
 pub record TakesAway (r : Repository) (command : Command) (moved : List MovedName)
     (name : Bytes) : Type 0 where
   pub named : IsTrue (is_name name)
@@ -130,6 +132,7 @@ pub record TakesAway (r : Repository) (command : Command) (moved : List MovedNam
   pub gone : get (after r command).names name ≡ None
   pub apart : IsFalse (list_any (bytes_eq name) (map moved_name moved))
 
+-- where none goes, nothing is said
 abbrev pub MayTake : Repository → Command → List MovedName → Option Bytes → Type 0
 MayTake r command moved None = ⊤
 MayTake r command moved (Some name) = TakesAway r command moved name
@@ -145,6 +148,7 @@ pub record IsRename (r : Repository) (from to : Bytes) (moved : List MovedName)
   pub comes : moved ≡ renamed r from to ∷ []
   pub held : id_at r from ≡ Some (held_id r from)
 
+-- a rename is such, and of other commands no more is said
 abbrev pub MayRename : Repository → Command → List MovedName → Option Bytes → Type 0
 MayRename r (Rename from to) moved taken = IsRename r from to moved taken
 MayRename r _ moved taken = Unit {0}
