@@ -87,7 +87,7 @@ module _ {F : Type 0} (IsHonest : F → Type 0) (history : F → History) (now :
       one_passes : NamesPass history one now new → Adds (HoldsBetween r order) (history (names_part now)) (history (names_part new))
       one_passes pass = adds_weaker (history (names_part now)) (history (names_part new)) pass (λ tree may.
           files_pass (pair_of history s.before) tree r order to so sound s.stood.whole.stands named none free
-          (subst (λ names. MovesOnTheWay to.name (entry_of_move r to) (history names.files).tree tree) s.kept.names
+          (subst (λ names. MovesOnTheWay to.name (entry_of_move r to) (history names.store.files).tree tree) s.kept.names
           (subst (λ entry. MovesOnTheWay to.name entry (names_tree history now) tree) is.entry
           (subst (λ name. MovesOnTheWay name (entry_of one.entry) (names_tree history now) tree) is.name may))))
 

@@ -19,5 +19,6 @@ pub mod ReadRecords
 pub mod RecordsLeft
 pub mod Removals
 pub mod Replaced
+mod RootStores
 pub mod Taken
 pub mod Ways

@@ -4,3 +4,4 @@ pub mod NameLists
 pub mod Packed
 pub mod Packing
 pub mod References
+pub mod RootStore

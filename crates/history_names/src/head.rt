@@ -32,31 +32,33 @@ impl<F: Files> Names<F> {
     /// Makes HEAD name this branch, whether that stands or not: HEAD is written in its lock file that is then renamed. No log gets a
     /// line. After an error HEAD is as before or names the branch, whole.
     pub fn switch(&mut self, alloc: Global, branch: &[u8]) -> Result<(), FileError>
-        ensures honest { F.is_honest self.old.files → F.is_honest self.new.files }
+        ensures honest { F.is_honest self.old.store.files → F.is_honest self.new.store.files }
         ensures kind { self.new.kind ≡ self.old.kind }
         ensures packed { self.new.packed ≡ self.old.packed }
-        ensures switched { Achieves F.is_honest F.history self.old.files self.new.files result
-            (PutsBeside head_place (head_text branch.now)) }
-        ensures keeps { F.is_honest self.old.files
-            → KeepsRecords self.old (F.history self.old.files).tree
-            → OnOk result (KeepsRecords self.new (F.history self.new.files).tree) }
+        ensures switched { Achieves F.is_honest F.history self.old.store.files self.new.store.files
+            result (PutsBeside head_place (head_text branch.now)) }
+        ensures keeps { F.is_honest self.old.store.files
+            → KeepsRecords self.old (F.history self.old.store.files).tree
+            → OnOk result (KeepsRecords self.new (F.history self.new.store.files).tree) }
 
         // What stands on the way; no folder comes or goes.
-        ensures moments { Passes F.is_honest F.history self.old.files self.new.files
+        ensures moments { Passes F.is_honest F.history self.old.store.files self.new.store.files
             (MayBeWritten head_place (head_text branch.now)) }
-        ensures folders { Passes F.is_honest F.history self.old.files self.new.files SameFolders }
+        ensures folders { Passes F.is_honest F.history self.old.store.files self.new.store.files
+            SameFolders }
 
         // Where HEAD and its lock file have room, a call of the files fails only of itself.
-        ensures later { F.failures self.old.files ≤ F.failures self.new.files }
-        ensures unfailed { OnOk result (F.failures self.new.files ≡ F.failures self.old.files) }
+        ensures later { F.failures self.old.store.files ≤ F.failures self.new.store.files }
+        ensures unfailed { OnOk result
+            (F.failures self.new.store.files ≡ F.failures self.old.store.files) }
         ensures memory { IsErrOf result Memory
-            → F.failures self.new.files ≡ F.failures self.old.files }
-        ensures failed { F.is_honest self.old.files
-            → HasHeadRoom (F.history self.old.files).tree → IsErrOf result Failed
-            → HasRisen (F.failures self.old.files) (F.failures self.new.files) }
+            → F.failures self.new.store.files ≡ F.failures self.old.store.files }
+        ensures failed { F.is_honest self.old.store.files
+            → HasHeadRoom (F.history self.old.store.files).tree → IsErrOf result Failed
+            → HasRisen (F.failures self.old.store.files) (F.failures self.new.store.files) }
     {
         let text = head_text(alloc, branch)?;
-        write_anew(alloc, &mut self.files, HEAD_LOCK, &text)?;
-        self.files.rename(alloc, HEAD_LOCK, HEAD)
+        write_anew(alloc, &mut self.store.files, HEAD_LOCK, &text)?;
+        self.store.files.rename(alloc, HEAD_LOCK, HEAD)
     }
 }

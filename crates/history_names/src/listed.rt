@@ -35,7 +35,7 @@ impl<F: Files> Names<F> {
     ///
     /// It is `Failed` where a file call failed, and `Memory` where no memory is left.
     pub fn list(&self, alloc: Global, folder: &[u8]) -> Result<Vec<NamedId>, FileError>
-        ensures found { folder.now ≢ [] → Finds F.is_honest F.history self.now.files
+        ensures found { folder.now ≢ [] → Finds F.is_honest F.history self.now.store.files
             (λ tree. IfOk result (λ names.
             ListsNames self.now.kind tree folder.now names.items)) }
         ensures failed { IsErrOf result Failed → F.reading_may_fail }
@@ -51,7 +51,7 @@ impl<F: Files> Names<F> {
     ///
     /// It is `Failed` where a file call failed, and `Memory` where no memory is left.
     pub fn list_all(&self, alloc: Global, folder: &[u8]) -> Result<Vec<NamedId>, FileError>
-        ensures found { folder.now ≢ [] → Finds F.is_honest F.history self.now.files
+        ensures found { folder.now ≢ [] → Finds F.is_honest F.history self.now.store.files
             (λ tree. KeepsRecords self.now tree → IfOk result (λ names.
             ListsAll self.now.kind tree folder.now names.items)) }
         ensures failed { IsErrOf result Failed → F.reading_may_fail }
@@ -69,7 +69,7 @@ impl<F: Files> Names<F> {
         folder: &[u8],
         ids: &mut BTreeMap<Vec<u8>, ObjectId>,
     ) -> Result<(), FileError>
-        ensures found { Finds F.is_honest F.history self.now.files
+        ensures found { Finds F.is_honest F.history self.now.store.files
             (λ tree. KeepsRecords self.now tree → OnOk result ((name : Bytes)
             → get (ids_in ids.new) name ≡ option_or
             (told_if (is_packed_below self.now.packed folder.now name) self.now.kind tree name)
@@ -91,7 +91,7 @@ impl<F: Files> Names<F> {
         records: Records<'_>,
         ids: &mut BTreeMap<Vec<u8>, ObjectId>,
     ) -> Result<(), FileError>
-        ensures found { Finds F.is_honest F.history self.now.files
+        ensures found { Finds F.is_honest F.history self.now.store.files
             (λ tree. KeepsRecords self.now tree → OnOk result ((name : Bytes)
             → get (ids_in ids.new) name ≡ option_or
             (told_if (has_record (records_left records.entry) name) self.now.kind tree name)
@@ -112,7 +112,7 @@ impl<F: Files> Names<F> {
         name: &[u8],
         ids: &mut BTreeMap<Vec<u8>, ObjectId>,
     ) -> Result<(), FileError>
-        ensures found { Finds F.is_honest F.history self.now.files
+        ensures found { Finds F.is_honest F.history self.now.store.files
             (λ tree. KeepsRecords self.now tree → OnOk result ((other : Bytes)
             → get (ids_in ids.new) other ≡ option_or
             (told_if (bytes_eq name.now other) self.now.kind tree other)
@@ -134,7 +134,7 @@ impl<F: Files> Names<F> {
         folder: &[u8],
         ids: &mut BTreeMap<Vec<u8>, ObjectId>,
     ) -> Result<(), FileError>
-        ensures found { folder.now ≢ [] → Finds F.is_honest F.history self.now.files
+        ensures found { folder.now ≢ [] → Finds F.is_honest F.history self.now.store.files
             (λ tree. OnOk result
             (Gathers self.now.kind tree folder.now (ids_in ids.old) (ids_in ids.new))) }
         ensures failed { IsErrOf result Failed → F.reading_may_fail }

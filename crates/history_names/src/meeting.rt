@@ -17,7 +17,7 @@ impl<F: Files> Names<F> {
     ///
     /// It is `Failed` where a file call failed, and `Memory` where no memory is left.
     pub fn collides_any(&self, alloc: Global, name: &[u8]) -> Result<bool, FileError>
-        ensures found { IsTrue (is_name name.now) → Finds F.is_honest F.history self.now.files
+        ensures found { IsTrue (is_name name.now) → Finds F.is_honest F.history self.now.store.files
             (λ tree. KeepsRecords self.now tree
             → IfOk result (λ found. TellsMeeting self.now.kind name.now tree found)) }
         ensures failed { IsErrOf result Failed → F.reading_may_fail }
@@ -33,7 +33,7 @@ impl<F: Files> Names<F> {
 
     // Whether a name that reads as an id is one of this name's folders.
     fn is_held_above(&self, alloc: Global, name: &[u8]) -> Result<bool, FileError>
-        ensures found { Finds F.is_honest F.history self.now.files
+        ensures found { Finds F.is_honest F.history self.now.store.files
             (λ tree. KeepsRecords self.now tree
             → IfOk result (λ found. TellsHeldAbove self.now.kind name.now tree found)) }
         ensures failed { IsErrOf result Failed → F.reading_may_fail }
@@ -50,7 +50,7 @@ impl<F: Files> Names<F> {
 
     // Whether a name that reads as an id lies below this one, which isn't the root.
     fn is_held_below(&self, alloc: Global, name: &[u8]) -> Result<bool, FileError>
-        ensures found { name.now ≢ [] → Finds F.is_honest F.history self.now.files
+        ensures found { name.now ≢ [] → Finds F.is_honest F.history self.now.store.files
             (λ tree. KeepsRecords self.now tree
             → IfOk result (λ found. TellsHeldBelow self.now.kind name.now tree found)) }
         ensures failed { IsErrOf result Failed → F.reading_may_fail }

@@ -11,7 +11,7 @@ ghost use Rattle.history_model.specs.Places.{log_place};
 ghost use Rattle.gix_hash_id.specs.declared.kind.Kind.{Kind};
 ghost use Rattle.gix_ref_way.specs.Ways.{FoldersAbove, KeepsOtherFolders, HasWay};
 ghost use Rattle.history_names.specs.References.{SpellsBranch, SpellsId, HeadNames, NameHolds, HasMoved, HasLockRoom, HasRoom, PutsBeside, MayBeWritten, KeepsFoldersOfOthers, MayLog, MayMove, Logs, FoldersOfName, TellsCollision, IsGone, MayGo, LogIsGone, LogMayGo, SameFolders, lock_place};
-ghost use Rattle.history_names.specs.Packing.{KeepsRecords};
+ghost use Rattle.history_names.specs.RootStore.{IsRootStore};
 ghost use Rattle.gix_hash_id.specs.Id.{id_of};
 
 use gix_hash::{Kind, ObjectId};
@@ -19,48 +19,60 @@ use gix_object_lines::cut::{strip_prefix, strip_suffix};
 use gix_ref_file::{FileError, Files};
 use gix_ref_format::ids::parse_hex;
 use gix_ref_format::packed::Buffer;
+use gix_ref_store::store::file::Store;
+use gix_ref_store::{Options, WriteReflog};
 use gix_ref_way::{has_file_above, has_file_below, is_file, make_way, write_anew};
 use history_model::names::HEAD;
 use history_texts::{LogEntry, push_hex};
 use std::alloc::{AllocError, Global};
 
+// No bound on `F`: of a struct with a fact each definition that names it would take the bound's ghost members.
 /// The names of a repository, in its names part.
 #[derive(Drop)]
-pub struct Names<F: Files> {
-    pub(crate) files: F,
+pub struct Names<F> {
+    pub(crate) store: Store<F>,
     pub(crate) kind: Kind,
+    // The records of `packed-refs`, as they were read.
     pub(crate) packed: Option<Buffer>,
+    ghost root: { IsRootStore kind store },
 }
 
 impl<F: Files> Names<F> {
+    ghost use Rattle.history_names.specs.Packing.{KeepsRecords};
+
     /// The names in this part, of which none is packed: it keeps no records until they are read.
-    pub fn new(files: F, kind: Kind) -> Self
-        ensures files { result.files ≡ files }
+    pub fn new(alloc: Global, files: F, kind: Kind) -> Self
+        ensures files { result.store.files ≡ files }
         ensures kind { result.kind ≡ kind }
         ensures packed { result.packed ≡ None }
     {
+        let options = Options {
+            write_reflog: WriteReflog::Always,
+            object_hash: kind,
+            precompose_unicode: false,
+        };
         Names {
-            files,
+            store: Store::at_root(alloc, files, options),
             kind,
             packed: None,
         }
     }
 
     pub fn into_files(self) -> F
-        ensures { result ≡ self.files }
+        ensures { result ≡ self.store.files }
     {
         let Names {
-            files,
+            store,
             kind: _,
             packed: _,
         } = self;
-        files
+        store.into_files()
     }
 
     pub fn files(&self) -> &F
-        ensures { result.now ≡ self.now.files }
+        ensures { result.now ≡ self.now.store.files }
     {
-        &self.files
+        &self.store.files
     }
 
     pub fn kind(&self) -> Kind
@@ -73,13 +85,13 @@ impl<F: Files> Names<F> {
     ///
     /// It is `Failed` where a file call failed, and `Memory` where no memory is left.
     pub fn head(&self, alloc: Global) -> Result<Option<Vec<u8>>, FileError>
-        ensures found { Finds F.is_honest F.history self.now.files
+        ensures found { Finds F.is_honest F.history self.now.store.files
             (λ tree. IfOk result (λ found. HeadNames tree
             (option_map (λ branch. branch.items) found))) }
         ensures failed { IsErrOf result Failed → F.reading_may_fail }
     {
         let mut text = Vec::new(alloc);
-        if self.files.read(HEAD, &mut text)?.is_none() {
+        if self.store.files.read(HEAD, &mut text)?.is_none() {
             return Ok(None);
         }
         match branch_of(&text) {
@@ -92,12 +104,12 @@ impl<F: Files> Names<F> {
     ///
     /// It is `Failed` where a file call failed, and `Memory` where no memory is left.
     pub fn read(&self, alloc: Global, name: &[u8]) -> Result<Option<ObjectId>, FileError>
-        ensures found { Finds F.is_honest F.history self.now.files
+        ensures found { Finds F.is_honest F.history self.now.store.files
             (λ tree. IfOk result (λ found. NameHolds self.now.kind tree name.now found)) }
         ensures failed { IsErrOf result Failed → F.reading_may_fail }
     {
         let mut text = Vec::new(alloc);
-        if self.files.read(name, &mut text)?.is_none() {
+        if self.store.files.read(name, &mut text)?.is_none() {
             return Ok(None);
         }
         Ok(id_in(self.kind, &text))
@@ -107,13 +119,13 @@ impl<F: Files> Names<F> {
     ///
     /// It is `Failed` where a file call failed, and `Memory` where no memory is left.
     pub fn log(&self, alloc: Global, name: &[u8]) -> Result<Vec<u8>, FileError>
-        ensures found { Finds F.is_honest F.history self.now.files
+        ensures found { Finds F.is_honest F.history self.now.store.files
             (λ tree. IfOk result (λ log. log.items ≡ bytes_at tree (log_place name.now))) }
         ensures failed { IsErrOf result Failed → F.reading_may_fail }
     {
         let place = log_place(alloc, name)?;
         let mut log = Vec::new(alloc);
-        self.files.read(&place, &mut log)?;
+        self.store.files.read(&place, &mut log)?;
         Ok(log)
     }
 
@@ -122,14 +134,14 @@ impl<F: Files> Names<F> {
     ///
     /// It is `Failed` where a file call failed, and `Memory` where no memory is left.
     pub fn collides(&self, alloc: Global, name: &[u8]) -> Result<bool, FileError>
-        ensures found { IsTrue (is_name name.now) → Finds F.is_honest F.history self.now.files
+        ensures found { IsTrue (is_name name.now) → Finds F.is_honest F.history self.now.store.files
             (λ tree. IfOk result (λ found. TellsCollision name.now tree found)) }
         ensures failed { IsErrOf result Failed → F.reading_may_fail }
     {
-        if has_file_above(&self.files, name)? {
+        if has_file_above(&self.store.files, name)? {
             return Ok(true);
         }
-        has_file_below(alloc, &self.files, name)
+        has_file_below(alloc, &self.store.files, name)
     }
 
     /// Moves a name to the id after, packed or not: appends the entry's line to the name's log, unless the two ids are one, and then writes the
@@ -141,34 +153,35 @@ impl<F: Files> Names<F> {
         name: &[u8],
         entry: &LogEntry,
     ) -> Result<(), FileError>
-        ensures honest { F.is_honest self.old.files → F.is_honest self.new.files }
+        ensures honest { F.is_honest self.old.store.files → F.is_honest self.new.store.files }
         ensures kind { self.new.kind ≡ self.old.kind }
         ensures packed { self.new.packed ≡ self.old.packed }
         ensures moved { IsTrue (is_name name.now)
-            → Achieves F.is_honest F.history self.old.files self.new.files result
+            → Achieves F.is_honest F.history self.old.store.files self.new.store.files result
             (HasMoved name.now entry.now) }
-        ensures keeps { IsTrue (is_name name.now) → F.is_honest self.old.files
-            → KeepsRecords self.old (F.history self.old.files).tree
-            → OnOk result (KeepsRecords self.new (F.history self.new.files).tree) }
+        ensures keeps { IsTrue (is_name name.now) → F.is_honest self.old.store.files
+            → KeepsRecords self.old (F.history self.old.store.files).tree
+            → OnOk result (KeepsRecords self.new (F.history self.new.store.files).tree) }
 
         // What stands on the way; no folder goes but those in the way of the two files, and none comes but those that they stand in.
         ensures moments { IsTrue (is_name name.now)
-            → Passes F.is_honest F.history self.old.files self.new.files
+            → Passes F.is_honest F.history self.old.store.files self.new.store.files
             (MayMove name.now entry.now) }
-        ensures stay { Passes F.is_honest F.history self.old.files self.new.files
+        ensures stay { Passes F.is_honest F.history self.old.store.files self.new.store.files
             (KeepsFoldersOfOthers name.now) }
-        ensures folders { Passes F.is_honest F.history self.old.files self.new.files
+        ensures folders { Passes F.is_honest F.history self.old.store.files self.new.store.files
             (FoldersOfName name.now) }
 
         // Where the name has room, a call of the files fails only of itself.
-        ensures later { F.failures self.old.files ≤ F.failures self.new.files }
-        ensures unfailed { OnOk result (F.failures self.new.files ≡ F.failures self.old.files) }
+        ensures later { F.failures self.old.store.files ≤ F.failures self.new.store.files }
+        ensures unfailed { OnOk result
+            (F.failures self.new.store.files ≡ F.failures self.old.store.files) }
         ensures memory { IsErrOf result Memory
-            → F.failures self.new.files ≡ F.failures self.old.files }
-        ensures failed { IsTrue (is_name name.now) → F.is_honest self.old.files
-            → HasRoom name.now (F.history self.old.files).tree
+            → F.failures self.new.store.files ≡ F.failures self.old.store.files }
+        ensures failed { IsTrue (is_name name.now) → F.is_honest self.old.store.files
+            → HasRoom name.now (F.history self.old.store.files).tree
             → IsErrOf result Failed
-            → HasFault F.failures F.reading_may_fail self.old.files self.new.files }
+            → HasFault F.failures F.reading_may_fail self.old.store.files self.new.store.files }
     {
         self.append_to_log(alloc, name, entry)?;
         self.write_name(alloc, name, &entry.after)
@@ -180,64 +193,66 @@ impl<F: Files> Names<F> {
         name: &[u8],
         entry: &LogEntry,
     ) -> Result<(), FileError>
-        ensures honest { F.is_honest self.old.files → F.is_honest self.new.files }
+        ensures honest { F.is_honest self.old.store.files → F.is_honest self.new.store.files }
         ensures kind { self.new.kind ≡ self.old.kind }
         ensures packed { self.new.packed ≡ self.old.packed }
-        ensures logged { Achieves F.is_honest F.history self.old.files self.new.files result
-            (Logs name.now entry.now) }
-        ensures moments { Passes F.is_honest F.history self.old.files self.new.files
+        ensures logged { Achieves F.is_honest F.history self.old.store.files self.new.store.files
+            result (Logs name.now entry.now) }
+        ensures moments { Passes F.is_honest F.history self.old.store.files self.new.store.files
             (MayLog name.now entry.now) }
-        ensures stay { Passes F.is_honest F.history self.old.files self.new.files
+        ensures stay { Passes F.is_honest F.history self.old.store.files self.new.store.files
             (KeepsOtherFolders (log_place name.now)) }
-        ensures folders { Passes F.is_honest F.history self.old.files self.new.files
+        ensures folders { Passes F.is_honest F.history self.old.store.files self.new.store.files
             (FoldersAbove (log_place name.now)) }
-        ensures later { F.failures self.old.files ≤ F.failures self.new.files }
-        ensures unfailed { OnOk result (F.failures self.new.files ≡ F.failures self.old.files) }
+        ensures later { F.failures self.old.store.files ≤ F.failures self.new.store.files }
+        ensures unfailed { OnOk result
+            (F.failures self.new.store.files ≡ F.failures self.old.store.files) }
         ensures memory { IsErrOf result Memory
-            → F.failures self.new.files ≡ F.failures self.old.files }
-        ensures failed { IsTrue (is_name name.now) → F.is_honest self.old.files
-            → HasWay (log_place name.now) (F.history self.old.files).tree
+            → F.failures self.new.store.files ≡ F.failures self.old.store.files }
+        ensures failed { IsTrue (is_name name.now) → F.is_honest self.old.store.files
+            → HasWay (log_place name.now) (F.history self.old.store.files).tree
             → IsErrOf result Failed
-            → HasFault F.failures F.reading_may_fail self.old.files self.new.files }
+            → HasFault F.failures F.reading_may_fail self.old.store.files self.new.store.files }
     {
         if entry.before == entry.after {
             return Ok(());
         }
         let line = entry.to_bytes(alloc)?;
         let log = log_place(alloc, name)?;
-        make_way(alloc, &mut self.files, &log)?;
-        self.files.append(alloc, &log, &line)
+        make_way(alloc, &mut self.store.files, &log)?;
+        self.store.files.append(alloc, &log, &line)
     }
 
     fn write_name(&mut self, alloc: Global, name: &[u8], id: &ObjectId) -> Result<(), FileError>
-        ensures honest { F.is_honest self.old.files → F.is_honest self.new.files }
+        ensures honest { F.is_honest self.old.store.files → F.is_honest self.new.store.files }
         ensures kind { self.new.kind ≡ self.old.kind }
         ensures packed { self.new.packed ≡ self.old.packed }
         ensures written { IsTrue (is_name name.now)
-            → Achieves F.is_honest F.history self.old.files self.new.files result
+            → Achieves F.is_honest F.history self.old.store.files self.new.store.files result
             (PutsBeside name.now (line (hex (id_of id.now)))) }
         ensures moments { IsTrue (is_name name.now)
-            → Passes F.is_honest F.history self.old.files self.new.files
+            → Passes F.is_honest F.history self.old.store.files self.new.store.files
             (MayBeWritten name.now (line (hex (id_of id.now)))) }
-        ensures stay { Passes F.is_honest F.history self.old.files self.new.files
+        ensures stay { Passes F.is_honest F.history self.old.store.files self.new.store.files
             (KeepsOtherFolders name.now) }
-        ensures folders { Passes F.is_honest F.history self.old.files self.new.files
+        ensures folders { Passes F.is_honest F.history self.old.store.files self.new.store.files
             (FoldersAbove name.now) }
-        ensures later { F.failures self.old.files ≤ F.failures self.new.files }
-        ensures unfailed { OnOk result (F.failures self.new.files ≡ F.failures self.old.files) }
+        ensures later { F.failures self.old.store.files ≤ F.failures self.new.store.files }
+        ensures unfailed { OnOk result
+            (F.failures self.new.store.files ≡ F.failures self.old.store.files) }
         ensures memory { IsErrOf result Memory
-            → F.failures self.new.files ≡ F.failures self.old.files }
-        ensures failed { IsTrue (is_name name.now) → F.is_honest self.old.files
-            → HasWay name.now (F.history self.old.files).tree
-            → HasLockRoom name.now (F.history self.old.files).tree
+            → F.failures self.new.store.files ≡ F.failures self.old.store.files }
+        ensures failed { IsTrue (is_name name.now) → F.is_honest self.old.store.files
+            → HasWay name.now (F.history self.old.store.files).tree
+            → HasLockRoom name.now (F.history self.old.store.files).tree
             → IsErrOf result Failed
-            → HasFault F.failures F.reading_may_fail self.old.files self.new.files }
+            → HasFault F.failures F.reading_may_fail self.old.store.files self.new.store.files }
     {
         let text = name_text(alloc, id)?;
         let lock = lock_place(alloc, name)?;
-        make_way(alloc, &mut self.files, name)?;
-        write_anew(alloc, &mut self.files, &lock, &text)?;
-        self.files.rename(alloc, &lock, name)
+        make_way(alloc, &mut self.store.files, name)?;
+        write_anew(alloc, &mut self.store.files, &lock, &text)?;
+        self.store.files.rename(alloc, &lock, name)
     }
 
     /// Deletes the name: removes its log, where one stands, and then its file. After an error the log may be gone and the name not,
@@ -245,50 +260,54 @@ impl<F: Files> Names<F> {
     ///
     /// It is `Failed` where a file call failed or no file stands at the name, and `Memory` where no memory is left.
     pub fn remove_name(&mut self, alloc: Global, name: &[u8]) -> Result<(), FileError>
-        ensures honest { F.is_honest self.old.files → F.is_honest self.new.files }
+        ensures honest { F.is_honest self.old.store.files → F.is_honest self.new.store.files }
         ensures kind { self.new.kind ≡ self.old.kind }
         ensures packed { self.new.packed ≡ self.old.packed }
-        ensures gone { Achieves F.is_honest F.history self.old.files self.new.files result
-            (IsGone name.now) }
+        ensures gone { Achieves F.is_honest F.history self.old.store.files self.new.store.files
+            result (IsGone name.now) }
 
         // What stands on the way.
-        ensures moments { Passes F.is_honest F.history self.old.files self.new.files
+        ensures moments { Passes F.is_honest F.history self.old.store.files self.new.store.files
             (MayGo name.now) }
-        ensures folders { Passes F.is_honest F.history self.old.files self.new.files SameFolders }
+        ensures folders { Passes F.is_honest F.history self.old.store.files self.new.store.files
+            SameFolders }
 
         // Where the name's file stands, a call of the files fails only of itself.
-        ensures later { F.failures self.old.files ≤ F.failures self.new.files }
-        ensures unfailed { OnOk result (F.failures self.new.files ≡ F.failures self.old.files) }
+        ensures later { F.failures self.old.store.files ≤ F.failures self.new.store.files }
+        ensures unfailed { OnOk result
+            (F.failures self.new.store.files ≡ F.failures self.old.store.files) }
         ensures memory { IsErrOf result Memory
-            → F.failures self.new.files ≡ F.failures self.old.files }
-        ensures failed { F.is_honest self.old.files
-            → IsTrue (is_file_at (F.history self.old.files).tree name.now)
+            → F.failures self.new.store.files ≡ F.failures self.old.store.files }
+        ensures failed { F.is_honest self.old.store.files
+            → IsTrue (is_file_at (F.history self.old.store.files).tree name.now)
             → IsErrOf result Failed
-            → HasFault F.failures F.reading_may_fail self.old.files self.new.files }
+            → HasFault F.failures F.reading_may_fail self.old.store.files self.new.store.files }
     {
         self.remove_log(alloc, name)?;
-        self.files.remove_file(alloc, name)
+        self.store.files.remove_file(alloc, name)
     }
 
     pub(crate) fn remove_log(&mut self, alloc: Global, name: &[u8]) -> Result<(), FileError>
-        ensures honest { F.is_honest self.old.files → F.is_honest self.new.files }
+        ensures honest { F.is_honest self.old.store.files → F.is_honest self.new.store.files }
         ensures kind { self.new.kind ≡ self.old.kind }
         ensures packed { self.new.packed ≡ self.old.packed }
-        ensures gone { Achieves F.is_honest F.history self.old.files self.new.files result
-            (LogIsGone name.now) }
-        ensures moments { Passes F.is_honest F.history self.old.files self.new.files
+        ensures gone { Achieves F.is_honest F.history self.old.store.files self.new.store.files
+            result (LogIsGone name.now) }
+        ensures moments { Passes F.is_honest F.history self.old.store.files self.new.store.files
             (LogMayGo name.now) }
-        ensures folders { Passes F.is_honest F.history self.old.files self.new.files SameFolders }
-        ensures later { F.failures self.old.files ≤ F.failures self.new.files }
-        ensures unfailed { OnOk result (F.failures self.new.files ≡ F.failures self.old.files) }
+        ensures folders { Passes F.is_honest F.history self.old.store.files self.new.store.files
+            SameFolders }
+        ensures later { F.failures self.old.store.files ≤ F.failures self.new.store.files }
+        ensures unfailed { OnOk result
+            (F.failures self.new.store.files ≡ F.failures self.old.store.files) }
         ensures memory { IsErrOf result Memory
-            → F.failures self.new.files ≡ F.failures self.old.files }
-        ensures failed { F.is_honest self.old.files → IsErrOf result Failed
-            → HasFault F.failures F.reading_may_fail self.old.files self.new.files }
+            → F.failures self.new.store.files ≡ F.failures self.old.store.files }
+        ensures failed { F.is_honest self.old.store.files → IsErrOf result Failed
+            → HasFault F.failures F.reading_may_fail self.old.store.files self.new.store.files }
     {
         let log = log_place(alloc, name)?;
-        if is_file(&self.files, &log)? {
-            return self.files.remove_file(alloc, &log);
+        if is_file(&self.store.files, &log)? {
+            return self.store.files.remove_file(alloc, &log);
         }
         Ok(())
     }

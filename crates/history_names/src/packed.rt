@@ -34,15 +34,15 @@ impl<F: Files> Names<F> {
     ///
     /// It is `Io` where the file couldn't be read, `Memory` where no memory is left, and else tells the fault of the text.
     pub fn read_packed(&mut self, alloc: Global) -> Result<(), Error>
-        ensures files { self.new.files ≡ self.old.files }
+        ensures files { self.new.store.files ≡ self.old.store.files }
         ensures kind { self.new.kind ≡ self.old.kind }
-        ensures keeps { Finds F.is_honest F.history self.new.files
+        ensures keeps { Finds F.is_honest F.history self.new.store.files
             (λ tree. OnOk result (KeepsRecords self.new tree)) }
-        ensures faulty { Finds F.is_honest F.history self.new.files
+        ensures faulty { Finds F.is_honest F.history self.new.store.files
             (λ tree. IfErr result (FileFault self.new.kind (file_at tree packed_place))) }
         ensures failed { IsErrOf result Io → F.reading_may_fail }
     {
-        self.packed = Buffer::open(alloc, &self.files, PACKED, self.kind)?;
+        self.packed = Buffer::open(alloc, &self.store.files, PACKED, self.kind)?;
         Ok(())
     }
 
@@ -51,7 +51,7 @@ impl<F: Files> Names<F> {
     ///
     /// It is `Failed` where a file call failed, and `Memory` where no memory is left.
     pub fn find(&self, alloc: Global, name: &[u8]) -> Result<Option<ObjectId>, FileError>
-        ensures found { Finds F.is_honest F.history self.now.files
+        ensures found { Finds F.is_honest F.history self.now.store.files
             (λ tree. KeepsRecords self.now tree
             → IfOk result (λ found. NameReads self.now.kind tree name.now found)) }
         ensures failed { IsErrOf result Failed → F.reading_may_fail }
@@ -60,7 +60,7 @@ impl<F: Files> Names<F> {
             return Ok(None);
         }
         let mut text = Vec::new(alloc);
-        match self.files.read(name, &mut text)? {
+        match self.store.files.read(name, &mut text)? {
             Some(_) => Ok(id_in(self.kind, &text)),
             None => Ok(packed_id(&self.packed, name)),
         }
@@ -68,27 +68,29 @@ impl<F: Files> Names<F> {
 
     // Puts this text in the place of `packed-refs`, in its lock file that is then renamed, and keeps its records.
     pub(crate) fn replace_packed(&mut self, alloc: Global, text: Vec<u8>) -> Result<(), FileError>
-        ensures honest { F.is_honest self.old.files → F.is_honest self.new.files }
+        ensures honest { F.is_honest self.old.store.files → F.is_honest self.new.store.files }
         ensures kind { self.new.kind ≡ self.old.kind }
-        ensures put { Achieves F.is_honest F.history self.old.files self.new.files result
-            (PutsBeside packed_place text.items) }
-        ensures keeps { F.is_honest self.old.files
-            → OnOk result (KeepsRecords self.new (F.history self.new.files).tree) }
-        ensures moments { Passes F.is_honest F.history self.old.files self.new.files
+        ensures put { Achieves F.is_honest F.history self.old.store.files self.new.store.files
+            result (PutsBeside packed_place text.items) }
+        ensures keeps { F.is_honest self.old.store.files
+            → OnOk result (KeepsRecords self.new (F.history self.new.store.files).tree) }
+        ensures moments { Passes F.is_honest F.history self.old.store.files self.new.store.files
             (MayBeWritten packed_place text.items) }
-        ensures folders { Passes F.is_honest F.history self.old.files self.new.files SameFolders }
-        ensures later { F.failures self.old.files ≤ F.failures self.new.files }
-        ensures unfailed { OnOk result (F.failures self.new.files ≡ F.failures self.old.files) }
+        ensures folders { Passes F.is_honest F.history self.old.store.files self.new.store.files
+            SameFolders }
+        ensures later { F.failures self.old.store.files ≤ F.failures self.new.store.files }
+        ensures unfailed { OnOk result
+            (F.failures self.new.store.files ≡ F.failures self.old.store.files) }
         ensures memory { IsErrOf result Memory
-            → F.failures self.new.files ≡ F.failures self.old.files }
-        ensures failed { F.is_honest self.old.files
-            → HasPackedRoom (F.history self.old.files).tree
+            → F.failures self.new.store.files ≡ F.failures self.old.store.files }
+        ensures failed { F.is_honest self.old.store.files
+            → HasPackedRoom (F.history self.old.store.files).tree
             → packed_records self.old.kind text.items ≢ None → IsErrOf result Failed
-            → HasRisen (F.failures self.old.files) (F.failures self.new.files) }
+            → HasRisen (F.failures self.old.store.files) (F.failures self.new.store.files) }
     {
         let packed = buffer_of(alloc, text, self.kind)?;
-        write_anew(alloc, &mut self.files, PACKED_LOCK, packed.as_ref())?;
-        self.files.rename(alloc, PACKED_LOCK, PACKED)?;
+        write_anew(alloc, &mut self.store.files, PACKED_LOCK, packed.as_ref())?;
+        self.store.files.rename(alloc, PACKED_LOCK, PACKED)?;
         self.packed = Some(packed);
         Ok(())
     }

@@ -31,25 +31,27 @@ impl<F: Files> Names<F> {
     ///
     /// It is `Failed` where a file call failed, and `Memory` where no memory is left.
     pub fn pack_names(&mut self, alloc: Global, names: &[PackedName]) -> Result<(), FileError>
-        ensures honest { F.is_honest self.old.files → F.is_honest self.new.files }
+        ensures honest { F.is_honest self.old.store.files → F.is_honest self.new.store.files }
         ensures kind { self.new.kind ≡ self.old.kind }
-        ensures packed { Achieves F.is_honest F.history self.old.files self.new.files result
-            (ArePacked self.old.kind names.now) }
-        ensures keeps { F.is_honest self.old.files
-            → OnOk result (KeepsRecords self.new (F.history self.new.files).tree) }
+        ensures packed { Achieves F.is_honest F.history self.old.store.files self.new.store.files
+            result (ArePacked self.old.kind names.now) }
+        ensures keeps { F.is_honest self.old.store.files
+            → OnOk result (KeepsRecords self.new (F.history self.new.store.files).tree) }
 
         // What stands on the way.
-        ensures moments { Passes F.is_honest F.history self.old.files self.new.files
+        ensures moments { Passes F.is_honest F.history self.old.store.files self.new.store.files
             (MayPack self.old.kind names.now) }
-        ensures folders { Passes F.is_honest F.history self.old.files self.new.files SameFolders }
-        ensures later { F.failures self.old.files ≤ F.failures self.new.files }
-        ensures unfailed { OnOk result (F.failures self.new.files ≡ F.failures self.old.files) }
+        ensures folders { Passes F.is_honest F.history self.old.store.files self.new.store.files
+            SameFolders }
+        ensures later { F.failures self.old.store.files ≤ F.failures self.new.store.files }
+        ensures unfailed { OnOk result
+            (F.failures self.new.store.files ≡ F.failures self.old.store.files) }
         ensures memory { IsErrOf result Memory
-            → F.failures self.new.files ≡ F.failures self.old.files }
+            → F.failures self.new.store.files ≡ F.failures self.old.store.files }
         ensures failed { AllOfKind self.old.kind names.now
-            → F.is_honest self.old.files → HasPackedRoom (F.history self.old.files).tree
+            → F.is_honest self.old.store.files → HasPackedRoom (F.history self.old.store.files).tree
             → IsErrOf result Failed
-            → HasFault F.failures F.reading_may_fail self.old.files self.new.files }
+            → HasFault F.failures F.reading_may_fail self.old.store.files self.new.store.files }
     {
         let text = text_of_names(alloc, names, self.kind)?;
         self.replace_packed(alloc, text)?;
@@ -58,20 +60,22 @@ impl<F: Files> Names<F> {
 
     // Removes the names' own files, where they stand, one after another.
     fn remove_own_files(&mut self, alloc: Global, names: &[PackedName]) -> Result<(), FileError>
-        ensures honest { F.is_honest self.old.files → F.is_honest self.new.files }
+        ensures honest { F.is_honest self.old.store.files → F.is_honest self.new.store.files }
         ensures kind { self.new.kind ≡ self.old.kind }
         ensures packed { self.new.packed ≡ self.old.packed }
-        ensures gone { Achieves F.is_honest F.history self.old.files self.new.files result
-            (AreGone (name_texts names.now)) }
-        ensures moments { Passes F.is_honest F.history self.old.files self.new.files
+        ensures gone { Achieves F.is_honest F.history self.old.store.files self.new.store.files
+            result (AreGone (name_texts names.now)) }
+        ensures moments { Passes F.is_honest F.history self.old.store.files self.new.store.files
             (MayBeGone (name_texts names.now)) }
-        ensures folders { Passes F.is_honest F.history self.old.files self.new.files SameFolders }
-        ensures later { F.failures self.old.files ≤ F.failures self.new.files }
-        ensures unfailed { OnOk result (F.failures self.new.files ≡ F.failures self.old.files) }
+        ensures folders { Passes F.is_honest F.history self.old.store.files self.new.store.files
+            SameFolders }
+        ensures later { F.failures self.old.store.files ≤ F.failures self.new.store.files }
+        ensures unfailed { OnOk result
+            (F.failures self.new.store.files ≡ F.failures self.old.store.files) }
         ensures memory { IsErrOf result Memory
-            → F.failures self.new.files ≡ F.failures self.old.files }
-        ensures failed { F.is_honest self.old.files → IsErrOf result Failed
-            → HasFault F.failures F.reading_may_fail self.old.files self.new.files }
+            → F.failures self.new.store.files ≡ F.failures self.old.store.files }
+        ensures failed { F.is_honest self.old.store.files → IsErrOf result Failed
+            → HasFault F.failures F.reading_may_fail self.old.store.files self.new.store.files }
     {
         for named in names {
             self.remove_own_file(alloc, named.name.to_path())?;

@@ -27,34 +27,37 @@ impl<F: Files> Names<F> {
     ///
     /// It is `Failed` where a file call failed, and `Memory` where no memory is left.
     pub fn take_name(&mut self, alloc: Global, name: &[u8]) -> Result<(), FileError>
-        ensures honest { F.is_honest self.old.files → F.is_honest self.new.files }
+        ensures honest { F.is_honest self.old.store.files → F.is_honest self.new.store.files }
         ensures kind { self.new.kind ≡ self.old.kind }
         ensures taken { IsTrue (is_name name.now)
-            → KeepsRecords self.old (F.history self.old.files).tree
-            → IsPackedForm self.old.kind (F.history self.old.files).tree
-            → Achieves F.is_honest F.history self.old.files self.new.files result
+            → KeepsRecords self.old (F.history self.old.store.files).tree
+            → IsPackedForm self.old.kind (F.history self.old.store.files).tree
+            → Achieves F.is_honest F.history self.old.store.files self.new.store.files result
             (IsTaken self.old.kind name.now) }
         ensures keeps { IsTrue (is_name name.now)
-            → KeepsRecords self.old (F.history self.old.files).tree → F.is_honest self.old.files
-            → OnOk result (KeepsRecords self.new (F.history self.new.files).tree) }
+            → KeepsRecords self.old (F.history self.old.store.files).tree
+            → F.is_honest self.old.store.files
+            → OnOk result (KeepsRecords self.new (F.history self.new.store.files).tree) }
 
         // What stands on the way.
         ensures moments { IsTrue (is_name name.now)
-            → KeepsRecords self.old (F.history self.old.files).tree
-            → IsPackedForm self.old.kind (F.history self.old.files).tree
-            → Passes F.is_honest F.history self.old.files self.new.files
+            → KeepsRecords self.old (F.history self.old.store.files).tree
+            → IsPackedForm self.old.kind (F.history self.old.store.files).tree
+            → Passes F.is_honest F.history self.old.store.files self.new.store.files
             (MayTake self.old.kind name.now) }
-        ensures folders { Passes F.is_honest F.history self.old.files self.new.files SameFolders }
+        ensures folders { Passes F.is_honest F.history self.old.store.files self.new.store.files
+            SameFolders }
 
         // Where `packed-refs` has room, a call of the files fails only of itself.
-        ensures later { F.failures self.old.files ≤ F.failures self.new.files }
-        ensures unfailed { OnOk result (F.failures self.new.files ≡ F.failures self.old.files) }
+        ensures later { F.failures self.old.store.files ≤ F.failures self.new.store.files }
+        ensures unfailed { OnOk result
+            (F.failures self.new.store.files ≡ F.failures self.old.store.files) }
         ensures memory { IsErrOf result Memory
-            → F.failures self.new.files ≡ F.failures self.old.files }
-        ensures failed { IsTrue (is_name name.now) → F.is_honest self.old.files
-            → KeepsRecords self.old (F.history self.old.files).tree
-            → HasPackedRoom (F.history self.old.files).tree → IsErrOf result Failed
-            → HasFault F.failures F.reading_may_fail self.old.files self.new.files }
+            → F.failures self.new.store.files ≡ F.failures self.old.store.files }
+        ensures failed { IsTrue (is_name name.now) → F.is_honest self.old.store.files
+            → KeepsRecords self.old (F.history self.old.store.files).tree
+            → HasPackedRoom (F.history self.old.store.files).tree → IsErrOf result Failed
+            → HasFault F.failures F.reading_may_fail self.old.store.files self.new.store.files }
     {
         self.remove_log(alloc, name)?;
         self.take_record(alloc, name)?;
@@ -63,30 +66,32 @@ impl<F: Files> Names<F> {
 
     // Writes `packed-refs` anew without the name's record, where it has one.
     fn take_record(&mut self, alloc: Global, name: &[u8]) -> Result<(), FileError>
-        ensures honest { F.is_honest self.old.files → F.is_honest self.new.files }
+        ensures honest { F.is_honest self.old.store.files → F.is_honest self.new.store.files }
         ensures kind { self.new.kind ≡ self.old.kind }
         ensures taken { IsTrue (is_name name.now)
-            → KeepsRecords self.old (F.history self.old.files).tree
-            → IsPackedForm self.old.kind (F.history self.old.files).tree
-            → Achieves F.is_honest F.history self.old.files self.new.files result
+            → KeepsRecords self.old (F.history self.old.store.files).tree
+            → IsPackedForm self.old.kind (F.history self.old.store.files).tree
+            → Achieves F.is_honest F.history self.old.store.files self.new.store.files result
             (LosesRecord self.old.kind name.now) }
-        ensures keeps { KeepsRecords self.old (F.history self.old.files).tree
-            → F.is_honest self.old.files
-            → OnOk result (KeepsRecords self.new (F.history self.new.files).tree) }
+        ensures keeps { KeepsRecords self.old (F.history self.old.store.files).tree
+            → F.is_honest self.old.store.files
+            → OnOk result (KeepsRecords self.new (F.history self.new.store.files).tree) }
         ensures moments { IsTrue (is_name name.now)
-            → KeepsRecords self.old (F.history self.old.files).tree
-            → IsPackedForm self.old.kind (F.history self.old.files).tree
-            → Passes F.is_honest F.history self.old.files self.new.files
+            → KeepsRecords self.old (F.history self.old.store.files).tree
+            → IsPackedForm self.old.kind (F.history self.old.store.files).tree
+            → Passes F.is_honest F.history self.old.store.files self.new.store.files
             (MayLoseRecord self.old.kind name.now) }
-        ensures folders { Passes F.is_honest F.history self.old.files self.new.files SameFolders }
-        ensures later { F.failures self.old.files ≤ F.failures self.new.files }
-        ensures unfailed { OnOk result (F.failures self.new.files ≡ F.failures self.old.files) }
+        ensures folders { Passes F.is_honest F.history self.old.store.files self.new.store.files
+            SameFolders }
+        ensures later { F.failures self.old.store.files ≤ F.failures self.new.store.files }
+        ensures unfailed { OnOk result
+            (F.failures self.new.store.files ≡ F.failures self.old.store.files) }
         ensures memory { IsErrOf result Memory
-            → F.failures self.new.files ≡ F.failures self.old.files }
-        ensures failed { IsTrue (is_name name.now) → F.is_honest self.old.files
-            → KeepsRecords self.old (F.history self.old.files).tree
-            → HasPackedRoom (F.history self.old.files).tree → IsErrOf result Failed
-            → HasFault F.failures F.reading_may_fail self.old.files self.new.files }
+            → F.failures self.new.store.files ≡ F.failures self.old.store.files }
+        ensures failed { IsTrue (is_name name.now) → F.is_honest self.old.store.files
+            → KeepsRecords self.old (F.history self.old.store.files).tree
+            → HasPackedRoom (F.history self.old.store.files).tree → IsErrOf result Failed
+            → HasFault F.failures F.reading_may_fail self.old.store.files self.new.store.files }
     {
         match text_without(alloc, &self.packed, name, self.kind)? {
             Some(text) => self.replace_packed(alloc, text),
@@ -96,23 +101,25 @@ impl<F: Files> Names<F> {
 
     // Removes the name's own file, where one stands.
     pub(crate) fn remove_own_file(&mut self, alloc: Global, name: &[u8]) -> Result<(), FileError>
-        ensures honest { F.is_honest self.old.files → F.is_honest self.new.files }
+        ensures honest { F.is_honest self.old.store.files → F.is_honest self.new.store.files }
         ensures kind { self.new.kind ≡ self.old.kind }
         ensures packed { self.new.packed ≡ self.old.packed }
-        ensures gone { Achieves F.is_honest F.history self.old.files self.new.files result
-            (FileIsGone name.now) }
-        ensures moments { Passes F.is_honest F.history self.old.files self.new.files
+        ensures gone { Achieves F.is_honest F.history self.old.store.files self.new.store.files
+            result (FileIsGone name.now) }
+        ensures moments { Passes F.is_honest F.history self.old.store.files self.new.store.files
             (FileMayGo name.now) }
-        ensures folders { Passes F.is_honest F.history self.old.files self.new.files SameFolders }
-        ensures later { F.failures self.old.files ≤ F.failures self.new.files }
-        ensures unfailed { OnOk result (F.failures self.new.files ≡ F.failures self.old.files) }
+        ensures folders { Passes F.is_honest F.history self.old.store.files self.new.store.files
+            SameFolders }
+        ensures later { F.failures self.old.store.files ≤ F.failures self.new.store.files }
+        ensures unfailed { OnOk result
+            (F.failures self.new.store.files ≡ F.failures self.old.store.files) }
         ensures memory { IsErrOf result Memory
-            → F.failures self.new.files ≡ F.failures self.old.files }
-        ensures failed { F.is_honest self.old.files → IsErrOf result Failed
-            → HasFault F.failures F.reading_may_fail self.old.files self.new.files }
+            → F.failures self.new.store.files ≡ F.failures self.old.store.files }
+        ensures failed { F.is_honest self.old.store.files → IsErrOf result Failed
+            → HasFault F.failures F.reading_may_fail self.old.store.files self.new.store.files }
     {
-        if is_file(&self.files, name)? {
-            return self.files.remove_file(alloc, name);
+        if is_file(&self.store.files, name)? {
+            return self.store.files.remove_file(alloc, name);
         }
         Ok(())
     }

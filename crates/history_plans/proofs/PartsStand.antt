@@ -74,11 +74,11 @@ module _ {F : Type 0} (IsHonest : F → Type 0) (history : F → History) where
   pub names_stand : (old mid : Repository F) (r : plain.Repository) → Stands IsHonest history old r → KeepsAllButObjects old mid → NamesStand IsHonest history mid r
   names_stand old mid r h kept =
       let same = sym kept.names in record {
-        honest = subst (λ names. IsHonest names.files) same h.honest_names;
-        holds = subst (λ names. HoldsNames (history names.files).tree r) same ((halves_stand r.kind (pair_of history old) r).0 (h.whole).stands).2;
+        honest = subst (λ names. IsHonest names.store.files) same h.honest_names;
+        holds = subst (λ names. HoldsNames (history names.store.files).tree r) same ((halves_stand r.kind (pair_of history old) r).0 (h.whole).stands).2;
         named = λ name stood. name_formed r h.whole.written name stood;
         kind = ap (λ names. names.kind) kept.names ∙ h.names_kind;
-        records = subst (λ names. KeepsRecords names (history names.files).tree) same h.records;
+        records = subst (λ names. KeepsRecords names (history names.store.files).tree) same h.records;
       }
 
   -- The values are put, the names stay; then the name moves, and the objects stay.
@@ -89,7 +89,7 @@ module _ {F : Type 0} (IsHonest : F → Type 0) (history : F → History) where
       (kept_then : KeepsAllButNames mid new) (honest_then : IsHonest (names_part new)) (kind_then : new.names.kind ≡ mid.names.kind) (records_then : KeepsRecords new.names (names_tree history new))
       (moves : Moves) (is : IsMove r move moves) (moved : MovesName moves.name.items (entry_of moves.entry) (names_tree history mid) (names_tree history new)) where
     from_old : MovesName move.name (entry_of_move r move) (names_tree history old) (names_tree history new)
-    from_old = subst (λ names. MovesName move.name (entry_of_move r move) (history names.files).tree (names_tree history new)) kept.names
+    from_old = subst (λ names. MovesName move.name (entry_of_move r move) (history names.store.files).tree (names_tree history new)) kept.names
         (to_move r move moves is (names_tree history mid) (names_tree history new) moved)
 
     to_new : HoldsValues r.kind (objects_tree history new) (after r command).objects

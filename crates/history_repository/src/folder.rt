@@ -107,7 +107,7 @@ fn open_names<F: Files>(
     ensures handed_back { IfErr result (λ refusal. (refusal.objects ≡ files_of_objects objects)
         × (refusal.names ≡ names)) }
 {
-    let mut names = Names::new(names, objects.kind());
+    let mut names = Names::new(alloc, names, objects.kind());
     match read_names(alloc, &mut names, &objects) {
         Ok(branch) => Ok(OpenedFolder {
             objects,

@@ -12,7 +12,7 @@ fn a_name_holds_its_commit(rt: HostRuntime) -> Result<(), Fail> {
     let alloc = rt.alloc();
     for kind in KINDS {
         let (_, files) = parts_after(&rt, alloc, kind, &[INPUT]);
-        let mut names = Names::new(files, kind);
+        let mut names = Names::new(alloc, files, kind);
         names.read_packed(alloc)?;
         let found = names.find(alloc, b"refs/heads/main")?;
         assert!(rt; found == made_id(REPLIES.of(kind)));
@@ -26,7 +26,7 @@ fn names_are_surveyed_over_objects(rt: HostRuntime) -> Result<(), Fail> {
     for kind in KINDS {
         let (objects, files) = parts_after(&rt, alloc, kind, &[INPUT]);
         let objects = Objects::open(alloc, objects, kind).map_err(|refusal| refusal.error)?;
-        let names = Names::new(files, kind);
+        let names = Names::new(alloc, files, kind);
         let branch = survey_names(alloc, &names, &objects)?;
         assert!(rt; branch.as_slice() == b"refs/heads/main".as_slice());
         let none = Objects::new(alloc, MemoryFiles::new(alloc), kind);

@@ -14,6 +14,7 @@ use gix_ref_file::MemoryFiles;
 use gix_ref_fuse::Fuse;
 use gix_ref_loose_transaction::PackedRefs;
 use gix_ref_loose_transaction::transaction::prepare;
+use gix_ref_store::Options;
 use gix_ref_store::store::file::Store;
 use std::alloc::Global;
 
@@ -46,7 +47,7 @@ pub fn put_packing(
 // A store of these files, with a call of theirs that stops or fails.
 fn store_of(alloc: Global, files: &[u8], fuse: &[u8]) -> Option<Store<Fuse<MemoryFiles>>> {
     let trial = fused(read_files(alloc, files)?, fuse)?;
-    Store::at(trial, Vec::new(alloc)).ok()
+    Some(Store::at_root(alloc, trial, Options::default()))
 }
 
 fn put_told<O: FindInto>(

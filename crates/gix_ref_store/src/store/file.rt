@@ -34,7 +34,7 @@ use std::alloc::{AllocError, Global};
 
 /// The references of a repository, or of one of its worktrees, in a tree of files.
 #[derive(Drop)]
-pub struct Store<F: Files> {
+pub struct Store<F> {
     /// The files.
     pub files: F,
     pub(crate) git_dir: Vec<u8>,

@@ -1,6 +1,6 @@
 //! Stores of folders, and which folders no store is of.
 
-ghost use Rattle.std.specs.Prelude.{◌≡◌, ◌<◌, Some, None, length, IfOk, IfErr, IsTrue};
+ghost use Rattle.std.specs.Prelude.{◌≡◌, ◌<◌, [], Some, None, length, IfOk, IfErr, IsTrue};
 ghost use Rattle.gix_ref_store.specs.Folders as spec;
 ghost use Rattle.gix_ref_store.specs.Folders.{IsStoreOf, IsRefused};
 ghost use Rattle.gix_ref_store.specs.Stores.{IsUsual};
@@ -9,6 +9,7 @@ use crate::options::Options;
 use crate::store::file::Store;
 use gix_ref_file::Files;
 use gix_ref_file::paths::is_path;
+use std::alloc::Global;
 use thiserror::Error;
 
 /// Why no store is of a folder.
@@ -62,6 +63,19 @@ impl<F: Files> Store<F> {
             options,
             mmap_threshold: USUAL_THRESHOLD,
         })
+    }
+
+    /// The store of the repository at the root of the files, which is never refused.
+    pub fn at_root(alloc: Global, files: F, options: Options) -> Store<F>
+        ensures { IsStoreOf files [] None options result }
+    {
+        Store {
+            files,
+            git_dir: Vec::new(alloc),
+            common_dir: None,
+            options,
+            mmap_threshold: USUAL_THRESHOLD,
+        }
     }
 
     /// The store of a linked worktree, whose own folder is the first, with the usual options. Refused as

@@ -140,7 +140,7 @@ returns-clause-leaves g c = λ r order asked.
     let F = g.F.Files in
     let stores = c.in_ok-moves.ensures.stores r order asked in
     packs_done r order c.in_ok-text.text (names_tree F.history c.args.repository.now) (names_tree F.history c.store_objects.new.repository) (names_tree F.history c.move_names.new.repository)
-    (ap (λ names. (F.history names.files).tree) c.store_objects.ensures.kept.names) (c.in_ok-move_names.ensures.leaves r order stores.1 stores.0)
+    (ap (λ names. (F.history names.store.files).tree) c.store_objects.ensures.kept.names) (c.in_ok-move_names.ensures.leaves r order stores.1 stores.0)
 
 -- ---- what a fault counts
 

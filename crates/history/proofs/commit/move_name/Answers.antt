@@ -25,8 +25,8 @@ pub returns-in-Err-clause-moves : goal.returns-in-Err-clause-moves
 returns-in-Err-clause-moves g c = λ r stand fits.
     let name = c.deref.result.now in
     let here = fits_here r c.args.moves.now name c.deref.ensures.value fits in
-    let old = (g.F.Files.history c.args.repository.now.names.files).tree in
-    let new = (g.F.Files.history c.move_name.new.self.files).tree in
+    let old = (g.F.Files.history c.args.repository.now.names.store.files).tree in
+    let new = (g.F.Files.history c.move_name.new.self.store.files).tree in
     met_fault _ (MovesName c.args.moves.now.name.items (entry_of c.args.moves.now.entry) old new) c.in-Err.error c.fault_of.result c.fault_of.ensures
     (λ failed. counted (c.move_name.ensures.failed here.named stand.honest
     (record {
@@ -40,8 +40,8 @@ pub returns-in-Ok-clause-moves : goal.returns-in-Ok-clause-moves
 returns-in-Ok-clause-moves g c = λ r stand fits.
     let name = c.deref.result.now in
     let here = fits_here r c.args.moves.now name c.deref.ensures.value fits in
-    let old = g.F.Files.history c.args.repository.now.names.files in
-    let new = g.F.Files.history c.move_name.new.self.files in
+    let old = g.F.Files.history c.args.repository.now.names.store.files in
+    let new = g.F.Files.history c.move_name.new.self.store.files in
     moved r c.args.moves.now name c.deref.ensures.value fits old.tree new.tree stand.holds stand.named (c.in-Ok.ensures.moved here.named stand.honest)
     (folders_now name old new (c.move_name.ensures.folders stand.honest))
 
@@ -49,14 +49,14 @@ pub returns-in-Err-clause-passes : goal.returns-in-Err-clause-passes
 returns-in-Err-clause-passes g c = λ r stand fits.
     let name = c.deref.result.now in
     let here = fits_here r c.args.moves.now name c.deref.ensures.value fits in
-    names_pass r c.args.moves.now name c.deref.ensures.value fits (g.F.Files.history c.args.repository.now.names.files) (g.F.Files.history c.move_name.new.self.files) stand.holds
+    names_pass r c.args.moves.now name c.deref.ensures.value fits (g.F.Files.history c.args.repository.now.names.store.files) (g.F.Files.history c.move_name.new.self.store.files) stand.holds
     (c.move_name.ensures.moments here.named stand.honest) (c.move_name.ensures.folders stand.honest)
 
 pub returns-in-Ok-clause-passes : goal.returns-in-Ok-clause-passes
 returns-in-Ok-clause-passes g c = λ r stand fits.
     let name = c.deref.result.now in
     let here = fits_here r c.args.moves.now name c.deref.ensures.value fits in
-    names_pass r c.args.moves.now name c.deref.ensures.value fits (g.F.Files.history c.args.repository.now.names.files) (g.F.Files.history c.move_name.new.self.files) stand.holds
+    names_pass r c.args.moves.now name c.deref.ensures.value fits (g.F.Files.history c.args.repository.now.names.store.files) (g.F.Files.history c.move_name.new.self.store.files) stand.holds
     (c.move_name.ensures.moments here.named stand.honest) (c.move_name.ensures.folders stand.honest)
 
 pub returns-in-Ok-clause-records : goal.returns-in-Ok-clause-records

@@ -23,16 +23,16 @@ returns-in-Ok-clause-unfailed g c = record { objects = refl; names = c.in-Ok.ens
 
 pub returns-in-Err-clause-passes : goal.returns-in-Err-clause-passes
 returns-in-Err-clause-passes g c = λ r stand stood.
-    let old = g.F.Files.history c.args.repository.now.names.files in
-    let new = g.F.Files.history c.take_name.new.self.files in
+    let old = g.F.Files.history c.args.repository.now.names.store.files in
+    let new = g.F.Files.history c.take_name.new.self.store.files in
     let form = subst (λ kind. IsPackedForm kind old.tree) (sym stand.kind) (packed_formed r old.tree stand.holds) in
     goes_on_the_way r c.args.name.now old new stand.holds
     (subst (λ kind. Adds (MayTake kind c.args.name.now old.tree) old new) stand.kind (c.take_name.ensures.moments (stand.named c.args.name.now stood) stand.records form stand.honest)) (c.take_name.ensures.folders stand.honest)
 
 pub returns-in-Ok-clause-passes : goal.returns-in-Ok-clause-passes
 returns-in-Ok-clause-passes g c = λ r stand stood.
-    let old = g.F.Files.history c.args.repository.now.names.files in
-    let new = g.F.Files.history c.take_name.new.self.files in
+    let old = g.F.Files.history c.args.repository.now.names.store.files in
+    let new = g.F.Files.history c.take_name.new.self.store.files in
     let form = subst (λ kind. IsPackedForm kind old.tree) (sym stand.kind) (packed_formed r old.tree stand.holds) in
     goes_on_the_way r c.args.name.now old new stand.holds
     (subst (λ kind. Adds (MayTake kind c.args.name.now old.tree) old new) stand.kind (c.take_name.ensures.moments (stand.named c.args.name.now stood) stand.records form stand.honest)) (c.take_name.ensures.folders stand.honest)
@@ -40,15 +40,15 @@ returns-in-Ok-clause-passes g c = λ r stand stood.
 pub returns-in-Err-clause-deletes : goal.returns-in-Err-clause-deletes
 returns-in-Err-clause-deletes g c = λ r stand stood.
     let name = c.args.name.now in
-    let old = (g.F.Files.history c.args.repository.now.names.files).tree in
-    let new = (g.F.Files.history c.take_name.new.self.files).tree in
+    let old = (g.F.Files.history c.args.repository.now.names.store.files).tree in
+    let new = (g.F.Files.history c.take_name.new.self.store.files).tree in
     met_fault _ (TakesName r.kind name old new) c.in-Err.error c.fault_of.result c.fault_of.ensures
     (λ failed. counted (c.take_name.ensures.failed (stand.named name stood) stand.honest stand.records (packed_room r old stand.holds) (c.in-Err.is ∙ ap Err failed)))
 
 pub returns-in-Ok-clause-deletes : goal.returns-in-Ok-clause-deletes
 returns-in-Ok-clause-deletes g c = λ r stand stood.
-    let old = g.F.Files.history c.args.repository.now.names.files in
-    let new = g.F.Files.history c.take_name.new.self.files in
+    let old = g.F.Files.history c.args.repository.now.names.store.files in
+    let new = g.F.Files.history c.take_name.new.self.store.files in
     let name = c.args.name.now in
     let form = subst (λ kind. IsPackedForm kind old.tree) (sym stand.kind) (packed_formed r old.tree stand.holds) in
     files_gone r name old.tree new.tree stand.holds stand.named

@@ -27,8 +27,8 @@ returns-in-Ok-clause-unfailed g c = record { objects = refl; names = c.in-Ok.ens
 pub returns-in-Err-clause-passes : goal.returns-in-Err-clause-passes
 returns-in-Err-clause-passes g c = λ r s are.
     let F = g.F.Files in
-    let old = F.history c.args.repository.now.names.files in
-    let new = F.history c.pack_names.new.self.files in
+    let old = F.history c.args.repository.now.names.store.files in
+    let new = F.history c.pack_names.new.self.store.files in
     let names = c.args.names.now in
     packs_moments r s.whole.written names (all_records r s.whole.whole s.whole.written names are) old new (holds_names F.is_honest F.history c.args.repository.now r s)
     (subst (λ kind. Adds (MayPack kind names old.tree) old new) s.names_kind (c.pack_names.ensures.moments s.honest_names)) (c.pack_names.ensures.folders s.honest_names)
@@ -36,8 +36,8 @@ returns-in-Err-clause-passes g c = λ r s are.
 pub returns-in-Ok-clause-passes : goal.returns-in-Ok-clause-passes
 returns-in-Ok-clause-passes g c = λ r s are.
     let F = g.F.Files in
-    let old = F.history c.args.repository.now.names.files in
-    let new = F.history c.pack_names.new.self.files in
+    let old = F.history c.args.repository.now.names.store.files in
+    let new = F.history c.pack_names.new.self.store.files in
     let names = c.args.names.now in
     packs_moments r s.whole.written names (all_records r s.whole.whole s.whole.written names are) old new (holds_names F.is_honest F.history c.args.repository.now r s)
     (subst (λ kind. Adds (MayPack kind names old.tree) old new) s.names_kind (c.pack_names.ensures.moments s.honest_names)) (c.pack_names.ensures.folders s.honest_names)
@@ -45,8 +45,8 @@ returns-in-Ok-clause-passes g c = λ r s are.
 pub returns-in-Err-clause-packs : goal.returns-in-Err-clause-packs
 returns-in-Err-clause-packs g c = λ r s are.
     let F = g.F.Files in
-    let old = (F.history c.args.repository.now.names.files).tree in
-    let new = (F.history c.pack_names.new.self.files).tree in
+    let old = (F.history c.args.repository.now.names.store.files).tree in
+    let new = (F.history c.pack_names.new.self.store.files).tree in
     let names = c.args.names.now in
     let kinds = subst (λ kind. AllOfKind kind names) (sym s.names_kind) (kinds_told r s.whole.written names (all_records r s.whole.whole s.whole.written names are)) in
     met_fault _ (PacksNames r old new) c.in-Err.error c.fault_of.result c.fault_of.ensures
@@ -55,8 +55,8 @@ returns-in-Err-clause-packs g c = λ r s are.
 pub returns-in-Ok-clause-packs : goal.returns-in-Ok-clause-packs
 returns-in-Ok-clause-packs g c = λ r s are.
     let F = g.F.Files in
-    let old = F.history c.args.repository.now.names.files in
-    let new = F.history c.pack_names.new.self.files in
+    let old = F.history c.args.repository.now.names.store.files in
+    let new = F.history c.pack_names.new.self.store.files in
     let names = c.args.names.now in
     packs_names r s.whole.written names (all_records r s.whole.whole s.whole.written names are) old.tree new.tree (holds_names F.is_honest F.history c.args.repository.now r s)
     (subst (λ kind. ArePacked kind names old.tree new.tree) s.names_kind (c.in-Ok.ensures.packed s.honest_names)) (same_folders_now old new (c.pack_names.ensures.folders s.honest_names))

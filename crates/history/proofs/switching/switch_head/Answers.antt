@@ -22,15 +22,15 @@ returns-in-Ok-clause-unfailed g c = record { objects = refl; names = c.in-Ok.ens
 
 pub returns-in-Err-clause-passes : goal.returns-in-Err-clause-passes
 returns-in-Err-clause-passes g c = λ r h none.
-    let old = g.F.Files.history c.args.repository.now.names.files in
-    let new = g.F.Files.history c.switch.new.self.files in
+    let old = g.F.Files.history c.args.repository.now.names.store.files in
+    let new = g.F.Files.history c.switch.new.self.store.files in
     switch_passes g.F.Files.is_honest g.F.Files.history c.args.repository.now r h (record c.args.repository.now { names = c.switch.new.self }) c.args.name.items none refl
     (subst (λ n. Adds (MayBeWritten head_place (head_text n) old.tree) old new) c.deref.ensures.value (c.switch.ensures.moments h.honest_names)) (c.switch.ensures.folders h.honest_names)
 
 pub returns-in-Ok-clause-passes : goal.returns-in-Ok-clause-passes
 returns-in-Ok-clause-passes g c = λ r h none.
-    let old = g.F.Files.history c.args.repository.now.names.files in
-    let new = g.F.Files.history c.switch.new.self.files in
+    let old = g.F.Files.history c.args.repository.now.names.store.files in
+    let new = g.F.Files.history c.switch.new.self.store.files in
     switch_passes g.F.Files.is_honest g.F.Files.history c.args.repository.now r h (record c.args.repository.now { names = c.switch.new.self; branch = c.args.name }) c.args.name.items none refl
     (subst (λ n. Adds (MayBeWritten head_place (head_text n) old.tree) old new) c.deref.ensures.value (c.switch.ensures.moments h.honest_names)) (c.switch.ensures.folders h.honest_names)
 
@@ -42,8 +42,8 @@ returns-in-Err-clause-switches g c = λ r h none.
 
 pub returns-in-Ok-clause-switches : goal.returns-in-Ok-clause-switches
 returns-in-Ok-clause-switches g c = λ r h none.
-    let old = g.F.Files.history c.args.repository.now.names.files in
-    let new = g.F.Files.history c.switch.new.self.files in
+    let old = g.F.Files.history c.args.repository.now.names.store.files in
+    let new = g.F.Files.history c.switch.new.self.store.files in
     let honest = h.honest_names in
     switch_serves g.F.Files.is_honest g.F.Files.history c.args.repository.now r h (record c.args.repository.now { names = c.switch.new.self; branch = c.args.name }) c.args.name.items none refl
     (c.switch.ensures.honest honest) c.switch.ensures.kind (c.in-Ok.ensures.keeps honest h.records) refl refl
@@ -52,8 +52,8 @@ returns-in-Ok-clause-switches g c = λ r h none.
 
 pub returns-in-Ok-clause-alone : goal.returns-in-Ok-clause-alone
 returns-in-Ok-clause-alone g c = λ honest.
-    let old = g.F.Files.history c.args.repository.now.names.files in
-    let new = g.F.Files.history c.switch.new.self.files in
+    let old = g.F.Files.history c.args.repository.now.names.store.files in
+    let new = g.F.Files.history c.switch.new.self.store.files in
     head_alone _ old.tree new.tree (c.in-Ok.ensures.switched honest)
 
 pub returns-in-Err-clause-memory : goal.returns-in-Err-clause-memory

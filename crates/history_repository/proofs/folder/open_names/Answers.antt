@@ -15,7 +15,7 @@ returns-in-Ok-clause-stands g c = λ objects names.
     let ids = ids_of_objects c.args.objects in
     let pair = trees_of history c.args.objects.files c.args.names in
     let honest = subst g.F.Files.is_honest (sym c.new-names.ensures.files) names in
-    let part = part_of history (λ k. told_facts k pair.objects ids) c.in-Ok.branch.items c.new-names.result.files c.args.names c.new-names.result.kind kind c.new-names.ensures.files (c.new-names.ensures.kind ∙ c.kind.ensures)
+    let part = part_of history (λ k. told_facts k pair.objects ids) c.in-Ok.branch.items c.new-names.result.store.files c.args.names c.new-names.result.kind kind c.new-names.ensures.files (c.new-names.ensures.kind ∙ c.kind.ensures)
     (c.in-Ok.ensures.stands (c.requires.holds objects) honest) in
     let keeps = subst (λ files. KeepsRecords c.read_names.new.names (history files).tree) c.new-names.ensures.files (c.in-Ok.ensures.keeps (c.requires.holds objects) honest) in
     opened_as_one kind pair ids (c.requires.whole objects) (record { objects = c.args.objects; names = c.read_names.new.names; branch = c.in-Ok.branch }) (λ i. ids) part keeps
@@ -27,7 +27,7 @@ returns-in-Ok-clause-same g c = λ r objects names stands.
     let ids = ids_of_objects c.args.objects in
     let pair = trees_of history c.args.objects.files c.args.names in
     let honest = subst g.F.Files.is_honest (sym c.new-names.ensures.files) names in
-    let part = part_of history (λ k. told_facts k pair.objects ids) c.in-Ok.branch.items c.new-names.result.files c.args.names c.new-names.result.kind kind c.new-names.ensures.files (c.new-names.ensures.kind ∙ c.kind.ensures)
+    let part = part_of history (λ k. told_facts k pair.objects ids) c.in-Ok.branch.items c.new-names.result.store.files c.args.names c.new-names.result.kind kind c.new-names.ensures.files (c.new-names.ensures.kind ∙ c.kind.ensures)
     (c.in-Ok.ensures.stands (c.requires.holds objects) honest) in
     let keeps = subst (λ files. KeepsRecords c.read_names.new.names (history files).tree) c.new-names.ensures.files (c.in-Ok.ensures.keeps (c.requires.holds objects) honest) in
     opened_as kind pair ids (c.requires.whole objects) (record { objects = c.args.objects; names = c.read_names.new.names; branch = c.in-Ok.branch }) (λ i. ids) part keeps r stands
@@ -40,7 +40,7 @@ returns-in-Err-clause-refused g c = λ objects names.
     let pair = trees_of history c.args.objects.files c.args.names in
     let fail = g.F.Files.reading_may_fail in
     let honest = subst g.F.Files.is_honest (sym c.new-names.ensures.files) names in
-    let held = cause_of history (fail ⊎ fail) (λ k. told_facts k pair.objects ids) c.in-Err.cause c.new-names.result.files c.args.names c.new-names.result.kind kind c.new-names.ensures.files (c.new-names.ensures.kind ∙ c.kind.ensures)
+    let held = cause_of history (fail ⊎ fail) (λ k. told_facts k pair.objects ids) c.in-Err.cause c.new-names.result.store.files c.args.names c.new-names.result.kind kind c.new-names.ensures.files (c.new-names.ensures.kind ∙ c.kind.ensures)
     (c.in-Err.ensures.wrong (c.requires.holds objects) honest) in
     subst (IsOpenCause fail kind pair) (sym c.into.ensures) (names_cause kind pair ids (c.requires.whole objects) fail c.in-Err.cause held)
 

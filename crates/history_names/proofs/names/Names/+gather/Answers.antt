@@ -15,7 +15,7 @@ use Rattle.history_names.proofs.names.Names.+gather.Goals.{in-Some+in_ok-insert,
 
 pub loop-entry-preserved : goal.loop-entry-preserved
 loop-entry-preserved g t c = λ some honest.
-    let files = c.args.self.now.files in
+    let files = c.args.self.now.store.files in
     let tree = (g.F.Files.history files).tree in
     let kind = c.args.self.now.kind in
     let place = c.args.folder.now in
@@ -49,7 +49,7 @@ loop-entry-preserved g t c = λ some honest.
 
 pub returns-clause-found : goal.returns-clause-found
 returns-clause-found g t c = λ some honest.
-    let files = c.args.self.now.files in
+    let files = c.args.self.now.store.files in
     let tree = (g.F.Files.history files).tree in
     let place = c.args.folder.now in
     let names = ap (map (λ (name : Vec ℕ Global). name.items)) c.deref-entry-items.ensures.value ∙ c.in_ok-list.ensures.names (subst g.F.Files.is_honest (sym c.files.ensures) honest)

@@ -11,5 +11,5 @@ decreases-gather g l = max_path - length l.folder.now
 
 -- what is listed so far is gathered
 abbrev pub invariant-loop-entry : goal.invariant-loop-entry
-invariant-loop-entry g l = l.folder ≢ [] → g.F.Files.is_honest l.self.files
-    → GathersFirst l.self.kind (g.F.Files.history l.self.files).tree l.folder (ids_in l.fn.ids) (ids_in l.ids) (map (λ (name : Vec ℕ Global). name.items) l.entry-items) l.entry-index
+invariant-loop-entry g l = l.folder ≢ [] → g.F.Files.is_honest l.self.store.files
+    → GathersFirst l.self.kind (g.F.Files.history l.self.store.files).tree l.folder (ids_in l.fn.ids) (ids_in l.ids) (map (λ (name : Vec ℕ Global). name.items) l.entry-items) l.entry-index

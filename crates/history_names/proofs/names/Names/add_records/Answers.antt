@@ -11,7 +11,7 @@ use Rattle.history_names.proofs.names.Names.add_records.Goals as goal
 pub loop-record-preserved : goal.loop-record-preserved
 loop-record-preserved g c = λ honest keeps name.
     let kind = c.args.self.now.kind in
-    let tree = (g.F.Files.history c.args.self.now.files).tree in
+    let tree = (g.F.Files.history c.args.self.now.store.files).tree in
     let rest = records_left c.next.new.self in
     let before = get (ids_in c.loop-record.ids) name in
     let added = c.in_ok-add_name.ensures.found honest keeps name ∙ ap (λ n. option_or (told_if (bytes_eq n name) kind tree name) before) c.to_path.ensures in
@@ -23,5 +23,5 @@ loop-record-preserved g c = λ honest keeps name.
 pub returns-clause-found : goal.returns-clause-found
 returns-clause-found g c = λ honest keeps name.
     let now = get (ids_in c.loop-record.ids) name in
-    ap (λ rs. option_or (told_if (has_record rs name) c.args.self.now.kind (g.F.Files.history c.args.self.now.files).tree name) now) (sym c.in_default.ensures.steps.0)
+    ap (λ rs. option_or (told_if (has_record rs name) c.args.self.now.kind (g.F.Files.history c.args.self.now.store.files).tree name) now) (sym c.in_default.ensures.steps.0)
     ∙ c.loop-record.invariant honest keeps name

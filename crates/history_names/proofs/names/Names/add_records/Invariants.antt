@@ -11,8 +11,8 @@ use Rattle.history_names.proofs.names.Names.add_records.Given as goal
 -- with the names of the records that are left, all are there
 abbrev pub invariant-loop-record : goal.invariant-loop-record
 invariant-loop-record g l =
-    let tree = (g.F.Files.history l.self.files).tree in
-    g.F.Files.is_honest l.self.files → KeepsRecords l.self tree → (name : Bytes)
+    let tree = (g.F.Files.history l.self.store.files).tree in
+    g.F.Files.is_honest l.self.store.files → KeepsRecords l.self tree → (name : Bytes)
     → option_or (told_if (has_record (records_left l.left) name) l.self.kind tree name) (get (ids_in l.ids) name)
     ≡ option_or (told_if (has_record (records_left l.fn.records) name) l.self.kind tree name) (get (ids_in l.fn.ids) name)
 

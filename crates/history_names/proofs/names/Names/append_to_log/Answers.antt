@@ -19,7 +19,7 @@ use Rattle.gix_hash_id.specs.Id.{id_of}
 pub returns-then-eq-clause-logged : goal.returns-then-eq-clause-logged
 returns-then-eq-clause-logged g c = λ honest.
     let entry = c.args.entry.now in
-    not_logged c.args.name.now entry (g.F.Files.history c.args.self.now.files).tree (one_id (id_of entry.before) (id_of entry.after) (sym c.eq.ensures ∙ c.if-eq.true))
+    not_logged c.args.name.now entry (g.F.Files.history c.args.self.now.store.files).tree (one_id (id_of entry.before) (id_of entry.after) (sym c.eq.ensures ∙ c.if-eq.true))
 
 pub returns-clause-logged : goal.returns-clause-logged
 returns-clause-logged g c = λ honest.
@@ -28,18 +28,18 @@ returns-clause-logged g c = λ honest.
     let change = c.append.ensures.change (c.make_way.ensures.honest honest) in
     let moves : id_of entry.before ≢ id_of entry.after = apart_ids (id_of entry.before) (id_of entry.after) (sym c.eq.ensures ∙ c.if-eq.false) in
     on_ok_both c.append.result
-    (appended c.args.name.now entry c.deref-2.result.now c.deref-3.result.now (g.F.Files.history c.args.self.now.files) (g.F.Files.history c.make_way.new.files) (g.F.Files.history c.append.new.self) moves
+    (appended c.args.name.now entry c.deref-2.result.now c.deref-3.result.now (g.F.Files.history c.args.self.now.store.files) (g.F.Files.history c.make_way.new.files) (g.F.Files.history c.append.new.self) moves
     (c.deref-2.ensures.value ∙ c.in_ok-log.ensures) (c.deref-3.ensures.value ∙ c.in_ok-line.ensures) made)
     change.allowed change.made
 
 pub returns-in_err-make_way-clause-folders : goal.returns-in_err-make_way-clause-folders
 returns-in_err-make_way-clause-folders g c = λ honest.
-    let old = g.F.Files.history c.args.self.now.files in
+    let old = g.F.Files.history c.args.self.now.store.files in
     subst (λ path. Adds (FoldersAbove path old.tree) old (g.F.Files.history c.make_way.new.files)) (c.deref.ensures.value ∙ c.in_ok-log.ensures) (c.make_way.ensures.folders honest)
 
 pub returns-clause-folders : goal.returns-clause-folders
 returns-clause-folders g c = λ honest.
-    let old = g.F.Files.history c.args.self.now.files in
+    let old = g.F.Files.history c.args.self.now.store.files in
     let made = g.F.Files.history c.make_way.new.files in
     let new = g.F.Files.history c.append.new.self in
     let change = c.append.ensures.change (c.make_way.ensures.honest honest) in
@@ -48,7 +48,7 @@ returns-clause-folders g c = λ honest.
 
 pub returns-in_err-make_way-clause-failed : goal.returns-in_err-make_way-clause-failed
 returns-in_err-make_way-clause-failed g c = λ named honest way failed.
-    let old = (g.F.Files.history c.args.self.now.files).tree in
+    let old = (g.F.Files.history c.args.self.now.store.files).tree in
     let log : log_place c.args.name.now ≡ c.deref.result.now = sym (c.deref.ensures.value ∙ c.in_ok-log.ensures) in
     let whole = subst (λ p. IsTrue (is_path p)) log (log_path c.args.name.now named) in
     let inner = c.in_err-make_way.ensures.failed honest whole (subst (λ p. HasWay p old) log way) in
@@ -57,7 +57,7 @@ returns-in_err-make_way-clause-failed g c = λ named honest way failed.
 
 pub returns-clause-failed : goal.returns-clause-failed
 returns-clause-failed g c = λ named honest way failed.
-    let old = (g.F.Files.history c.args.self.now.files).tree in
+    let old = (g.F.Files.history c.args.self.now.store.files).tree in
     let made = (g.F.Files.history c.make_way.new.files).tree in
     let log : log_place c.args.name.now ≡ c.deref.result.now = sym (c.deref.ensures.value ∙ c.in_ok-log.ensures) in
     let whole = subst (λ p. IsTrue (is_path p)) log (log_path c.args.name.now named) in
@@ -67,24 +67,24 @@ returns-clause-failed g c = λ named honest way failed.
 
 pub returns-in_err-make_way-clause-moments : goal.returns-in_err-make_way-clause-moments
 returns-in_err-make_way-clause-moments g c = λ honest.
-    way_log_moments c.args.name.now c.args.entry.now (g.F.Files.history c.args.self.now.files) (g.F.Files.history c.make_way.new.files) (c.make_way.ensures.moments honest)
+    way_log_moments c.args.name.now c.args.entry.now (g.F.Files.history c.args.self.now.store.files) (g.F.Files.history c.make_way.new.files) (c.make_way.ensures.moments honest)
 
 pub returns-clause-moments : goal.returns-clause-moments
 returns-clause-moments g c = λ honest.
     let entry = c.args.entry.now in
     let change = c.append.ensures.change (c.make_way.ensures.honest honest) in
     let moves : id_of entry.before ≢ id_of entry.after = apart_ids (id_of entry.before) (id_of entry.after) (sym c.eq.ensures ∙ c.if-eq.false) in
-    append_moments c.args.name.now entry c.deref-2.result.now c.deref-3.result.now (g.F.Files.history c.args.self.now.files) (g.F.Files.history c.make_way.new.files) (g.F.Files.history c.append.new.self) moves
+    append_moments c.args.name.now entry c.deref-2.result.now c.deref-3.result.now (g.F.Files.history c.args.self.now.store.files) (g.F.Files.history c.make_way.new.files) (g.F.Files.history c.append.new.self) moves
     (c.deref-2.ensures.value ∙ c.in_ok-log.ensures) (c.deref-3.ensures.value ∙ c.in_ok-line.ensures) (c.make_way.ensures.moments honest) change.moments
 
 pub returns-in_err-make_way-clause-stay : goal.returns-in_err-make_way-clause-stay
 returns-in_err-make_way-clause-stay g c = λ honest.
-    let old = g.F.Files.history c.args.self.now.files in
+    let old = g.F.Files.history c.args.self.now.store.files in
     subst (λ path. Adds (KeepsOtherFolders path old.tree) old (g.F.Files.history c.make_way.new.files)) (c.deref.ensures.value ∙ c.in_ok-log.ensures) (c.make_way.ensures.stay honest)
 
 pub returns-clause-stay : goal.returns-clause-stay
 returns-clause-stay g c = λ honest.
-    let old = g.F.Files.history c.args.self.now.files in
+    let old = g.F.Files.history c.args.self.now.store.files in
     let made = g.F.Files.history c.make_way.new.files in
     let new = g.F.Files.history c.append.new.self in
     let change = c.append.ensures.change (c.make_way.ensures.honest honest) in

@@ -11,12 +11,12 @@ pub returns-then-is_some-clause-found : goal.returns-then-is_some-clause-found
 returns-then-is_some-clause-found g c = λ honest keeps.
     let name = c.args.name.now in
     let end = c.loop-end.end in
-    let tree = (g.F.Files.history c.args.self.now.files).tree in
+    let tree = (g.F.Files.history c.args.self.now.store.files).tree in
     (take end name, above_slash name end c.loop-end-test.true c.if-byte-eq47.true, some_reads c.args.self.now.kind tree (take end name) c.in_ok-find.field-0 (c.in_ok-find.ensures.found honest keeps) (sym c.is_some.ensures ∙ c.if-is_some.true))
 
 pub loop-end-preserved : goal.loop-end-preserved
 loop-end-preserved g c = λ honest keeps.
-    let tree = (g.F.Files.history c.args.self.now.files).tree in
+    let tree = (g.F.Files.history c.args.self.now.store.files).tree in
     one_passed c.loop-end.end c.args.self.now.kind c.args.name.now tree (c.loop-end.invariant honest keeps) (λ slash. elim c.if-byte-eq47.branch [
       | then-byte-eq47+in_ok-find+else-is_some w ↦
           none_reads c.args.self.now.kind tree (take c.loop-end.end c.args.name.now) w.in_ok-find.field-0 (w.in_ok-find.ensures.found honest keeps) (sym w.is_some.ensures ∙ w.if-is_some.false)
@@ -24,4 +24,4 @@ loop-end-preserved g c = λ honest keeps.
     ])
 
 pub returns-clause-found : goal.returns-clause-found
-returns-clause-found g c = λ honest keeps. all_passed c.loop-end.end c.args.self.now.kind c.args.name.now (g.F.Files.history c.args.self.now.files).tree (omega (arith, c.loop-end-test.false)) (c.loop-end.invariant honest keeps)
+returns-clause-found g c = λ honest keeps. all_passed c.loop-end.end c.args.self.now.kind c.args.name.now (g.F.Files.history c.args.self.now.store.files).tree (omega (arith, c.loop-end-test.false)) (c.loop-end.invariant honest keeps)

@@ -6,7 +6,7 @@ use Rattle.history_names.proofs.names.Names.read.Goals as goal
 
 pub returns-clause-found : goal.returns-clause-found
 returns-clause-found g c = λ honest.
-    let tree = (g.F.Files.history c.args.self.now.files).tree in
+    let tree = (g.F.Files.history c.args.self.now.store.files).tree in
     let name = c.args.name.now in
     holds_id c.args.self.now.kind (file_at tree name) c.deref.result.now c.in_ok-read.field-0 c.id_in.result
     (c.in_ok-read.ensures.count honest) (c.is_none.ensures ∙ ap not c.if-is_none.false)

@@ -8,16 +8,16 @@ pub returns-clause-gone : goal.returns-clause-gone
 returns-clause-gone g c = λ honest.
     let change = c.remove_file.ensures.change (c.remove_log.ensures.honest honest) in
     on_ok_both c.remove_file.result
-    (name_gone c.args.name.now (g.F.Files.history c.args.self.now.files).tree (g.F.Files.history c.remove_log.new.self.files).tree (g.F.Files.history c.remove_file.new.self).tree (c.in_ok-remove_log.ensures.gone honest))
+    (name_gone c.args.name.now (g.F.Files.history c.args.self.now.store.files).tree (g.F.Files.history c.remove_log.new.self.store.files).tree (g.F.Files.history c.remove_file.new.self).tree (c.in_ok-remove_log.ensures.gone honest))
     change.allowed change.made
 
 pub returns-in_err-remove_log-clause-moments : goal.returns-in_err-remove_log-clause-moments
 returns-in_err-remove_log-clause-moments g c = λ honest.
-    first_moments c.args.name.now (g.F.Files.history c.args.self.now.files) (g.F.Files.history c.remove_log.new.self.files) (c.remove_log.ensures.moments honest)
+    first_moments c.args.name.now (g.F.Files.history c.args.self.now.store.files) (g.F.Files.history c.remove_log.new.self.store.files) (c.remove_log.ensures.moments honest)
 
 pub returns-clause-moments : goal.returns-clause-moments
 returns-clause-moments g c = λ honest.
-    name_moments c.args.name.now (g.F.Files.history c.args.self.now.files) (g.F.Files.history c.remove_log.new.self.files) (g.F.Files.history c.remove_file.new.self)
+    name_moments c.args.name.now (g.F.Files.history c.args.self.now.store.files) (g.F.Files.history c.remove_log.new.self.store.files) (g.F.Files.history c.remove_file.new.self)
     (c.in_ok-remove_log.ensures.gone honest) (c.remove_log.ensures.moments honest) (c.remove_file.ensures.change (c.remove_log.ensures.honest honest)).moments
 
 pub returns-in_err-remove_log-clause-folders : goal.returns-in_err-remove_log-clause-folders
@@ -25,7 +25,7 @@ returns-in_err-remove_log-clause-folders g c = λ honest. c.remove_log.ensures.f
 
 pub returns-clause-folders : goal.returns-clause-folders
 returns-clause-folders g c = λ honest.
-    then_folders c.args.name.now (g.F.Files.history c.args.self.now.files) (g.F.Files.history c.remove_log.new.self.files) (g.F.Files.history c.remove_file.new.self)
+    then_folders c.args.name.now (g.F.Files.history c.args.self.now.store.files) (g.F.Files.history c.remove_log.new.self.store.files) (g.F.Files.history c.remove_file.new.self)
     (c.remove_log.ensures.folders honest) (c.remove_file.ensures.change (c.remove_log.ensures.honest honest)).moments
 
 pub returns-in_err-remove_log-clause-failed : goal.returns-in_err-remove_log-clause-failed
@@ -36,6 +36,6 @@ returns-in_err-remove_log-clause-failed g c = λ honest there failed.
 
 pub returns-clause-failed : goal.returns-clause-failed
 returns-clause-failed g c = λ honest there failed.
-    let mid = (g.F.Files.history c.remove_log.new.self.files).tree in
-    let may = still_there c.args.name.now (g.F.Files.history c.args.self.now.files).tree mid (c.in_ok-remove_log.ensures.gone honest) ∙ there in
+    let mid = (g.F.Files.history c.remove_log.new.self.store.files).tree in
+    let may = still_there c.args.name.now (g.F.Files.history c.args.self.now.store.files).tree mid (c.in_ok-remove_log.ensures.gone honest) ∙ there in
     later_risen _ _ _ c.remove_log.ensures.later (caused _ _ _ _ may (c.remove_file.ensures.cause (c.remove_log.ensures.honest honest)) failed)

@@ -15,9 +15,9 @@ returns-in_err-remove_own_file-clause-moments g c = λ honest.
     let i = c.loop-named.named-index in
     let next = c.to_path.result.now in
     let grown = grows names i c.named-item.result next c.loop-named-test.true (c.to_path.ensures ∙ ap (λ (n : PackedName). n.name) c.named-item.is) in
-    let old = history c.args.self.now.files in
-    let mid = history c.loop-named.self.files in
-    let new = history c.remove_own_file.new.self.files in
+    let old = history c.args.self.now.store.files in
+    let mid = history c.loop-named.self.store.files in
+    let new = history c.remove_own_file.new.self.store.files in
     subst (λ ps. Adds (MayBeGone ps old.tree) old new) (sym (all_of_them names i next grown))
     (adds_weaker old new (goes_on (name_texts (take i names)) next old mid new (so_far.gone honest) (so_far.moments honest) (c.remove_own_file.ensures.moments (so_far.honest honest)))
     (λ x may. may_more (name_texts (take i names) ++ next ∷ []) (name_texts (drop (i + 1) names)) old.tree x may))
@@ -25,7 +25,7 @@ returns-in_err-remove_own_file-clause-moments g c = λ honest.
 pub returns-in_err-remove_own_file-clause-folders : goal.returns-in_err-remove_own_file-clause-folders
 returns-in_err-remove_own_file-clause-folders g c = λ honest.
     let so_far = c.loop-named.invariant in
-    folders_joined (g.F.Files.history c.args.self.now.files) (g.F.Files.history c.loop-named.self.files) (g.F.Files.history c.remove_own_file.new.self.files)
+    folders_joined (g.F.Files.history c.args.self.now.store.files) (g.F.Files.history c.loop-named.self.store.files) (g.F.Files.history c.remove_own_file.new.self.store.files)
     (so_far.folders honest) (c.remove_own_file.ensures.folders (so_far.honest honest))
 
 pub loop-named-preserved : goal.loop-named-preserved
@@ -36,9 +36,9 @@ loop-named-preserved g c =
     let i = c.loop-named.named-index in
     let next = c.to_path.result.now in
     let grown = grows names i c.named-item.result next c.loop-named-test.true (c.to_path.ensures ∙ ap (λ (n : PackedName). n.name) c.named-item.is) in
-    let old = history c.args.self.now.files in
-    let mid = history c.loop-named.self.files in
-    let new = history c.remove_own_file.new.self.files in
+    let old = history c.args.self.now.store.files in
+    let mid = history c.loop-named.self.store.files in
+    let new = history c.remove_own_file.new.self.store.files in
     let paths = name_texts (take i names) in
     record {
       honest = λ honest. c.remove_own_file.ensures.honest (so_far.honest honest);

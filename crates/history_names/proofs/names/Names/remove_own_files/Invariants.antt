@@ -10,12 +10,12 @@ invariant-loop-named g l =
     let history = g.F.Files.history in
     let paths = name_texts (take l.named-index l.names) in
     record {
-      honest : g.F.Files.is_honest l.fn.self.files → g.F.Files.is_honest l.self.files;
+      honest : g.F.Files.is_honest l.fn.self.store.files → g.F.Files.is_honest l.self.store.files;
       kind : l.self.kind ≡ l.fn.self.kind;
       packed : l.self.packed ≡ l.fn.self.packed;
-      gone : g.F.Files.is_honest l.fn.self.files → AreGone paths (history l.fn.self.files).tree (history l.self.files).tree;
-      moments : g.F.Files.is_honest l.fn.self.files → Adds (MayBeGone paths (history l.fn.self.files).tree) (history l.fn.self.files) (history l.self.files);
-      folders : g.F.Files.is_honest l.fn.self.files → Adds (SameFolders (history l.fn.self.files).tree) (history l.fn.self.files) (history l.self.files);
-      later : g.F.Files.failures l.fn.self.files ≤ g.F.Files.failures l.self.files;
-      unfailed : g.F.Files.failures l.self.files ≡ g.F.Files.failures l.fn.self.files;
+      gone : g.F.Files.is_honest l.fn.self.store.files → AreGone paths (history l.fn.self.store.files).tree (history l.self.store.files).tree;
+      moments : g.F.Files.is_honest l.fn.self.store.files → Adds (MayBeGone paths (history l.fn.self.store.files).tree) (history l.fn.self.store.files) (history l.self.store.files);
+      folders : g.F.Files.is_honest l.fn.self.store.files → Adds (SameFolders (history l.fn.self.store.files).tree) (history l.fn.self.store.files) (history l.self.store.files);
+      later : g.F.Files.failures l.fn.self.store.files ≤ g.F.Files.failures l.self.store.files;
+      unfailed : g.F.Files.failures l.self.store.files ≡ g.F.Files.failures l.fn.self.store.files;
     }

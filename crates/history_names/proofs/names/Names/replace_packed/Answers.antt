@@ -13,7 +13,7 @@ use Rattle.history_names.proofs.names.Names.replace_packed.Goals as goal
 
 pub returns-clause-put : goal.returns-clause-put
 returns-clause-put g c = λ honest.
-    let old = g.F.Files.history c.args.self.now.files in
+    let old = g.F.Files.history c.args.self.now.store.files in
     let locked = g.F.Files.history c.write_anew.new.files in
     let new = g.F.Files.history c.rename.new.self in
     let renamed = c.in_ok-rename.ensures.change (c.write_anew.ensures.honest honest) in
@@ -22,7 +22,7 @@ returns-clause-put g c = λ honest.
 
 pub returns-clause-keeps : goal.returns-clause-keeps
 returns-clause-keeps g c = λ honest.
-    let old = g.F.Files.history c.args.self.now.files in
+    let old = g.F.Files.history c.args.self.now.store.files in
     let locked = g.F.Files.history c.write_anew.new.files in
     let new = g.F.Files.history c.rename.new.self in
     let renamed = c.in_ok-rename.ensures.change (c.write_anew.ensures.honest honest) in
@@ -33,14 +33,14 @@ returns-clause-keeps g c = λ honest.
 
 pub returns-in_err-write_anew-clause-moments : goal.returns-in_err-write_anew-clause-moments
 returns-in_err-write_anew-clause-moments g c = λ honest.
-    let old = g.F.Files.history c.args.self.now.files in
+    let old = g.F.Files.history c.args.self.now.store.files in
     let locked = g.F.Files.history c.write_anew.new.files in
     subst (λ bytes. Adds (MayBeWritten packed_place bytes old.tree) old locked) (c.as_ref.ensures ∙ c.in_ok-packed.ensures.bytes)
     (lock_beside packed_place c.as_ref.result.now packed_lock refl old old locked locked (adds_nothing old) (c.write_anew.ensures.moments honest))
 
 pub returns-in_err-rename-clause-moments : goal.returns-in_err-rename-clause-moments
 returns-in_err-rename-clause-moments g c = λ honest.
-    let old = g.F.Files.history c.args.self.now.files in
+    let old = g.F.Files.history c.args.self.now.store.files in
     let locked = g.F.Files.history c.write_anew.new.files in
     let new = g.F.Files.history c.rename.new.self in
     let renamed = c.rename.ensures.change (c.write_anew.ensures.honest honest) in
@@ -49,7 +49,7 @@ returns-in_err-rename-clause-moments g c = λ honest.
 
 pub returns-clause-moments : goal.returns-clause-moments
 returns-clause-moments g c = λ honest.
-    let old = g.F.Files.history c.args.self.now.files in
+    let old = g.F.Files.history c.args.self.now.store.files in
     let locked = g.F.Files.history c.write_anew.new.files in
     let new = g.F.Files.history c.rename.new.self in
     let renamed = c.rename.ensures.change (c.write_anew.ensures.honest honest) in
@@ -58,23 +58,23 @@ returns-clause-moments g c = λ honest.
 
 pub returns-in_err-write_anew-clause-folders : goal.returns-in_err-write_anew-clause-folders
 returns-in_err-write_anew-clause-folders g c = λ honest.
-    locked_folders (g.F.Files.history c.args.self.now.files) (g.F.Files.history c.write_anew.new.files) (c.write_anew.ensures.moments honest)
+    locked_folders (g.F.Files.history c.args.self.now.store.files) (g.F.Files.history c.write_anew.new.files) (c.write_anew.ensures.moments honest)
 
 pub returns-in_err-rename-clause-folders : goal.returns-in_err-rename-clause-folders
 returns-in_err-rename-clause-folders g c = λ honest.
     let renamed = c.rename.ensures.change (c.write_anew.ensures.honest honest) in
-    renamed_all (g.F.Files.history c.args.self.now.files) (g.F.Files.history c.write_anew.new.files) (g.F.Files.history c.rename.new.self) (c.write_anew.ensures.moments honest) renamed.moments
+    renamed_all (g.F.Files.history c.args.self.now.store.files) (g.F.Files.history c.write_anew.new.files) (g.F.Files.history c.rename.new.self) (c.write_anew.ensures.moments honest) renamed.moments
 
 pub returns-clause-folders : goal.returns-clause-folders
 returns-clause-folders g c = λ honest.
     let renamed = c.rename.ensures.change (c.write_anew.ensures.honest honest) in
-    renamed_all (g.F.Files.history c.args.self.now.files) (g.F.Files.history c.write_anew.new.files) (g.F.Files.history c.rename.new.self) (c.write_anew.ensures.moments honest) renamed.moments
+    renamed_all (g.F.Files.history c.args.self.now.store.files) (g.F.Files.history c.write_anew.new.files) (g.F.Files.history c.rename.new.self) (c.write_anew.ensures.moments honest) renamed.moments
 
 pub returns-in_err-write_anew-clause-failed : goal.returns-in_err-write_anew-clause-failed
 returns-in_err-write_anew-clause-failed g c = λ honest room reads failed.
     let error = err_from_is_err_and c.from_residual-in_err-write_anew.result c.from_residual-in_err-write_anew.ensures.1 in
     let same : c.write_anew.result ≡ Err Failed = c.in_err-write_anew.was ∙ ap Err (told_error c.from_residual-in_err-write_anew.result c.in_err-write_anew.field-0.0 error.0 error.1 error.2 failed) in
-    c.write_anew.ensures.failed honest (lock_room (g.F.Files.history c.args.self.now.files).tree room) same
+    c.write_anew.ensures.failed honest (lock_room (g.F.Files.history c.args.self.now.store.files).tree room) same
 
 pub returns-in_err-rename-clause-failed : goal.returns-in_err-rename-clause-failed
 returns-in_err-rename-clause-failed g c = λ honest room reads failed.
@@ -82,4 +82,4 @@ returns-in_err-rename-clause-failed g c = λ honest room reads failed.
     let same : c.rename.result ≡ Err Failed = c.in_err-rename.was ∙ ap Err (told_error c.from_residual-in_err-rename.result c.in_err-rename.field-0.0 error.0 error.1 error.2 failed) in
     ⊎_elim (λ risen. risen) (λ (never : ⊥). absurd never)
     (caused _ _ _ _ c.rename.result (c.rename.ensures.cause (c.write_anew.ensures.honest honest))
-    (may_follow c.as_ref.result.now (g.F.Files.history c.args.self.now.files).tree (g.F.Files.history c.write_anew.new.files).tree room (c.in_ok-write_anew.ensures.made honest)) same c.write_anew.ensures.later)
+    (may_follow c.as_ref.result.now (g.F.Files.history c.args.self.now.store.files).tree (g.F.Files.history c.write_anew.new.files).tree room (c.in_ok-write_anew.ensures.made honest)) same c.write_anew.ensures.later)

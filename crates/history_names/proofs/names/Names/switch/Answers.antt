@@ -16,7 +16,7 @@ use Rattle.history_names.proofs.names.Names.switch.Goals as goal
 
 pub returns-clause-switched : goal.returns-clause-switched
 returns-clause-switched g c = λ honest.
-    let old = g.F.Files.history c.args.self.now.files in
+    let old = g.F.Files.history c.args.self.now.store.files in
     let locked = g.F.Files.history c.write_anew.new.files in
     let new = g.F.Files.history c.rename.new.self in
     let renamed = c.rename.ensures.change (c.write_anew.ensures.honest honest) in
@@ -28,25 +28,25 @@ returns-clause-switched g c = λ honest.
 pub returns-clause-keeps : goal.returns-clause-keeps
 returns-clause-keeps g c = λ honest keeps.
     let old = c.args.self.now in
-    let before = g.F.Files.history old.files in
+    let before = g.F.Files.history old.store.files in
     let locked = g.F.Files.history c.write_anew.new.files in
     let new = g.F.Files.history c.rename.new.self in
     let renamed = c.rename.ensures.change (c.write_anew.ensures.honest honest) in
     on_ok_both c.rename.result
-    (λ may is. keeps_on old (record old { files = c.rename.new.self }) before.tree new.tree refl refl
+    (λ may is. keeps_on old (record old { store = record old.store { files = c.rename.new.self }; root = old.root }) before.tree new.tree refl refl
     (head_keeps c.deref.result.now before.tree new.tree (put_beside head_place c.deref.result.now head_lock refl before before locked new (adds_nothing before) (c.in_ok-write_anew.ensures.allowed honest) (c.in_ok-write_anew.ensures.made honest) may is)) keeps)
     renamed.allowed renamed.made
 
 pub returns-in_err-write_anew-clause-moments : goal.returns-in_err-write_anew-clause-moments
 returns-in_err-write_anew-clause-moments g c = λ honest.
-    let old = g.F.Files.history c.args.self.now.files in
+    let old = g.F.Files.history c.args.self.now.store.files in
     let locked = g.F.Files.history c.write_anew.new.files in
     subst (λ bytes. Adds (MayBeWritten head_place bytes old.tree) old locked) (c.deref.ensures.value ∙ c.in_ok-text.ensures)
     (lock_beside head_place c.deref.result.now head_lock refl old old locked locked (adds_nothing old) (c.write_anew.ensures.moments honest))
 
 pub returns-clause-moments : goal.returns-clause-moments
 returns-clause-moments g c = λ honest.
-    let old = g.F.Files.history c.args.self.now.files in
+    let old = g.F.Files.history c.args.self.now.store.files in
     let locked = g.F.Files.history c.write_anew.new.files in
     let new = g.F.Files.history c.rename.new.self in
     let renamed = c.rename.ensures.change (c.write_anew.ensures.honest honest) in
@@ -63,10 +63,10 @@ pub returns-in_err-write_anew-clause-failed : goal.returns-in_err-write_anew-cla
 returns-in_err-write_anew-clause-failed g c = λ honest room failed.
     let error = err_from_is_err_and c.from_residual-in_err-write_anew.result c.from_residual-in_err-write_anew.ensures.1 in
     let same : c.write_anew.result ≡ Err Failed = c.in_err-write_anew.was ∙ ap Err (told_error c.from_residual-in_err-write_anew.result c.in_err-write_anew.field-0.0 error.0 error.1 error.2 failed) in
-    c.write_anew.ensures.failed honest (lock_room (g.F.Files.history c.args.self.now.files).tree room) same
+    c.write_anew.ensures.failed honest (lock_room (g.F.Files.history c.args.self.now.store.files).tree room) same
 
 pub returns-clause-failed : goal.returns-clause-failed
 returns-clause-failed g c = λ honest room failed.
     ⊎_elim (λ risen. risen) (λ (never : ⊥). absurd never)
     (caused _ _ _ _ c.rename.result (c.rename.ensures.cause (c.write_anew.ensures.honest honest))
-    (may_follow c.deref.result.now (g.F.Files.history c.args.self.now.files).tree (g.F.Files.history c.write_anew.new.files).tree room (c.in_ok-write_anew.ensures.made honest)) failed c.write_anew.ensures.later)
+    (may_follow c.deref.result.now (g.F.Files.history c.args.self.now.store.files).tree (g.F.Files.history c.write_anew.new.files).tree room (c.in_ok-write_anew.ensures.made honest)) failed c.write_anew.ensures.later)

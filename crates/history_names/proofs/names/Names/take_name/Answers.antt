@@ -17,12 +17,12 @@ returns-clause-taken g c = λ named keeps formed honest.
     let name = c.args.name.now in
     let honest_1 = c.remove_log.ensures.honest honest in
     let logs = c.in_ok-remove_log.ensures.gone honest in
-    let files = log_keeps name (history old.files).tree (history mid.files).tree logs in
-    let kept_mid = keeps_on old mid (history old.files).tree (history mid.files).tree c.remove_log.ensures.kind c.remove_log.ensures.packed files keeps in
-    let formed_mid = formed_on old.kind mid.kind (history old.files).tree (history mid.files).tree c.remove_log.ensures.kind files formed in
-    let loses = subst (λ k. LosesRecord k name (history mid.files).tree (history left.files).tree) c.remove_log.ensures.kind (c.in_ok-take_record.ensures.taken named kept_mid formed_mid honest_1) in
+    let files = log_keeps name (history old.store.files).tree (history mid.store.files).tree logs in
+    let kept_mid = keeps_on old mid (history old.store.files).tree (history mid.store.files).tree c.remove_log.ensures.kind c.remove_log.ensures.packed files keeps in
+    let formed_mid = formed_on old.kind mid.kind (history old.store.files).tree (history mid.store.files).tree c.remove_log.ensures.kind files formed in
+    let loses = subst (λ k. LosesRecord k name (history mid.store.files).tree (history left.store.files).tree) c.remove_log.ensures.kind (c.in_ok-take_record.ensures.taken named kept_mid formed_mid honest_1) in
     on_ok_weaker c.remove_own_file.result
-    (λ gone. all_taken old.kind name named (history old.files).tree (history mid.files).tree logs (history left.files).tree loses (history new.files).tree gone)
+    (λ gone. all_taken old.kind name named (history old.store.files).tree (history mid.store.files).tree logs (history left.store.files).tree loses (history new.store.files).tree gone)
     (c.remove_own_file.ensures.gone (c.take_record.ensures.honest honest_1))
 
 pub returns-clause-keeps : goal.returns-clause-keeps
@@ -35,16 +35,16 @@ returns-clause-keeps g c = λ named keeps honest.
     let name = c.args.name.now in
     let honest_1 = c.remove_log.ensures.honest honest in
     let logs = c.in_ok-remove_log.ensures.gone honest in
-    let files = log_keeps name (history old.files).tree (history mid.files).tree logs in
-    let kept_mid = keeps_on old mid (history old.files).tree (history mid.files).tree c.remove_log.ensures.kind c.remove_log.ensures.packed files keeps in
+    let files = log_keeps name (history old.store.files).tree (history mid.store.files).tree logs in
+    let kept_mid = keeps_on old mid (history old.store.files).tree (history mid.store.files).tree c.remove_log.ensures.kind c.remove_log.ensures.packed files keeps in
     let kept_left = c.in_ok-take_record.ensures.keeps kept_mid honest_1 in
     on_ok_weaker c.remove_own_file.result
-    (λ gone. keeps_on left new (history left.files).tree (history new.files).tree c.remove_own_file.ensures.kind c.remove_own_file.ensures.packed (own_keeps name (history left.files).tree (history new.files).tree named gone) kept_left)
+    (λ gone. keeps_on left new (history left.store.files).tree (history new.store.files).tree c.remove_own_file.ensures.kind c.remove_own_file.ensures.packed (own_keeps name (history left.store.files).tree (history new.store.files).tree named gone) kept_left)
     (c.remove_own_file.ensures.gone (c.take_record.ensures.honest honest_1))
 
 pub returns-in_err-remove_log-clause-moments : goal.returns-in_err-remove_log-clause-moments
 returns-in_err-remove_log-clause-moments g c = λ named keeps formed honest.
-    log_moments c.args.self.now.kind c.args.name.now named (g.F.Files.history c.args.self.now.files) (g.F.Files.history c.remove_log.new.self.files) (c.remove_log.ensures.moments honest)
+    log_moments c.args.self.now.kind c.args.name.now named (g.F.Files.history c.args.self.now.store.files) (g.F.Files.history c.remove_log.new.self.store.files) (c.remove_log.ensures.moments honest)
 
 pub returns-in_err-take_record-clause-moments : goal.returns-in_err-take_record-clause-moments
 returns-in_err-take_record-clause-moments g c = λ named keeps formed honest.
@@ -55,11 +55,11 @@ returns-in_err-take_record-clause-moments g c = λ named keeps formed honest.
     let name = c.args.name.now in
     let honest_1 = c.remove_log.ensures.honest honest in
     let logs = c.in_ok-remove_log.ensures.gone honest in
-    let files = log_keeps name (history old.files).tree (history mid.files).tree logs in
-    let kept_mid = keeps_on old mid (history old.files).tree (history mid.files).tree c.remove_log.ensures.kind c.remove_log.ensures.packed files keeps in
-    let formed_mid = formed_on old.kind mid.kind (history old.files).tree (history mid.files).tree c.remove_log.ensures.kind files formed in
-    record_moments old.kind name named (history old.files) (history mid.files) (history left.files) logs (c.remove_log.ensures.moments honest)
-    (subst (λ k. Adds (MayLoseRecord k name (history mid.files).tree) (history mid.files) (history left.files)) c.remove_log.ensures.kind (c.take_record.ensures.moments named kept_mid formed_mid honest_1))
+    let files = log_keeps name (history old.store.files).tree (history mid.store.files).tree logs in
+    let kept_mid = keeps_on old mid (history old.store.files).tree (history mid.store.files).tree c.remove_log.ensures.kind c.remove_log.ensures.packed files keeps in
+    let formed_mid = formed_on old.kind mid.kind (history old.store.files).tree (history mid.store.files).tree c.remove_log.ensures.kind files formed in
+    record_moments old.kind name named (history old.store.files) (history mid.store.files) (history left.store.files) logs (c.remove_log.ensures.moments honest)
+    (subst (λ k. Adds (MayLoseRecord k name (history mid.store.files).tree) (history mid.store.files) (history left.store.files)) c.remove_log.ensures.kind (c.take_record.ensures.moments named kept_mid formed_mid honest_1))
 
 pub returns-clause-moments : goal.returns-clause-moments
 returns-clause-moments g c = λ named keeps formed honest.
@@ -71,12 +71,12 @@ returns-clause-moments g c = λ named keeps formed honest.
     let name = c.args.name.now in
     let honest_1 = c.remove_log.ensures.honest honest in
     let logs = c.in_ok-remove_log.ensures.gone honest in
-    let files = log_keeps name (history old.files).tree (history mid.files).tree logs in
-    let kept_mid = keeps_on old mid (history old.files).tree (history mid.files).tree c.remove_log.ensures.kind c.remove_log.ensures.packed files keeps in
-    let formed_mid = formed_on old.kind mid.kind (history old.files).tree (history mid.files).tree c.remove_log.ensures.kind files formed in
-    let loses = subst (λ k. LosesRecord k name (history mid.files).tree (history left.files).tree) c.remove_log.ensures.kind (c.in_ok-take_record.ensures.taken named kept_mid formed_mid honest_1) in
-    gone_moments old.kind name named (history old.files) (history mid.files) (history left.files) (history new.files) logs loses (c.remove_log.ensures.moments honest)
-    (subst (λ k. Adds (MayLoseRecord k name (history mid.files).tree) (history mid.files) (history left.files)) c.remove_log.ensures.kind (c.take_record.ensures.moments named kept_mid formed_mid honest_1))
+    let files = log_keeps name (history old.store.files).tree (history mid.store.files).tree logs in
+    let kept_mid = keeps_on old mid (history old.store.files).tree (history mid.store.files).tree c.remove_log.ensures.kind c.remove_log.ensures.packed files keeps in
+    let formed_mid = formed_on old.kind mid.kind (history old.store.files).tree (history mid.store.files).tree c.remove_log.ensures.kind files formed in
+    let loses = subst (λ k. LosesRecord k name (history mid.store.files).tree (history left.store.files).tree) c.remove_log.ensures.kind (c.in_ok-take_record.ensures.taken named kept_mid formed_mid honest_1) in
+    gone_moments old.kind name named (history old.store.files) (history mid.store.files) (history left.store.files) (history new.store.files) logs loses (c.remove_log.ensures.moments honest)
+    (subst (λ k. Adds (MayLoseRecord k name (history mid.store.files).tree) (history mid.store.files) (history left.store.files)) c.remove_log.ensures.kind (c.take_record.ensures.moments named kept_mid formed_mid honest_1))
     (c.remove_own_file.ensures.moments (c.take_record.ensures.honest honest_1))
 
 pub returns-in_err-remove_log-clause-failed : goal.returns-in_err-remove_log-clause-failed
@@ -93,9 +93,9 @@ returns-in_err-take_record-clause-failed g c = λ named honest keeps room failed
     let name = c.args.name.now in
     let honest_1 = c.remove_log.ensures.honest honest in
     let logs = c.in_ok-remove_log.ensures.gone honest in
-    let files = log_keeps name (history old.files).tree (history mid.files).tree logs in
-    let kept_mid = keeps_on old mid (history old.files).tree (history mid.files).tree c.remove_log.ensures.kind c.remove_log.ensures.packed files keeps in
-    let room_mid = room_on (history old.files).tree (history mid.files).tree (same_folders_now (history old.files) (history mid.files) (c.remove_log.ensures.folders honest)) room in
+    let files = log_keeps name (history old.store.files).tree (history mid.store.files).tree logs in
+    let kept_mid = keeps_on old mid (history old.store.files).tree (history mid.store.files).tree c.remove_log.ensures.kind c.remove_log.ensures.packed files keeps in
+    let room_mid = room_on (history old.store.files).tree (history mid.store.files).tree (same_folders_now (history old.store.files) (history mid.store.files) (c.remove_log.ensures.folders honest)) room in
     let inner = c.in_err-take_record.ensures.failed named honest_1 kept_mid room_mid in
     let residual = c.from_residual-in_err-take_record.ensures in
     later_risen _ _ _ c.remove_log.ensures.later (inner (search rules))
@@ -107,12 +107,12 @@ returns-clause-failed g c = λ named honest keeps room failed.
 
 pub returns-in_err-take_record-clause-folders : goal.returns-in_err-take_record-clause-folders
 returns-in_err-take_record-clause-folders g c = λ honest.
-    folders_joined (g.F.Files.history c.args.self.now.files) (g.F.Files.history c.remove_log.new.self.files) (g.F.Files.history c.take_record.new.self.files)
+    folders_joined (g.F.Files.history c.args.self.now.store.files) (g.F.Files.history c.remove_log.new.self.store.files) (g.F.Files.history c.take_record.new.self.store.files)
     (c.remove_log.ensures.folders honest) (c.take_record.ensures.folders (c.remove_log.ensures.honest honest))
 
 pub returns-clause-folders : goal.returns-clause-folders
 returns-clause-folders g c = λ honest.
     let honest_1 = c.remove_log.ensures.honest honest in
-    folders_joined (g.F.Files.history c.args.self.now.files) (g.F.Files.history c.take_record.new.self.files) (g.F.Files.history c.remove_own_file.new.self.files)
-    (folders_joined (g.F.Files.history c.args.self.now.files) (g.F.Files.history c.remove_log.new.self.files) (g.F.Files.history c.take_record.new.self.files) (c.remove_log.ensures.folders honest) (c.take_record.ensures.folders honest_1))
+    folders_joined (g.F.Files.history c.args.self.now.store.files) (g.F.Files.history c.take_record.new.self.store.files) (g.F.Files.history c.remove_own_file.new.self.store.files)
+    (folders_joined (g.F.Files.history c.args.self.now.store.files) (g.F.Files.history c.remove_log.new.self.store.files) (g.F.Files.history c.take_record.new.self.store.files) (c.remove_log.ensures.folders honest) (c.take_record.ensures.folders honest_1))
     (c.remove_own_file.ensures.folders (c.take_record.ensures.honest honest_1))

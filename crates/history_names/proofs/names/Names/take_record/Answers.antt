@@ -12,9 +12,9 @@ returns-in-Some-clause-taken g c = λ named keeps formed honest.
     let old = c.args.self.now in
     let name = c.args.name.now in
     let text = c.in-Some.text.items in
-    let lacks = removed_lacks old.kind name text (file_at (history old.files).tree packed_place) old.packed keeps formed (rw c.in-Some.is at (c.in_ok-text.ensures named)) in
+    let lacks = removed_lacks old.kind name text (file_at (history old.store.files).tree packed_place) old.packed keeps formed (rw c.in-Some.is at (c.in_ok-text.ensures named)) in
     on_ok_weaker c.replace_packed.result
-    (λ puts. record_lost old.kind name text (history old.files).tree lacks (history c.replace_packed.new.self.files).tree puts)
+    (λ puts. record_lost old.kind name text (history old.store.files).tree lacks (history c.replace_packed.new.self.store.files).tree puts)
     (c.replace_packed.ensures.put honest)
 
 pub returns-in-Some-clause-moments : goal.returns-in-Some-clause-moments
@@ -23,18 +23,18 @@ returns-in-Some-clause-moments g c = λ named keeps formed honest.
     let old = c.args.self.now in
     let name = c.args.name.now in
     let text = c.in-Some.text.items in
-    let lacks = removed_lacks old.kind name text (file_at (history old.files).tree packed_place) old.packed keeps formed (rw c.in-Some.is at (c.in_ok-text.ensures named)) in
-    adds_weaker (history old.files) (history c.replace_packed.new.self.files) (c.replace_packed.ensures.moments honest) (λ x may. record_may old.kind name text (history old.files).tree lacks x may)
+    let lacks = removed_lacks old.kind name text (file_at (history old.store.files).tree packed_place) old.packed keeps formed (rw c.in-Some.is at (c.in_ok-text.ensures named)) in
+    adds_weaker (history old.store.files) (history c.replace_packed.new.self.store.files) (c.replace_packed.ensures.moments honest) (λ x may. record_may old.kind name text (history old.store.files).tree lacks x may)
 
 pub returns-in-Some-clause-failed : goal.returns-in-Some-clause-failed
 returns-in-Some-clause-failed g c = λ named honest keeps room failed.
     let old = c.args.self.now in
     inl (c.replace_packed.ensures.failed honest room
-    (removed_reads old.kind c.args.name.now c.in-Some.text.items (file_at (g.F.Files.history old.files).tree packed_place) old.packed keeps (rw c.in-Some.is at (c.in_ok-text.ensures named)))
+    (removed_reads old.kind c.args.name.now c.in-Some.text.items (file_at (g.F.Files.history old.store.files).tree packed_place) old.packed keeps (rw c.in-Some.is at (c.in_ok-text.ensures named)))
     failed)
 
 pub returns-in-None-clause-taken : goal.returns-in-None-clause-taken
 returns-in-None-clause-taken g c = λ named keeps formed honest.
     let old = c.args.self.now in
-    let tree = (g.F.Files.history old.files).tree in
+    let tree = (g.F.Files.history old.store.files).tree in
     none_lost old.kind c.args.name.now tree (lacks_same old.kind c.args.name.now (file_at tree packed_place) old.packed keeps formed named (rw c.in-None.is at (c.in_ok-text.ensures named)))

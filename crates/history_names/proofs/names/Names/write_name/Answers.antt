@@ -17,7 +17,7 @@ use Rattle.history_names.proofs.names.Names.write_name.Goals as goal
 pub returns-clause-written : goal.returns-clause-written
 returns-clause-written g c = λ named honest.
     let honest_1 = c.make_way.ensures.honest honest in
-    let old = g.F.Files.history c.args.self.now.files in
+    let old = g.F.Files.history c.args.self.now.store.files in
     let made = g.F.Files.history c.make_way.new.files in
     let locked = g.F.Files.history c.write_anew.new.files in
     let new = g.F.Files.history c.rename.new.self in
@@ -31,13 +31,13 @@ returns-clause-written g c = λ named honest.
 
 pub returns-in_err-make_way-clause-moments : goal.returns-in_err-make_way-clause-moments
 returns-in_err-make_way-clause-moments g c = λ named honest.
-    let old = g.F.Files.history c.args.self.now.files in
+    let old = g.F.Files.history c.args.self.now.store.files in
     let made = g.F.Files.history c.make_way.new.files in
     way_beside c.args.name.now _ _ c.in_ok-lock.ensures old made made made (c.make_way.ensures.moments honest)
 
 pub returns-in_err-write_anew-clause-moments : goal.returns-in_err-write_anew-clause-moments
 returns-in_err-write_anew-clause-moments g c = λ named honest.
-    let old = g.F.Files.history c.args.self.now.files in
+    let old = g.F.Files.history c.args.self.now.store.files in
     let made = g.F.Files.history c.make_way.new.files in
     let locked = g.F.Files.history c.write_anew.new.files in
     let text = c.deref-2.ensures.value ∙ c.in_ok-text.ensures in
@@ -48,7 +48,7 @@ returns-in_err-write_anew-clause-moments g c = λ named honest.
 pub returns-clause-moments : goal.returns-clause-moments
 returns-clause-moments g c = λ named honest.
     let honest_1 = c.make_way.ensures.honest honest in
-    let old = g.F.Files.history c.args.self.now.files in
+    let old = g.F.Files.history c.args.self.now.store.files in
     let made = g.F.Files.history c.make_way.new.files in
     let locked = g.F.Files.history c.write_anew.new.files in
     let new = g.F.Files.history c.rename.new.self in
@@ -64,11 +64,11 @@ returns-in_err-make_way-clause-folders g c = λ honest. c.make_way.ensures.folde
 pub returns-in_err-write_anew-clause-folders : goal.returns-in_err-write_anew-clause-folders
 returns-in_err-write_anew-clause-folders g c = λ honest.
     let made = g.F.Files.history c.make_way.new.files in
-    then_above c.args.name.now (g.F.Files.history c.args.self.now.files) made (g.F.Files.history c.write_anew.new.files) (c.make_way.ensures.folders honest) (c.write_anew.ensures.moments (c.make_way.ensures.honest honest)) (one_brings c.deref.result.now made.tree)
+    then_above c.args.name.now (g.F.Files.history c.args.self.now.store.files) made (g.F.Files.history c.write_anew.new.files) (c.make_way.ensures.folders honest) (c.write_anew.ensures.moments (c.make_way.ensures.honest honest)) (one_brings c.deref.result.now made.tree)
 
 pub returns-clause-folders : goal.returns-clause-folders
 returns-clause-folders g c = λ honest.
-    let old = g.F.Files.history c.args.self.now.files in
+    let old = g.F.Files.history c.args.self.now.store.files in
     let made = g.F.Files.history c.make_way.new.files in
     let locked = g.F.Files.history c.write_anew.new.files in
     let honest_1 = c.make_way.ensures.honest honest in
@@ -87,7 +87,7 @@ returns-in_err-write_anew-clause-failed g c = λ named honest way lock failed.
     let error = err_from_is_err_and c.from_residual-in_err-write_anew.result c.from_residual-in_err-write_anew.ensures.1 in
     let same : c.write_anew.result ≡ Err Failed = c.in_err-write_anew.was ∙ ap Err (told_error c.from_residual-in_err-write_anew.result c.in_err-write_anew.field-0.0 error.0 error.1 error.2 failed) in
     let room = c.in_ok-make_way.ensures.room honest (name_path c.args.name.now named) way in
-    let fits = lock_fits c.args.name.now c.deref-2.result.now c.deref.result.now named (c.deref.ensures.value ∙ c.in_ok-lock.ensures) (g.F.Files.history c.args.self.now.files) (g.F.Files.history c.make_way.new.files)
+    let fits = lock_fits c.args.name.now c.deref-2.result.now c.deref.result.now named (c.deref.ensures.value ∙ c.in_ok-lock.ensures) (g.F.Files.history c.args.self.now.store.files) (g.F.Files.history c.make_way.new.files)
     (c.make_way.ensures.folders honest) lock room in
     later_risen _ _ _ c.make_way.ensures.later (inl (c.write_anew.ensures.failed (c.make_way.ensures.honest honest) fits same))
 
@@ -96,7 +96,7 @@ returns-clause-failed g c = λ named honest way lock failed.
     let honest_1 = c.make_way.ensures.honest honest in
     let locked = (g.F.Files.history c.write_anew.new.files).tree in
     let room = c.in_ok-make_way.ensures.room honest (name_path c.args.name.now named) way in
-    let may = may_rename c.args.name.now c.deref-2.result.now c.deref.result.now named (c.deref.ensures.value ∙ c.in_ok-lock.ensures) (g.F.Files.history c.args.self.now.files) (g.F.Files.history c.make_way.new.files)
+    let may = may_rename c.args.name.now c.deref-2.result.now c.deref.result.now named (c.deref.ensures.value ∙ c.in_ok-lock.ensures) (g.F.Files.history c.args.self.now.store.files) (g.F.Files.history c.make_way.new.files)
     (c.make_way.ensures.folders honest) lock room locked (c.in_ok-write_anew.ensures.made honest_1) in
     let moves = subst (λ l. IsTrue (allows locked (to_rename l c.args.name.now))) (c.deref.ensures.value ∙ sym c.deref-3.ensures.value) may in
     later_risen _ _ _ (omega (arith, c.make_way.ensures.later, c.write_anew.ensures.later)) (caused _ _ _ _ moves (c.rename.ensures.cause (c.write_anew.ensures.honest honest_1)) failed)
@@ -107,11 +107,11 @@ returns-in_err-make_way-clause-stay g c = λ honest. c.make_way.ensures.stay hon
 pub returns-in_err-write_anew-clause-stay : goal.returns-in_err-write_anew-clause-stay
 returns-in_err-write_anew-clause-stay g c = λ honest.
     let made = g.F.Files.history c.make_way.new.files in
-    file_stay c.args.name.now (g.F.Files.history c.args.self.now.files) made (g.F.Files.history c.write_anew.new.files) (c.make_way.ensures.stay honest) (c.write_anew.ensures.moments (c.make_way.ensures.honest honest)) (one_stay c.deref.result.now made.tree)
+    file_stay c.args.name.now (g.F.Files.history c.args.self.now.store.files) made (g.F.Files.history c.write_anew.new.files) (c.make_way.ensures.stay honest) (c.write_anew.ensures.moments (c.make_way.ensures.honest honest)) (one_stay c.deref.result.now made.tree)
 
 pub returns-clause-stay : goal.returns-clause-stay
 returns-clause-stay g c = λ honest.
-    let old = g.F.Files.history c.args.self.now.files in
+    let old = g.F.Files.history c.args.self.now.store.files in
     let made = g.F.Files.history c.make_way.new.files in
     let locked = g.F.Files.history c.write_anew.new.files in
     let honest_1 = c.make_way.ensures.honest honest in
