@@ -58,7 +58,7 @@ module _ {F : Type 0} (IsHonest : F → Type 0) where
 
   -- objects are put
   pub honest_stored : (a b : Repository F) → KeepsAllButObjects a b → (IsHonest (objects_part a) → IsHonest (objects_part b)) → StaysHonest IsHonest a b
-  honest_stored a b kept objects = record { objects = objects; names = subst (λ n. IsHonest n.files) (sym kept.names) }
+  honest_stored a b kept objects = record { objects = objects; names = subst (λ n. IsHonest n.store.files) (sym kept.names) }
 
   -- then names move
   pub honest_moved : (a b c : Repository F) → StaysHonest IsHonest a b → MovesNamesAlone b c → (IsHonest (names_part b) → IsHonest (names_part c)) → StaysHonest IsHonest a c
