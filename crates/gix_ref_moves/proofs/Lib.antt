@@ -9,3 +9,4 @@ mod Givings
 mod PackedMoves
 mod Needed
 pub mod LockPaths
+pub mod Unlockings

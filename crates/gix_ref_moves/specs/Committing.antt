@@ -1,11 +1,13 @@
 -- What stands while moves of several references are committed, with records that are packed.
-use Rattle.std.specs.Prelude.{◌≡◌, ◌⊎◌, List, [], ◌∷◌, ◌++◌, Option, Some, None, if◌then◌else◌}
+use Rattle.std.specs.Prelude.{◌≡◌, ◌⊎◌, false, List, [], ◌∷◌, ◌++◌, Option, Some, None, if◌then◌else◌}
 use Rattle.std.specs.List.{AllByRecursion}
 use Rattle.gix_ref_file.specs.Tree.{Tree, bytes_at}
+use Rattle.gix_ref_file.specs.Changes.{is_file_at}
 use Rattle.gix_ref_way.specs.Ways.{Bytes, file_at}
 use Rattle.gix_ref_transaction.specs.PackedEdits as packed
 use Rattle.gix_ref_transaction.specs.declared.packed.Transaction.{Transaction}
 use Rattle.gix_ref_moves.specs.Contents.{Contents, contents, updated, forgotten, moved, IsBetween, lock_path_of}
+use Rattle.gix_ref_moves.specs.Moments.{NoFileMore}
 use Rattle.gix_ref_moves.specs.Moves.{all_paths, IsNone, AllMay}
 use Rattle.gix_ref_moves.specs.declared.act.Act.{Act}
 use Rattle.gix_ref_moves.specs.declared.act.Act.TheVariants.{Put, Note, Pack, Remove, Forget}
@@ -147,3 +149,8 @@ pub record KeepsPacked (t : Option Transaction) (old tree : Tree) : Type 0 where
   pub packed : PackedStays t old tree
   pub others : (path : Bytes) → IsNone path (packed_paths t)
       → file_at tree path ≡ file_at old path
+
+-- No lock exists, and no file that didn't.
+pub record AreUnlocked (moves : List Move) (old new : Tree) : Type 0 where
+  pub gone : AllByRecursion (λ m. is_file_at new (lock_path_of m) ≡ false) moves
+  pub none : NoFileMore old new

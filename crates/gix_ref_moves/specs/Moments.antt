@@ -1,7 +1,8 @@
 -- What stands while single files change.
-use Rattle.std.specs.Prelude.{ℕ, ◌≡◌, ◌≢◌, ◌⊎◌, Bool, [], Option, Some, None, Vec, unwrap_or, codes, IsFalse}
+use Rattle.std.specs.Prelude.{ℕ, ◌≡◌, ◌≢◌, ◌⊎◌, Bool, [], Option, Some, None, Vec, unwrap_or, codes, IsFalse, IsTrue}
 use Rattle.std.specs.declared.alloc.Global.{Global}
 use Rattle.gix_ref_file.specs.Tree.{Tree}
+use Rattle.gix_ref_file.specs.Changes.{is_file_at}
 use Rattle.gix_object_lines.specs.NameTest.{ends}
 use Rattle.gix_ref_way.specs.Ways.{Bytes, file_at}
 use Rattle.gix_ref_moves.specs.Contents.{Contents, contents, noted, updated, forgotten, removed, MayBeNoted, place_of, lock_path_of, log_path_of}
@@ -23,6 +24,10 @@ is_lock path = ends (codes ".lock") path
 abbrev pub SameButLocks : Tree → Tree → Type 0
 SameButLocks old tree =
     (path : Bytes) → IsFalse (is_lock path) → file_at tree path ≡ file_at old path
+
+-- each file that exists existed before
+abbrev pub NoFileMore : Tree → Tree → Type 0
+NoFileMore old new = (path : Bytes) → IsTrue (is_file_at new path) → IsTrue (is_file_at old path)
 
 -- The log is as before, or has any beginning of the line behind what it held; each other file is as before.
 pub record MayNote (line : Option (Vec ℕ Global)) (log : Bytes) (old tree : Tree) : Type 0 where

@@ -1,6 +1,6 @@
 //! Commits of moves.
 
-ghost use Rattle.std.specs.Prelude.{◌≡◌, ◌≤◌, ◌⊎◌, IfErr, IsErrOf, IsTrue, OnOk};
+ghost use Rattle.std.specs.Prelude.{◌≡◌, ◌≤◌, ◌⊎◌, Err, IfErr, IsErrOf, IsTrue, OnOk};
 ghost use Rattle.std.specs.List.{AllByRecursion};
 ghost use Rattle.gix_ref_file.specs.Changes.{is_file_at};
 ghost use Rattle.gix_ref_file.specs.Calls.{Achieves, HasFault, Passes};
@@ -8,7 +8,7 @@ ghost use Rattle.gix_ref_file.specs.History.{HasRisen};
 ghost use Rattle.gix_ref_file.specs.declared.files.FileError.TheVariants as file_case;
 ghost use Rattle.gix_ref_way.specs.Ways.{FoldersOnlyOf, SameFolders};
 ghost use Rattle.gix_ref_moves.specs.Contents.{lock_path_of};
-ghost use Rattle.gix_ref_moves.specs.Committing.{IsCommitted, IsShowing, KeepsPacked, LocksAlone, MayReplace, NoneLocked, OnTheWay, Replaces, commit_paths, shown};
+ghost use Rattle.gix_ref_moves.specs.Committing.{AreUnlocked, IsCommitted, IsShowing, KeepsPacked, LocksAlone, MayReplace, NoneLocked, OnTheWay, Replaces, commit_paths, shown};
 ghost use Rattle.gix_ref_moves.specs.Moments.{SameButLocks};
 ghost use Rattle.gix_ref_moves.specs.Moves.{AllHave, AllMay, Once, all_paths};
 ghost use Rattle.gix_ref_moves.specs.Needs.{AreBeside, CanCommit, CanMove, CanReplace, IsOutOfMemory, log_paths};
@@ -53,7 +53,8 @@ pub fn commit<F: Files>(
     outcome
 }
 
-/// Gives the locks back of all moves; also where one can't be given back, then the others. The error is the last one's.
+/// Gives the locks back of all moves; also if one can't be given back, then the others. The error is `Memory` if memory was wanting for
+/// one, else `Failed`.
 pub fn give_back_all<F: Files>(
     alloc: Global,
     files: &mut F,
@@ -73,6 +74,9 @@ pub fn give_back_all<F: Files>(
         moves.now
         → IsErrOf result file_case.Failed
         → HasRisen (F.failures files.old) (F.failures files.new) }
+    ensures rolled_back { F.is_honest files.old → (result ≡ Err file_case.Memory)
+        ⊎ (HasRisen (F.failures files.old) (F.failures files.new)
+        ⊎ AreUnlocked moves.now (F.history files.old).tree (F.history files.new).tree) }
 {
     let mut outcome = Ok(());
     let mut rest = moves;
@@ -83,14 +87,20 @@ pub fn give_back_all<F: Files>(
     outcome
 }
 
-// The error of the later one, where it failed, else what the earlier told.
+// Want of memory, if one of them tells it, else the error of one that failed.
 fn both(earlier: Result<(), FileError>, later: Result<(), FileError>) -> Result<(), FileError>
     ensures done { OnOk result ((earlier ≡ Ok tt) × (later ≡ Ok tt)) }
     ensures told { (result ≡ earlier) ⊎ (result ≡ later) }
+    ensures earlier { earlier ≡ Err file_case.Memory → result ≡ Err file_case.Memory }
+    ensures later { later ≡ Err file_case.Memory → result ≡ Err file_case.Memory }
 {
     match later {
         Ok(()) => earlier,
-        Err(error) => Err(error),
+        Err(FileError::Failed) => match earlier {
+            Ok(()) => later,
+            Err(_) => earlier,
+        },
+        Err(FileError::Memory) => later,
     }
 }
 

@@ -10,6 +10,7 @@ use Rattle.gix_ref_moves.specs.Committing.{LocksAlone}
 use Rattle.gix_ref_moves.specs.Moments.{SameButLocks}
 use Rattle.gix_ref_moves.specs.Moves.{AllMay, Once, all_paths}
 use Rattle.gix_ref_moves.proofs.Givings.{Giving}
+use Rattle.gix_ref_moves.proofs.Unlockings.{Unlocking}
 use Rattle.gix_ref_moves.proofs.commit.give_back_all.Given as goal
 
 -- locks alone went, those of all moves but those left, as far as that succeeded
@@ -26,6 +27,7 @@ invariant-moves g l =
       given : Once (all_paths l.moves) → g.F.Files.is_honest l.fn.files → Giving l.outcome l.moves l.rest (history l.fn.files).tree (history l.files).tree;
       failed : Once (all_paths l.moves) → g.F.Files.is_honest l.fn.files → AllByRecursion (λ m. IsTrue (is_file_at (history l.fn.files).tree (lock_path_of m))) l.moves
           → IsErrOf l.outcome Failed → HasRisen (g.F.Files.failures l.fn.files) (g.F.Files.failures l.files);
+      unlocked : g.F.Files.is_honest l.fn.files → Unlocking l.outcome (g.F.Files.failures l.fn.files) (g.F.Files.failures l.files) l.moves l.rest (history l.fn.files).tree (history l.files).tree;
     }
 
 abbrev pub decreases-moves : goal.decreases-moves
