@@ -1,1 +1,2 @@
 mod RecordLines
+mod Unresolved

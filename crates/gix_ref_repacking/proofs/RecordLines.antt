@@ -156,7 +156,7 @@ any_line p [] = refl
 any_line p (edit ∷ edits) = ap (λ b. p (line_in edit) || b) (any_line p edits)
 
 -- ---- the object that an id stands for
-ends_id : {n m : Bytes} {i j : Id} {p q : Option Id} → Ends n i p ≡ Ends m j q → i ≡ j
+pub ends_id : {n m : Bytes} {i j : Id} {p q : Option Id} → Ends n i p ≡ Ends m j q → i ≡ j
 ends_id e = cc
 
 pub peels_own : (read : Bytes → RefState) (table : Table) (r : Reference) (id end : Id) → target_view r.target ≡ ToObject id → r.peeled ≡ None → IsPeeled read table r end → PeelsTo table id end

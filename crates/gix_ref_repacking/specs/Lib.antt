@@ -1,3 +1,4 @@
 pub mod Modes
 pub mod Repacking
 pub mod Rollback
+pub mod Resolving

@@ -22,10 +22,10 @@ WantsMemory (PackedTransactionPrepare error) = IsUnprepared error
 WantsMemory (Resolve error) = ⊥
 WantsMemory Memory = Unit {0}
 
--- Its removal may have failed: a failure was counted, or memory was wanting. Of a lock that was held, whether one was counted at all.
+-- its removal may have failed: a failure was counted, or memory was wanting
 abbrev pub MayStay : ℕ → ℕ → RepackError → Type 0
 MayStay before now (PackedTransactionAcquire error) = HasRisen before now ⊎ IsShort error
-MayStay before now (PackedTransactionPrepare error) = HasRisen 0 now ⊎ IsUnprepared error
+MayStay before now (PackedTransactionPrepare error) = HasRisen before now ⊎ IsUnprepared error
 MayStay before now (Resolve error) = ⊥
 MayStay before now Memory = ⊥
 

@@ -1,6 +1,6 @@
 //! The packed records of references that are removed, and of those that are packed.
 
-ghost use Rattle.std.specs.Prelude.{◌≡◌, ◌≢◌, ◌⊎◌, ◌++◌, [], is_some, map, option_map, IfErr, IfOk, IfSome, None, OnOk, Some};
+ghost use Rattle.std.specs.Prelude.{◌≡◌, ◌≢◌, ◌≤◌, ◌⊎◌, ◌++◌, [], is_some, map, option_map, IfErr, IfOk, IfSome, None, OnOk, Some};
 ghost use Rattle.std.specs.List.{list_any};
 ghost use Rattle.std.specs.Option.{option_to_list};
 ghost use Rattle.gix_hash_id.specs.Id.{id_of};
@@ -13,12 +13,14 @@ ghost use Rattle.gix_ref_store.specs.Places.{packed_place};
 ghost use Rattle.gix_ref_store.specs.RefStates.{packed_text_in};
 ghost use Rattle.gix_ref_store.specs.Stores.{base_of};
 ghost use Rattle.gix_ref_name.specs.Targets.{target_view};
+ghost use Rattle.gix_ref_way.specs.Ways.{SameFolders};
 ghost use Rattle.gix_ref_transaction.specs.Locks.{lock_of, HasLockPlace, OthersStay};
 ghost use Rattle.gix_ref_transaction.specs.PackedEdits.{IsReadAt};
 ghost use Rattle.gix_ref_transaction.specs.RecordEdits as record_edits;
 ghost use Rattle.gix_ref_repacking.specs.Modes.{objects_in};
 ghost use Rattle.gix_ref_repacking.specs.Repacking as spec;
 ghost use Rattle.gix_ref_repacking.specs.Repacking.{AddsSaid, AreRepacked, HoldsRecords, SaysOfRecord, SayOfRecords, TellsPeeled, UpdatesRecord, removal_line};
+ghost use Rattle.gix_ref_repacking.specs.Resolving.{ChangeFault, IfUnresolved, PackFault, ResolveFault, SomeChangeFault, TargetFault};
 ghost use Rattle.gix_ref_repacking.specs.Rollback.{IsEarly, IsRolledBack, WantsMemory};
 
 use crate::error::RepackError;
@@ -52,8 +54,11 @@ pub fn repack<F: Files, O: FindInto>(
     ensures honest { F.is_honest store.old.files → F.is_honest store.new.files }
     ensures base { base_of store.new ≡ base_of store.old }
     ensures options { store.new.options ≡ store.old.options }
+    ensures later { F.failures store.old.files ≤ F.failures store.new.files }
+    ensures unfailed { IfOk result (λ _. F.failures store.new.files ≡ F.failures store.old.files) }
     ensures moments { Passes F.is_honest F.history store.old.files store.new.files
         (OthersStay (lock_of (packed_place (base_of store.old)))) }
+    ensures folders { Passes F.is_honest F.history store.old.files store.new.files SameFolders }
     ensures idle { IfOk result (λ held. held ≡ None → store.new ≡ store.old) }
     ensures early { IfErr result (λ error. IsEarly error → store.new ≡ store.old) }
     ensures rolled_back { F.is_honest store.old.files → IfErr result
@@ -65,6 +70,9 @@ pub fn repack<F: Files, O: FindInto>(
         KeepsFile b.kind (packed_text_in b old) (option_map (λ buffer. kept buffer.now) packed.entry)
         → IfOk result (AreRepacked b (option_map O.table (objects_in packed_refs.now)) old
         (F.history store.new.files).tree edits.now) }
+    ensures resolves { F.is_honest store.old.files → IfSome (objects_in packed_refs.now) O.is_honest
+        → let why = PackFault F.reading_may_fail O.may_fail O.table (objects_in packed_refs.now) in
+        IfErr result (IfUnresolved (SomeChangeFault why edits.now)) }
     // An error that isn't early comes from a fault of the files or want of memory.
     ensures failed { F.is_honest store.old.files → let tree = (F.history store.old.files).tree in
         let b = base_of store.old in let place = packed_place b in
@@ -90,8 +98,12 @@ fn written<F: Files>(
     lines: Vec<RecordEdit>,
 ) -> Result<Transaction, RepackError>
     ensures honest { F.is_honest files.old → F.is_honest files.new }
+    ensures later { F.failures files.old ≤ F.failures files.new }
+    ensures unfailed { IfOk result (λ _. F.failures files.new ≡ F.failures files.old) }
     ensures moments { Passes F.is_honest F.history files.old files.new
         (OthersStay (lock_of place.now)) }
+    ensures folders { Passes F.is_honest F.history files.old files.new SameFolders }
+    ensures resolved { IfErr result (IfUnresolved (λ _. ⊥)) }
     ensures begun { IfErr result (λ error. ¬ IsEarly error) }
     ensures rolled_back { F.is_honest files.old → IfErr result (IsRolledBack (lock_of place.now)
         (F.failures files.old) (F.failures files.new) (F.history files.old).tree
@@ -144,6 +156,9 @@ fn record_edits<F: Files, O: FindInto>(
     packed_refs: &PackedRefs<'_, O>,
 ) -> Result<Vec<RecordEdit>, RepackError>
     ensures early { IfErr result IsEarly }
+    ensures resolves { F.is_honest store.now.files → IfSome (objects_in packed_refs.now) O.is_honest
+        → let why = PackFault F.reading_may_fail O.may_fail O.table (objects_in packed_refs.now) in
+        IfErr result (IfUnresolved (SomeChangeFault why edits.now)) }
     ensures said { F.is_honest store.now.files → IfSome (objects_in packed_refs.now) O.is_honest
         → let packs = option_map O.table (objects_in packed_refs.now) in
         IfOk result (λ lines. SayOfRecords packs edits.now (map record_edits.line_in lines.items)) }
@@ -166,6 +181,9 @@ fn add_record_edit<F: Files, O: FindInto>(
     lines: &mut Vec<RecordEdit>,
 ) -> Result<(), RepackError>
     ensures early { IfErr result IsEarly }
+    ensures resolves { F.is_honest store.now.files → IfSome (objects_in packed_refs.now) O.is_honest
+        → let why = PackFault F.reading_may_fail O.may_fail O.table (objects_in packed_refs.now) in
+        IfErr result (IfUnresolved (ChangeFault why edit.now.change)) }
     ensures said { F.is_honest store.now.files → IfSome (objects_in packed_refs.now) O.is_honest
         → let packs = option_map O.table (objects_in packed_refs.now) in
         OnOk result (AddsSaid packs edit.now (map record_edits.line_in lines.old.items)
@@ -179,6 +197,7 @@ fn add_record_edit<F: Files, O: FindInto>(
 // Adds it, where there is one.
 fn push_some(lines: &mut Vec<RecordEdit>, own: Option<RecordEdit>) -> Result<(), RepackError>
     ensures early { IfErr result IsEarly }
+    ensures resolved { IfErr result (IfUnresolved (λ _. ⊥)) }
     ensures said { OnOk result (map record_edits.line_in lines.new.items
         ≡ map record_edits.line_in lines.old.items
         ++ option_to_list (option_map record_edits.line_in own)) }
@@ -197,6 +216,9 @@ fn record_edit<F: Files, O: FindInto>(
     packed_refs: &PackedRefs<'_, O>,
 ) -> Result<Option<RecordEdit>, RepackError>
     ensures early { IfErr result IsEarly }
+    ensures resolves { F.is_honest store.now.files → IfSome (objects_in packed_refs.now) O.is_honest
+        → let why = PackFault F.reading_may_fail O.may_fail O.table (objects_in packed_refs.now) in
+        IfErr result (IfUnresolved (ChangeFault why edit.now.change)) }
     ensures said { F.is_honest store.now.files → IfSome (objects_in packed_refs.now) O.is_honest
         → let packs = option_map O.table (objects_in packed_refs.now) in
         IfOk result (λ own. SaysOfRecord packs edit.now (option_map record_edits.line_in own)) }
@@ -213,6 +235,7 @@ fn record_edit<F: Files, O: FindInto>(
 // The record goes with the reference.
 fn removal_of(alloc: Global, key: &[u8], log: RefLog) -> Result<Option<RecordEdit>, RepackError>
     ensures early { IfErr result IsEarly }
+    ensures resolved { IfErr result (IfUnresolved (λ _. ⊥)) }
     ensures said { IfOk result (λ own.
         option_map record_edits.line_in own ≡ removal_line log key.now) }
 {
@@ -234,6 +257,9 @@ fn update_of<F: Files, O: FindInto>(
     packed_refs: &PackedRefs<'_, O>,
 ) -> Result<Option<RecordEdit>, RepackError>
     ensures early { IfErr result IsEarly }
+    ensures resolves { F.is_honest store.now.files → IfSome (objects_in packed_refs.now) O.is_honest
+        → let why = PackFault F.reading_may_fail O.may_fail O.table (objects_in packed_refs.now) in
+        IfErr result (IfUnresolved (TargetFault why (target_view new.now))) }
     ensures said { F.is_honest store.now.files → IfSome (objects_in packed_refs.now) O.is_honest
         → let packs = option_map O.table (objects_in packed_refs.now) in
         IfOk result (λ own. UpdatesRecord packs log.now.mode (target_view new.now) key.now
@@ -263,6 +289,9 @@ fn record_of<F: Files, O: FindInto>(
     objects: &O,
 ) -> Result<RecordEdit, RepackError>
     ensures early { IfErr result IsEarly }
+    ensures resolves { F.is_honest store.now.files → O.is_honest objects.now
+        → IfErr result (IfUnresolved (ResolveFault F.reading_may_fail (O.may_fail objects.now)
+        (O.table objects.now) (id_of id))) }
     ensures said { F.is_honest store.now.files → O.is_honest objects.now
         → IfOk result (λ own. spec.WritesRecord (O.table objects.now)
         (id_of id) key.now (Some (record_edits.line_in own))) }
@@ -285,6 +314,9 @@ fn peeled<F: Files, O: FindInto>(
     objects: &O,
 ) -> Result<Option<ObjectId>, RepackError>
     ensures early { IfErr result IsEarly }
+    ensures resolves { F.is_honest store.now.files → O.is_honest objects.now
+        → IfErr result (IfUnresolved (ResolveFault F.reading_may_fail (O.may_fail objects.now)
+        (O.table objects.now) (id_of id))) }
     ensures said { F.is_honest store.now.files → O.is_honest objects.now → IfOk result (λ peeled.
         TellsPeeled (O.table objects.now) (id_of id) (option_map id_of peeled)) }
 {
@@ -302,6 +334,7 @@ fn peeled<F: Files, O: FindInto>(
 
 fn key_name(alloc: Global, key: &[u8]) -> Result<FullName, RepackError>
     ensures early { IfErr result IsEarly }
+    ensures resolved { IfErr result (IfUnresolved (λ _. ⊥)) }
     ensures said { IfOk result (λ name. name ≡ key.now) }
 {
     match FullName::from_bytes(alloc, key) {

@@ -3,12 +3,16 @@ use Rattle.std.specs.Prelude.{IfSome}
 use Rattle.gix_ref_transaction.specs.RecordEdits.{line_in}
 use Rattle.gix_ref_repacking.specs.Modes.{objects_in}
 use Rattle.gix_ref_repacking.proofs.RecordLines.{SaidSoFar}
+use Rattle.gix_ref_repacking.proofs.Unresolved.{IsSplit}
 use Rattle.gix_ref_repacking.proofs.records.record_edits.Given as goal
 
 -- what all edits but those left say
 abbrev pub invariant-edits : goal.invariant-edits
 invariant-edits g l =
-    g.F.Files.is_honest l.store.files → IfSome (objects_in l.packed_refs) g.O.Lookup.is_honest → SaidSoFar (option_map g.O.Lookup.table (objects_in l.packed_refs)) l.edits l.rest (map line_in l.lines.items)
+    record {
+      said : g.F.Files.is_honest l.store.files → IfSome (objects_in l.packed_refs) g.O.Lookup.is_honest → SaidSoFar (option_map g.O.Lookup.table (objects_in l.packed_refs)) l.edits l.rest (map line_in l.lines.items);
+      split : IsSplit l.edits l.rest;
+    }
 
 abbrev pub decreases-edits : goal.decreases-edits
 decreases-edits g l = length l.rest

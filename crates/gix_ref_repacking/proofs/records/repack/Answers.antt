@@ -12,6 +12,8 @@ use Rattle.gix_ref_transaction.specs.declared.packed.RecordEdit.{RecordEdit}
 use Rattle.gix_ref_repacking.specs.Modes.{objects_in}
 use Rattle.gix_ref_repacking.specs.Repacking.{changes_record}
 use Rattle.gix_ref_repacking.proofs.RecordLines.{any_line, changed_records, unchanged_records, some_change}
+use Rattle.gix_ref_repacking.specs.Resolving.{PackFault, SomeChangeFault}
+use Rattle.gix_ref_repacking.proofs.Unresolved.{anyhow}
 use Rattle.gix_ref_repacking.proofs.records.repack.Goals as goal
 
 pub returns-then-not-change_records-clause-repacked : goal.returns-then-not-change_records-clause-repacked
@@ -58,3 +60,15 @@ pub returns-in_err-place-clause-failed : goal.returns-in_err-place-clause-failed
 returns-in_err-place-clause-failed g c = λ honest place read.
     let p = err_from_is_err_and c.from_residual-in_err-place.result c.from_residual-in_err-place.ensures.1 in
     rw (p.1, p.2) (inl tt)
+
+pub returns-in_err-lines-clause-resolves : goal.returns-in_err-lines-clause-resolves
+returns-in_err-lines-clause-resolves g c = λ honest told.
+    let p = err_from_is_err_and c.from_residual.result c.from_residual.ensures.1 in
+    rw (p.1, p.2) (c.in_err-lines.ensures.resolves honest told)
+
+pub returns-in_err-held-clause-resolves : goal.returns-in_err-held-clause-resolves
+returns-in_err-held-clause-resolves g c = λ honest told.
+    let why = PackFault g.F.Files.reading_may_fail g.O.Lookup.may_fail g.O.Lookup.table (objects_in c.args.packed_refs.now) in
+    let p = err_from_is_err_and c.from_residual-in_err-held.result c.from_residual-in_err-held.ensures.1 in
+    rw (p.1, p.2) (anyhow (SomeChangeFault why c.args.edits.now) c.in_err-held.field-0.0 c.in_err-held.ensures.resolved)
+

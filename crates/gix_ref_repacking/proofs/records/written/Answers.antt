@@ -7,7 +7,7 @@ use Rattle.gix_ref_way.proofs.FoldersMade.{risen_later}
 use Rattle.gix_ref_file.specs.History.{Adds}
 use Rattle.gix_ref_transaction.specs.Locks.{lock_of, OthersStay}
 use Rattle.gix_ref_transaction.specs.RecordEdits.{line_in}
-use Rattle.gix_ref_transaction.proofs.LockLemmas.{others_joined}
+use Rattle.gix_ref_transaction.proofs.LockLemmas.{others_joined, folders_joined}
 use Rattle.gix_ref_repacking.proofs.RecordLines.{holds_records}
 use Rattle.gix_ref_repacking.proofs.records.written.Goals as goal
 
@@ -53,3 +53,11 @@ returns-in_err-prepared-clause-failed g c = λ honest place read.
     let fails = c.in_err-prepared.ensures.failed (c.new.ensures.honest honest) there in
     let p = err_from_is_err_and c.from_residual-in_err-prepared.result c.from_residual-in_err-prepared.ensures.1 in
     rw (p.1, p.2) (⊎_elim (λ risen. inr (inl (risen_later (f c.args.files.now) (f c.new.new.files) (f c.prepare.new.files) (f c.prepare.new.files) c.new.ensures.later risen (omega arith)))) inl fails)
+
+pub returns-in_err-prepared-clause-folders : goal.returns-in_err-prepared-clause-folders
+returns-in_err-prepared-clause-folders g c = λ honest.
+    folders_joined (g.F.Files.history c.args.files.now) (g.F.Files.history c.new.new.files) (g.F.Files.history c.prepare.new.files) (c.new.ensures.folders honest) (c.prepare.ensures.folders (c.new.ensures.honest honest))
+
+pub returns-clause-folders : goal.returns-clause-folders
+returns-clause-folders g c = λ honest.
+    folders_joined (g.F.Files.history c.args.files.now) (g.F.Files.history c.new.new.files) (g.F.Files.history c.prepare.new.files) (c.new.ensures.folders honest) (c.prepare.ensures.folders (c.new.ensures.honest honest))
