@@ -259,8 +259,13 @@ OpenFault b tree may_fail (CreateOrUpdateRefLog error) = ⊥
 OpenFault b tree may_fail (Resolve error) = ⊥
 OpenFault b tree may_fail Memory = ⊥
 
+-- why one isn't prepared if packed references are given
+abbrev pub GivenFault : Logging → Base → Tree → Type 0 → List RefEdit → PrepareError → Type 0
+GivenFault l b tree may_fail asked error =
+    ReadyFault l.read b may_fail asked error
+    ⊎ ((edits : List RefEdit) × AreSplit l.read asked edits × LockFault l b tree may_fail edits error)
+
 -- why a transaction of these edits isn't prepared
 abbrev pub PrepareFault : Logging → Base → Tree → Type 0 → List RefEdit → PrepareError → Type 0
 PrepareFault l b tree may_fail asked error =
-    OpenFault b tree may_fail error ⊎ (ReadyFault l.read b may_fail asked error
-    ⊎ ((edits : List RefEdit) × AreSplit l.read asked edits × LockFault l b tree may_fail edits error))
+    OpenFault b tree may_fail error ⊎ GivenFault l b tree may_fail asked error

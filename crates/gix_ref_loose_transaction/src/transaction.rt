@@ -1,10 +1,11 @@
 //! Transactions: prepared, and then committed or rolled back.
 
-ghost use Rattle.std.specs.Prelude.{◌≡◌, ◌⊎◌, [], Bool, true, false, Option, option_map, Ok, IfErr, IfOk, IfSome, OnOk};
+ghost use Rattle.std.specs.Prelude.{◌≡◌, ◌≤◌, ◌⊎◌, [], Bool, true, false, Option, option_map, Ok, IfErr, IfOk, IfSome, OnOk};
 ghost use Rattle.gix_object_lookup.specs.Table.{Table};
 ghost use Rattle.gix_ref_file.specs.History.{Adds};
 ghost use Rattle.gix_ref_file.specs.Tree.{Tree};
-ghost use Rattle.gix_ref_file.specs.Calls.{Achieves, Passes};
+ghost use Rattle.gix_ref_file.specs.Calls.{Achieves, HasFault, Passes};
+ghost use Rattle.gix_ref_way.specs.Ways.{FoldersOnlyOf};
 ghost use Rattle.gix_ref_edit.specs.Names.{AllOnce, names_of};
 ghost use Rattle.gix_ref_format.specs.PackedBuffer.{KeepsFile};
 ghost use Rattle.gix_ref_format.specs.PackedKept.{kept};
@@ -13,9 +14,10 @@ ghost use Rattle.gix_ref_store.specs.Places.{Base};
 ghost use Rattle.gix_ref_store.specs.RefStates.{packed_text_in, ref_state};
 ghost use Rattle.gix_ref_store.specs.Stores.{base_of};
 ghost use Rattle.gix_ref_moves.specs.Moments.{SameButLocks};
+ghost use Rattle.gix_ref_moves.specs.Needs.{CanCommit, IsOutOfMemory, log_paths};
 ghost use Rattle.gix_ref_moves.specs.Committing.{IsCommitted, OnTheWay, commit_paths};
 ghost use Rattle.gix_ref_loose_transaction.specs.Alike.{ReadsAlike};
-ghost use Rattle.gix_ref_loose_transaction.specs.Causes.{LockFault, PrepareFault, ReadyFault, SomeEditFault};
+ghost use Rattle.gix_ref_loose_transaction.specs.Causes.{GivenFault, LockFault, PrepareFault, ReadyFault, SomeEditFault};
 ghost use Rattle.gix_ref_loose_transaction.specs.LogLines.{AllLined, logging};
 ghost use Rattle.gix_ref_repacking.specs.Modes.{objects_in, removes};
 ghost use Rattle.gix_ref_loose_transaction.specs.Paths.{has_twice, paths_apart};
@@ -101,57 +103,67 @@ pub fn prepare<F: Files, O: FindInto>(
         let l = logging store.old.options (ref_state b tree) committer.entry in
         IfErr result (PrepareFault l b tree F.reading_may_fail edits.items) }
 {
-    prepared(alloc, store, edits, committer, &packed_refs)
+    let records = store.open_packed_buffer(alloc)?;
+    prepare_with(
+        alloc,
+        store,
+        records.as_ref(),
+        edits,
+        committer,
+        packed_refs,
+    )
 }
 
-// The same, told by the files alone.
-fn prepared<F: Files, O: FindInto>(
+/// Prepares edits as [`prepare`] does, with packed references that the caller has read: `None` if their file doesn't exist. The file is
+/// read only under its lock, if records change. `Packed` doesn't come.
+pub fn prepare_with<F: Files, O: FindInto>(
     alloc: Global,
     store: &mut Store<F>,
+    packed: Option<&Buffer>,
     edits: Vec<RefEdit>,
     committer: Option<ActorRef<'_>>,
-    packed_refs: &PackedRefs<'_, O>,
+    packed_refs: PackedRefs<'_, O>,
 ) -> Result<Transaction, PrepareError>
     ensures honest { F.is_honest store.old.files → F.is_honest store.new.files }
     ensures base { base_of store.new ≡ base_of store.old }
     ensures moments { Passes F.is_honest F.history store.old.files store.new.files SameButLocks }
+    ensures alike { Passes F.is_honest F.history store.old.files store.new.files
+        (ReadsAlike (base_of store.old)) }
     ensures split { F.is_honest store.old.files → let tree = (F.history store.old.files).tree in
-        IfOk result (λ t. AreSplit (ref_state (base_of store.old) tree) edits.items t.edits.items) }
+        IfOk result (λ t.
+        AreSplit (reads_with store.old tree packed.entry) edits.items t.edits.items) }
     ensures once { IfOk result (λ t. AllOnce (names_of t.edits.items)) }
     ensures tested { F.is_honest store.old.files → let tree = (F.history store.old.files).tree in
-        IfOk result (λ t. AllTested (ref_state (base_of store.old) tree) t.edits.items) }
-    ensures planned { IfOk result (λ t. AllPlanned (base_of store.old) (removes packed_refs.now)
+        IfOk result (λ t. AllTested (reads_with store.old tree packed.entry) t.edits.items) }
+    ensures planned { IfOk result (λ t. AllPlanned (base_of store.old) (removes packed_refs.entry)
         t.edits.items t.moves.items) }
     ensures texts { F.is_honest store.old.files → let tree = (F.history store.new.files).tree in
         IfOk result (λ t. AllHold tree t.edits.items t.moves.items) }
     ensures lines { F.is_honest store.old.files → let tree = (F.history store.old.files).tree in
         let b = base_of store.old in
-        let l = logging store.old.options (ref_state b tree) committer.entry in
+        let l = logging store.old.options (reads_with store.old tree packed.entry) committer.entry in
         IfOk result (λ t. AllLined l b tree t.edits.items t.moves.items) }
-    ensures apart { IfOk result (λ t.
-        has_twice (paths_apart (base_of store.old) t.packed t.moves.items) ≡ false) }
-    ensures back { IfOk result (λ t. let kind = (base_of store.old).kind in
-        AllGiveKind kind t.edits.items → AllReadBack kind t.edits.items) }
-    ensures repacked { F.is_honest store.old.files → IfSome (objects_in packed_refs.now) O.is_honest
-        → IfOk result (λ t. AreRepacked (base_of store.old)
-        (option_map O.table (objects_in packed_refs.now)) (F.history store.old.files).tree
+    ensures repacked { F.is_honest store.old.files → IfSome (objects_in packed_refs.entry) O.is_honest
+        → let b = base_of store.old in let old = (F.history store.old.files).tree in
+        KeepsFile b.kind (packed_text_in b old) (option_map (λ buffer. kept buffer.now) packed.entry)
+        → IfOk result (λ t. AreRepacked b (option_map O.table (objects_in packed_refs.entry)) old
         (F.history store.new.files).tree t.edits.items t.packed) }
+    // What is prepared can be committed as its edits say, where their ids are of the store's hash function.
+    ensures prepared { F.is_honest store.old.files → IfSome (objects_in packed_refs.entry) O.is_honest
+        → let b = base_of store.old in let old = (F.history store.old.files).tree in
+        KeepsFile b.kind (packed_text_in b old) (option_map (λ buffer. kept buffer.now) packed.entry)
+        → IfOk result (λ t. AllGiveKind b.kind t.edits.items
+        → IsAsPrepared b (option_map O.table (objects_in packed_refs.entry))
+        (removes packed_refs.entry) old
+        (F.history store.new.files).tree (prepared_of t.edits.items t.moves.items t.packed)) }
     ensures causes { F.is_honest store.old.files → let tree = (F.history store.old.files).tree in
         let b = base_of store.old in
-        let l = logging store.old.options (ref_state b tree) committer.entry in
-        IfErr result (PrepareFault l b tree F.reading_may_fail edits.items) }
+        let l = logging store.old.options (reads_with store.old tree packed.entry) committer.entry in
+        IfErr result (GivenFault l b tree F.reading_may_fail edits.items) }
 {
     let mut edits = edits;
-    let records = store.open_packed_buffer(alloc)?;
-    ready(alloc, &*store, records.as_ref(), &mut edits)?;
-    locked(
-        alloc,
-        store,
-        edits,
-        records.as_ref(),
-        committer,
-        packed_refs,
-    )
+    ready(alloc, &*store, packed, &mut edits)?;
+    locked(alloc, store, edits, packed, committer, &packed_refs)
 }
 
 // Splits the edits of symbolic references, and tests that no two are of one place.
@@ -373,6 +385,14 @@ impl Transaction {
     /// The errors name the call of the files that failed. After one, no lock stands, as far as giving them back succeeds.
     pub fn commit<F: Files>(self, alloc: Global, files: &mut F) -> Result<Vec<RefEdit>, CommitError>
         ensures honest { F.is_honest files.old → F.is_honest files.new }
+        ensures later { F.failures files.old ≤ F.failures files.new }
+        ensures unfailed { IfOk result (λ _. F.failures files.new ≡ F.failures files.old) }
+        ensures folders { Passes F.is_honest F.history files.old files.new
+            (FoldersOnlyOf (log_paths self.moves.items)) }
+        ensures failed { F.is_honest files.old
+            → CanCommit self.packed self.moves.items (F.history files.old).tree
+            → IfErr result (λ error.
+            IsOutOfMemory error ⊎ HasFault F.failures F.reading_may_fail files.old files.new) }
         ensures edits { IfOk result (λ edits. edits ≡ self.edits) }
         ensures moments { Passes F.is_honest F.history files.old files.new
             (OnTheWay self.packed self.moves.items) }
