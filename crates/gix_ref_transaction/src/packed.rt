@@ -1,6 +1,6 @@
 //! Transactions of `packed-refs`: its lock is held, its new text is written there, and the lock is put in its place.
 
-ghost use Rattle.std.specs.Prelude.{◌≡◌, ◌≢◌, ◌≤◌, ◌⊎◌, [], true, false, Some, None, map, option_map, IfOk, IfErr, OnOk, IsTrue};
+ghost use Rattle.std.specs.Prelude.{◌≡◌, ◌≢◌, ◌≤◌, ◌⊎◌, [], true, false, Some, None, Err, map, option_map, IfOk, IfErr, OnOk, IsTrue};
 ghost use Rattle.gix_ref_file.specs.Tree.{node_at, bytes_at};
 ghost use Rattle.gix_ref_file.specs.Changes.{is_file_at, may_hold_file};
 ghost use Rattle.gix_ref_file.specs.Calls.{HasFault, Passes};
@@ -290,6 +290,9 @@ impl Transaction {
             HasRisen (F.failures files.old) (F.failures files.new) ⊎ IsUncommitted error) }
         ensures gone { F.is_honest files.old → OnOk result
             (node_at (F.history files.new).tree (lock_path_of self) ≡ None) }
+        ensures rolled_back { F.is_honest files.old → (result ≡ Err commit_case.Memory)
+            ⊎ (HasRisen (F.failures files.old) (F.failures files.new)
+            ⊎ (is_file_at (F.history files.new).tree (lock_path_of self) ≡ false)) }
     {
         let Transaction {
             lock,
@@ -494,6 +497,9 @@ fn given_back<F: Files>(alloc: Global, files: &mut F, lock: &Lock) -> Result<(),
         HasRisen (F.failures files.old) (F.failures files.new) ⊎ IsUncommitted error) }
     ensures gone { F.is_honest files.old → OnOk result
         (node_at (F.history files.new).tree lock.now.path.items ≡ None) }
+    ensures rolled_back { F.is_honest files.old → (result ≡ Err commit_case.Memory)
+        ⊎ (HasRisen (F.failures files.old) (F.failures files.new)
+        ⊎ (is_file_at (F.history files.new).tree lock.now.path.items ≡ false)) }
 {
     lock.give_back(alloc, files)?;
     Ok(())
