@@ -71,4 +71,3 @@ returns-in_err-held-clause-resolves g c = λ honest told.
     let why = PackFault g.F.Files.reading_may_fail g.O.Lookup.may_fail g.O.Lookup.table (objects_in c.args.packed_refs.now) in
     let p = err_from_is_err_and c.from_residual-in_err-held.result c.from_residual-in_err-held.ensures.1 in
     rw (p.1, p.2) (anyhow (SomeChangeFault why c.args.edits.now) c.in_err-held.field-0.0 c.in_err-held.ensures.resolved)
-
