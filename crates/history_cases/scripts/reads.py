@@ -3,8 +3,8 @@ against this.
 
 Each word looks up once the object that its name holds, or whose id it begins, since that may be a commit, a tag or neither. Besides, a
 command looks up once each commit, tree and content that its answer is made of, but for a commit that was looked up as a word's object or
-has a row. A log with paths looks up what it compares each time that it compares two commits. `index` reads the first bytes of each
-object, and twice for each commit that has no row. A graft looks up its word's commit,
+has a row. A log walks, and with paths looks up then what it compares: of a commit, and of its first parent, unless that is the commit that
+comes next. `index` reads the first bytes of each object, and twice for each commit that has no row. A graft looks up its word's commit,
 the trees on the way to its source, and each different tree below it once."""
 
 from plain import Plain, Reader
@@ -36,13 +36,17 @@ def of_walk(plain, rows, commits):
     return found
 
 
-def of_log(plain, command):
-    """The commits that a log with paths holds against their first parents, with these, and of both the trees on the paths."""
+def of_log(plain, rows, command):
+    """The commits that a log with paths compares, but for those that have rows, and of each the trees on the paths: each commit that it
+    walks and its first parent, unless that comes next."""
     if not command[5]:
         return []
-    walked = plain.log(*command[1:5], []).split()[3:]
-    pairs = [it for digits in walked for it in (digits, *plain.commits[digits]["parents"][:1])]
-    return [it for digits in pairs for it in (digits, *of_folders(plain, plain.commits[digits]["files"], command[5]))]
+    met, last = [], None
+    for digits in plain.log(*command[1:5], []).split()[3:]:
+        first = plain.commits[digits]["parents"][:1]
+        met += ([] if digits == last else [digits]) + first
+        last = first[0] if first else None
+    return [it for it in met if it not in rows] + [it for at in met for it in of_folders(plain, plain.commits[at]["files"], command[5])]
 
 
 def of_grafts(plain, edits):
@@ -67,7 +71,7 @@ def objects(plain, rows, command):
     words = [target for _, target in parts[3]] if name == "log" else [parts[0]]
     held = [it for word in words for it in of_word(plain, word)]
     if name == "log":
-        return held + of_walk(plain, rows, map(plain.peeled, held)) + of_log(plain, command)
+        return held + of_walk(plain, rows, map(plain.peeled, held)) + of_log(plain, rows, command)
     commit = plain.peeled(held[0])
     files, path = plain.commits[commit]["files"], parts[1] if name == "show" else None
     content = [files[path][1]] if path in files else []

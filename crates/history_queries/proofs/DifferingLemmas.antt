@@ -1,10 +1,10 @@
 -- Which commits differ at a path from their first parents, by what is found there.
 use Rattle.std.proofs.Common.{◌≡◌, ◌∙◌, ap, refl, sym, subst, ℕ, zero, suc, ◌+◌, ◌<◌, inl, inr, Bool, true, false, cond, not, ◌&&◌, ◌||◌, Bor, List, [], ◌∷◌, ◌++◌, map, filter, length, take, get_or, Option, Some, None, option_map, unwrap_or, bytes_eq, append-nil, arith}
-use Rattle.std.specs.Prelude.{replicate, Contains, Result, Ok, Err, option_and_then}
+use Rattle.std.specs.Prelude.{replicate, Contains, IsSome, Vec, option_and_then}
 use Rattle.std.specs.Bool.{Decides, one_answer}
 use Rattle.std.specs.List.{AllByRecursion, list_any}
 use Rattle.std.specs.FinMap.{get, get-empty, get-retain_keys, empty, entries, keys, contains_key, same_entries_map, same_map, slice_cmp-IsAntisymmetric, nat_cmp-IsAntisymmetric}
-use Rattle.std.specs.Result.{IsErrAnd}
+use Rattle.std.specs.declared.alloc.Global.{Global}
 use Rattle.std.proofs.lemmas.Bool.{and_parts}
 use Rattle.std.proofs.lemmas.Cmp.{nat_list_cmp_total}
 use Rattle.std.proofs.lemmas.List.{map-append, take_more}
@@ -22,24 +22,20 @@ use Rattle.history_model.specs.Bytes.{Bytes, by_bytes}
 use Rattle.history_model.specs.FileMap.{FileMap, Content, IsFileMap, cut_to, is_below, is_within}
 use Rattle.history_model.specs.Laws.{IsTreeIn}
 use Rattle.history_model.specs.Meaning.{files_at, first_files}
-use Rattle.history_model.specs.Objects.{CommitValue, Value, StoredCommit, StoredFolder, entry_at}
-use Rattle.history_model.specs.Repository.{HoldsCommit, as_commit}
+use Rattle.history_model.specs.Objects.{CommitValue, Value, StoredCommit, StoredFolder, entry_at, folder_id}
+use Rattle.history_model.specs.Repository.{HoldsCommit, IsWholeStore, as_commit}
 use Rattle.history_model.specs.declared.FileKind.{FileKind}
 use Rattle.history_model.specs.declared.FileKind.TheVariants.{File, Exec, Link}
 use Rattle.history_model.proofs.EntryLemmas.{entries_tell_files}
-use Rattle.history_repository.specs.Reads.{GivesMeant, IsReadingFault}
-use Rattle.history_repository.specs.TreesBefore.{IsTreeBefore}
+use Rattle.history_walks.specs.Telling.{TellsStored}
+use Rattle.history_walks.specs.declared.told.Told.{Told}
 use Rattle.history_repository.specs.Stands.{Stands}
 use Rattle.history_repository.specs.declared.repository.Repository.{Repository}
-use Rattle.history_repository.specs.declared.stopped.Stopped.{Stopped}
-use Rattle.history_repository.proofs.Befores.{entries-empty, held_commit, held_files}
+use Rattle.history_repository.proofs.Befores.{entries-empty, held_commit, held_files, held_root}
 use Rattle.history_repository.proofs.StoredValues.{folder_paths}
+use Rattle.history_queries.specs.Seen.{IsSeen, IsSeenAt}
+use Rattle.history_queries.specs.declared.differing.Seen.{Seen}
 use Rattle.history_model.specs.Repository as plain
-
--- a fault of reading is handed on
-pub fault_told : {T : Type 0} (MayFail : Type 0) (IsMeant : T → Type 0) (result : Result T Stopped) (stopped : Stopped) → IsErrAnd result (λ other. other ≡ stopped) → IsReadingFault MayFail stopped → GivesMeant MayFail IsMeant result
-fault_told MayFail IsMeant (Ok value) stopped same fault = absurd same
-fault_told MayFail IsMeant (Err other) stopped same fault = subst (IsReadingFault MayFail) (sym same) fault
 
 -- ---- lists
 
@@ -85,24 +81,54 @@ lists_same (a ∷ left) (b ∷ right) e =
 
 -- ---- before a commit
 
-pub tree_there : (r : plain.Repository) (ids : List Id) (tree : ObjectId) → IsTreeBefore r ids (Some tree) → get r.objects (id_of tree) ≡ Some (StoredFolder (first_files r ids))
-tree_there r [] tree is = cc
-tree_there r (id ∷ ids) tree is = is
-
 -- no files have nothing at a path
 none_in_empty : (kind : Kind) (path : Bytes) → entry_at kind empty path ≡ None
 none_in_empty kind path =
     let below : list_any (is_below path) (keys (empty {X = Content} {R = by_bytes})) ≡ false = ap (λ (es : List (Bytes × Content)). list_any (is_below path) (map (λ e. e.0) es)) entries-empty in
     rw (below, get-empty by_bytes path) refl
 
-pub nothing_before : (r : plain.Repository) (ids : List Id) (paths : List (Bor Bytes)) (found : List (Option Found)) → IsTreeBefore r ids None → found ≡ replicate (length paths) None
-    → map (option_map entry_of) found ≡ map (λ path. entry_at r.kind (first_files r ids) path.now) paths
-nothing_before r [] paths found is none = ap (map (option_map entry_of)) none ∙ each paths
-  where
-    each : (paths : List (Bor Bytes)) → map (option_map entry_of) (replicate (length paths) None) ≡ map (λ path. entry_at r.kind (first_files r []) path.now) paths
-    each [] = refl
-    each (path ∷ paths) = λ i. sym (none_in_empty r.kind path.now) i ∷ each paths i
-nothing_before r (id ∷ ids) paths found is none = absurd is
+nothing_before : (r : plain.Repository) (paths : List (Bor Bytes)) → map (option_map entry_of) (replicate (length paths) None) ≡ map (λ path. entry_at r.kind (first_files r []) path.now) paths
+nothing_before r [] = refl
+nothing_before r (path ∷ paths) = λ i. sym (none_in_empty r.kind path.now) i ∷ nothing_before r paths i
+
+-- before a commit without a parent there is nothing, and else what its first parent has
+module _ (r : plain.Repository) (id : Id) (paths : List (Bor Bytes)) where
+  abbrev HasBefore : List (Option Found) → List Id → Type 0
+  HasBefore found ids = map (option_map entry_of) found ≡ map (λ path. entry_at r.kind (first_files r ids) path.now) paths
+
+  pub before_none : (nothing : List (Option Found)) → parents_at r id ≡ [] → nothing ≡ replicate (length paths) None → HasBefore nothing (parents_at r id)
+  before_none nothing alone none = subst (HasBefore nothing) (sym alone) (ap (map (option_map entry_of)) none ∙ nothing_before r paths)
+
+  pub before_first : (seen : Seen) (parent : Id) (ids : List Id) → parents_at r id ≡ parent ∷ ids → IsSeenAt r paths parent seen → HasBefore seen.found.items (parents_at r id)
+  before_first seen parent ids are is =
+      subst (HasBefore seen.found.items) (sym are) (subst (λ (first : Id). map (option_map entry_of) seen.found.items ≡ map (λ (path : Bor Bytes). entry_at r.kind (files_at r first) path.now) paths) is.0 (is.1).found)
+
+-- ---- a commit that is seen
+
+module _ (r : plain.Repository) (told : Told) (is : TellsStored r told) where
+  holds_so : HoldsCommit r (id_of told.id)
+  holds_so = subst IsSome (sym is.stored) refl
+
+  files_so : files_at r (id_of told.id) ≡ is.commit.files
+  files_so = ap (λ (found : Option CommitValue). unwrap_or (option_map (λ (commit : CommitValue). commit.files) found) empty) is.stored
+
+  parents_so : parents_at r (id_of told.id) ≡ is.commit.parents
+  parents_so = ap (λ (found : Option CommitValue). unwrap_or (option_map (λ (commit : CommitValue). commit.parents) found) []) is.stored
+
+  -- its root is stored
+  pub told_root : IsWholeStore r → get r.objects (id_of told.tree) ≡ Some (StoredFolder is.commit.files)
+  told_root store =
+      let held = held_commit r store (id_of told.id) holds_so in
+      let same : (held.0).files ≡ is.commit.files = sym (held_files r store (id_of told.id) holds_so) ∙ files_so in
+      subst (λ (files : FileMap). get r.objects (id_of told.tree) ≡ Some (StoredFolder files)) same (held_root r store (id_of told.id) holds_so told.tree (is.tree ∙ ap (folder_id r.kind) (sym same)))
+
+  pub seen_so : (paths : List (Bor Bytes)) (found : Vec (Option Found) Global) → map (option_map entry_of) found.items ≡ map (λ path. entry_at r.kind is.commit.files path.now) paths
+      → IsSeen r paths (record { id = told.id; parents = told.parents; found = found })
+  seen_so paths found are = record {
+    holds = holds_so;
+    parents = is.parents ∙ sym parents_so;
+    found = subst (λ (files : FileMap). map (option_map entry_of) found.items ≡ map (λ (path : Bor Bytes). entry_at r.kind files path.now) paths) (sym files_so) are;
+  }
 
 -- ---- files cut to several paths
 
@@ -184,7 +210,7 @@ module _ {F : Type 0} (IsHonest : F → Type 0) (history : F → History) (repos
       none_there p there = let none = get-empty {X = Content} by_bytes p in cc
   of_first (id ∷ ids) hold = of_commit id hold.0
 
-  pub held_parents : (id : Id) → (holds : HoldsCommit r id) → parents_at r id ≡ ((held_commit r stands.whole.whole.store id holds).0).parents
+  held_parents : (id : Id) → (holds : HoldsCommit r id) → parents_at r id ≡ ((held_commit r stands.whole.whole.store id holds).0).parents
   held_parents id holds =
       ap (λ (found : Option Value). unwrap_or (option_map (λ (commit : CommitValue). commit.parents) (option_and_then as_commit found)) [])
       (held_commit r stands.whole.whole.store id holds).1

@@ -1,4 +1,5 @@
 pub mod Indexing
 pub mod Logs
+pub mod Seen
 pub mod Shown
 pub mod Walked

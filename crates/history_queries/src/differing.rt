@@ -1,25 +1,25 @@
 //! The commits that differ at some paths from their first parents.
 
-ghost use Rattle.std.specs.Prelude.{◌≡◌, filter, map, option_map, replicate, IfOk, None};
+ghost use Rattle.std.specs.Prelude.{◌≡◌, filter, map, option_map, replicate, IfOk, IfSome, None, Some};
 ghost use Rattle.std.specs.FinMap.{get};
-ghost use Rattle.std.specs.List.{AllByRecursion};
 ghost use Rattle.gix_hash_id.specs.Id.{id_of};
 ghost use Rattle.history_files.specs.Reading.{entry_of};
 ghost use Rattle.history_model.specs.Answers.{differs_at};
 ghost use Rattle.history_model.specs.FileMap.{FileMap};
-ghost use Rattle.history_model.specs.Meaning.{first_files};
 ghost use Rattle.history_model.specs.Objects.{StoredFolder, entry_at};
 ghost use Rattle.history_model.specs.Repository.{HoldsCommit};
 ghost use Rattle.history_repository.specs.Reads.{GivesMeant};
 ghost use Rattle.history_repository.specs.Stands.{Stands};
+ghost use Rattle.history_queries.specs.Seen.{IsCompared, IsSeen, IsSeenAt};
 ghost use Rattle.history_queries.specs.Walked.{AllHold};
 ghost use Rattle.history_model.specs.Repository as plain;
 
-use crate::reading::read_commit;
+use crate::rows::told_of;
 use gix_hash::ObjectId;
 use gix_ref_file::Files;
+use gix_traverse_commit_graph::ParentIds;
 use history_files::{EntriesState, Found, entries_at};
-use history_repository::{Repository, Stopped, tree_before};
+use history_repository::{Repository, Stopped};
 use std::alloc::{AllocError, Global};
 
 // Nothing at each of so many paths.
@@ -48,52 +48,99 @@ fn found_each<F: Files>(
     Ok(entries_at(alloc, &repository.objects, tree, paths, state)?)
 }
 
-/// What the first of a commit's parents has at each of some paths: nothing without a parent.
-///
-/// The parents are stored commits. It is a fault where a call of the files failed, or where no memory is left.
-fn found_before<F: Files>(
-    repository: &Repository<F>,
-    alloc: Global,
-    parents: &[ObjectId],
-    paths: &[&[u8]],
-    state: &mut EntriesState,
-) -> Result<Vec<Option<Found>>, Stopped>
-    ensures { (r : plain.Repository) → Stands F.is_honest F.history repository.now r
-        → AllByRecursion (HoldsCommit r) (map id_of parents.now)
-        → GivesMeant F.reading_may_fail (λ found. map (option_map entry_of) found.items
-        ≡ map (λ path. entry_at r.kind (first_files r (map id_of parents.now)) path.now)
-        paths.now) result }
-{
-    match tree_before(repository, alloc, parents)? {
-        Some(tree) => found_each(repository, alloc, &tree, paths, state),
-        None => Ok(nothing_at(alloc, paths.len())?),
-    }
+/// A commit that was seen: its parents, and what it has at some paths.
+#[derive(Drop)]
+struct Seen {
+    id: ObjectId,
+    parents: ParentIds,
+    found: Vec<Option<Found>>,
 }
 
-/// Whether what a commit has at some paths isn't what its first parent has there.
+/// Whether a commit differs at some paths from its first parent, and what was seen of that, if there is one.
+#[derive(Drop)]
+struct Compared {
+    differs: bool,
+    before: Option<Seen>,
+}
+
+/// The parents of a stored commit, and what it has at some paths.
 ///
-/// The commit is stored. Its content is read and its first parent's, and of both the trees on the paths, each once. It is a fault
-/// where a call of the files failed, or where no memory is left.
-fn differs_at<F: Files>(
+/// Its content is read, unless it has a row, and the trees on the paths, each once. It is a fault where a call of the files failed,
+/// or where no memory is left.
+fn see<F: Files>(
     repository: &Repository<F>,
     alloc: Global,
     id: &ObjectId,
     paths: &[&[u8]],
     state: &mut EntriesState,
-) -> Result<bool, Stopped>
+) -> Result<Seen, Stopped>
     ensures { (r : plain.Repository) → Stands F.is_honest F.history repository.now r
-        → HoldsCommit r (id_of id.now) → GivesMeant F.reading_may_fail (λ differs.
-        differs ≡ differs_at r (map (λ path. path.now) paths.now) (id_of id.now)) result }
+        → HoldsCommit r (id_of id.now) → GivesMeant F.reading_may_fail
+        (IsSeenAt r paths.now (id_of id.now)) result }
 {
-    let commit = read_commit(repository, alloc, id)?;
-    let found = found_each(repository, alloc, &commit.tree, paths, state)?;
-    let before = found_before(repository, alloc, commit.parents.as_slice(), paths, state)?;
-    Ok(found.as_slice() != before.as_slice())
+    let told = told_of(repository, alloc, id)?;
+    let found = found_each(repository, alloc, &told.tree, paths, state)?;
+    Ok(Seen {
+        id: told.id,
+        parents: told.parents,
+        found,
+    })
+}
+
+/// The same of a commit that may be the one that was seen last: then nothing is read.
+fn see_next<F: Files>(
+    repository: &Repository<F>,
+    alloc: Global,
+    last: Option<Seen>,
+    id: &ObjectId,
+    paths: &[&[u8]],
+    state: &mut EntriesState,
+) -> Result<Seen, Stopped>
+    ensures { (r : plain.Repository) → Stands F.is_honest F.history repository.now r
+        → HoldsCommit r (id_of id.now) → IfSome last (IsSeen r paths.now)
+        → GivesMeant F.reading_may_fail (IsSeenAt r paths.now (id_of id.now)) result }
+{
+    if let Some(seen) = last {
+        if seen.id == *id {
+            return Ok(seen);
+        }
+    }
+    see(repository, alloc, id, paths, state)
+}
+
+/// Whether what a commit has at some paths isn't what its first parent has there.
+///
+/// The first parent is seen, if there is one. It is a fault where a call of the files failed, or where no memory is left.
+fn compare<F: Files>(
+    repository: &Repository<F>,
+    alloc: Global,
+    here: &Seen,
+    paths: &[&[u8]],
+    state: &mut EntriesState,
+) -> Result<Compared, Stopped>
+    ensures { (r : plain.Repository) → Stands F.is_honest F.history repository.now r
+        → IsSeen r paths.now here.now → GivesMeant F.reading_may_fail
+        (IsCompared r paths.now (id_of here.now.id)) result }
+{
+    let Some(parent) = here.parents.as_slice().first() else {
+        let nothing = nothing_at(alloc, paths.len())?;
+        return Ok(Compared {
+            differs: here.found.as_slice() != nothing.as_slice(),
+            before: None,
+        });
+    };
+    let before = see(repository, alloc, parent, paths, state)?;
+    Ok(Compared {
+        differs: here.found.as_slice() != before.found.as_slice(),
+        before: Some(before),
+    })
 }
 
 /// Those of some commits that differ at some paths from their first parents, in their order.
 ///
-/// The commits are stored. It is a fault where a call of the files failed, or where no memory is left.
+/// The commits are stored. Of each, its content is read, unless it has a row, and the trees on the paths; and of its first parent the
+/// same, unless it is the commit that comes next, which is then read once. It is a fault where a call of the files failed, or where no
+/// memory is left.
 pub(crate) fn differing<F: Files>(
     repository: &Repository<F>,
     alloc: Global,
@@ -107,10 +154,14 @@ pub(crate) fn differing<F: Files>(
 {
     let mut state = EntriesState::new(alloc);
     let mut differing = Vec::new(alloc);
+    let mut last = None;
     for id in ids {
-        if differs_at(repository, alloc, id, paths, &mut state)? {
+        let here = see_next(repository, alloc, last.take(), id, paths, &mut state)?;
+        let Compared { differs, before } = compare(repository, alloc, &here, paths, &mut state)?;
+        if differs {
             differing.push(*id)?;
         }
+        last = before;
     }
     Ok(differing)
 }

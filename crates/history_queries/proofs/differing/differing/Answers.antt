@@ -1,30 +1,48 @@
-use Rattle.std.proofs.Common.{◌∷◌, [], ◌∙◌, ap, sym, filter, map}
+use Rattle.std.proofs.Common.{[], ◌∙◌, ap, sym, filter, map, subst, Option}
+use Rattle.std.specs.Prelude.{IfSome}
 use Rattle.std.proofs.lemmas.List.{take_all}
 use Rattle.gix_hash_id.specs.Id.{id_of}
 use Rattle.gix_hash_id.specs.declared.object_id.ObjectId.TheVariants.{Sha1}
 use Rattle.history_model.specs.Answers.{differs_at}
-use Rattle.history_queries.proofs.DifferingLemmas.{among, fault_told, id_dropped, id_kept}
-use Rattle.history_queries.proofs.differing.differing.Goals.{then-branch+in_ok-push, else-branch}
+use Rattle.history_repository.proofs.ReadingFaults.{fault_told}
+use Rattle.history_queries.specs.Seen.{IsSeen}
+use Rattle.history_queries.specs.declared.differing.Seen.{Seen}
+use Rattle.history_queries.proofs.DifferingLemmas.{among, id_dropped, id_kept}
+use Rattle.history_queries.proofs.differing.differing.Goals.{then-differs+in_ok-push, else-differs}
 use Rattle.history_queries.proofs.differing.differing.Goals as goal
 
-pub returns-in_err-differs_at : goal.returns-in_err-differs_at
-returns-in_err-differs_at g c = λ r s hold.
+pub returns-in_err-here : goal.returns-in_err-here
+returns-in_err-here g c = λ r s hold.
     let holds = hold _ (among c.args.ids.now c.loop-id.id-index (Sha1 []) c.loop-id-test.true) in
-    fault_told g.F.Files.reading_may_fail _ c.from_residual.result _ c.from_residual.ensures.1 (c.in_err-differs_at.ensures r s holds)
+    let last = subst (λ (o : Option Seen). IfSome o (IsSeen r c.args.paths.now)) (sym c.take.ensures.value) (c.loop-id.invariant r s hold).1 in
+    fault_told g.F.Files.reading_may_fail _ c.from_residual.result _ c.from_residual.ensures.1 (c.in_err-here.ensures r s holds last)
+
+pub returns-in_err-differs : goal.returns-in_err-differs
+returns-in_err-differs g c = λ r s hold.
+    let holds = hold _ (among c.args.ids.now c.loop-id.id-index (Sha1 []) c.loop-id-test.true) in
+    let last = subst (λ (o : Option Seen). IfSome o (IsSeen r c.args.paths.now)) (sym c.take.ensures.value) (c.loop-id.invariant r s hold).1 in
+    let here = c.in_ok-here.ensures r s holds last in
+    fault_told g.F.Files.reading_may_fail _ c.from_residual-in_err-differs.result _ c.from_residual-in_err-differs.ensures.1 (c.in_err-differs.ensures r s here.1)
 
 pub loop-id-preserved : goal.loop-id-preserved
 loop-id-preserved g c = λ r s hold.
     let ids = c.args.ids.now in
     let i = c.loop-id.id-index in
     let test = differs_at r (map (λ path. path.now) c.args.paths.now) in
-    let differs = c.in_ok-differs_at.ensures r s (hold _ (among ids i (Sha1 []) c.loop-id-test.true)) in
-    elim c.if-branch.branch [
-      | then-branch+in_ok-push w ↦
-          id_kept test ids i (Sha1 []) c.loop-id-test.true c.loop-id.differing.items c.if-branch.differing.items (sym differs ∙ w.if-branch.true) (ap (λ v. v.items) w.differing-is ∙ w.in_ok-push.ensures.items) (c.loop-id.invariant r s hold)
-      | else-branch w ↦
-          id_dropped test ids i (Sha1 []) c.loop-id-test.true c.if-branch.differing.items (sym differs ∙ w.if-branch.false) (ap (λ v. map id_of v.items) w.differing-is ∙ c.loop-id.invariant r s hold)
-    ]
+    let holds = hold _ (among ids i (Sha1 []) c.loop-id-test.true) in
+    let so_far = c.loop-id.invariant r s hold in
+    let here = c.in_ok-here.ensures r s holds (subst (λ (o : Option Seen). IfSome o (IsSeen r c.args.paths.now)) (sym c.take.ensures.value) so_far.1) in
+    let compared = c.in_ok-differs.ensures r s here.1 in
+    let differs = compared.differs ∙ ap test here.0 in (
+      elim c.if-differs.branch [
+        | then-differs+in_ok-push w ↦
+            id_kept test ids i (Sha1 []) c.loop-id-test.true c.loop-id.differing.items c.if-differs.differing.items (sym differs ∙ w.if-differs.true) (ap (λ v. v.items) w.differing-is ∙ w.in_ok-push.ensures.items) so_far.0
+        | else-differs w ↦
+            id_dropped test ids i (Sha1 []) c.loop-id-test.true c.if-differs.differing.items (sym differs ∙ w.if-differs.false) (ap (λ v. map id_of v.items) w.differing-is ∙ so_far.0)
+      ],
+      compared.before,
+    )
 
 pub returns : goal.returns
 returns g c = λ r s hold.
-    c.loop-id.invariant r s hold ∙ ap (λ some. filter (differs_at r (map (λ path. path.now) c.args.paths.now)) (map id_of some)) (take_all c.loop-id.id-index c.args.ids.now c.loop-id-test.false)
+    (c.loop-id.invariant r s hold).0 ∙ ap (λ some. filter (differs_at r (map (λ path. path.now) c.args.paths.now)) (map id_of some)) (take_all c.loop-id.id-index c.args.ids.now c.loop-id-test.false)
