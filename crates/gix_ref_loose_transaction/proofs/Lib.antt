@@ -11,3 +11,4 @@ mod Plannings
 mod Faults
 mod RecordKinds
 mod Prepares
+mod Rollbacks

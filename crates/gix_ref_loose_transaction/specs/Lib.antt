@@ -7,3 +7,4 @@ pub mod LogLines
 pub mod Causes
 pub mod Reads
 pub mod Parts
+pub mod Rollback

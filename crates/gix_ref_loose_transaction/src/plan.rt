@@ -1,9 +1,12 @@
 //! What becomes of one reference: its lock is made, what it is is tested, and its new text is written into the lock.
 
-ghost use Rattle.std.specs.Prelude.{◌≡◌, ◌⊎◌, None, Some, Ok, IfErr, IfOk, IsTrue, OnOk};
+ghost use Rattle.std.specs.Prelude.{◌≡◌, ◌≤◌, ◌⊎◌, [], ◌∷◌, false, None, Some, Ok, Err, IfErr, IfOk, IsTrue, OnOk};
 ghost use Rattle.gix_object_lines.specs.NameTest.{is_full_name};
 ghost use Rattle.gix_ref_file.specs.Calls.{Achieves, Passes};
+ghost use Rattle.gix_ref_file.specs.Changes.{is_file_at};
+ghost use Rattle.gix_ref_file.specs.History.{HasRisen};
 ghost use Rattle.gix_ref_file.specs.Tree.{file, node_at};
+ghost use Rattle.gix_ref_file.specs.declared.files.FileError.TheVariants as file_case;
 ghost use Rattle.gix_ref_name.specs.Targets.{target_view};
 ghost use Rattle.gix_ref_format.specs.Loose.{loose_text};
 ghost use Rattle.gix_ref_store.specs.Lookups.{reads_with};
@@ -17,6 +20,7 @@ ghost use Rattle.gix_ref_loose_transaction.specs.LogLines.{IsLineOf, has_log, li
 ghost use Rattle.gix_ref_repacking.specs.Modes.{removes};
 ghost use Rattle.gix_ref_loose_transaction.specs.Plans as spec;
 ghost use Rattle.gix_ref_loose_transaction.specs.Plans.{HoldsText, IsActOf, IsFoundSo, IsPlanOf, IsPut, IsTested, IsUpdateBy, KeepsFiles};
+ghost use Rattle.gix_ref_loose_transaction.specs.Rollback.{IsRolledBack, MoreFilesAt};
 ghost use Rattle.gix_ref_loose_transaction.specs.declared.error.PrepareError.TheVariants.{Io, LockAcquire, Memory};
 
 use crate::asked::test;
@@ -64,6 +68,13 @@ pub(crate) fn plan<F: Files, O>(
         let l = logging store.old.options (reads_with store.old tree packed.entry) committer.entry in
         IfErr result (EditFault l (has_log (base_of store.old) tree edit.now.name)
         F.reading_may_fail edit.now) }
+    ensures later { F.failures store.old.files ≤ F.failures store.new.files }
+    ensures unfailed { IfOk result (λ _. F.failures store.new.files ≡ F.failures store.old.files) }
+    ensures rolled_back { F.is_honest store.old.files → IfErr result (λ error.
+        IsRolledBack (F.failures store.old.files) (F.failures store.new.files)
+        (F.history store.old.files).tree (F.history store.new.files).tree error) }
+    ensures locked { F.is_honest store.old.files → IfOk result (λ made. MoreFilesAt
+        (lock_path_of made ∷ []) (F.history store.old.files).tree (F.history store.new.files).tree) }
     ensures keeps { Achieves F.is_honest F.history store.old.files store.new.files result
         KeepsFiles }
 {
@@ -72,10 +83,30 @@ pub(crate) fn plan<F: Files, O>(
     let lock = take(alloc, &mut store.files, &place)?;
     match act_of(alloc, store, edit, packed, committer, packed_refs, &lock) {
         Ok(act) => Ok(Move { lock, log, act }),
-        Err(error) => {
-            let _ = lock.give_back(alloc, &mut store.files);
-            Err(error)
-        }
+        Err(error) => Err(unplanned(alloc, &mut store.files, &lock, error)),
+    }
+}
+
+// Gives the lock of an edit back that isn't planned, and tells why.
+fn unplanned<F: Files>(
+    alloc: Global,
+    files: &mut F,
+    lock: &Lock,
+    error: PrepareError,
+) -> PrepareError
+    ensures honest { F.is_honest files.old → F.is_honest files.new }
+    ensures later { F.failures files.old ≤ F.failures files.new }
+    ensures moments { Passes F.is_honest F.history files.old files.new
+        (OthersStay lock.now.path.items) }
+    ensures told { (result ≡ error) ⊎ (result ≡ Memory) }
+    ensures rolled_back { F.is_honest files.old
+        → (is_file_at (F.history files.new).tree lock.now.path.items ≡ false)
+        ⊎ (HasRisen (F.failures files.old) (F.failures files.new) ⊎ (result ≡ Memory)) }
+{
+    match lock.give_back(alloc, files) {
+        Ok(()) => error,
+        Err(FileError::Failed) => error,
+        Err(FileError::Memory) => PrepareError::Memory,
     }
 }
 
@@ -87,6 +118,13 @@ fn take<F: Files>(alloc: Global, files: &mut F, place: &[u8]) -> Result<Lock, Pr
     ensures free { F.is_honest files.old → OnOk result
         (file_at (F.history files.old).tree (lock_of place.now) ≡ None) }
     ensures keeps { Achieves F.is_honest F.history files.old files.new result KeepsFiles }
+    ensures later { F.failures files.old ≤ F.failures files.new }
+    ensures unfailed { IfOk result (λ _. F.failures files.new ≡ F.failures files.old) }
+    ensures rolled_back { F.is_honest files.old → IfErr result (λ error. IsRolledBack
+        (F.failures files.old) (F.failures files.new) (F.history files.old).tree
+        (F.history files.new).tree error) }
+    ensures locked { F.is_honest files.old → IfOk result (λ _. MoreFilesAt
+        (lock_of place.now ∷ []) (F.history files.old).tree (F.history files.new).tree) }
     ensures failed { IfErr result (λ error. (error ≡ LockAcquire) ⊎ (error ≡ Memory)) }
 {
     told(make_way(alloc, files, place), PrepareError::LockAcquire)?;
@@ -108,6 +146,8 @@ fn told(outcome: Result<(), FileError>, why: PrepareError) -> Result<(), Prepare
 // The lock that was made, where none stood.
 fn held(made: Result<Option<Lock>, FileError>) -> Result<Lock, PrepareError>
     ensures ok { IfOk result (λ lock. made ≡ Ok (Some lock)) }
+    ensures none { IfErr result (λ error. (error ≡ Memory)
+        ⊎ ((made ≡ Ok None) ⊎ (made ≡ Err file_case.Failed))) }
     ensures failed { IfErr result (λ error. (error ≡ LockAcquire) ⊎ (error ≡ Memory)) }
 {
     match made {
@@ -130,6 +170,8 @@ fn act_of<F: Files, O>(
 ) -> Result<Act, PrepareError>
     ensures honest { F.is_honest store.old.files → F.is_honest store.new.files }
     ensures base { base_of store.new ≡ base_of store.old }
+    ensures later { F.failures store.old.files ≤ F.failures store.new.files }
+    ensures unfailed { IfOk result (λ _. F.failures store.new.files ≡ F.failures store.old.files) }
     ensures moments { Passes F.is_honest F.history store.old.files store.new.files
         (OthersStay lock.now.path.items) }
     ensures tested { F.is_honest store.old.files → IfOk result (λ _. IsTested edit.now
@@ -190,6 +232,8 @@ fn update_by<F: Files>(
     line: Option<Vec<u8>>,
 ) -> Result<Act, PrepareError>
     ensures honest { F.is_honest files.old → F.is_honest files.new }
+    ensures later { F.failures files.old ≤ F.failures files.new }
+    ensures unfailed { IfOk result (λ _. F.failures files.new ≡ F.failures files.old) }
     ensures moments { Passes F.is_honest F.history files.old files.new
         (OthersStay lock.now.path.items) }
     ensures act { IfOk result (IsUpdateBy log is_packed_alone) }
@@ -238,6 +282,8 @@ fn fill<F: Files>(
     target: &Target,
 ) -> Result<(), PrepareError>
     ensures honest { F.is_honest files.old → F.is_honest files.new }
+    ensures later { F.failures files.old ≤ F.failures files.new }
+    ensures unfailed { IfOk result (λ _. F.failures files.new ≡ F.failures files.old) }
     ensures moments { Passes F.is_honest F.history files.old files.new
         (OthersStay lock.now.path.items) }
     ensures filled { F.is_honest files.old → OnOk result

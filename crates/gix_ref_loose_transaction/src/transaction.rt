@@ -1,11 +1,13 @@
 //! Transactions: prepared, and then committed or rolled back.
 
-ghost use Rattle.std.specs.Prelude.{◌≡◌, ◌≤◌, ◌⊎◌, [], Bool, true, false, Option, option_map, Ok, IfErr, IfOk, IfSome, OnOk};
+ghost use Rattle.std.specs.Prelude.{◌≡◌, ◌≤◌, ◌⊎◌, [], Bool, true, false, Option, option_map, Ok, Err, IfErr, IfOk, IfSome, OnOk};
 ghost use Rattle.gix_object_lookup.specs.Table.{Table};
-ghost use Rattle.gix_ref_file.specs.History.{Adds};
+ghost use Rattle.gix_ref_file.specs.History.{Adds, HasRisen};
 ghost use Rattle.gix_ref_file.specs.Tree.{Tree};
 ghost use Rattle.gix_ref_file.specs.Calls.{Achieves, HasFault, Passes};
-ghost use Rattle.gix_ref_way.specs.Ways.{FoldersOnlyOf};
+ghost use Rattle.gix_ref_file.specs.declared.files.FileError.TheVariants as file_case;
+ghost use Rattle.gix_ref_way.specs.Ways.{FoldersOnlyOf, SameFolders};
+ghost use Rattle.gix_ref_transaction.specs.declared.packed.CommitError.TheVariants as packed_case;
 ghost use Rattle.gix_ref_edit.specs.Names.{AllOnce, names_of};
 ghost use Rattle.gix_ref_format.specs.PackedBuffer.{KeepsFile};
 ghost use Rattle.gix_ref_format.specs.PackedKept.{kept};
@@ -13,7 +15,7 @@ ghost use Rattle.gix_ref_store.specs.Lookups.{reads_with};
 ghost use Rattle.gix_ref_store.specs.Places.{Base};
 ghost use Rattle.gix_ref_store.specs.RefStates.{packed_text_in, ref_state};
 ghost use Rattle.gix_ref_store.specs.Stores.{base_of};
-ghost use Rattle.gix_ref_moves.specs.Moments.{SameButLocks};
+ghost use Rattle.gix_ref_moves.specs.Moments.{NoFileMore, SameButLocks};
 ghost use Rattle.gix_ref_moves.specs.Needs.{CanCommit, IsOutOfMemory, log_paths};
 ghost use Rattle.gix_ref_moves.specs.Committing.{IsCommitted, OnTheWay, commit_paths};
 ghost use Rattle.gix_ref_loose_transaction.specs.Alike.{ReadsAlike};
@@ -24,6 +26,7 @@ ghost use Rattle.gix_ref_loose_transaction.specs.Paths.{has_twice, paths_apart};
 ghost use Rattle.gix_ref_loose_transaction.specs.Plans.{AllHold, AllPlanned, AllTested, AreSplit, KeepsFiles, LocksGone};
 ghost use Rattle.gix_ref_loose_transaction.specs.Reads.{AllGiveKind, AllReadBack, IsAsPrepared, prepared_of, ReadsEdited, ReadsOnWay};
 ghost use Rattle.gix_ref_repacking.specs.Repacking.{AreRepacked};
+ghost use Rattle.gix_ref_loose_transaction.specs.Rollback.{AllGone, FailsForMemory, FailsShort, IsDropped, IsRolledBack, MoreFilesAt, PackedGone, lock_paths};
 ghost use Rattle.gix_ref_loose_transaction.specs.declared.error.PrepareError.TheVariants.{Memory, SamePlace};
 
 use crate::error::PrepareError;
@@ -72,6 +75,7 @@ pub fn prepare<F: Files, O: FindInto>(
 ) -> Result<Transaction, PrepareError>
     ensures honest { F.is_honest store.old.files → F.is_honest store.new.files }
     ensures base { base_of store.new ≡ base_of store.old }
+    ensures options { store.new.options ≡ store.old.options }
     ensures moments { Passes F.is_honest F.history store.old.files store.new.files SameButLocks }
     ensures alike { Passes F.is_honest F.history store.old.files store.new.files
         (ReadsAlike (base_of store.old)) }
@@ -98,6 +102,12 @@ pub fn prepare<F: Files, O: FindInto>(
         → IsAsPrepared (base_of store.old) (option_map O.table (objects_in packed_refs.entry))
         (removes packed_refs.entry) (F.history store.old.files).tree
         (F.history store.new.files).tree (prepared_of t.edits.items t.moves.items t.packed)) }
+    ensures later { F.failures store.old.files ≤ F.failures store.new.files }
+    ensures unfailed { IfOk result (λ _. F.failures store.new.files ≡ F.failures store.old.files) }
+    // After an error no lock is left, unless a failure was counted or memory was wanting.
+    ensures rolled_back { F.is_honest store.old.files → IfErr result (λ error.
+        IsRolledBack (F.failures store.old.files) (F.failures store.new.files)
+        (F.history store.old.files).tree (F.history store.new.files).tree error) }
     ensures causes { F.is_honest store.old.files → let tree = (F.history store.old.files).tree in
         let b = base_of store.old in
         let l = logging store.old.options (ref_state b tree) committer.entry in
@@ -126,6 +136,7 @@ pub fn prepare_with<F: Files, O: FindInto>(
 ) -> Result<Transaction, PrepareError>
     ensures honest { F.is_honest store.old.files → F.is_honest store.new.files }
     ensures base { base_of store.new ≡ base_of store.old }
+    ensures options { store.new.options ≡ store.old.options }
     ensures moments { Passes F.is_honest F.history store.old.files store.new.files SameButLocks }
     ensures alike { Passes F.is_honest F.history store.old.files store.new.files
         (ReadsAlike (base_of store.old)) }
@@ -156,6 +167,12 @@ pub fn prepare_with<F: Files, O: FindInto>(
         → IsAsPrepared b (option_map O.table (objects_in packed_refs.entry))
         (removes packed_refs.entry) old
         (F.history store.new.files).tree (prepared_of t.edits.items t.moves.items t.packed)) }
+    ensures later { F.failures store.old.files ≤ F.failures store.new.files }
+    ensures unfailed { IfOk result (λ _. F.failures store.new.files ≡ F.failures store.old.files) }
+    // After an error no lock is left, unless a failure was counted or memory was wanting.
+    ensures rolled_back { F.is_honest store.old.files → IfErr result (λ error.
+        IsRolledBack (F.failures store.old.files) (F.failures store.new.files)
+        (F.history store.old.files).tree (F.history store.new.files).tree error) }
     ensures causes { F.is_honest store.old.files → let tree = (F.history store.old.files).tree in
         let b = base_of store.old in
         let l = logging store.old.options (reads_with store.old tree packed.entry) committer.entry in
@@ -199,6 +216,12 @@ fn locked<F: Files, O: FindInto>(
 ) -> Result<Transaction, PrepareError>
     ensures honest { F.is_honest store.old.files → F.is_honest store.new.files }
     ensures base { base_of store.new ≡ base_of store.old }
+    ensures options { store.new.options ≡ store.old.options }
+    ensures later { F.failures store.old.files ≤ F.failures store.new.files }
+    ensures unfailed { IfOk result (λ _. F.failures store.new.files ≡ F.failures store.old.files) }
+    ensures rolled_back { F.is_honest store.old.files → IfErr result (λ error.
+        IsRolledBack (F.failures store.old.files) (F.failures store.new.files)
+        (F.history store.old.files).tree (F.history store.new.files).tree error) }
     ensures moments { Passes F.is_honest F.history store.old.files store.new.files SameButLocks }
     ensures edits { IfOk result (λ t. t.edits ≡ edits) }
     ensures tested { F.is_honest store.old.files → let tree = (F.history store.old.files).tree in
@@ -237,10 +260,7 @@ fn locked<F: Files, O: FindInto>(
         &mut moves,
     ) {
         Ok(()) => finish(alloc, store, edits, moves, records),
-        Err(error) => {
-            drop_all(alloc, &mut store.files, &moves, records);
-            Err(error)
-        }
+        Err(error) => Err(drop_all(alloc, &mut store.files, &moves, records, error)),
     }
 }
 
@@ -257,6 +277,14 @@ fn plan_all<F: Files, O>(
     ensures honest { F.is_honest store.old.files → F.is_honest store.new.files }
     ensures base { base_of store.new ≡ base_of store.old }
     ensures options { store.new.options ≡ store.old.options }
+    ensures later { F.failures store.old.files ≤ F.failures store.new.files }
+    ensures unfailed { IfOk result (λ _. F.failures store.new.files ≡ F.failures store.old.files) }
+    ensures rolled_back { F.is_honest store.old.files
+        → let old = (F.history store.old.files).tree in
+        let new = (F.history store.new.files).tree in
+        MoreFilesAt (lock_paths moves.new.items) old new
+        ⊎ (HasRisen (F.failures store.old.files) (F.failures store.new.files)
+        ⊎ FailsShort result) }
     ensures keeps { Achieves F.is_honest F.history store.old.files store.new.files result
         KeepsFiles }
     ensures lines { F.is_honest store.old.files → let tree = (F.history store.old.files).tree in
@@ -294,6 +322,11 @@ fn finish<F: Files>(
 ) -> Result<Transaction, PrepareError>
     ensures honest { F.is_honest store.old.files → F.is_honest store.new.files }
     ensures base { base_of store.new ≡ base_of store.old }
+    ensures options { store.new.options ≡ store.old.options }
+    ensures later { F.failures store.old.files ≤ F.failures store.new.files }
+    ensures rolled_back { F.is_honest store.old.files → IfErr result (λ error.
+        IsDropped moves.items packed (F.failures store.old.files) (F.failures store.new.files)
+        (F.history store.old.files).tree (F.history store.new.files).tree error) }
     ensures edits { IfOk result (λ t. t.edits ≡ edits) }
     ensures moves { IfOk result (λ t. t.moves ≡ moves) }
     ensures packed { IfOk result (λ t. t.packed ≡ packed) }
@@ -308,35 +341,73 @@ fn finish<F: Files>(
     ensures moments { Passes F.is_honest F.history store.old.files store.new.files SameButLocks }
 {
     targets_are_read(&edits, store.options().object_hash);
-    match stand_twice(alloc, store, &moves, &packed) {
-        Ok(false) => Ok(Transaction {
+    match are_apart(alloc, store, &moves, &packed) {
+        Ok(()) => Ok(Transaction {
             edits,
             moves,
             packed,
         }),
-        Ok(true) => {
-            drop_all(alloc, &mut store.files, &moves, packed);
-            Err(PrepareError::SamePlace)
-        }
-        Err(_) => {
-            drop_all(alloc, &mut store.files, &moves, packed);
-            Err(PrepareError::Memory)
-        }
+        Err(error) => Err(drop_all(alloc, &mut store.files, &moves, packed, error)),
     }
 }
 
-// Gives all locks back.
+// Tests that no two paths of the moves and of packed records are one.
+fn are_apart<F: Files>(
+    alloc: Global,
+    store: &Store<F>,
+    moves: &[Move],
+    packed: &Option<packed::Transaction>,
+) -> Result<(), PrepareError>
+    ensures causes { IfErr result (λ error. (error ≡ Memory)
+        ⊎ ((error ≡ SamePlace)
+        × (has_twice (paths_apart (base_of store.now) packed.now moves.now) ≡ true))) }
+    ensures apart { OnOk result
+        (has_twice (paths_apart (base_of store.now) packed.now moves.now) ≡ false) }
+{
+    if stand_twice(alloc, store, moves, packed)? {
+        return Err(PrepareError::SamePlace);
+    }
+    Ok(())
+}
+
+// Gives all locks back of edits that aren't prepared, and tells why.
 fn drop_all<F: Files>(
     alloc: Global,
     files: &mut F,
     moves: &[Move],
     packed: Option<packed::Transaction>,
-)
+    error: PrepareError,
+) -> PrepareError
     ensures honest { F.is_honest files.old → F.is_honest files.new }
+    ensures later { F.failures files.old ≤ F.failures files.new }
     ensures moments { Passes F.is_honest F.history files.old files.new SameButLocks }
+    ensures told { (result ≡ error) ⊎ (result ≡ Memory) }
+    ensures rolled_back { F.is_honest files.old → IsDropped moves.now packed
+        (F.failures files.old) (F.failures files.new) (F.history files.old).tree
+        (F.history files.new).tree result }
 {
-    let _ = drop_records(alloc, files, packed);
-    let _ = give_back_all(alloc, files, moves);
+    let records = drop_records(alloc, files, packed);
+    let locks = give_back_all(alloc, files, moves);
+    or_memory(records, locks, error)
+}
+
+// Want of memory, if one of the outcomes tells it, else this error.
+fn or_memory(
+    records: Result<(), packed::CommitError>,
+    locks: Result<(), FileError>,
+    error: PrepareError,
+) -> PrepareError
+    ensures told { (result ≡ error) ⊎ (result ≡ Memory) }
+    ensures records { records ≡ Err packed_case.Memory → result ≡ Memory }
+    ensures locks { locks ≡ Err file_case.Memory → result ≡ Memory }
+{
+    match locks {
+        Ok(()) | Err(FileError::Failed) => match records {
+            Ok(()) | Err(packed::CommitError::Commit) => error,
+            Err(packed::CommitError::Memory) => PrepareError::Memory,
+        },
+        Err(FileError::Memory) => PrepareError::Memory,
+    }
 }
 
 // Gives the lock of packed records back.
@@ -344,26 +415,48 @@ fn drop_records<F: Files>(
     alloc: Global,
     files: &mut F,
     packed: Option<packed::Transaction>,
-) -> Result<(), CommitError>
+) -> Result<(), packed::CommitError>
     ensures honest { F.is_honest files.old → F.is_honest files.new }
+    ensures later { F.failures files.old ≤ F.failures files.new }
+    ensures unfailed { OnOk result (F.failures files.new ≡ F.failures files.old) }
     ensures moments { Passes F.is_honest F.history files.old files.new SameButLocks }
+    ensures folders { Passes F.is_honest F.history files.old files.new SameFolders }
+    ensures gone { F.is_honest files.old → OnOk result
+        (PackedGone packed (F.history files.new).tree) }
+    ensures rolled_back { F.is_honest files.old → let old = (F.history files.old).tree in
+        let new = (F.history files.new).tree in (result ≡ Err packed_case.Memory)
+        ⊎ (HasRisen (F.failures files.old) (F.failures files.new)
+        ⊎ (PackedGone packed new × NoFileMore old new)) }
 {
     match packed {
-        Some(packed) => match packed.rollback(alloc, files) {
-            Ok(()) => Ok(()),
-            Err(error) => Err(CommitError::PackedTransactionCommit(error)),
-        },
+        Some(packed) => packed.rollback(alloc, files),
         None => Ok(()),
     }
 }
 
-// What giving locks back told.
-fn given_back(outcome: Result<(), FileError>) -> Result<(), CommitError>
-    ensures { OnOk result (outcome ≡ Ok tt) }
+// What giving locks back told: of packed records, and of references.
+fn given_back(
+    records: Result<(), packed::CommitError>,
+    locks: Result<(), FileError>,
+) -> Result<(), CommitError>
+    ensures done { OnOk result ((records ≡ Ok tt) × (locks ≡ Ok tt)) }
+    ensures records { records ≡ Err packed_case.Memory → FailsForMemory result }
+    ensures locks { locks ≡ Err file_case.Memory → FailsForMemory result }
 {
-    match outcome {
-        Ok(()) => Ok(()),
-        Err(FileError::Failed) => Err(CommitError::LockCommit),
+    match locks {
+        Ok(()) => match records {
+            Ok(()) => Ok(()),
+            Err(packed::CommitError::Commit) => Err(CommitError::PackedTransactionCommit(
+                packed::CommitError::Commit,
+            )),
+            Err(packed::CommitError::Memory) => Err(CommitError::PackedTransactionCommit(
+                packed::CommitError::Memory,
+            )),
+        },
+        Err(FileError::Failed) => match records {
+            Ok(()) | Err(packed::CommitError::Commit) => Err(CommitError::LockCommit),
+            Err(packed::CommitError::Memory) => Err(CommitError::Memory),
+        },
         Err(FileError::Memory) => Err(CommitError::Memory),
     }
 }
@@ -425,10 +518,18 @@ impl Transaction {
         files: &mut F,
     ) -> Result<Vec<RefEdit>, CommitError>
         ensures honest { F.is_honest files.old → F.is_honest files.new }
+        ensures later { F.failures files.old ≤ F.failures files.new }
+        ensures unfailed { IfOk result (λ _. F.failures files.new ≡ F.failures files.old) }
+        ensures folders { Passes F.is_honest F.history files.old files.new SameFolders }
         ensures edits { IfOk result (λ edits. edits ≡ self.edits) }
         ensures moments { Passes F.is_honest F.history files.old files.new SameButLocks }
         ensures gone { Achieves F.is_honest F.history files.old files.new result
-            (λ _ new. LocksGone self.moves.items new) }
+            (λ _ new. LocksGone self.moves.items new × PackedGone self.packed new) }
+        // No lock is left, also after an error, unless a failure was counted or memory was wanting.
+        ensures rolled_back { F.is_honest files.old → let old = (F.history files.old).tree in
+            let new = (F.history files.new).tree in FailsForMemory result
+            ⊎ (HasRisen (F.failures files.old) (F.failures files.new)
+            ⊎ AllGone self.moves.items self.packed old new) }
     {
         let Transaction {
             edits,
@@ -436,8 +537,8 @@ impl Transaction {
             packed,
         } = self;
         let records = drop_records(alloc, files, packed);
-        given_back(give_back_all(alloc, files, &moves))?;
-        records?;
+        let locks = give_back_all(alloc, files, &moves);
+        given_back(records, locks)?;
         Ok(edits)
     }
 }

@@ -15,7 +15,7 @@ ghost use Rattle.gix_ref_store.specs.Stores.{base_of};
 ghost use Rattle.gix_ref_name.specs.Targets.{target_view};
 ghost use Rattle.gix_ref_way.specs.Ways.{SameFolders};
 ghost use Rattle.gix_ref_transaction.specs.Locks.{lock_of, HasLockPlace, OthersStay};
-ghost use Rattle.gix_ref_transaction.specs.PackedEdits.{IsReadAt};
+ghost use Rattle.gix_ref_transaction.specs.PackedEdits.{IsReadAt, lock_path_of};
 ghost use Rattle.gix_ref_transaction.specs.RecordEdits as record_edits;
 ghost use Rattle.gix_ref_repacking.specs.Modes.{objects_in};
 ghost use Rattle.gix_ref_repacking.specs.Repacking as spec;
@@ -60,6 +60,8 @@ pub fn repack<F: Files, O: FindInto>(
         (OthersStay (lock_of (packed_place (base_of store.old)))) }
     ensures folders { Passes F.is_honest F.history store.old.files store.new.files SameFolders }
     ensures idle { IfOk result (λ held. held ≡ None → store.new ≡ store.old) }
+    ensures here { F.is_honest store.old.files → IfOk result (λ held. IfSome held (λ t.
+        lock_path_of t ≡ lock_of (packed_place (base_of store.old)))) }
     ensures early { IfErr result (λ error. IsEarly error → store.new ≡ store.old) }
     ensures rolled_back { F.is_honest store.old.files → IfErr result
         (IsRolledBack (lock_of (packed_place (base_of store.old))) (F.failures store.old.files)

@@ -1,11 +1,11 @@
 use Rattle.std.proofs.Common.{◌≡◌, ◌∙◌, false, refl, sym, ap, subst, List, Option, option_map, Vec, rules}
-use Rattle.std.proofs.lemmas.Result.{IfOk-weaker, err_from_is_err_and}
+use Rattle.std.proofs.lemmas.Result.{IfErr-weaker, IfOk-weaker, err_from_is_err_and}
 use Rattle.std.specs.declared.alloc.Global.{Global}
 use Rattle.gix_ref_file.specs.Tree.{Tree}
 use Rattle.gix_ref_edit.specs.declared.change.RefEdit.{RefEdit}
 use Rattle.gix_ref_store.specs.Finds.{records_in}
 use Rattle.gix_ref_store.specs.Lookups.{reads_with}
-use Rattle.gix_ref_store.specs.Places.{Base}
+use Rattle.gix_ref_store.specs.Places.{Base, packed_place}
 use Rattle.gix_ref_store.specs.RefStates.{state_among}
 use Rattle.gix_ref_store.specs.Stores.{base_of}
 use Rattle.gix_ref_moves.specs.Moments.{SameButLocks}
@@ -13,7 +13,10 @@ use Rattle.gix_ref_moves.specs.declared.act.Move.{Move}
 use Rattle.gix_ref_moves.proofs.FileMoves.{now_of}
 use Rattle.gix_ref_moves.proofs.LockPaths.{locks_joined}
 use Rattle.gix_ref_loose_transaction.specs.LogLines.{AllLined, logging}
-use Rattle.gix_ref_loose_transaction.specs.Causes.{SomeEditFault}
+use Rattle.gix_ref_loose_transaction.specs.Causes.{LockFault, SomeEditFault}
+use Rattle.gix_ref_transaction.specs.Locks.{lock_of, OthersStay}
+use Rattle.gix_ref_loose_transaction.specs.Rollback.{IsDropped}
+use Rattle.gix_ref_loose_transaction.proofs.Rollbacks.{of_records, with_records, or_wanted, no_short, dropped_back, finished_back}
 use Rattle.gix_ref_repacking.specs.Modes.{objects_in, removes}
 use Rattle.gix_ref_loose_transaction.specs.Paths.{has_twice, paths_apart}
 use Rattle.gix_ref_loose_transaction.specs.Reads.{AllGiveKind, AllReadBack}
@@ -115,7 +118,8 @@ returns-in-Err-clause-causes g c = λ honest.
     let same = now_of (SameButLocks old.tree) old mid (λ path none. refl) (locks_alone (base_of c.args.store.now) old mid (c.repack.ensures.moments honest)) in
     let fault = some_fault_alike options c.repack.new.store.options b (base_of c.repack.new.store) old.tree mid.tree (records_in c.args.packed) c.args.committer same c.repack.ensures.options c.repack.ensures.base
     may c.deref-2.result.now c.in-Err.error (c.in-Err.ensures.failed (c.repack.ensures.honest honest)) in
-    by_edit l b old.tree may c.args.edits.items c.in-Err.error (subst (λ (es : List RefEdit). SomeEditFault l b old.tree may es c.in-Err.error) c.deref-2.ensures.value fault)
+    or_wanted (LockFault l b old.tree may c.args.edits.items) c.drop_all.result c.in-Err.error tt c.drop_all.ensures.told
+    (by_edit l b old.tree may c.args.edits.items c.in-Err.error (subst (λ (es : List RefEdit). SomeEditFault l b old.tree may es c.in-Err.error) c.deref-2.ensures.value fault))
 
 pub returns-in-Ok-clause-apart : goal.returns-in-Ok-clause-apart
 returns-in-Ok-clause-apart g c =
@@ -124,3 +128,50 @@ returns-in-Ok-clause-apart g c =
 pub returns-in-Ok-clause-back : goal.returns-in-Ok-clause-back
 returns-in-Ok-clause-back g c =
     subst (λ (base : Base). IfOk c.finish.result (λ t. AllGiveKind base.kind t.edits.items → AllReadBack base.kind t.edits.items)) (c.plan_all.ensures.base ∙ c.repack.ensures.base) c.finish.ensures.back
+
+pub returns-in_err-records-clause-rolled_back : goal.returns-in_err-records-clause-rolled_back
+returns-in_err-records-clause-rolled_back g c = λ honest.
+    let f = g.F.Files.failures in
+    let old = g.F.Files.history c.args.store.now.files in
+    let mid = g.F.Files.history c.repack.new.store.files in
+    let lock = lock_of (packed_place (base_of c.args.store.now)) in
+    let stay = now_of (OthersStay lock old.tree) old mid (λ path apart. refl) (c.repack.ensures.moments honest) in
+    let p = err_from_is_err_and c.from_residual.result c.from_residual.ensures.1 in
+    rw (p.1, p.2) (of_records (f c.args.store.now.files) (f c.repack.new.store.files) lock old.tree mid.tree c.in_err-records.field-0.0 stay (c.in_err-records.ensures.rolled_back honest))
+
+pub returns-in-Err-clause-rolled_back : goal.returns-in-Err-clause-rolled_back
+returns-in-Err-clause-rolled_back g c = λ honest.
+    let f = g.F.Files.failures in
+    let old = g.F.Files.history c.args.store.now.files in
+    let mid = g.F.Files.history c.repack.new.store.files in
+    let then = (g.F.Files.history c.plan_all.new.store.files).tree in
+    let first = c.repack.ensures.honest honest in
+    let second = c.plan_all.ensures.honest first in
+    let lock = lock_of (packed_place (base_of c.args.store.now)) in
+    let stay = now_of (OthersStay lock old.tree) old mid (λ path apart. refl) (c.repack.ensures.moments honest) in
+    let came = with_records lock c.in_ok-records.records old.tree mid.tree stay (c.in_ok-records.ensures.here honest) (λ none. ap (λ s. (g.F.Files.history s.files).tree) (c.in_ok-records.ensures.idle none)) in
+    let new = (g.F.Files.history c.drop_all.new.files).tree in
+    let told = c.in-Err.ensures.rolled_back first in
+    let dropped = subst (λ (ms : List Move). IsDropped ms c.in_ok-records.records (f c.plan_all.new.store.files) (f c.drop_all.new.files) then new c.drop_all.result) c.deref-in-Err.ensures.value (c.drop_all.ensures.rolled_back second) in
+    dropped_back (f c.args.store.now.files) (f c.repack.new.store.files) (f c.plan_all.new.store.files) (f c.drop_all.new.files) c.plan_all.new.moves.items c.in_ok-records.records old.tree mid.tree then new c.in-Err.error c.drop_all.result
+    c.repack.ensures.later c.plan_all.ensures.later c.drop_all.ensures.later came told c.drop_all.ensures.told dropped
+
+pub returns-in-Ok-clause-rolled_back : goal.returns-in-Ok-clause-rolled_back
+returns-in-Ok-clause-rolled_back g c = λ honest.
+    let f = g.F.Files.failures in
+    let old = g.F.Files.history c.args.store.now.files in
+    let mid = g.F.Files.history c.repack.new.store.files in
+    let then = (g.F.Files.history c.plan_all.new.store.files).tree in
+    let first = c.repack.ensures.honest honest in
+    let second = c.plan_all.ensures.honest first in
+    let lock = lock_of (packed_place (base_of c.args.store.now)) in
+    let stay = now_of (OthersStay lock old.tree) old mid (λ path apart. refl) (c.repack.ensures.moments honest) in
+    let came = with_records lock c.in_ok-records.records old.tree mid.tree stay (c.in_ok-records.ensures.here honest) (λ none. ap (λ s. (g.F.Files.history s.files).tree) (c.in_ok-records.ensures.idle none)) in
+    let new = (g.F.Files.history c.finish.new.store.files).tree in
+    let told = no_short (c.in-Ok.ensures.rolled_back first) in
+    IfErr-weaker c.finish.result _ _ (λ error dropped. finished_back (f c.args.store.now.files) (f c.repack.new.store.files) (f c.plan_all.new.store.files) (f c.finish.new.store.files) c.plan_all.new.moves.items c.in_ok-records.records old.tree mid.tree then new error
+    c.repack.ensures.later c.plan_all.ensures.later c.finish.ensures.later came told dropped) (c.finish.ensures.rolled_back second)
+
+pub returns-in-Ok-clause-unfailed : goal.returns-in-Ok-clause-unfailed
+returns-in-Ok-clause-unfailed g c =
+    IfOk-weaker c.finish.result _ _ (λ t still. ap (λ s. g.F.Files.failures s.files) still ∙ c.in-Ok.ensures.unfailed ∙ c.in_ok-records.ensures.unfailed) c.finish.ensures.still

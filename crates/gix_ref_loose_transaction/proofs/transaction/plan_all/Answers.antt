@@ -1,4 +1,4 @@
-use Rattle.std.proofs.Common.{◌∙◌, refl, subst}
+use Rattle.std.proofs.Common.{◌∙◌, inl, inr, refl, subst, arith}
 use Rattle.std.proofs.lemmas.Result.{err_from_is_err_and}
 use Rattle.gix_ref_file.proofs.Histories.{adds_nothing}
 use Rattle.gix_ref_store.specs.Finds.{records_in}
@@ -13,6 +13,8 @@ use Rattle.gix_ref_loose_transaction.specs.LogLines.{line_in, logging}
 use Rattle.gix_ref_repacking.specs.Modes.{removes}
 use Rattle.gix_ref_loose_transaction.specs.Plans.{IsTested, IsPlanOf}
 use Rattle.gix_ref_loose_transaction.proofs.Plannings.{LinedIn, among_alike, keeps_joined, zipping_begins, testing_begins, one_zipped, one_tested, zipping_ends, testing_ends, holding_ends, is_among, lined_alike, fault_alike}
+use Rattle.gix_ref_loose_transaction.specs.Rollback.{lock_paths}
+use Rattle.gix_ref_loose_transaction.proofs.Rollbacks.{one_more, after_error}
 use Rattle.gix_ref_loose_transaction.proofs.transaction.plan_all.Goals as goal
 
 pub edits-init : goal.edits-init
@@ -21,6 +23,9 @@ edits-init g c = record {
   base = refl;
   moments = λ honest. adds_nothing (g.F.Files.history c.args.store.now.files);
   options = refl;
+  later = omega arith;
+  unfailed = refl;
+  locked = λ honest path none there. there;
   planned = zipping_begins (IsPlanOf (base_of c.args.store.now) (removes c.args.packed_refs.now)) c.args.edits.now c.args.moves.now.items;
   keeps = λ honest path text stood. stood;
   lined = λ honest. zipping_begins (LinedIn (logging c.args.store.now.options (reads_with c.args.store.now (g.F.Files.history c.args.store.now.files).tree c.args.packed) c.args.committer) (base_of c.args.store.now) (g.F.Files.history c.args.store.now.files).tree) c.args.edits.now c.args.moves.now.items;
@@ -49,6 +54,9 @@ edits-preserved g c =
       base = c.plan.ensures.base ∙ so_far.base;
       moments = λ honest. locks_joined old mid new (so_far.moments honest) (c.plan.ensures.moments (so_far.honest honest));
       options = c.plan.ensures.options ∙ so_far.options;
+      later = omega (arith, so_far.later, c.plan.ensures.later);
+      unfailed = c.in_ok-planned.ensures.unfailed ∙ so_far.unfailed;
+      locked = λ honest. one_more c.edits.moves.items c.push.new.self.items made old.tree mid.tree new.tree c.in_ok-push.ensures.items (so_far.locked honest) (c.in_ok-planned.ensures.locked (so_far.honest honest));
       planned = one_zipped (IsPlanOf b gone) c.args.edits.now c.edits.rest.now others edit c.args.moves.now.items c.edits.moves.items c.push.new.self.items made c.in-Some.ensures.cases.0 c.in_ok-push.ensures.items so_far.planned
           (subst (λ (base : Base). IsPlanOf base gone edit made) so_far.base c.in_ok-planned.ensures.planned);
       keeps = λ honest. keeps_joined old.tree mid.tree new.tree (so_far.keeps honest) (c.in_ok-planned.ensures.keeps (so_far.honest honest));
@@ -113,3 +121,22 @@ returns-in_err-push-clause-failed g c = λ honest.
     let among = is_among (IsPlanOf b (removes c.args.packed_refs.now)) c.args.edits.now c.edits.rest.now c.in-Some.others.now edit c.args.moves.now.items c.edits.moves.items c.in-Some.ensures.cases.0 so_far.planned in
     let p = err_from_is_err_and c.from_residual-in_err-push.result c.from_residual-in_err-push.ensures.1 in
     rw (p.1, p.2) (edit, among, c.plan.ensures.full, tt)
+
+pub returns-in_err-planned-clause-rolled_back : goal.returns-in_err-planned-clause-rolled_back
+returns-in_err-planned-clause-rolled_back g c = λ honest.
+    let so_far = c.edits.invariant in
+    let f = g.F.Files.failures in
+    let old = g.F.Files.history c.args.store.now.files in
+    let mid = g.F.Files.history c.edits.store.files in
+    let new = g.F.Files.history c.plan.new.store.files in
+    let p = err_from_is_err_and c.from_residual.result c.from_residual.ensures.1 in
+    rw (p.1, p.2) (after_error (f c.args.store.now.files) (f c.edits.store.files) (f c.plan.new.store.files) (lock_paths c.edits.moves.items) old.tree mid.tree new.tree c.in_err-planned.field-0.0 so_far.later (so_far.locked honest)
+    (c.in_err-planned.ensures.rolled_back (so_far.honest honest)))
+
+pub returns-in_err-push-clause-rolled_back : goal.returns-in_err-push-clause-rolled_back
+returns-in_err-push-clause-rolled_back g c = λ honest.
+    let p = err_from_is_err_and c.from_residual-in_err-push.result c.from_residual-in_err-push.ensures.1 in
+    rw (p.1, p.2) (inr (inr tt))
+
+pub returns-clause-rolled_back : goal.returns-clause-rolled_back
+returns-clause-rolled_back g c = λ honest. inl (c.edits.invariant.locked honest)

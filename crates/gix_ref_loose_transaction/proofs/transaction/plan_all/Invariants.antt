@@ -1,4 +1,4 @@
-use Rattle.std.proofs.Common.{◌≡◌, length}
+use Rattle.std.proofs.Common.{◌≡◌, ◌≤◌, length}
 use Rattle.gix_ref_file.specs.History.{Adds}
 use Rattle.gix_ref_store.specs.Lookups.{reads_with}
 use Rattle.gix_ref_store.specs.Stores.{base_of}
@@ -6,6 +6,7 @@ use Rattle.gix_ref_moves.specs.Moments.{SameButLocks}
 use Rattle.gix_ref_loose_transaction.specs.LogLines.{logging}
 use Rattle.gix_ref_repacking.specs.Modes.{removes}
 use Rattle.gix_ref_loose_transaction.specs.Plans.{IsPlanOf, KeepsFiles}
+use Rattle.gix_ref_loose_transaction.specs.Rollback.{MoreFilesAt, lock_paths}
 use Rattle.gix_ref_loose_transaction.proofs.Plannings.{ZippedSoFar, TestedSoFar, LinedIn}
 use Rattle.gix_ref_loose_transaction.proofs.transaction.plan_all.Given as goal
 
@@ -18,6 +19,9 @@ invariant-edits g l =
       base : base_of l.store ≡ base_of l.fn.store;
       moments : g.F.Files.is_honest l.fn.store.files → Adds (SameButLocks (history l.fn.store.files).tree) (history l.fn.store.files) (history l.store.files);
       options : l.store.options ≡ l.fn.store.options;
+      later : g.F.Files.failures l.fn.store.files ≤ g.F.Files.failures l.store.files;
+      unfailed : g.F.Files.failures l.store.files ≡ g.F.Files.failures l.fn.store.files;
+      locked : g.F.Files.is_honest l.fn.store.files → MoreFilesAt (lock_paths l.moves.items) (history l.fn.store.files).tree (history l.store.files).tree;
       planned : ZippedSoFar (IsPlanOf (base_of l.fn.store) (removes l.packed_refs)) l.edits l.rest l.fn.moves.items l.moves.items;
       keeps : g.F.Files.is_honest l.fn.store.files → KeepsFiles (history l.fn.store.files).tree (history l.store.files).tree;
       lined : g.F.Files.is_honest l.fn.store.files → ZippedSoFar (LinedIn (logging l.fn.store.options (reads_with l.fn.store (history l.fn.store.files).tree l.packed) l.committer) (base_of l.fn.store) (history l.fn.store.files).tree) l.edits l.rest l.fn.moves.items l.moves.items;

@@ -1,5 +1,5 @@
-use Rattle.std.proofs.Common.{inr, subst, ℕ, List}
-use Rattle.std.proofs.lemmas.Result.{IfErr-weaker, IfOk-weaker}
+use Rattle.std.proofs.Common.{inl, inr, subst, ℕ, List}
+use Rattle.std.proofs.lemmas.Result.{IfErr-weaker, IfOk-weaker, err_from_is_err_and}
 use Rattle.gix_ref_file.proofs.Histories.{adds_nothing}
 use Rattle.gix_ref_store.specs.Lookups.{reads_with}
 use Rattle.gix_ref_store.specs.RefStates.{RefState, packed_text_in, ref_state}
@@ -41,6 +41,11 @@ returns-clause-prepared g c = λ honest told.
     let tree = (g.F.Files.history c.args.store.now.files).tree in
     let b = base_of c.args.store.now in
     c.prepare_with.ensures.prepared honest told (lent_keeps b.kind (packed_text_in b tree) c.in_ok-records.records c.as_ref.result c.as_ref.ensures.value (c.in_ok-records.ensures.kept honest))
+
+pub returns-in_err-records-clause-rolled_back : goal.returns-in_err-records-clause-rolled_back
+returns-in_err-records-clause-rolled_back g c = λ honest.
+    let p = err_from_is_err_and c.from_residual.result c.from_residual.ensures.1 in
+    rw (p.1, p.2) (inl (λ path there. there))
 
 pub returns-clause-causes : goal.returns-clause-causes
 returns-clause-causes g c = λ honest.

@@ -42,6 +42,11 @@ returns-clause-prepared g c = λ honest told known.
     (λ t planned texts apart back repacked give. is_prepared b packs gone old.tree new.tree (prepared_of t.edits.items t.moves.items t.packed) (mode_packs g.O.Lookup.table c.args.packed_refs) planned texts same apart back repacked give)
     c.locked.ensures.planned (c.locked.ensures.texts honest) c.locked.ensures.apart c.locked.ensures.back (c.locked.ensures.repacked honest told known)
 
+pub returns-in_err-ready-clause-rolled_back : goal.returns-in_err-ready-clause-rolled_back
+returns-in_err-ready-clause-rolled_back g c = λ honest.
+    let p = err_from_is_err_and c.from_residual.result c.from_residual.ensures.1 in
+    rw (p.1, p.2) (inl (λ path there. there))
+
 pub returns-in_err-ready-clause-causes : goal.returns-in_err-ready-clause-causes
 returns-in_err-ready-clause-causes g c = λ honest.
     let p = err_from_is_err_and c.from_residual.result c.from_residual.ensures.1 in

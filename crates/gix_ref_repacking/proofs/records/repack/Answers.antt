@@ -1,7 +1,7 @@
 use Rattle.std.proofs.Common.{◌≡◌, ◌≢◌, ◌∙◌, [], ap, sym, subst, inl, inr, rules, map, option_map, List, ℕ}
 use Rattle.std.proofs.lemmas.Result.{err_from_is_err_and}
 use Rattle.gix_hash_id.specs.declared.kind.Kind.{Kind}
-use Rattle.gix_ref_transaction.specs.Locks.{HasLockPlace}
+use Rattle.gix_ref_transaction.specs.Locks.{HasLockPlace, lock_of}
 use Rattle.gix_ref_transaction.specs.PackedEdits.{IsReadAt}
 use Rattle.std.specs.List.{list_any}
 use Rattle.gix_ref_store.specs.Finds.{records_in}
@@ -71,3 +71,12 @@ returns-in_err-held-clause-resolves g c = λ honest told.
     let why = PackFault g.F.Files.reading_may_fail g.O.Lookup.may_fail g.O.Lookup.table (objects_in c.args.packed_refs.now) in
     let p = err_from_is_err_and c.from_residual-in_err-held.result c.from_residual-in_err-held.ensures.1 in
     rw (p.1, p.2) (anyhow (SomeChangeFault why c.args.edits.now) c.in_err-held.field-0.0 c.in_err-held.ensures.resolved)
+
+pub returns-clause-here : goal.returns-clause-here
+returns-clause-here g c = λ honest.
+    let records = records_in c.args.packed in
+    let lines = c.in_ok-lines.lines.items in
+    let some = sym (any_line (changes_record records) lines) ∙ ap (list_any (λ (e : RecordEdit). changes_record records (line_in e))) (sym c.deref.ensures.value) ∙ sym c.change_records.ensures ∙ c.if-not-change_records.false in
+    let lines_some : lines ≢ [] = λ none. some_change records (map line_in lines) some (ap (map line_in) none) in
+    let held = c.in_ok-held.ensures.held honest lines_some in
+    c.in_ok-held.held.lock.beside ∙ ap lock_of (held.here ∙ c.deref-2.ensures.value ∙ c.in_ok-place.ensures)
