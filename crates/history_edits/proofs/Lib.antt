@@ -1,0 +1,9 @@
+pub mod WholeReads
+pub mod PathsApart
+pub mod LinesTold
+pub mod RecordTaken
+pub mod CommitMoments
+pub mod PlansMade
+pub mod EditsReady
+pub mod Unsplit
+pub mod HeadPut
