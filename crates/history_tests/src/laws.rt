@@ -1,8 +1,11 @@
 //! Laws over the definitions: a function that calls one may promise what it says.
 
+ghost use Rattle.history_edits.specs.EditCommits.{CommitMakes};
+ghost use Rattle.history_edits.specs.EditPlans.{EditsReady};
 ghost use Rattle.history_model.specs.Rows.{Gives, first_stream, first_output};
 ghost use Rattle.history_steps.specs.Passing.{CommitsStoreWhole};
 
+use history_edits::laws;
 use history_model::rows;
 use history_steps::passing;
 
@@ -20,8 +23,18 @@ fn commits_store_whole()
     passing::commits_store_whole();
 }
 
+// Edits that are prepared, and then committed, are made.
+fn edits_are_committed()
+    ensures ready { EditsReady }
+    ensures made { CommitMakes }
+{
+    laws::edits_ready();
+    laws::commit_makes();
+}
+
 #[test]
 fn laws_are_called() {
     first_stream_gives();
     commits_store_whole();
+    edits_are_committed();
 }
