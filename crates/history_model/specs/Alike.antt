@@ -1,4 +1,4 @@
--- What the laws on commands that come to the same say.
+-- The statements of the laws on commands with the same effect.
 use Rattle.std.specs.Prelude.{◌≡◌, List, [], ◌∷◌, None, option_to_list, IsFalse, ◌↔◌, Contains}
 use Rattle.std.specs.List.{flat_map, AllByRecursion}
 use Rattle.history_model.specs.Bytes.{Bytes}
@@ -15,19 +15,20 @@ use Rattle.history_model.specs.Wholeness.{IsSound}
 
 -- ---- edits in one commit or in several
 
--- the files that a commit's edits change: those of its first parent, none without one
+-- the files that a commit's edits change: those of its first parent, or none without a parent
 abbrev pub base_files : Repository → CommitCommand → FileMap
 base_files r c = first_files r (parents_of r c)
 
--- the files of the commit that a name stands for, none where it doesn't stand
+-- the files of the commit that a name peels to; none if the name doesn't exist
 abbrev pub files_of_name : Repository → Bytes → FileMap
 files_of_name r name = first_files r (option_to_list (name_commit r name))
 
--- each graft's word reads as a commit of these files
+-- each graft's word means a commit with these files
 abbrev pub GraftsRead : (Bytes → FileMap) → Repository → List EditLine → Type 0
 GraftsRead files r lines = AllByRecursion (λ line. read_edit r line ≡ read_line files line) lines
 
--- commits on one name in a row, each accepted, whose grafts' words read as commits of these files
+-- accepted commits on one name, one after another; each graft's word means a commit with these
+-- files
 abbrev pub Commits : (Bytes → FileMap) → Bytes → Repository → List CommitCommand → Repository
     → Type 0
 Commits files name r [] new = new ≡ r
@@ -36,8 +37,9 @@ Commits files name r (c ∷ cs) new =
     × GraftsRead files r c.edits
     × Step r (Commit c) (Committed id) mid × Commits files name mid cs new
 
--- One list of edits, cut in two ways into accepted commits from equal files in repositories of one kind, gives equal files
--- and one id of the root tree, where each graft's word reads as a commit of the same files however the list is cut.
+-- A list of edits is cut in two ways into accepted commits, from equal files in repositories of one
+-- kind. Both end with equal files and one root tree id, if each graft's word means a commit with
+-- the same files however the list is cut.
 pub record EndsAlike (r s : Repository) (name other : Bytes) : Type 0 where
   pub files : files_of_name r name ≡ files_of_name s other
   pub tree : folder_id r.kind (files_of_name r name) ≡ folder_id s.kind (files_of_name s other)
@@ -53,13 +55,13 @@ EditsCutAnyWay =
 
 -- ---- orders
 
--- by all parents, without a cutoff or a path
+-- a log along all parents, without a cutoff or a path
 pub record IsPlainLog (c : LogCommand) : Type 0 where
   pub all_parents : IsFalse c.first_parents
   pub no_cutoff : since_of c.order ≡ None
   pub no_path : c.paths ≡ []
 
--- For one list of tips and hidden words all orders print one set.
+-- For the same tips and hidden words all orders print the same set.
 abbrev pub OrdersPrintOneSet : Type 0
 OrdersPrintOneSet =
     (r a b : Repository) (c d : LogCommand) (xs ys : List Id) → c.items ≡ d.items → IsPlainLog c

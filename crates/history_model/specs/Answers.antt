@@ -1,4 +1,4 @@
--- The reply to a command of which no cause holds.
+-- The reply to a command if no cause holds.
 use Rattle.std.specs.Prelude.{◌≡◌, ℕ, zero, suc, Bool, true, false, not, ◌&&◌, List, [], ◌∷◌, ◌++◌, length, map, max, fold, filter, nat_le, Option, Some, None, option_map, option_to_list, unwrap_or, bytes_eq, pos, if◌then◌else◌}
 use Rattle.std.specs.List.{filter_map, list_any}
 use Rattle.std.specs.FinMap.{entries, keys, get, len}
@@ -27,13 +27,13 @@ parents_at r id = unwrap_or (option_map (λ commit. commit.parents) (commit_at r
 abbrev pub time_at : Repository → Id → ℕ
 time_at r id = unwrap_or (option_map (λ commit. (commit.committer).seconds) (commit_at r id)) 0
 
--- 1 for a root, else one more than the parents' greatest; ways of at most so many commits are followed
+-- 1 for a root, else one more than the greatest of its parents; follows at most so many commits
 unfoldable pub generation_within : ℕ → Repository → Id → ℕ
 generation_within zero r id = 0
 generation_within (suc steps) r id =
     suc (fold max 0 (map (λ parent. generation_within steps r parent) (parents_at r id)))
 
--- the number of commits on the longest way along parents
+-- the number of commits on the longest chain of parents
 abbrev pub generation : Repository → Id → ℕ
 generation r id = generation_within (len r.objects) r id
 
@@ -83,7 +83,7 @@ file_line kind e = record { kind = (e.1).kind; id = blob_id kind (e.1).bytes; pa
 abbrev pub files_shown : Repository → FileMap → List FileLine
 files_shown r files = map (file_line r.kind) (entries files)
 
--- the word stands for this commit
+-- the word means this commit
 pub record StandsForCommit (r : Repository) (word : Bytes) (id : Id)
     (commit : CommitValue) : Type 0 where
   pub read : commit_of r word ≡ Some id
@@ -105,7 +105,7 @@ content_shown r content =
 
 -- ---- `log`
 
--- the commits that a walk goes over
+-- the commit graph that a walk goes over
 abbrev pub commits_of : Repository → Commits Id
 commits_of r id = record { parents = parents_at r id; time = pos (time_at r id) }
 
@@ -122,7 +122,7 @@ since_of (NewestSince seconds) = Some (digits_value seconds)
 since_of (OldestSince seconds) = Some (digits_value seconds)
 since_of _ = None
 
--- what a log asks of a walk, which refuses no commit
+-- the walk that a log requests; it accepts every commit
 abbrev pub walk_request : Repository → LogCommand → WalkRequest Id
 walk_request r c = record {
   tips = filter_map (commit_of r) (filter_map tip_word c.items);
@@ -154,18 +154,18 @@ same_entries (a ∷ left) (b ∷ right) =
     && same_entries left right
 same_entries _ _ = false
 
--- the files of a commit's first parent, none without one
+-- the files of a commit's first parent; none if it has no parent
 abbrev pub files_before : Repository → Id → FileMap
 files_before r id = first_files r (parents_at r id)
 
--- the files at one of the paths or below it are not those of the first parent
+-- whether the files at or below one of the paths differ from the first parent's
 abbrev pub differs_at : Repository → List Bytes → Id → Bool
 differs_at r paths id =
     not
     (same_entries (entries (cut_to paths (files_at r id)))
     (entries (cut_to paths (files_before r id))))
 
--- without a path all commits of the walk
+-- the commits of the walk that differ at one of the paths; all of them if no path is given
 abbrev pub kept : Repository → List Bytes → List Id → List Id
 kept r [] ids = ids
 kept r (path ∷ paths) ids = filter (differs_at r (path ∷ paths)) ids

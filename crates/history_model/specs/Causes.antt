@@ -1,4 +1,4 @@
--- When a command is refused. Each test may take for granted that no earlier cause holds.
+-- When a command is refused. A test may assume that no earlier cause holds.
 use Rattle.std.specs.Prelude.{Bool, true, false, not, ◌&&◌, ◌||◌, List, [], ◌∷◌, ◌++◌, length, map, find, filter, nat_lt, Option, Some, None, option_map, option_to_list, unwrap_or, is_none, bytes_eq}
 use Rattle.std.specs.List.{list_any, flat_map}
 use Rattle.std.specs.FinMap.{keys, get}
@@ -38,12 +38,12 @@ abbrev pub is_unborn : WordMeaning → Bool
 is_unborn Unborn = true
 is_unborn _ = false
 
--- an id of a blob or a tree
+-- the word reads as the id of a blob or a tree
 abbrev pub is_no_commit : Repository → WordMeaning → Bool
 is_no_commit r (ReadsAs id) = is_none (peeled r id)
 is_no_commit r _ = false
 
--- whether a word of the command reads so
+-- whether the test holds of one of the command's words
 abbrev pub some_word : (WordMeaning → Bool) → Repository → Command → Bool
 some_word test r command = list_any (λ word. test (word_meaning r word)) (words_in command)
 
@@ -51,7 +51,7 @@ abbrev pub is_at : Expect → Bool
 is_at (At word) = true
 is_at _ = false
 
--- the names that must stand
+-- the names that must exist
 abbrev pub must_stand : Repository → Command → List Bytes
 must_stand r (Rename from to) = from ∷ []
 must_stand r (Delete name at) = name ∷ []
@@ -62,7 +62,7 @@ abbrev pub is_new : Expect → Bool
 is_new New = true
 is_new _ = false
 
--- the names that must not stand
+-- the names that must not exist
 abbrev pub must_not_stand : Repository → Command → List Bytes
 must_not_stand r (Rename from to) = to ∷ []
 must_not_stand r command = map (λ e. e.0) (filter (λ e. is_new e.1) (expected r command))
@@ -80,7 +80,7 @@ is_elsewhere r _ = false
 abbrev pub do_collide : Bytes → Bytes → Bool
 do_collide a b = is_below a b || is_below b a
 
--- a name to be made, against the names that stand and the command's own
+-- whether a name to be created collides with an existing name or with another of the command's
 abbrev pub some_collide : Repository → Command → Bool
 some_collide r command =
     list_any (λ made. list_any (do_collide made) (keys r.names ++ targets r command))
@@ -97,12 +97,12 @@ parents_in r _ = []
 abbrev pub is_bad_path : Bytes → Bool
 is_bad_path path = not (is_path path) || nat_lt max_path (length path)
 
--- the paths at which grafts would put something
+-- the paths at which the grafts would put files
 abbrev pub grafted_in : Repository → Command → List Bytes
 grafted_in r (Commit c) = flat_map grafted_paths (edits_of r c)
 grafted_in r _ = []
 
--- a `remove-file` or a `show` where something stands below the path
+-- a `remove-file` or a `show` of a path with files below it
 abbrev pub meets_folder : Repository → Command → Bool
 meets_folder r (Commit c) = some_refused (first_files r (parents_of r c)) (edits_of r c)
 meets_folder r (Show word path) = list_any (has_below (word_files r word)) (option_to_list path)
@@ -149,7 +149,7 @@ abbrev pub is_hidden : LogItem → Bool
 is_hidden (Hidden word) = true
 is_hidden (Tip word) = false
 
--- an order by time, or one that counts all children where some commits are hidden
+-- an order by time needs all parents; one by the count of children does if commits are hidden
 abbrev pub wants_all_parents : Order → Bool → Bool
 wants_all_parents Breadth hides = false
 wants_all_parents Date hides = hides
@@ -160,7 +160,7 @@ abbrev pub is_wrong_order : Command → Bool
 is_wrong_order (Log c) = c.first_parents && wants_all_parents c.order (list_any is_hidden c.items)
 is_wrong_order _ = false
 
--- whether the cause holds of the repository and the command; the first three are of no command
+-- whether the cause holds of the command; `Syntax`, `Truncated` and `LineTooLong` hold of none
 abbrev pub holds : Cause → Repository → Command → Bool
 holds BadName r c = list_any (λ name. not (is_name name)) (names_in r c) || is_bad_place c
 holds PrivateName r c = list_any is_private (names_in r c)

@@ -1,4 +1,4 @@
--- What a command holds: names, words, paths, actors, times and contents.
+-- What a command contains: names, words, paths, actors, times and contents.
 use Rattle.std.specs.Prelude.{List, [], ◌∷◌, ◌++◌, map, Option, Some, None, option_to_list, bytes_eq, codes, if◌then◌else◌}
 use Rattle.std.specs.List.{flat_map}
 use Rattle.history_model.specs.Bytes.{Bytes, is_empty}
@@ -10,15 +10,15 @@ use Rattle.history_model.specs.Meaning.{branch_or_name, past_name}
 
 -- ---- names
 
--- HEAD is no name of its own
+-- HEAD doesn't count as a name
 abbrev pub unless_head : Bytes → List Bytes
 unless_head name = if bytes_eq name head_word then [] else name ∷ []
 
--- `refs` is the folder of all names
+-- nor does `refs`, the folder of all names
 abbrev pub folder_name : Bytes → List Bytes
 folder_name folder = if bytes_eq folder (codes "refs") then [] else folder ∷ []
 
--- the names that the command holds; HEAD is none, nor is the folder `refs`
+-- the names in the command, without HEAD and the folder `refs`
 abbrev pub names_in : Repository → Command → List Bytes
 names_in r (Commit c) = unless_head c.name
 names_in r (Tag c) = c.name ∷ []
@@ -34,7 +34,7 @@ abbrev pub option_expect : Option Bytes → Expect
 option_expect None = Any
 option_expect (Some word) = At word
 
--- the names with what is expected of them
+-- the names, each with what is expected of it
 abbrev pub expected : Repository → Command → List (Bytes × Expect)
 expected r (Commit c) = (branch_or_name r c.name, c.expect) ∷ []
 expected r (Tag c) = (c.name, c.expect) ∷ []
@@ -42,7 +42,7 @@ expected r (Move c) = map (λ to. (to.name, to.expect)) c.to
 expected r (Delete name at) = (name, option_expect at) ∷ []
 expected r _ = []
 
--- the names that are to hold an id after the command
+-- the names that will hold an id after the command
 abbrev pub targets : Repository → Command → List Bytes
 targets r (Commit c) = branch_or_name r c.name ∷ []
 targets r (Tag c) = c.name ∷ []
@@ -60,7 +60,7 @@ abbrev pub edit_words : EditLine → List Bytes
 edit_words (GraftLine path word source) = word ∷ []
 edit_words _ = []
 
--- the words that mean a commit
+-- the words that must mean a commit
 abbrev pub words_in : Command → List Bytes
 words_in (Commit c) = at_word c.expect ++ (c.parents ++ flat_map edit_words c.edits)
 words_in (Tag c) = at_word c.expect ++ c.word ∷ []
@@ -73,7 +73,7 @@ words_in _ = []
 
 -- ---- paths, actors, times and contents
 
--- an empty source is all of the other commit's files
+-- an empty source, for all files of the other commit, is no path
 abbrev pub source_paths : Bytes → List Bytes
 source_paths source = if is_empty source then [] else source ∷ []
 

@@ -1,9 +1,9 @@
--- The commands. Each word, path and message is bytes as they were sent.
+-- The commands. Words, paths and messages are the bytes that were sent.
 use Rattle.std.specs.Prelude.{Bool, List, Option}
 use Rattle.history_model.specs.Bytes.{Bytes}
 use Rattle.history_model.specs.declared.FileKind.{FileKind}
 
--- what is expected of a name before the command: nothing, that it doesn't stand, or that it is at a word's commit
+-- what is expected of a name: nothing, that it doesn't exist, or that it is at a word's commit
 pub data Expect : Type 0 where
   Any : Expect
   New : Expect
@@ -15,8 +15,8 @@ pub record ActorLine : Type 0 where
   pub seconds : Bytes
   pub offset : Bytes
 
--- an edit as it was sent: a file's kind, path and content; a path; or, of a graft, a path, the word of another commit, and a source
--- in its files, which is empty for all of them
+-- an edit as it was sent: a file's kind, path and content; a path; or, for a graft, a path, the
+-- word of another commit, and a source among its files, empty for all of them
 pub data EditLine : Type 0 where
   PutLine : FileKind → Bytes → Bytes → EditLine
   RemoveLine : Bytes → EditLine
@@ -60,7 +60,7 @@ pub data Order : Type 0 where
   Date : Order
   Topological : Order
 
--- a word whose commit a log begins at, or one whose commit and all that it reaches are hidden
+-- a word at whose commit a log begins, or one whose commit is hidden with all that it reaches
 pub data LogItem : Type 0 where
   Tip : Bytes → LogItem
   Hidden : Bytes → LogItem
@@ -77,15 +77,15 @@ pub data Command : Type 0 where
   Move : MoveCommand → Command
   -- from, to
   Rename : Bytes → Bytes → Command
-  -- the word that the name is to be at, if one is
+  -- the word whose commit the name must be at, if one is given
   Delete : Bytes → Option Bytes → Command
   Switch : Bytes → Command
   Pack : Command
   Index : Command
-  -- the folder of the names, if one is asked
+  -- the folder whose names are listed, if one is given
   Names : Option Bytes → Command
   Files : Bytes → Command
   Past : Bytes → Command
   Log : LogCommand → Command
-  -- a word, and a path, if one is asked
+  -- a word, and a path, if one is given
   Show : Bytes → Option Bytes → Command

@@ -1,4 +1,5 @@
--- What the laws on the files of names and logs say: they are in the formats that gix_ref_format reads, which knows more spellings.
+-- The statements of the laws on the files of names and logs: they are in the formats that
+-- gix_ref_format reads, which accepts more spellings.
 use Rattle.std.specs.Prelude.{◌≡◌, not, ◌&&◌, ◌∷◌, filter, Option, Some, None, if◌then◌else◌, IsTrue}
 use Rattle.gix_hash_id.specs.Id.{Id}
 use Rattle.gix_hash_id.specs.declared.kind.Kind.{Kind}
@@ -14,20 +15,21 @@ use Rattle.history_model.specs.NameStates.{Holds, Symbolic, loose_state}
 use Rattle.history_model.specs.Repository.{LogEntry}
 use Rattle.history_model.specs.Words.{candidates}
 
--- A loose file that reads as an id, or as a name, tells that id, or that name.
+-- A loose file that reads as an id or a name has the same target in gix_ref_format.
 abbrev pub LooseReadsAlike : Type 0
 LooseReadsAlike = (kind : Kind) (text : Bytes)
     → ((id : Id) → loose_state kind text ≡ Holds id → loose_target kind text ≡ Some (ToObject id))
     × ((name : Bytes) → loose_state kind text ≡ Symbolic name
     → loose_target kind text ≡ Some (ToName name))
 
--- Of the names that a repository may hold the private ones alone have no record.
+-- Of the names that a repository may hold, only the private ones have no record.
 abbrev pub RecordsAlike : Type 0
 RecordsAlike =
     (name : Bytes) → IsTrue (is_name name)
     → packed_key name ≡ (if is_private name then None else Some name)
 
--- The candidates of a word are itself and the names that complete it, of those below `refs/` the ones that aren't private.
+-- The candidates of a word are the word and the names that complete it, as far as they are below
+-- `refs/` and not private.
 abbrev pub CandidatesAlike : Type 0
 CandidatesAlike =
     (word : Bytes)

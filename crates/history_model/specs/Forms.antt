@@ -39,7 +39,7 @@ max_parents = 64
 
 -- ---- names of references (git-check-ref-format)
 
--- how names begin, those of branches, and those of tags
+-- the prefix of all names, of branches, and of tags
 abbrev pub refs_front : Bytes
 refs_front = codes "refs/"
 
@@ -49,13 +49,14 @@ heads_front = codes "refs/heads/"
 abbrev pub tags_front : Bytes
 tags_front = codes "refs/tags/"
 
--- a name that a repository may hold, or a private one: by the rules of names, below `refs/`, in UTF-8, and within the limit
+-- a name that a repository may hold, or a private one: valid in Git, below `refs/`, in UTF-8, and
+-- within the limit
 abbrev pub is_name : Bytes → Bool
 is_name name =
     is_partial_name name && begins refs_front name && is_utf8 name
     && nat_le (length name) max_name
 
--- a name of one worktree alone (git-worktree)
+-- a name of a single worktree (git-worktree)
 abbrev pub is_private : Bytes → Bool
 is_private name =
     begins (codes "refs/bisect/") name || begins (codes "refs/worktree/") name
@@ -64,7 +65,7 @@ is_private name =
 abbrev pub is_branch : Bytes → Bool
 is_branch name = is_name name && begins heads_front name
 
--- A tag's name, behind `refs/tags/`, is not `@` and does not begin with `-`.
+-- What follows `refs/tags/` in a tag's name is not `@` and doesn't begin with `-`.
 abbrev pub is_tag_name : Bytes → Bool
 is_tag_name rest =
     is_name (tags_front ++ rest) && not (bytes_eq rest (codes "@"))
@@ -99,7 +100,7 @@ title message = before_first (λ b. b == 10) message
 
 -- ---- values and moves
 
--- as many digits as ids of the kind have, each 0 to 15
+-- an id of the kind: as many digits as the kind has, each 0 to 15
 abbrev pub is_id : Kind → Id → Bool
 is_id kind id =
     kind_number id.kind == kind_number kind && length id.digits == hex_len kind
@@ -129,7 +130,7 @@ HasForm kind (StoredTag tag) = IsTrue (is_tag_form kind tag)
 HasForm kind (StoredBytes bytes) = Unit {0}
 HasForm kind (StoredFolder files) = IsWrittenFiles files
 
--- the value has its written form, within the limits
+-- the value is in written form, within the limits
 abbrev pub IsWrittenValue : Kind → Value → Type 0
 IsWrittenValue kind value = HasForm kind value × (length (content_of kind value) ≤ max_content)
 
@@ -142,7 +143,7 @@ is_reference kind ref = is_id kind ref.id && list_all (is_log_entry kind) ref.mo
 
 -- ---- a repository
 
--- HEAD's branch, the names and the values have their written forms, within the limits.
+-- HEAD's branch, the names and the values are in written form, within the limits.
 pub record IsWritten (r : Repository) : Type 0 where
   pub branch : IsTrue (is_branch r.branch)
   pub names : (name : Bytes) (ref : Reference) → get r.names name ≡ Some ref

@@ -17,7 +17,7 @@ Spells text command = IsTrue (is_command command) × (text ≡ spelling command)
 
 -- ---- a grammar of some of the commands
 
--- some known command goes on with this part where these have come
+-- after these parts a known command may continue with this one
 pub record GoesOnOf (is_known : Command → Bool) (parts : List Part) (next : Part) : Type 0 where
   pub command : Command
   pub known : IsTrue (is_known command)
@@ -25,7 +25,7 @@ pub record GoesOnOf (is_known : Command → Bool) (parts : List Part) (next : Pa
   pub is : parts_of command ≡ parts ++ next ∷ more
 
 module _ (is_known : Command → Bool) where
-  -- where these parts have come, a line stands, or a field of n bytes
+  -- after these parts a line may follow, or a field of n bytes
   abbrev pub LineStandsOf : List Part → Type 0
   LineStandsOf parts = (words : List Bytes) × GoesOnOf is_known parts (Line words)
 
@@ -33,23 +33,23 @@ module _ (is_known : Command → Bool) where
   FieldStandsOf parts n =
       (bytes : Bytes) × (length bytes ≡ n) × GoesOnOf is_known parts (Field bytes)
 
-  -- the whole line, without its line feed, is one that may stand here
+  -- the line, given without its line feed, is one that may follow here
   abbrev pub LineFitsOf : List Part → Bytes → Type 0
   LineFitsOf parts text =
       (words : List Bytes) × (line text ≡ part_text (Line words))
       × GoesOnOf is_known parts (Line words)
 
-  -- What follows the parts that fit doesn't go on with a next one, for this cause.
+  -- What follows these parts can't continue them, for this cause.
   abbrev pub StopsByOf : List Part → Bytes → Cause → Type 0
   -- the input ends inside a line or a field
   StopsByOf parts rest Truncated =
       (LineStandsOf parts × IsFalse (has_byte 10 rest) × (length rest ≤ max_line))
       ⊎ ((n : ℕ) × FieldStandsOf parts n × (length rest ≤ n))
-  -- more bytes than a line has come without a line feed
+  -- more bytes than a line may have, without a line feed
   StopsByOf parts rest LineTooLong =
       LineStandsOf parts × (max_line < length rest)
       × IsFalse (has_byte 10 (take (max_line + 1) rest))
-  -- a whole line that may not stand here, or a field without its line feed
+  -- a whole line that may not follow here, or a field without its line feed
   StopsByOf parts rest Syntax =
       ((text more : Bytes) × LineStandsOf parts × (rest ≡ line text ++ more)
       × IsFalse (has_byte 10 text) × (length text ≤ max_line)
@@ -66,19 +66,19 @@ pub record HasRestCauseOf (is_known : Command → Bool) (rest : Bytes) (cause : 
   pub split : rest ≡ parts_text parts ++ tail
   pub stops : StopsByOf is_known parts tail cause
 
--- ---- that of the commands that are offered
+-- ---- the grammar of the commands that are offered
 
 abbrev pub HasRestCause : Bytes → Cause → Type 0
 HasRestCause = HasRestCauseOf is_command
 
--- ---- laws of each such grammar, that of all commands too
+-- ---- laws of each such grammar, also of that of all commands
 
 -- no command's text begins another's
 abbrev pub IsPrefixFree : (Command → Bool) → Type 0
 IsPrefixFree is_known = (a b : Command) (x y : Bytes) → IsTrue (is_known a) → IsTrue (is_known b)
     → spelling a ++ x ≡ spelling b ++ y → (a ≡ b) × (x ≡ y)
 
--- a rest has at most one cause, and none where it begins with a command
+-- a rest has at most one cause, and none if it begins with a command
 abbrev pub HasOneRestCause : (Command → Bool) → Type 0
 HasOneRestCause is_known =
     (rest : Bytes) (x y : Cause) → HasRestCauseOf is_known rest x → HasRestCauseOf is_known rest y

@@ -1,4 +1,5 @@
--- What the histories of the files and the trace of a run come to: rounds, of which `Laws.RoundsJoin` tells what they show and leave.
+-- Rounds, made from the histories of the files and the trace of a run. `Laws.RoundsJoin` says what
+-- rounds reply and leave.
 use Rattle.std.specs.Prelude.{◌≡◌, false, List, ◌++◌}
 use Rattle.gix_ref_file.specs.History.{History, moment}
 use Rattle.gix_hash_id.specs.declared.kind.Kind.{Kind}
@@ -14,18 +15,18 @@ use Rattle.history_model.specs.Rounds.{IsRound}
 use Rattle.history_model.specs.Laws.{stopped_round, ended_round}
 use Rattle.history_model.specs.declared.End.{End}
 
--- the two trees that stand
+-- the two trees as they are now
 abbrev pub pair_now : History → History → Pair
 pair_now objects names = record { objects = objects.tree; names = names.tree }
 
--- A run began at the moment of the old histories, and the new ones go on from them.
+-- A run began at the end of the old histories, and the new ones continue them.
 pub record GoesOnAt (old_objects old_names objects names : History) (begin : Moment) : Type 0 where
   pub objects_on : GoesOnFrom old_objects objects
   pub names_on : GoesOnFrom old_names names
   pub objects_at : begin.objects ≡ moment old_objects
   pub names_at : begin.names ≡ moment old_names
 
--- A run that began at a pair which stands, stopped at a pair of its trace and recovered, is a round from that pair.
+-- A run from a whole repository, stopped at a pair of its trace and recovered, is a round.
 abbrev pub StopsMakeRounds : Type 0 → Type 0
 StopsMakeRounds MayFail =
     (kind : Kind) (old_objects old_names objects names : History) (begin finish : Moment)
@@ -38,7 +39,7 @@ StopsMakeRounds MayFail =
     × IsRound kind (pair_now old_objects old_names)
     (stopped_round kind objects names begin input made pair)
 
--- One that ended without a fault in a changing command is a round that takes no recovery.
+-- A run that ended without a fault in a changing command is a round without a recovery.
 abbrev pub RunsMakeRounds : Type 0 → Type 0
 RunsMakeRounds MayFail =
     (kind : Kind) (old_objects old_names objects names : History) (begin finish : Moment)

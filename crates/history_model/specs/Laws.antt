@@ -1,4 +1,4 @@
--- What the laws say.
+-- The statements of the laws.
 use Rattle.std.specs.Prelude.{ℕ, ⊤, take, true, not, MatchBool, ◌≡◌, ◌≢◌, ◌⊎◌, Bool, false, List, [], ◌∷◌, ◌++◌, map, Some, None, option_map, IsSome, IsTrue, IsFalse, ◌↔◌, Contains, bytes_eq, if◌then◌else◌}
 use Rattle.std.specs.List.{list_all, flat_map, AllByRecursion}
 use Rattle.std.specs.List.Sorted.{IsStrictlySortedBy}
@@ -31,7 +31,7 @@ use Rattle.history_model.specs.declared.End.TheVariants.{Input, Fault as ByFault
 
 -- ---- trees and files
 
--- Edits at paths leave a file map, where what they graft comes from file maps.
+-- Edits at paths turn a file map into a file map, if what they graft comes from file maps.
 abbrev pub EditsKeep : Type 0
 EditsKeep = (files : FileMap) (edits : List Edit) → IsFileMap files
     → IsTrue (list_all (λ edit. is_path (edit_path edit)) edits)
@@ -48,7 +48,8 @@ TreesAreCanonical = (r : Repository) (a b : Id) (m n : FileMap) → IsWhole r
 abbrev pub IsTreeIn : Repository → FileMap → Type 0
 IsTreeIn r files = (files ≡ empty) ⊎ ((id : Id) × (get r.objects id ≡ Some (StoredFolder files)))
 
--- The entries at a path of two such trees, the mode and id of each, are equal exactly where the files at or below it are.
+-- The entries of two such trees at a path, mode and id, are equal exactly if the files at or below
+-- it are.
 abbrev pub EntriesTellFiles : Type 0
 EntriesTellFiles =
     (r : Repository) (m n : FileMap) (path : Bytes) → IsWhole r → IsFileMap m → IsFileMap n
@@ -56,7 +57,7 @@ EntriesTellFiles =
     → (entry_at r.kind m path ≡ entry_at r.kind n path)
     ↔ (cut_to (path ∷ []) m ≡ cut_to (path ∷ []) n)
 
--- `files` prints paths strictly ascending by their bytes, so each once.
+-- `files` lists paths strictly ascending by their bytes, so each once.
 abbrev pub FilesAscend : Type 0
 FilesAscend = (old new : Repository) (word : Bytes) (files : List FileLine)
     → Step old (Files word) (FilesAre files) new
@@ -64,19 +65,20 @@ FilesAscend = (old new : Repository) (word : Bytes) (files : List FileLine)
 
 -- ---- steps
 
--- where two lists first differ, if they do, the two commits have one time
+-- at the first place where two lists differ, if any, the two commits have one time
 abbrev pub DifferAtOneTime : (Id → ℕ) → List Id → List Id → Type 0
 DifferAtOneTime time xs ys =
     (k : ℕ) (x y : Id) → take k xs ≡ take k ys → At xs k x → At ys k y → time x ≡ time y
 
--- whether an order leaves a choice, which is one among equal times
+-- whether an order leaves a choice among equal times
 abbrev pub leaves_choice : Order → Bool
 leaves_choice Breadth = false
 leaves_choice Topological = false
 leaves_choice _ = true
 
--- Two replies to one log, each made of a walk that it asks for: both of the same commits. Breadth and topology leave one walk
--- alone; in an order by time two walks first differ, if they do, at two commits of one time.
+-- Two replies to one log, each from a walk that it requests, have the same commits. By breadth and
+-- by topology there is only one walk; in an order by time two walks first differ, if at all, at two
+-- commits of one time.
 pub record ListsAlike (r : Repository) (c : LogCommand) (x y : Reply) : Type 0 where
   pub walk : List Id
   pub other : List Id
@@ -88,12 +90,13 @@ pub record ListsAlike (r : Repository) (c : LogCommand) (x y : Reply) : Type 0 w
   pub choice : MatchBool (leaves_choice c.order) (DifferAtOneTime (time_at r) walk other)
       (walk ≡ other)
 
--- one reply; a log may choose among equal times
+-- equal replies, except for a log's choice among equal times
 abbrev pub AreAlike : Repository → Command → Reply → Reply → Type 0
 AreAlike r (Log c) x y = (x ≡ y) ⊎ ListsAlike r c x y
 AreAlike r _ x y = x ≡ y
 
--- The reply that is no fault, and the state after it, are a function of state and command, but for a log's choice among equal times.
+-- A reply that is no fault, and the state after it, are determined by state and command, except for
+-- a log's choice among equal times.
 abbrev pub StepsAreDetermined : Type 0
 StepsAreDetermined =
     (old a b : Repository) (command : Command) (x y : Reply) → IsFalse (is_faulted x)
@@ -106,12 +109,12 @@ StepsAreDetermined =
 abbrev pub have_no_fault : List Reply → Bool
 have_no_fault replies = list_all (λ reply. not (is_faulted reply)) replies
 
--- whether the command has one reply alone, faults apart
+-- whether the command has only one reply, faults apart
 abbrev pub is_sure : Command → Bool
 is_sure (Log c) = not (leaves_choice c.order)
 is_sure _ = true
 
--- the replies to commands in a row, from two runs
+-- the replies of two runs to the same commands
 abbrev pub AreAllAlike : Repository → List Command → List Reply → List Reply → Type 0
 AreAllAlike r [] [] [] = ⊤
 AreAllAlike r (command ∷ commands) (x ∷ xs) (y ∷ ys) =
@@ -124,10 +127,10 @@ pub record RunAlike (old : Repository) (commands others : List Command)
   pub commands_are : others ≡ commands
   pub new_is : end ≡ new
   pub alike : AreAllAlike old commands replies answers
-  -- the same bytes, but for a log's choice among equal times
+  -- the same bytes, unless a log chooses among equal times
   pub bytes : IsTrue (list_all is_sure commands) → written ≡ output
 
--- Two runs over one input from one repository that both end with the input, and tell no fault.
+-- Two runs over one input from one repository, both to its end and without a fault, are alike.
 abbrev pub RunsAgree : Type 0
 RunsAgree =
     (old new end : Repository) (commands others : List Command) (replies answers : List Reply)
@@ -138,17 +141,17 @@ RunsAgree =
     → IsTrue (have_no_fault answers)
     → RunAlike old commands others replies answers output written new end
 
--- The state after a step is told by the reply, where the run goes on.
+-- The reply determines the state after a step, if the run goes on.
 abbrev pub RepliesTellTheState : Type 0
 RepliesTellTheState = (old new : Repository) (command : Command) (reply : Reply)
     → Step old command reply new → IsTrue (goes_on command reply) → new ≡ next old command reply
 
--- A run with these replies, which ends so, told a fault: one of its replies is one, or the answer at its end.
+-- A run with these replies and this end has reported a fault: as a reply, or at its end.
 abbrev pub TellsFault : List Reply → End → Type 0
 TellsFault replies end = IsFalse (have_no_fault replies) ⊎ (end ≡ ByFault)
 
--- Where a run over the whole input tells no fault and has no choice, each run that ends over it, or over a beginning of it and
--- before the rest, writes the same, or tells a fault itself: among its own replies, or at its end.
+-- If a run over the whole input reports no fault and has no choice, each run that ends over it, or
+-- over a beginning of it, writes the same or reports a fault itself: as a reply, or at its end.
 abbrev pub RunsGive : Type 0
 RunsGive =
     (old new end : Repository) (commands others : List Command) (replies answers : List Reply)
@@ -161,12 +164,12 @@ RunsGive =
 
 -- ---- stops
 
--- a stop may leave all as it was
+-- a stop may leave everything as it was
 abbrev pub StopsMayLeaveAll : Type 0
 StopsMayLeaveAll = (old : Repository) (command : Command) → IsWhole old → LeftByStop old command old
 
--- A rename of which no cause holds, stopped anywhere, leaves the old name, the new one or both at what the old one held,
--- and neither at anything else.
+-- A rename of which no cause holds, stopped anywhere, leaves the id of the old name at the old
+-- name, the new one or both, and no other id at either.
 pub record IsAtEither (old x : Repository) (from to : Bytes) : Type 0 where
   pub somewhere : (id_at x from ≡ id_at old from) ⊎ (id_at x to ≡ id_at old from)
   pub from_holds : (id_at x from ≡ id_at old from) ⊎ (id_at x from ≡ None)
@@ -177,7 +180,7 @@ RenamesLoseNothing = (old x : Repository) (from to : Bytes)
     → first_cause old (Rename from to) ≡ None → LeftByStop old (Rename from to) x
     → IsAtEither old x from to
 
--- A `pack` stopped anywhere changes neither what a name holds nor its moves, nor HEAD's branch.
+-- A `pack`, stopped anywhere, changes no name's id, no name's moves, and not HEAD's branch.
 pub record HoldsTheSame (old x : Repository) : Type 0 where
   pub ids : (name : Bytes) → id_at x name ≡ id_at old name
   pub moves : (name : Bytes) → moves_at x name ≡ moves_at old name
@@ -186,8 +189,8 @@ pub record HoldsTheSame (old x : Repository) : Type 0 where
 abbrev pub PacksChangeNothing : Type 0
 PacksChangeNothing = (old x : Repository) → LeftByStop old Pack x → HoldsTheSame old x
 
--- Each object file but the unfinished one holds the text of what a whole repository stores there, and each name that holds an id
--- holds that of a commit or a tag in it.
+-- Each object file but the unfinished one has the text that a whole repository has there, and each
+-- name that holds an id holds that of a commit or a tag in it.
 pub record IsClosed (kind : Kind) (pair : Pair) : Type 0 where
   pub repository : Repository
   pub whole : IsWhole repository
@@ -196,7 +199,7 @@ pub record IsClosed (kind : Kind) (pair : Pair) : Type 0 where
   pub names : (name : Bytes) (id : Id) → name_state kind pair.names name ≡ Holds id
       → IsSome (peeled repository id)
 
--- What a stop in a command leaves is so, before any recovery.
+-- A stop in a command leaves such a pair, even before recovery.
 abbrev pub StopsAreClosed : Type 0
 StopsAreClosed =
     (old : Repository) (command : Command) (pair : Pair) → LeavesStopped old command pair
@@ -204,15 +207,15 @@ StopsAreClosed =
 
 -- ---- rounds
 
--- Where each round's run and recovery do what they promise, the pair that the last one left stands for a whole repository,
--- and steps and stops explain one after another what each round replied, wrote and left.
+-- If each round's run and recovery keep their contracts, the last pair represents a whole
+-- repository, and steps and stops explain, round by round, what was replied, written and left.
 abbrev pub RoundsJoin : Type 0
 RoundsJoin =
     (kind : Kind) (pair : Pair) (rounds : List Round) (old : Repository)
     → StandsWhole kind pair old → AreRounds kind pair rounds
     → (new : Repository) × StandsWhole kind (last_left pair rounds) new × Outcomes old rounds new
 
--- A stop of a run over the input at a pair, where these replies were made and written.
+-- A run over the input, stopped at a pair after these replies were made and written.
 abbrev pub stopped_round : Kind → History → History → Moment → Bytes → List Reply → Pair → Round
 stopped_round kind objects names begin input replies pair = record {
   objects = objects;
@@ -226,7 +229,7 @@ stopped_round kind objects names begin input replies pair = record {
   left = recovered kind pair;
 }
 
--- Each pair of a run's trace is one at which it may be stopped, where the first of its replies were made.
+-- A run may be stopped at each pair of its trace, after a beginning of its replies.
 abbrev pub TracesStop : Type 0
 TracesStop =
     (objects names : History) (old new : Repository) (begin finish : Moment)
@@ -237,7 +240,7 @@ TracesStop =
     → (made more : List Reply) × (replies ≡ made ++ more)
     × IsRunOf old (stopped_round old.kind objects names begin input made pair)
 
--- What commands did they did also where it isn't told whether a reading may fail: a run's trace is then that of a round.
+-- A run's trace is also one that allows readings to fail, as a round's does.
 abbrev pub TracesWeaken : Type 0 → Type 0
 TracesWeaken MayFail =
     (objects names : History) (old : Repository) (begin : Moment) (commands : List Command)
@@ -246,7 +249,7 @@ TracesWeaken MayFail =
     → (weaker : Traces objects names (Unit {0}) old begin commands replies finish new)
     × (weaker.moments ≡ traces.moments)
 
--- A run over the input that ended at a pair, which stayed as it was.
+-- A run over the input that ended at a pair, which is left as it is.
 abbrev pub ended_round : History → History → Moment → Bytes → List Reply → Bytes → Pair → Round
 ended_round objects names begin input replies written pair = record {
   objects = objects;
@@ -260,7 +263,8 @@ ended_round objects names begin input replies written pair = record {
   left = pair;
 }
 
--- A run that ends without a fault in a changing command, as one that ends with its input, is a round that needs no recovery.
+-- A run that ends without a fault in a changing command, for example at the end of its input, is a
+-- round without a recovery.
 abbrev pub RunsEnd : Type 0
 RunsEnd =
     (objects names : History) (old new : Repository) (begin finish : Moment)
@@ -270,12 +274,13 @@ RunsEnd =
     → (pair : Pair) → IsPairAt objects names finish pair
     → IsRunOf old (ended_round objects names begin input replies output pair)
 
--- What a run over the input writes is the replies to the commands that it acted on, at most the last of them in part.
+-- A run over the input writes the replies to the commands that it acted on, the last perhaps in
+-- part.
 abbrev pub WritesReplies : Bytes → List Command → List Reply → Bytes → Type 0
 WritesReplies input commands replies output =
     (rest : Bytes) × BeginsWith input commands rest × HasWritten replies rest output
 
--- So it is however a run ends.
+-- This holds however a run ends.
 abbrev pub RunsHaveWritten : Type 0
 RunsHaveWritten =
     ((old new : Repository) (commands : List Command) (replies : List Reply)
@@ -293,7 +298,8 @@ RunsHaveWritten =
 
 -- ---- recovery
 
--- Recovery leaves at each path of the names part the file that stood there, without leftovers, and of a log its whole lines.
+-- At each path of the names part recovery leaves the file that was there, but no leftovers, and
+-- only the whole lines of a log.
 abbrev pub RecoveryKeeps : Type 0
 RecoveryKeeps =
     (kind : Kind) (tree : Tree) (path : Bytes) → file_at (recovered_names kind tree) path
@@ -307,12 +313,12 @@ RecoveryReads =
     (kind : Kind) (tree : Tree) (name : Bytes)
     → name_state kind (recovered_names kind tree) name ≡ name_state kind tree name
 
--- To recover twice is to recover once.
+-- Recovering twice is the same as recovering once.
 abbrev pub RecoveryEnds : Type 0
 RecoveryEnds =
     (kind : Kind) (pair : Pair) → recovered kind (recovered kind pair) ≡ recovered kind pair
 
--- What stands for a repository stands for it when it is recovered.
+-- A pair that represents a repository still does when it is recovered.
 abbrev pub RecoveredStands : Type 0
 RecoveredStands =
     (kind : Kind) (pair : Pair) (r : Repository) → StandsFor kind pair r
@@ -320,7 +326,7 @@ RecoveredStands =
 
 -- ---- a new folder
 
--- A new folder has the file HEAD alone, and no folder that a repository has not.
+-- A new folder has only the file HEAD, and only folders that a repository may have.
 pub record IsFresh (pair : Pair) : Type 0 where
   pub objects : (path : Bytes) → file_at pair.objects path ≡ None
   pub object_folders : (path : Bytes) → get pair.objects path ≡ Some folder
@@ -335,6 +341,6 @@ abbrev pub fresh_pair : Pair
 fresh_pair =
     record { objects = empty; names = insert empty head_place (file (head_text first_branch)) }
 
--- It stands for the repository without names and objects, and that is whole.
+-- It represents the repository without names and objects, which is whole.
 abbrev pub FreshStands : Type 0
 FreshStands = (kind : Kind) (pair : Pair) → IsFresh pair → StandsWhole kind pair (fresh kind)

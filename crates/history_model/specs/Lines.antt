@@ -1,4 +1,5 @@
--- The lines of the command grammar: what each says, its words, the fields that follow it, and the line that a command begins with.
+-- The lines of the command grammar: their meaning, their words, the fields that follow them, and
+-- the first line of each command.
 use Rattle.std.specs.Prelude.{◌≡◌, ℕ, ◌^◌, Bool, List, [], ◌∷◌, ◌++◌, length, map, nat_lt, Option, Some, None, option_map, codes, decimal, IsTrue}
 use Rattle.std.specs.List.{list_all, flat_map}
 use Rattle.history_model.specs.Bytes.{Bytes}
@@ -93,7 +94,7 @@ sizes _ = []
 abbrev pub are_sizes : List ℕ → Bool
 are_sizes = list_all (λ size. nat_lt size (2 ^ 64))
 
--- the line that a command begins with
+-- the first line of a command
 abbrev pub first_line : Command → Heading
 first_line (Commit c) = CommitHeading c.name c.expect
 first_line (Tag c) = TagHeading c.name c.expect c.word
@@ -109,7 +110,7 @@ first_line (Past name) = PastHeading name
 first_line (Log c) = LogHeading c.order c.first_parents c.items (map length c.paths)
 first_line (Show word path) = ShowHeading word (option_map length path)
 
--- The line is that of the command's own first part.
+-- The parts of a command begin with its first line.
 abbrev pub FirstLinesBegin : Type 0
 FirstLinesBegin = (command : Command) → IsTrue (has_spelling command)
     → (more : List Part) × (parts_of command ≡ Line (words_of (first_line command)) ∷ more)

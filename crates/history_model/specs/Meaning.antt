@@ -1,4 +1,4 @@
--- What a command does to a repository where no cause holds.
+-- What a command does to a repository if no cause holds.
 use Rattle.std.specs.Prelude.{Bool, false, not, ◌&&◌, ◌||◌, List, [], ◌∷◌, ◌++◌, map, drop, find, Option, option_map, option_and_then, option_to_list, unwrap_or, bytes_eq, codes, if◌then◌else◌}
 use Rattle.std.specs.List.{flat_map, filter_map}
 use Rattle.std.specs.FinMap.{FinMap, get, insert, remove, contains_key, empty}
@@ -19,14 +19,14 @@ use Rattle.gix_hash_id.specs.declared.kind.Kind.{Kind}
 abbrev pub branch_or_name : Repository → Bytes → Bytes
 branch_or_name r name = if bytes_eq name head_word then r.branch else name
 
--- So it does in `past`, whose word is else a name, or one that means the first of its candidates that stands.
+-- In `past` too. Any other word there is a name, or means its first candidate that exists.
 abbrev pub past_name : Repository → Bytes → Bytes
 past_name r word =
     if bytes_eq word head_word then r.branch
     else if is_name word then word
     else unwrap_or (find (stands r) (candidates word)) word
 
--- the commit that a name stands for
+-- the commit that a name peels to
 abbrev pub name_commit : Repository → Bytes → Option Id
 name_commit r name = option_and_then (peeled r) (id_at r name)
 
@@ -40,7 +40,7 @@ read_actor actor =
       offset = actor.offset;
     }
 
--- the name's commit, where it stands, and then those of the words
+-- the name's commit, if the name exists, and then those of the words
 abbrev pub parents_of : Repository → CommitCommand → List Id
 parents_of r c =
     option_to_list (name_commit r (branch_or_name r c.name)) ++ filter_map (commit_of r) c.parents
@@ -48,23 +48,23 @@ parents_of r c =
 abbrev pub files_at : Repository → Id → FileMap
 files_at r id = unwrap_or (option_map (λ commit. commit.files) (commit_at r id)) empty
 
--- the files of the first of these commits, none where there is none
+-- the files of the first of these commits; none if there is none
 abbrev pub first_files : Repository → List Id → FileMap
 first_files r [] = empty
 first_files r (id ∷ ids) = files_at r id
 
--- the files of the commit that a word stands for
+-- the files of the commit that a word means
 abbrev pub word_files : Repository → Bytes → FileMap
 word_files r word = first_files r (option_to_list (commit_of r word))
 
--- what an edit's line does to the files, where the words of grafts have these files
+-- what an edit's line does to the files; `files` gives those of a graft's word
 abbrev pub read_line : (Bytes → FileMap) → EditLine → Edit
 read_line files (PutLine kind path bytes) = Put kind path bytes
 read_line files (RemoveLine path) = Remove path
 read_line files (RemoveFileLine path) = RemoveFile path
 read_line files (GraftLine path word source) = Graft path source (files word)
 
--- they read as before the command
+-- a graft's word means what it meant before the command
 abbrev pub read_edit : Repository → EditLine → Edit
 read_edit r = read_line (word_files r)
 
@@ -100,8 +100,8 @@ put_bytes (Remove path) = []
 put_bytes (RemoveFile path) = []
 put_bytes (Graft path source from) = []
 
--- The bytes of each `put`, also those that a later edit takes out, the folders of the commit's files, and the commit; a tag. What
--- is grafted is stored already.
+-- The bytes of each `put`, even if a later edit removes the file, the folders of the commit's
+-- files, and the commit; or a tag. What is grafted is already stored.
 abbrev pub stored_by : Repository → Command → List Value
 stored_by r (Commit c) =
     flat_map put_bytes (edits_of r c) ++ map StoredFolder (folders_of (new_commit r c).files)
@@ -109,7 +109,7 @@ stored_by r (Commit c) =
 stored_by r (Tag c) = StoredTag (new_tag r c) ∷ []
 stored_by r _ = []
 
--- what is stored already stays
+-- what is already stored stays
 abbrev pub store_one : Kind → FinMap by_id Value → Value → FinMap by_id Value
 store_one kind objects value =
     if contains_key objects (id_of kind value) then objects
@@ -119,11 +119,12 @@ abbrev pub store_all : Kind → FinMap by_id Value → List Value → FinMap by_
 store_all kind objects [] = objects
 store_all kind objects (value ∷ values) = store_all kind (store_one kind objects value) values
 
--- whether these bytes would stand under an id that names others
+-- whether the value's text is other than these bytes
 abbrev pub is_other : Kind → Bytes → Value → Bool
 is_other kind text value = not (bytes_eq text (value_text kind value))
 
--- whether the value's id is null, the empty tree's for anything else, or one that names other bytes
+-- whether the value's id is null, the empty tree's though the value isn't it, or that of other
+-- stored bytes
 abbrev pub is_taken : Kind → FinMap by_id Value → Value → Bool
 is_taken kind objects value =
     let id = id_of kind value in
@@ -131,7 +132,7 @@ is_taken kind objects value =
     || (id_eq id (empty_tree_id kind) && is_other kind (value_text kind (StoredFolder empty)) value)
     || unwrap_or (option_map (is_other kind (value_text kind value)) (get objects id)) false
 
--- The store as it is, or the same command's values before it.
+-- whether a value's id is taken, by the store or by the command's values before it
 abbrev pub some_taken : Kind → FinMap by_id Value → List Value → Bool
 some_taken kind objects [] = false
 some_taken kind objects (value ∷ values) =
@@ -140,9 +141,9 @@ some_taken kind objects (value ∷ values) =
 abbrev pub takes_id : Repository → Command → Bool
 takes_id r command = some_taken r.kind r.objects (stored_by r command)
 
--- ---- what names hold then
+-- ---- what names hold afterwards
 
--- The id is written, and a move before the others, unless the id is the same.
+-- The name gets the id and, unless it had that id, a new move before its other moves.
 abbrev pub moved_reference : Repository → Bytes → Id → Actor → Bytes → Reference
 moved_reference r name id actor message =
     let before = unwrap_or (id_at r name) (null_id r.kind) in
@@ -160,7 +161,7 @@ abbrev pub with_name : Repository → Bytes → Id → Actor → Bytes → Refer
 with_name r name id actor message names =
     insert names name (moved_reference r name id actor message)
 
--- each line's name at its word's commit, as the words read before
+-- each line's name at its word's commit; words mean what they meant before the command
 abbrev pub with_lines : Repository → Actor → Bytes → List To → References → References
 with_lines r actor message [] names = names
 with_lines r actor message (to ∷ lines) names =
@@ -189,7 +190,7 @@ abbrev pub branch_after : Repository → Command → Bytes
 branch_after r (Switch name) = name
 branch_after r _ = r.branch
 
--- the repository after a command of which no cause holds
+-- the repository after a command if no cause holds
 abbrev pub after : Repository → Command → Repository
 after r command = record {
   kind = r.kind;

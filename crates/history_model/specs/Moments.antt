@@ -1,5 +1,6 @@
--- What the files go through while commands are acted on: the moments between commands, and the pairs that a stop may leave.
--- The histories of both parts name every tree that stood; ReadingMayFail says that a reading of the files may fail.
+-- What happens to the files while commands are acted on: the moments between commands, and the
+-- pairs that a stop may leave. The histories of both parts have every tree that there was;
+-- ReadingMayFail says that a reading of the files may fail.
 use Rattle.std.specs.Prelude.{◌≡◌, ◌⊎◌, ◌≤◌, ℕ, not, Bool, true, List, [], ◌∷◌, ◌++◌, Some, IsTrue, if◌then◌else◌, Contains, slice_get}
 use Rattle.gix_ref_file.specs.Tree.{Tree}
 use Rattle.gix_ref_file.specs.History.{History, trees, stood_between, HasRisen}
@@ -13,25 +14,26 @@ use Rattle.history_model.specs.Stops.{LeftByStop, is_changing}
 use Rattle.history_model.specs.Steps.{Step, goes_on}
 use Rattle.history_model.specs.declared.Fault.TheVariants.{File}
 
--- a moment of both parts: how many trees stood before it in each, and how many calls of each had failed
+-- a moment of both parts: how many trees came before it in each, and how many calls of each had
+-- failed
 pub record Moment : Type 0 where
   pub objects : ℕ
   pub names : ℕ
   pub object_failures : ℕ
   pub name_failures : ℕ
 
--- of one part: the tree that stood at a moment, and those from a moment to another
+-- of one part: the tree at a moment, and those from one moment to another
 abbrev pub StoodAt : History → ℕ → Tree → Type 0
 StoodAt history moment tree = slice_get (trees history) moment ≡ Some tree
 
 abbrev pub StoodBetween : History → ℕ → ℕ → Tree → Type 0
 StoodBetween history from to tree = Contains (stood_between history from to) tree
 
--- the new history goes on from the old one
+-- the new history continues the old one
 abbrev pub GoesOnFrom : History → History → Type 0
 GoesOnFrom old new = (during : List Tree) × (trees new ≡ trees old ++ during)
 
--- the pair that stood at a moment
+-- the pair at a moment
 abbrev pub IsPairAt : History → History → Moment → Pair → Type 0
 IsPairAt objects names moment pair =
     StoodAt objects moment.objects pair.objects × StoodAt names moment.names pair.names
@@ -44,13 +46,13 @@ IsStepPair objects names begin finish pair =
     ⊎ (StoodAt objects finish.objects pair.objects
     × StoodBetween names begin.names finish.names pair.names)
 
--- a pair of one of the commands, of which each ends and the next begins at these moments
+-- a pair during one of the commands; at each of these moments one ends and the next begins
 abbrev pub IsCommandPair : History → History → Moment → List Moment → Pair → Type 0
 IsCommandPair objects names begin [] pair = ⊥
 IsCommandPair objects names begin (next ∷ moments) pair =
     IsStepPair objects names begin next pair ⊎ IsCommandPair objects names next moments pair
 
--- a pair of a run: the one that it begins at, or one of its commands
+-- a pair during a run: the one at its beginning, or one during a command
 abbrev pub IsRunPair : History → History → Moment → List Moment → Pair → Type 0
 IsRunPair objects names begin moments pair =
     IsPairAt objects names begin pair ⊎ IsCommandPair objects names begin moments pair
@@ -67,26 +69,28 @@ CountsStay begin finish =
     (finish.object_failures ≡ begin.object_failures)
     × (finish.name_failures ≡ begin.name_failures)
 
--- Why a command meets a failed call: it changes files and one was counted meanwhile; or, of any command, a reading may fail.
+-- Why a command may report a failed call: it changes files and the call was counted; or a reading
+-- may fail, in any command.
 abbrev pub HasFailedCall : Type 0 → Command → Moment → Moment → Type 0
 HasFailedCall ReadingMayFail command begin finish =
     (IsTrue (is_changing command) × HasCountedFailure begin finish) ⊎ ReadingMayFail
 
--- What stood at a moment stands for a whole repository; where a changing command had failed, what recovery makes of it does.
+-- The pair at a moment represents a whole repository; after a failed changing command the recovered
+-- pair does.
 abbrev pub StandsAt : History → History → Moment → Bool → Repository → Type 0
 StandsAt objects names moment failed r = (pair : Pair) × IsPairAt objects names moment pair
     × StandsWhole r.kind (if failed then recovered r.kind pair else pair) r
 
--- the pair, once recovered, is what a stop in the command leaves
+-- the pair, once recovered, represents what a stop in the command may leave
 abbrev pub LeavesStopped : Repository → Command → Pair → Type 0
 LeavesStopped old command pair =
     (x : Repository) × LeftByStop old command x × StandsWhole old.kind (recovered old.kind pair) x
 
--- no tree stood after the one moment and before the other
+-- there is no tree between the two moments
 abbrev pub IsUnchanged : Moment → Moment → Type 0
 IsUnchanged begin finish = (finish.objects ≡ begin.objects) × (finish.names ≡ begin.names)
 
--- whether a command that has this reply leaves the files alone: a refused one, and one that changes none
+-- whether a command with this reply leaves the files alone: it is refused, or changes none
 abbrev pub leaves_files : Command → Reply → Bool
 leaves_files command (RefusedFor cause) = true
 leaves_files command reply = not (is_changing command)
@@ -97,7 +101,7 @@ pub record ActedOn (objects names : History) (ReadingMayFail : Type 0) (old : Re
     (command : Command) (reply : Reply) (finish : Moment) (new : Repository) : Type 0 where
   pub step : Step old command reply new
   pub later : (begin.objects ≤ finish.objects) × (begin.names ≤ finish.names)
-  -- no count falls, and one rises only in a command that changes files and has a fault: the run then acts on no more
+  -- no count falls, and one rises only in a changing command with a fault, which ends the run
   pub counts : (begin.object_failures ≤ finish.object_failures)
       × (begin.name_failures ≤ finish.name_failures)
   pub uncounted : IsTrue (goes_on command reply) → CountsStay begin finish
@@ -107,7 +111,8 @@ pub record ActedOn (objects names : History) (ReadingMayFail : Type 0) (old : Re
       → LeavesStopped old command pair
   pub failure : reply ≡ Faulted File → HasFailedCall ReadingMayFail command begin finish
 
--- These commands are acted on in a row, each between two moments; after each but the last the run goes on.
+-- These commands are acted on one after another, each between two moments; after each but the last
+-- the run goes on.
 abbrev pub ActsOn : History → History → Type 0 → Repository → Moment → List Command → List Reply
     → List Moment → Repository → Type 0
 ActsOn objects names ReadingMayFail old begin [] [] [] new = new ≡ old
@@ -122,7 +127,7 @@ abbrev pub last_moment : Moment → List Moment → Moment
 last_moment begin [] = begin
 last_moment begin (next ∷ moments) = last_moment next moments
 
--- What a run does to the files beside what it writes: its first moment is its begin, the last its end.
+-- What a run does to the files, from its first moment to its last.
 pub record Traces (objects names : History) (ReadingMayFail : Type 0) (old : Repository)
     (begin : Moment)
     (commands : List Command) (replies : List Reply) (finish : Moment)

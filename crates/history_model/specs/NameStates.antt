@@ -24,7 +24,7 @@ loose_line kind text =
 abbrev pub loose_state : Kind → Bytes → NameState
 loose_state kind text = unwrap_or (option_map (loose_line kind) (whole_line text)) Faulty
 
--- what the records say of a name: private names are in no record
+-- what the records say of a name; private names have none
 abbrev pub packed_state : Bytes → PackedFile → NameState
 packed_state name packed =
     if is_private name then Absent
@@ -36,7 +36,7 @@ abbrev pub packed_text_state : Kind → Bytes → Bytes → NameState
 packed_text_state kind name text =
     unwrap_or (option_map (packed_state name) (packed_file kind text)) Faulty
 
--- A loose file wins over a record. What is no name reads as absent.
+-- A loose file takes precedence over a record. What isn't a name reads as absent.
 abbrev pub name_state : Kind → Tree → Bytes → NameState
 name_state kind tree name =
     let packed =

@@ -17,7 +17,7 @@ use Rattle.history_model.specs.FileMap.{FileMap, Content, has_below, inside}
 use Rattle.history_model.specs.declared.FileKind.{FileKind}
 use Rattle.history_model.specs.declared.FileKind.TheVariants.{File, Exec, Link}
 
--- The id of a text is its digest, a kind and hexadecimal digits.
+-- The id of a text is its digest: a kind and hexadecimal digits.
 unfoldable pub digest : Kind → Bytes → Id
 digest kind text = id_of_message kind text
 
@@ -29,7 +29,7 @@ by_id = id_cmp
 abbrev pub hex : Id → Bytes
 hex id = hex_text id.digits
 
--- the header of the object's kind and the content's length, and the content
+-- the header, with the object's kind and the content's length, and then the content
 abbrev pub object_text : ObjectKind → Bytes → Bytes
 object_text object content = header_text object (length content) ++ content
 
@@ -46,7 +46,7 @@ pub data TreeEntry : Type 0 where
   FileEntry : Bytes → Content → TreeEntry
   FolderEntry : Bytes → List (Bytes × Content) → TreeEntry
 
--- a file below a folder, put before the entries of the files that follow it
+-- a file below a folder, added to the entries of the files after it
 abbrev pub into_folder : Bytes → Bytes × Content → List TreeEntry → List TreeEntry
 into_folder name file [] = FolderEntry name (file ∷ []) ∷ []
 into_folder name file (FileEntry other content ∷ others) =
@@ -62,13 +62,14 @@ with_file file others =
     (after_first (λ b. b == 47) file.0, file.1) others
     else FileEntry file.0 file.1 ∷ others
 
--- One entry for each first component. The files stand in the order of their paths' bytes, so those of one folder
--- stand together, and the entries have Git's order: by the bytes of their names, a folder's with `/` behind it.
+-- One entry for each first component. The files are ordered by the bytes of their paths, so those
+-- of one folder are adjacent, and the entries have Git's order: by the bytes of their names, with
+-- `/` after a folder's.
 abbrev pub tree_entries : List (Bytes × Content) → List TreeEntry
 tree_entries [] = []
 tree_entries (file ∷ files) = with_file file (tree_entries files)
 
--- Git's modes of a plain file, one that may be run, and a symbolic link
+-- Git's modes of a plain file, an executable one, and a symbolic link
 abbrev pub mode_of : FileKind → Bytes
 mode_of File = codes "100644"
 mode_of Exec = codes "100755"
@@ -84,7 +85,7 @@ tree_entry_text kind tree_of (FileEntry name content) =
 tree_entry_text kind tree_of (FolderEntry name files) =
     entry_text (codes "40000") name (digest kind (tree_text (tree_of files)))
 
--- the content of the tree of these files, whose folders are nested at most so deep
+-- the content of the tree of these files, with folders nested at most so deep
 unfoldable pub root_within : ℕ → Kind → List (Bytes × Content) → Bytes
 root_within zero kind files = []
 root_within (suc depth) kind files =
@@ -93,7 +94,8 @@ root_within (suc depth) kind files =
 abbrev pub longest : List Bytes → ℕ
 longest paths = fold (λ n path. max n (length path)) 0 paths
 
--- The content of a file map's tree; it is empty where there are no files. No path has more folders than bytes.
+-- The content of a file map's tree, empty if there are no files. No path has more folders than
+-- bytes.
 unfoldable pub root : Kind → FileMap → Bytes
 root kind files = root_within (suc (longest (keys files))) kind (entries files)
 

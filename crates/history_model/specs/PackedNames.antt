@@ -11,17 +11,18 @@ use Rattle.history_model.specs.Repository.{Repository, peeled, is_tag}
 use Rattle.history_model.specs.Forms.{is_name, is_private}
 use Rattle.gix_hash_id.specs.declared.kind.Kind.{Kind}
 
--- the text before a line feed at its end
+-- the text before the line feed at its end, if it ends with one
 abbrev pub whole_line : Bytes → Option Bytes
 whole_line text = if ends (10 ∷ []) text then Some (take (length text - 1) text) else None
 
--- whether a carriage return is in it, whether the header says that the records are sorted, and the records
+-- whether it has a carriage return, whether its header says that the records are sorted, and the
+-- records
 pub record PackedFile : Type 0 where
   pub returns : Bool
   pub sorted : Bool
   pub records : List Record
 
--- a header is a first line alone
+-- only the first line can be a header
 abbrev pub first_header : List Bytes → Option Header
 first_header [] = None
 first_header (first ∷ rest) = header_line first
@@ -45,7 +46,8 @@ PeelAgrees r entry =
     IfSome entry.peeled
     (λ commit. IsTrue (is_tag r entry.target) × (peeled r entry.target ≡ Some commit))
 
--- No carriage return is in it, each name is one that a repository may hold, none stands twice, and they ascend where the header says so.
+-- It has no carriage return, each name is one that a repository may hold, no name occurs twice, and
+-- they ascend if the header says so.
 abbrev pub is_packed_form : PackedFile → Bool
 is_packed_form packed =
     let names = map (λ entry. entry.name) packed.records in

@@ -9,22 +9,22 @@ use Rattle.gix_hash_id.specs.Id.{Id}
 use Rattle.history_model.specs.Repository.{Repository, stands}
 use Rattle.history_model.specs.Words.{head_word}
 
--- The objects part, all below `objects`, and the names part, all else. Paths in both are whole.
+-- The objects part has all below `objects`, the names part all else. Paths in both are whole.
 pub record Pair : Type 0 where
   pub objects : Tree
   pub names : Tree
 
--- the bytes of the file at a path, if one stands there
+-- the bytes of the file at a path, if there is one
 abbrev pub file_at : Tree → Bytes → Option Bytes
 file_at tree path = bytes_of (node_at tree path)
 
 -- ---- the objects part
 
--- a folder of the id's first two digits, in it a file of the others
+-- a folder named by the id's first two digits, and in it a file named by the others
 abbrev pub object_place : Id → Bytes
 object_place id = codes "objects/" ++ take 2 (hex id) ++ 47 ∷ drop 2 (hex id)
 
--- where an object is written before it is renamed to its place
+-- the file in which an object is written before it is renamed to its place
 abbrev pub unfinished_place : Bytes
 unfinished_place = codes "objects/unfinished"
 
@@ -50,11 +50,11 @@ log_place name = codes "logs/" ++ name
 abbrev pub is_log_place : Bytes → Bool
 is_log_place path = begins (codes "logs/") path
 
--- the name that a log is of
+-- the name that a log belongs to
 abbrev pub log_name : Bytes → Bytes
 log_name path = drop 5 path
 
--- `HEAD`, `packed-refs`, a name that stands, and a log of one
+-- `HEAD`, `packed-refs`, an existing name, or the log of one
 abbrev pub is_name_place : Repository → Bytes → Bool
 is_name_place r path =
     bytes_eq path head_place || bytes_eq path packed_place || stands r path
@@ -64,7 +64,7 @@ is_name_place r path =
 abbrev pub is_lock_file : Bytes → Bool
 is_lock_file path = ends (codes ".lock") path
 
--- `refs`, `logs` and what lies below them, but for the paths of lock files
+-- `refs`, `logs` and all below them, except the paths of lock files
 abbrev pub is_name_folder : Bytes → Bool
 is_name_folder path =
     (is_within (codes "refs") path || is_within (codes "logs") path) && not (is_lock_file path)

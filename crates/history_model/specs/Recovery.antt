@@ -10,19 +10,19 @@ use Rattle.history_model.specs.Places.{Pair, file_at, unfinished_place, is_log_p
 use Rattle.history_model.specs.NameStates.{name_state, is_absent}
 use Rattle.gix_hash_id.specs.declared.kind.Kind.{Kind}
 
--- without an object's file that was not renamed to its place
+-- without the file of an object that was not renamed to its place
 abbrev pub recovered_objects : Tree → Tree
 recovered_objects tree =
     retain_keys tree (λ path. not (bytes_eq path unfinished_place && is_some (file_at tree path)))
 
--- a lock file, or a log whose name reads as absent
+-- a lock file, or the log of a name that reads as absent
 abbrev pub is_leftover : Kind → Tree → Bytes → Bool
 is_leftover kind tree path =
     is_some (file_at tree path)
     && (is_lock_file path
     || (is_log_place path && is_absent (name_state kind tree (log_name path))))
 
--- of a log its whole lines
+-- of a log only the whole lines
 abbrev pub recovered_node : Bytes → Node → Node
 recovered_node path folder = folder
 recovered_node path (file bytes) = file (if is_log_place path then whole_lines bytes else bytes)
@@ -34,13 +34,13 @@ recovered_files kind tree =
     (map (λ e. (e.0, recovered_node e.0 e.1))
     (entries (retain_keys tree (λ path. not (is_leftover kind tree path)))))
 
--- a folder below `refs` or `logs` under which no file is left
+-- a folder below `refs` or `logs` that has no file below it
 abbrev pub is_deserted : Tree → Bytes → Bool
 is_deserted tree path =
     is_folder (get tree path) && (is_below (codes "refs") path || is_below (codes "logs") path)
     && not (list_any (λ below. is_below path below && is_some (file_at tree below)) (keys tree))
 
--- without leftovers, and without the folders that are deserted then
+-- without leftovers, and then without the folders that have no file
 abbrev pub recovered_names : Kind → Tree → Tree
 recovered_names kind tree =
     let left = recovered_files kind tree in retain_keys left (λ path. not (is_deserted left path))

@@ -14,7 +14,7 @@ use Rattle.history_model.specs.declared.Cause.TheVariants.{Syntax, Truncated, Li
 use Rattle.history_model.specs.declared.Fault.{Fault}
 use Rattle.history_model.specs.declared.Fault.TheVariants.{Memory, File, IdTaken}
 
--- a name, the id that it holds and the commit that it stands for
+-- a name, the id that it holds and the commit that the id peels to
 pub record NameLine : Type 0 where
   pub id : Id
   pub commit : Id

@@ -9,14 +9,14 @@ use Rattle.gix_hash_id.specs.Order.{id_eq}
 use Rattle.gix_hash_id.specs.Id.{Id, null_id}
 use Rattle.gix_hash_id.specs.declared.kind.Kind.{Kind}
 
--- One move of a name, a line of its log. The old id of a made name is null.
+-- One move of a name, a line of its log. The old id is null if the move creates the name.
 pub record LogEntry : Type 0 where
   pub before : Id
   pub after : Id
   pub actor : Actor
   pub message : Bytes
 
--- what a name holds: an id, and its moves, the newest first
+-- what a name holds: an id, and its moves, newest first
 pub record Reference : Type 0 where
   pub id : Id
   pub moves : List LogEntry
@@ -25,16 +25,17 @@ pub record Reference : Type 0 where
 abbrev pub Values : Type 0
 Values = FinMap by_id Value
 
--- A kind of digest, the names that stand, HEAD's branch, which need not stand, and what is stored under each id.
+-- A kind of digest, the names that exist, HEAD's branch, which needn't exist, and what is stored
+-- under each id.
 pub record Repository : Type 0 where
   pub kind : Kind
   pub names : FinMap by_bytes Reference
   pub branch : Bytes
   pub objects : Values
 
--- ---- what it answers
+-- ---- lookups
 
--- the id that a name holds, and its moves: none where it doesn't stand
+-- the id that a name holds, and its moves; none if it doesn't exist
 abbrev pub id_at : Repository → Bytes → Option Id
 id_at r name = option_map (λ ref. ref.id) (get r.names name)
 
@@ -44,7 +45,7 @@ moves_at r name = unwrap_or (option_map (λ ref. ref.moves) (get r.names name)) 
 abbrev pub stands : Repository → Bytes → Bool
 stands r name = is_some (get r.names name)
 
--- the commit that a value is
+-- the commit, if the value is one
 abbrev pub as_commit : Value → Option CommitValue
 as_commit (StoredCommit commit) = Some commit
 as_commit (StoredTag tag) = None
@@ -54,7 +55,7 @@ as_commit (StoredFolder files) = None
 abbrev pub commit_at : Repository → Id → Option CommitValue
 commit_at r id = option_and_then as_commit (get r.objects id)
 
--- the commit that an id stands for: its own, or its tag's
+-- the commit that an id peels to: itself, or its tag's target
 abbrev pub peeled_value : Id → Value → Option Id
 peeled_value id (StoredCommit commit) = Some id
 peeled_value id (StoredTag tag) = Some tag.target
@@ -82,13 +83,13 @@ IsStored r value = get r.objects (id_of r.kind value) ≡ Some value
 abbrev pub HoldsCommit : Repository → Id → Type 0
 HoldsCommit r id = IsSome (commit_at r id)
 
--- each folder of a file map, the map itself too, and the bytes of each file
+-- the folders of a file map, the map itself too, and the bytes of each file
 abbrev pub file_values : FileMap → List Value
 file_values files =
     map StoredFolder (folders_of files)
     ++ map (λ content. StoredBytes content.bytes) (values files)
 
--- what a value names is stored
+-- everything that the value names is stored
 abbrev pub NamesAreStored : Repository → Value → Type 0
 NamesAreStored r (StoredCommit commit) =
     AllByRecursion (HoldsCommit r) commit.parents × IsStored r (StoredFolder commit.files)
@@ -96,14 +97,14 @@ NamesAreStored r (StoredTag tag) = HoldsCommit r tag.target
 NamesAreStored r (StoredBytes bytes) = Unit {0}
 NamesAreStored r (StoredFolder files) = AllByRecursion (IsStored r) (file_values files)
 
--- the ids that a value names; for a folder all ids below it: the first of its values is the folder itself
+-- the ids that a value names; for a folder all ids below it, without its own, the first
 abbrev pub named_ids : Kind → Value → List Id
 named_ids kind (StoredCommit commit) = id_of kind (StoredFolder commit.files) ∷ commit.parents
 named_ids kind (StoredTag tag) = tag.target ∷ []
 named_ids kind (StoredBytes bytes) = []
 named_ids kind (StoredFolder files) = map (id_of kind) (drop 1 (file_values files))
 
--- one object reaches another by the ids that values name
+-- one object reaches another through the ids that values name
 pub data Reaches (r : Repository) : Id → Id → Type 0 where
   named : {from to : Id} (value : Value) → get r.objects from ≡ Some value
       → IsTrue (list_any (id_eq to) (named_ids r.kind value)) → Reaches r from to
@@ -114,8 +115,8 @@ abbrev pub HaveOwnIds : Kind → Values → Type 0
 HaveOwnIds kind values =
     (id : Id) (value : Value) → get values id ≡ Some value → id ≡ id_of kind value
 
--- Each id is its value's, what a value names is stored, and no object reaches itself. Nothing is stored under the null id,
--- and under the empty tree's id the empty folder alone.
+-- Each value is stored under its own id, everything that it names is stored, and no object reaches
+-- itself. Nothing is stored under the null id, and only the empty folder under the empty tree's id.
 pub record IsWholeStore (r : Repository) : Type 0 where
   pub own_ids : HaveOwnIds r.kind r.objects
   pub closed : (id : Id) (value : Value) → get r.objects id ≡ Some value → NamesAreStored r value
@@ -137,6 +138,6 @@ pub record IsWhole (r : Repository) : Type 0 where
 abbrev pub first_branch : Bytes
 first_branch = codes "refs/heads/main"
 
--- what a new folder stands for
+-- the repository that a new folder represents
 abbrev pub fresh : Kind → Repository
 fresh kind = record { kind = kind; names = empty; branch = first_branch; objects = empty }

@@ -1,4 +1,4 @@
--- Rounds of a run, stopped or at its end, its recovery where it takes one, and the next run.
+-- Rounds: a run that is stopped or ends, its recovery if it needs one, and then the next run.
 use Rattle.std.specs.Prelude.{◌≡◌, ◌⊎◌, Bool, false, ◌||◌, List, [], ◌∷◌, ◌++◌, Option, Some, None, IsTrue}
 use Rattle.std.specs.List.{flat_map}
 use Rattle.gix_ref_file.specs.History.{History}
@@ -21,7 +21,8 @@ use Rattle.history_model.specs.declared.Fault.TheVariants.{Memory}
 
 -- ---- what is written
 
--- A beginning is written of one reply more; or, where all are whole, of the answer to a rest that is no command.
+-- One more reply was written in part; or, if all replies are whole, perhaps the answer to a rest
+-- that is no command.
 abbrev pub IsCutOff : List Reply → Bytes → Bytes → Type 0
 IsCutOff [] rest part = (part ≡ [])
     ⊎ ((cause : Cause) × HasRestCause rest cause
@@ -30,8 +31,8 @@ IsCutOff [] rest part = (part ≡ [])
 IsCutOff (reply ∷ []) rest part = IsTrue (begins part (reply_text reply))
 IsCutOff _ rest part = ⊥
 
--- What is written where these replies were made, and this rest of the input follows their commands: all replies, at most the
--- last of them in part.
+-- What is written when these replies were made and this rest of the input follows their commands:
+-- all replies, the last of them perhaps in part.
 pub record HasWritten (replies : List Reply) (rest written : Bytes) : Type 0 where
   pub whole : List Reply
   pub cut : List Reply
@@ -42,8 +43,9 @@ pub record HasWritten (replies : List Reply) (rest written : Bytes) : Type 0 whe
 
 -- ---- rounds
 
--- A run from a pair over an input: the replies that it made, what it wrote, and the last pair, at which it was stopped or ended.
--- Then either the folder was recovered, and these are the pairs at which recoveries were stopped; or it stayed as it was.
+-- A run from a pair over an input: its replies, what it wrote, and the last pair, at which it was
+-- stopped or ended. Then the folder was recovered, and these are the pairs at which recoveries were
+-- stopped; or it was left as it was.
 pub record Round : Type 0 where
   pub objects : History
   pub names : History
@@ -55,7 +57,8 @@ pub record Round : Type 0 where
   pub recoveries : Option (List Pair)
   pub left : Pair
 
--- While one command more is acted on, which the rest of the input begins with, the run is stopped at a pair.
+-- The run is stopped at a pair while it acts on one more command, the first in the rest of the
+-- input.
 pub record IsStoppedIn (objects names : History) (mid : Repository) (at : Moment) (rest : Bytes)
     (pair : Pair) : Type 0 where
   pub command : Command
@@ -68,8 +71,8 @@ pub record IsStoppedIn (objects names : History) (mid : Repository) (at : Moment
   pub acted : ActedOn objects names (Unit {0}) mid at command reply finish new
   pub stop : IsStepPair objects names at finish pair
 
--- A run that isn't recovered has ended, without a fault in a changing command. Any other was stopped, after the commands that
--- it acted on or while it acts on one more.
+-- A run that isn't recovered has ended, without a fault in a changing command. Any other was
+-- stopped, after the commands that it acted on or in one more.
 abbrev pub IsLast : Option (List Pair) → Bool → History → History → Repository → Moment → Bytes
     → Pair → Type 0
 IsLast None failed objects names mid at rest pair =
@@ -77,8 +80,8 @@ IsLast None failed objects names mid at rest pair =
 IsLast (Some recoveries) failed objects names mid at rest pair =
     IsPairAt objects names at pair ⊎ ((failed ≡ false) × IsStoppedIn objects names mid at rest pair)
 
--- The run acts on the first commands of its input, as its trace says, makes these replies and writes them, and is stopped or
--- ends at the last pair. That a reading may fail is told of no round.
+-- The run acts on the first commands of its input, as its trace says, writes these replies, and is
+-- stopped or ends at the last pair. Every round allows readings to fail.
 pub record IsRunOf (old : Repository) (round : Round) : Type 0 where
   pub commands : List Command
   pub rest : Bytes
@@ -91,18 +94,19 @@ pub record IsRunOf (old : Repository) (round : Round) : Type 0 where
   pub last : IsLast round.recoveries
       (some_failed commands round.replies) round.objects round.names mid at rest round.last
 
--- Each recovery begins where the one before it was stopped, and each pair on its way recovers to the same one.
+-- Each recovery begins where the one before it was stopped, and each pair on the way recovers to
+-- the same one.
 abbrev pub Recovers : Kind → Pair → List Pair → Pair → Type 0
 Recovers kind stopped [] left = left ≡ recovered kind stopped
 Recovers kind stopped (pair ∷ recoveries) left =
     (recovered kind pair ≡ recovered kind stopped) × Recovers kind pair recoveries left
 
--- the pair that is left, by recovery or as it was
+-- the pair that is left, by recovery or unchanged
 abbrev pub IsLeft : Kind → Pair → Option (List Pair) → Pair → Type 0
 IsLeft kind last None left = left ≡ last
 IsLeft kind last (Some recoveries) left = Recovers kind last recoveries left
 
--- what the contracts of a run and of its recovery say of a round that begins at a pair
+-- what the contracts of a run and of its recovery say about a round that begins at a pair
 pub record IsRound (kind : Kind) (pair : Pair) (round : Round) : Type 0 where
   pub begins : IsPairAt round.objects round.names round.begin pair
   pub runs : (old : Repository) → StandsWhole kind pair old → IsRunOf old round
@@ -117,9 +121,9 @@ abbrev pub last_left : Pair → List Round → Pair
 last_left pair [] = pair
 last_left pair (round ∷ rounds) = last_left round.left rounds
 
--- ---- what rounds come to
+-- ---- the outcome of rounds
 
--- a stop in one command more, which the rest of the input begins with, leaves x
+-- a stop in one more command, the first in the rest of the input, leaves x
 pub record IsLeftIn (mid : Repository) (rest : Bytes) (x : Repository) : Type 0 where
   pub command : Command
   pub more : Bytes
@@ -127,12 +131,14 @@ pub record IsLeftIn (mid : Repository) (rest : Bytes) (x : Repository) : Type 0 
   pub comes : rest ≡ spelling command ++ more
   pub left : LeftByStop mid command x
 
--- What stands after the round, for mid after its steps: mid; or, where it was stopped, what a stop in one command more leaves.
+-- The repository after a round whose steps end at mid: mid; or, if it was stopped, what a stop in
+-- one more command leaves.
 abbrev pub Leaves : Option (List Pair) → Bool → Repository → Bytes → Repository → Type 0
 Leaves None failed mid rest x = (failed ≡ false) × (x ≡ mid)
 Leaves (Some recoveries) failed mid rest x = (x ≡ mid) ⊎ ((failed ≡ false) × IsLeftIn mid rest x)
 
--- The replies of a round are those of steps over the first commands of its input, what it wrote is these replies, and it leaves x.
+-- A round's replies are those of steps over the first commands of its input, it wrote these
+-- replies, and it leaves x.
 pub record IsOutcome (old : Repository) (round : Round) (x : Repository) : Type 0 where
   pub commands : List Command
   pub rest : Bytes
@@ -142,7 +148,7 @@ pub record IsOutcome (old : Repository) (round : Round) (x : Repository) : Type 
   pub written : HasWritten round.replies rest round.written
   pub leaves : Leaves round.recoveries (some_failed commands round.replies) mid rest x
 
--- The rounds show and leave one after another what steps and stops of the plain repository do.
+-- One after another, the rounds reply and leave what steps and stops of the plain repository do.
 abbrev pub Outcomes : Repository → List Round → Repository → Type 0
 Outcomes old [] new = new ≡ old
 Outcomes old (round ∷ rounds) new =

@@ -1,4 +1,4 @@
--- Worked examples: streams, and what a run over them writes on a fresh repository.
+-- Worked examples: streams, and what a run over them writes from a fresh repository.
 use Rattle.std.specs.Prelude.{ℕ, ◌≡◌, ◌++◌, false, List, [], ◌∷◌, codes, replicate, IsTrue}
 use Rattle.std.specs.List.{flat_map, list_all}
 use Rattle.std.specs.FinMap.{empty, entries, from_entries}
@@ -14,16 +14,16 @@ use Rattle.gix_hash_id.specs.declared.kind.Kind.TheVariants.{Sha1}
 use Rattle.history_model.specs.declared.FileKind.TheVariants.{File, Exec}
 use Rattle.history_model.specs.declared.End.TheVariants.{Input, Refused as ByRefusal}
 
--- ---- what a stream gives
+-- ---- the output of a stream
 
--- A run over the whole stream, from a fresh repository, writes the output and ends at the end of the input. No call of the
--- files failed, no reply is a fault, and each command has one reply alone.
+-- A run over the whole stream, from a fresh repository, writes the output and ends at the end of
+-- the input. No call of the files failed, no reply is a fault, and each command has only one reply.
 abbrev pub Gives : Bytes → Bytes → Type 0
 Gives stream output = (commands : List Command) × (replies : List Reply) × (new : Repository)
     × Runs (Unit {0}) ⊥ (fresh Sha1) commands replies stream output Input false new
     × IsTrue (have_no_fault replies) × IsTrue (list_all is_sure commands)
 
--- It is refused before any command, and the repository is as it was.
+-- The stream is refused before any command, and the repository stays as it was.
 abbrev pub Refuses : Bytes → Bytes → Type 0
 Refuses stream output =
     Runs (Unit {0}) ⊥ (fresh Sha1) [] [] stream output ByRefusal false (fresh Sha1)
@@ -126,10 +126,10 @@ lib_list = (codes "lib/x", content (codes "1")) ∷ (codes "lib/y/z", content (c
 abbrev pub lib_files : FileMap
 lib_files = from_entries lib_list
 
--- a graft into no files gives these
+-- a graft into no files makes these
 abbrev pub GraftMakes : Bytes → Bytes → List (Bytes × Content) → Type 0
 GraftMakes path source made = entries (edited empty (Graft path source lib_files)) ≡ made
 
--- a byte `x` so many times
+-- the byte `x` so many times
 abbrev pub xs : ℕ → Bytes
 xs n = replicate n 120

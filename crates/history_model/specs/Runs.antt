@@ -1,5 +1,6 @@
--- Runs over a stream of commands: what is written, how they end, and where a reader or a writer cuts them off.
--- AtEnd says that the input is at its end: that nothing follows what was read. CallFailed says that a call of the files failed.
+-- Runs over a stream of commands: what they write, how they end, and when a reader or a writer cuts
+-- them off. AtEnd says that nothing follows what was read; CallFailed says that a call of the files
+-- failed.
 use Rattle.std.specs.Prelude.{◌≡◌, ◌⊎◌, ◌<◌, Bool, true, false, List, [], ◌∷◌, ◌++◌, length, IsTrue}
 use Rattle.std.specs.List.{flat_map, list_all, AllByRecursion}
 use Rattle.history_model.specs.Bytes.{Bytes, begins}
@@ -20,13 +21,15 @@ pub record BeginsWith (input : Bytes) (commands : List Command) (rest : Bytes) :
   pub known : IsTrue (list_all is_command commands)
   pub split : input ≡ flat_map spelling commands ++ rest
 
--- The rest, which is not empty, begins with no command, for this cause. Only at the end of the input is a command cut short.
+-- The rest is not empty and begins with no command, for this cause. A command is cut short only at
+-- the end of the input.
 pub record IsNoCommand (AtEnd : Type 0) (rest : Bytes) (cause : Cause) : Type 0 where
   pub because : HasRestCause rest cause
   pub at_end : cause ≡ Truncated → AtEnd
 
--- These commands were acted on in a row, and these replies to them are written; this rest of the input follows them, and this is
--- written last. It has failed where a changing command had a fault.
+-- These commands were acted on one after another, and their replies are written, followed by these
+-- last bytes; this rest of the input follows the commands. The run has failed if a changing command
+-- had a fault.
 pub record Ran (CallFailed : Type 0) (old : Repository) (commands : List Command)
     (replies : List Reply) (input output rest last : Bytes) (failed : Bool)
     (new : Repository) : Type 0 where
@@ -34,10 +37,10 @@ pub record Ran (CallFailed : Type 0) (old : Repository) (commands : List Command
   pub steps : Steps old commands replies new
   pub fails : failed ≡ some_failed commands replies
   pub written : output ≡ flat_map reply_text replies ++ last
-  -- `fault File` is told only where a call of the files failed
+  -- `fault File` is reported only if a call of the files failed
   pub file_faults : AllByRecursion (λ reply. reply ≡ Faulted File → CallFailed) replies
 
--- How a run ends over the rest of the input, what is written last, and whether the repository has failed.
+-- How a run ends at the rest of the input, what is written last, and whether it has failed.
 abbrev pub Ends : Type 0 → Bytes → Bytes → End → Bool → Type 0
 Ends AtEnd rest last Input failed = (rest ≡ []) × AtEnd × (last ≡ []) × (failed ≡ false)
 Ends AtEnd rest last ByRefusal failed =
@@ -49,7 +52,8 @@ Ends AtEnd rest last ByFault true = last ≡ []
 Ends AtEnd rest last ByFault false =
     (cause : Cause) × IsNoCommand AtEnd rest cause × (last ≡ reply_text (Faulted Memory))
 
--- A run over the input acts on these commands with these replies, writes the output, ends so, and leaves new.
+-- A run over the input acts on these commands with these replies, writes the output, ends so, and
+-- leaves new.
 pub record Runs (AtEnd CallFailed : Type 0) (old : Repository) (commands : List Command)
     (replies : List Reply) (input output : Bytes) (end : End) (failed : Bool)
     (new : Repository) : Type 0 where
@@ -60,7 +64,7 @@ pub record Runs (AtEnd CallFailed : Type 0) (old : Repository) (commands : List 
 
 -- ---- runs that a reader or a writer cuts off
 
--- The reader failed where nothing or the beginning of a command follows the last one; or the last reading was made.
+-- The reader failed after the last command, or within one more; or the last reading was made.
 pub record EndsReading (LastReading CallFailed : Type 0) (old : Repository)
     (commands : List Command) (replies : List Reply) (input output : Bytes) (failed : Bool)
     (new : Repository) : Type 0 where
@@ -69,11 +73,12 @@ pub record EndsReading (LastReading CallFailed : Type 0) (old : Repository)
   pub unfailed : failed ≡ false
   pub cut : (rest ≡ []) ⊎ HasRestCause rest Truncated ⊎ LastReading
 
--- a beginning of the text, and not all of it
+-- a proper beginning of the text
 abbrev pub IsCutFrom : Bytes → Bytes → Type 0
 IsCutFrom part text = IsTrue (begins part text) × (length part < length text)
 
--- The writer failed within the reply to one more command, which was acted on, or within the answer to a rest that is none.
+-- The writer failed within the reply to one more command, which was acted on, or within the answer
+-- to a rest that is no command.
 abbrev pub CutsShort : Type 0 → Type 0 → Repository → List Command → List Reply → Bytes → Bytes
     → Bool → Repository → Type 0
 CutsShort AtEnd CallFailed old (command ∷ []) (reply ∷ []) rest part failed new =
@@ -87,7 +92,8 @@ CutsShort AtEnd CallFailed old [] [] rest part failed new =
     ⊎ IsCutFrom part (reply_text (Faulted Memory)))
 CutsShort _ _ _ _ _ _ _ _ _ = ⊥
 
--- The writer failed: the replies to these commands are written whole, and the rest of what was acted on is at most one more.
+-- The writer failed: the replies to the answered commands are written whole, and at most one more
+-- command was acted on.
 pub record EndsWriting (AtEnd CallFailed : Type 0) (old : Repository) (commands : List Command)
     (replies : List Reply) (input output : Bytes) (failed : Bool)
     (new : Repository) : Type 0 where

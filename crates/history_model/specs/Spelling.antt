@@ -1,4 +1,4 @@
--- The bytes that spell a command: lines of words, and fields of a told length.
+-- The bytes that spell a command: lines of words, and fields of a given length.
 use Rattle.std.specs.Prelude.{ℕ, ◌^◌, Bool, true, false, not, ◌&&◌, List, [], ◌∷◌, ◌++◌, length, map, nat_le, nat_lt, Option, Some, None, codes, decimal, if◌then◌else◌}
 use Rattle.std.specs.List.{flat_map, join_with_byte, list_all, list_any}
 use Rattle.history_model.specs.Bytes.{Bytes, line, has_byte, is_empty}
@@ -6,12 +6,12 @@ use Rattle.history_model.specs.Commands.{Command, Commit, Tag, Move, Rename, Del
 use Rattle.history_model.specs.declared.FileKind.{FileKind}
 use Rattle.history_model.specs.declared.FileKind.TheVariants.{File, Exec, Link}
 
--- a line, or a field of so many bytes; a line feed follows each
+-- a line of words, or a field of bytes; a line feed follows each
 pub data Part : Type 0 where
   Line : List Bytes → Part
   Field : Bytes → Part
 
--- one space stands between the words of a line
+-- the words of a line are separated by one space
 abbrev pub part_text : Part → Bytes
 part_text (Line words) = line (join_with_byte 32 words)
 part_text (Field bytes) = line bytes
@@ -67,7 +67,7 @@ edit_parts (GraftLine path word source) =
     Line (codes "graft" ∷ len_word path ∷ word ∷ len_word source ∷ []) ∷ Field path
     ∷ Field source ∷ []
 
--- what stands behind the edits of a commit
+-- what follows the edits of a commit
 abbrev pub signed_parts : CommitCommand → List Part
 signed_parts c =
     actor_parts (codes "author") c.author
@@ -136,11 +136,11 @@ spelling command = parts_text (parts_of command)
 abbrev pub max_line : ℕ
 max_line = 4_096
 
--- not empty, without space or line feed
+-- a word is not empty and has no space or line feed
 abbrev pub is_word : Bytes → Bool
 is_word word = not (is_empty word) && not (has_byte 32 word) && not (has_byte 10 word)
 
--- A line of words within the limit. A field's length is told in its line, by a number below 2 ^ 64.
+-- A line is of words, within the limit. A field's length, given in its line, is below 2 ^ 64.
 abbrev pub is_part : Part → Bool
 is_part (Line words) = list_all is_word words && nat_le (length (join_with_byte 32 words)) max_line
 is_part (Field bytes) = nat_lt (length bytes) (2 ^ 64)
@@ -158,7 +158,7 @@ abbrev pub are_items : List LogItem → Bool
 are_items items =
     list_any is_tip items && list_all (λ item. not (is_empty (item_target item))) items
 
--- a move has a line; a log has a tip
+-- a move has at least one line `to`, a log at least one tip
 abbrev pub has_enough : Command → Bool
 has_enough (Move c) = not (is_empty c.to)
 has_enough (Log c) = are_items c.items

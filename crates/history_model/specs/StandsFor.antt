@@ -1,4 +1,4 @@
--- Which pairs of file trees stand for a repository.
+-- Which pairs of file trees represent a repository.
 use Rattle.std.specs.Prelude.{◌≡◌, [], ◌++◌, map, Some, unwrap_or, MatchOption, ◌↔◌, codes, IsTrue}
 use Rattle.std.specs.FinMap.{FinMap, entries, get, from_entries}
 use Rattle.gix_ref_file.specs.Tree.{folder}
@@ -27,7 +27,7 @@ head_text branch = line (codes "ref: " ++ branch)
 
 pub record StandsFor (kind : Kind) (pair : Pair) (r : Repository) : Type 0 where
   pub of_kind : r.kind ≡ kind
-  -- each object's text at its place, and no other file
+  -- each object's text is at its place, and there is no other file
   pub objects : (path : Bytes) → file_at pair.objects path ≡ get (object_files r) path
   pub object_folders : (path : Bytes) → get pair.objects path ≡ Some folder
       → IsTrue (is_object_folder path)
@@ -40,12 +40,12 @@ pub record StandsFor (kind : Kind) (pair : Pair) (r : Repository) : Type 0 where
       → unwrap_or (file_at pair.names (log_place name)) [] ≡ log_text (moves_at r name)
   pub packed : (text : Bytes) → file_at pair.names packed_place ≡ Some text
       → MatchOption (packed_file r.kind text) ⊥ (PackedAgrees r)
-  -- no file besides, and no folder but these
+  -- there is no other file, and no folder but these
   pub places : (path text : Bytes) → file_at pair.names path ≡ Some text
       → IsTrue (is_name_place r path)
   pub folders : (path : Bytes) → get pair.names path ≡ Some folder → IsTrue (is_name_folder path)
 
--- what an opened folder is: it stands for a whole repository in written form
+-- what an opened folder is: it represents a whole repository in written form
 pub record StandsWhole (kind : Kind) (pair : Pair) (r : Repository) : Type 0 where
   pub stands : StandsFor kind pair r
   pub written : IsWritten r

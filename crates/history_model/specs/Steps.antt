@@ -11,19 +11,19 @@ use Rattle.history_model.specs.declared.Cause.TheVariants.{TooLarge}
 use Rattle.history_model.specs.declared.Fault.{Fault}
 use Rattle.history_model.specs.declared.Fault.TheVariants.{IdTaken}
 
--- The command stores under a taken id, and no cause holds but that something may be too large: how long a tree is isn't known where
--- it would name what has the null id.
+-- The command stores under a taken id, and no cause holds, except that something may be too large:
+-- the length of a tree that would name something with the null id isn't known.
 abbrev pub MayTake : Repository → Command → Type 0
 MayTake old command =
     ((first_cause old command ≡ None) ⊎ (first_cause old command ≡ Some TooLarge))
     × IsTrue (takes_id old command)
 
--- an id is taken only where it may be so told
+-- `IdTaken` is reported only if an id may be taken
 abbrev pub FaultFits : Repository → Command → Fault → Type 0
 FaultFits old command IdTaken = MayTake old command
 FaultFits old command _ = Unit {0}
 
--- No cause holds, and the reply and the repository after it are what the command means.
+-- No cause holds; the reply and the repository after it are what the command means.
 pub record Accepts (old : Repository) (command : Command) (reply : Reply)
     (new : Repository) : Type 0 where
   pub no_cause : first_cause old command ≡ None
@@ -49,7 +49,7 @@ is_faulted _ = false
 abbrev pub goes_on : Command → Reply → Bool
 goes_on command reply = not (is_changing command && is_faulted reply)
 
--- steps in a row, after each of which but the last the run goes on
+-- steps one after another; after each but the last the run goes on
 abbrev pub Steps : Repository → List Command → List Reply → Repository → Type 0
 Steps old [] [] new = new ≡ old
 Steps old (command ∷ commands) (reply ∷ replies) new =
@@ -64,15 +64,15 @@ some_failed (command ∷ commands) (reply ∷ replies) =
     not (goes_on command reply) || some_failed commands replies
 some_failed _ _ = false
 
--- ---- what the replies tell
+-- ---- what the replies determine
 
--- The state after a step after which the run goes on: only an accepted command changes it.
+-- The state after a step, if the run goes on: only an accepted command changes it.
 abbrev pub next : Repository → Command → Reply → Repository
 next old command (RefusedFor cause) = old
 next old command (Faulted fault) = old
 next old command reply = after old command
 
--- the rows of the last `ok index`, in the state where it stood
+-- the rows of the last `ok index`, in the state at that time
 abbrev pub rows_after : Repository → Option (List Row) → List Command → List Reply
     → Option (List Row)
 rows_after r rows (command ∷ commands) (Indexed n ∷ replies) =

@@ -25,11 +25,11 @@ is_changing (Past word) = false
 is_changing (Log c) = false
 is_changing (Show word path) = false
 
--- What the command makes, where no cause holds: nothing where it would store under an id that is taken.
+-- What the command makes if no cause holds: nothing if it would store under a taken id.
 abbrev pub made : Repository → Command → Repository
 made old command = if takes_id old command then old else after old command
 
--- old stays, and nothing comes but what the command stores
+-- what is stored stays, and only what the command stores is added
 pub record StoresBetween (old : Repository) (command : Command) (x : Repository) : Type 0 where
   pub keeps : (id : Id) (value : Value) → get old.objects id ≡ Some value
       → get x.objects id ≡ Some value
@@ -42,15 +42,16 @@ deletes (Rename from to) name = bytes_eq name from
 deletes (Delete deleted at) name = bytes_eq name deleted
 deletes _ name = false
 
--- The name is as before the command or as after it. Its moves may stand before it does, or be gone before it is.
+-- The name is as before the command or as after it. Its moves may come before it does, or go before
+-- it does.
 pub record NameBetween (old new x : Repository) (deleted : Bool) (name : Bytes) : Type 0 where
   pub id : (id_at x name ≡ id_at old name) ⊎ (id_at x name ≡ id_at new name)
   pub moves : (moves_at x name ≡ moves_at old name) ⊎ (moves_at x name ≡ moves_at new name)
       ⊎ (IsTrue deleted × (moves_at x name ≡ []))
-  -- where the name has moved, its log says so
+  -- if the name has moved, its log says so
   pub log_follows_name : (id_at x name ≡ id_at old name) ⊎ (moves_at x name ≡ moves_at new name)
 
--- the old name of a rename or the new one holds the id
+-- a rename leaves the id at the old name or at the new one
 abbrev pub IsNotLost : Repository → Command → Repository → Type 0
 IsNotLost old (Rename from to) x = (id_at x from ≡ id_at old from) ⊎ (id_at x to ≡ id_at old from)
 IsNotLost old _ x = Unit {0}
@@ -62,8 +63,8 @@ pub record Between (old : Repository) (command : Command) (x : Repository) : Typ
   pub branch : (x.branch ≡ old.branch) ⊎ (x.branch ≡ (made old command).branch)
   pub not_lost : IsNotLost old command x
 
--- A whole repository: between the one before the command and the one after it, or the one before it where a cause holds or
--- the command changes no files.
+-- A whole repository, between those before and after the command; the one before it, if a cause
+-- holds or the command changes no files.
 abbrev pub LeftByStop : Repository → Command → Repository → Type 0
 LeftByStop old command x =
     IsWhole x

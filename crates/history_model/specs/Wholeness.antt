@@ -1,4 +1,4 @@
--- What the laws on whole repositories in written form say.
+-- The statements of the laws on whole repositories in written form.
 use Rattle.std.specs.Prelude.{◌≡◌, List, None, IsFalse, Contains}
 use Rattle.history_model.specs.Objects.{Value}
 use Rattle.history_model.specs.Repository.{Repository, IsStored, IsWhole}
@@ -13,7 +13,7 @@ use Rattle.history_model.specs.Stops.{LeftByStop, StoresBetween}
 use Rattle.history_model.specs.Steps.{Step, Steps}
 use Rattle.gix_hash_id.specs.declared.kind.Kind.{Kind}
 
--- whole, and each part in its written form
+-- whole, with each part in written form
 pub record IsSound (r : Repository) : Type 0 where
   pub whole : IsWhole r
   pub written : IsWritten r
@@ -24,7 +24,7 @@ StepsKeepSound =
     (old new : Repository) (command : Command) (reply : Reply) → Step old command reply new
     → IsSound old → IsSound new
 
--- So do steps in a row.
+-- So do several steps.
 abbrev pub SequencesKeepSound : Type 0
 SequencesKeepSound =
     (old new : Repository) (commands : List Command) (replies : List Reply)
@@ -35,8 +35,8 @@ abbrev pub StopsKeepSound : Type 0
 StopsKeepSound =
     (old x : Repository) (command : Command) → LeftByStop old command x → IsSound old → IsSound x
 
--- Where no cause holds and no id is taken, what a command stores stands afterwards, each value under its own id; what stood
--- stays, and nothing else comes.
+-- If no cause holds and no id is taken, everything that a command stores is stored afterwards, each
+-- value under its own id; what was stored stays, and nothing else is added.
 pub record StoresExactly (old : Repository) (command : Command) : Type 0 where
   pub between : StoresBetween old command (after old command)
   pub stored : (value : Value) → Contains (stored_by old command) value
@@ -47,7 +47,7 @@ AcceptedStoreExactly =
     (old : Repository) (command : Command) → IsSound old → first_cause old command ≡ None
     → IsFalse (takes_id old command) → StoresExactly old command
 
--- One pair of file trees stands for one whole repository of a kind: two that it stands for are one.
+-- A pair of file trees represents at most one whole repository of a kind.
 abbrev pub PairsAreOfOne : Type 0
 PairsAreOfOne =
     (kind : Kind) (pair : Pair) (r s : Repository) → StandsWhole kind pair r

@@ -1,4 +1,5 @@
--- What a word stands for, by the candidates of gitrevisions(7) for a `<refname>` and a short object name.
+-- What a word means, by the candidates of gitrevisions(7) for a `<refname>` and a short object
+-- name.
 use Rattle.std.specs.Prelude.{Bool, not, ◌&&◌, List, [], ◌∷◌, ◌++◌, length, nat_le, filter, find, Option, Some, None, option_map, unwrap_or, bytes_eq, codes, if◌then◌else◌}
 use Rattle.std.specs.List.{list_all}
 use Rattle.std.specs.FinMap.{keys}
@@ -14,25 +15,26 @@ use Rattle.history_model.specs.Repository.{Repository, id_at, stands, peeled}
 abbrev pub head_word : Bytes
 head_word = codes "HEAD"
 
--- the names that a word may mean, in the order of the search; the word itself only where it begins with `refs/`
+-- the names that a word may mean, in the order of the search; the word itself only if it begins
+-- with `refs/`
 abbrev pub candidates : Bytes → List Bytes
 candidates word = filter (λ name. begins refs_front name && not (is_private name))
     (word ∷ (refs_front ++ word) ∷ (tags_front ++ word) ∷ (heads_front ++ word)
     ∷ (codes "refs/remotes/" ++ word) ∷ (codes "refs/remotes/" ++ word ++ codes "/HEAD") ∷ [])
 
--- what a word reads as, before a tag stands for its commit
+-- what a word reads as, before a tag is peeled to its commit
 pub data WordMeaning : Type 0 where
   ReadsAs : Id → WordMeaning
   Unborn : WordMeaning
   Unknown : WordMeaning
   Ambiguous : WordMeaning
 
--- 4 digits to the kind's length
+-- 4 digits up to the kind's length
 abbrev pub is_short_id : Kind → Bytes → Bool
 is_short_id kind word =
     nat_le 4 (length word) && nat_le (length word) (hex_len kind) && list_all is_hex_digit word
 
--- the stored ids that begin with the word, whatever the case of its letters
+-- the stored ids that begin with the word, in any letter case
 abbrev pub matches : Repository → Bytes → List Id
 matches r word = filter (λ id. begins (lower word) (hex id)) (keys r.objects)
 
@@ -49,7 +51,8 @@ abbrev pub name_meaning : Option Id → WordMeaning
 name_meaning None = Unborn
 name_meaning (Some id) = ReadsAs id
 
--- HEAD always stands, and reads as its branch. Of other words the first candidate that stands wins, also over an id.
+-- HEAD always exists, and reads as its branch. Any other word means its first candidate that
+-- exists, even if it could be an id.
 abbrev pub word_meaning : Repository → Bytes → WordMeaning
 word_meaning r word =
     if bytes_eq word head_word then name_meaning (id_at r r.branch)
@@ -63,6 +66,6 @@ commit_read r Unborn = None
 commit_read r Unknown = None
 commit_read r Ambiguous = None
 
--- the commit that a word stands for
+-- the commit that a word means
 abbrev pub commit_of : Repository → Bytes → Option Id
 commit_of r word = commit_read r (word_meaning r word)

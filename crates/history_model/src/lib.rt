@@ -1,4 +1,4 @@
-//! The words of the engine that its contracts and its definitions share.
+//! The types that the engine's code and its definitions share.
 #![tactic(auto)]
 
 /// What a file is.
@@ -43,14 +43,14 @@ pub enum Cause {
     OrderWithParents,
 }
 
-/// Why a command that is not refused has no reply.
+/// Why a command that is not refused fails.
 #[derive(Clone, Copy)]
 pub enum Fault {
-    /// Room was refused.
+    /// Memory ran out.
     Memory,
     /// A call of the files failed.
     File,
-    /// An object's id names other bytes.
+    /// An object's id is reserved, or is that of other bytes.
     IdTaken,
 }
 
@@ -61,7 +61,8 @@ pub enum End {
     Input,
     /// At a rest of the input that begins with no command.
     Refused,
-    /// After a fault in a command that changes files, or where memory ran out on a rest that begins with no command.
+    /// After a fault in a command that changes files, or if memory ran out at a rest that begins
+    /// with no command.
     Fault,
 }
 

@@ -19,7 +19,7 @@ pub const MAX_TITLE: usize = 1_024;
 /// The most bytes of an actor's name or email.
 pub const MAX_ACTOR_PART: usize = 512;
 
-/// The last second that an actor's time may tell.
+/// The last second that an actor's time may have.
 pub const MAX_SECONDS: u64 = 9_223_372_036_854_775_807;
 
 /// The most parents of a commit.

@@ -1,4 +1,4 @@
-//! The names that stand in each repository, and how those of references begin.
+//! The names that every repository has, and how names begin.
 
 ghost use Rattle.std.specs.Prelude.{◌≡◌};
 ghost use Rattle.history_model.specs.Forms.{refs_front, heads_front, tags_front};
@@ -6,7 +6,7 @@ ghost use Rattle.history_model.specs.Repository.{first_branch};
 ghost use Rattle.history_model.specs.StandsFor.{head_text};
 ghost use Rattle.history_model.specs.Words.{head_word};
 
-/// Where the branch stands that is worked on, and the word for it.
+/// The file that has the current branch, and the word for that branch.
 pub const HEAD: &[u8] = b"HEAD";
 
 /// How each name but HEAD begins.

@@ -10,7 +10,8 @@ ghost use Rattle.history_model.specs.FileMap.{Graft, edited, grafts_nothing};
 ghost use Rattle.history_model.specs.Commands.{GraftLine};
 ghost use Rattle.gix_hash_id.specs.declared.kind.Kind.TheVariants.{Sha1, Sha256};
 
-/// Ids of blobs and of the empty tree in both kinds, the first commit's 99 bytes and id, three files in their order and their tree.
+/// Ids of blobs and of the empty tree in both kinds; the first commit's 99 bytes and id; the tree
+/// of three files in their order.
 pub fn ids()
     ensures hello { blob_text (codes "hello") ≡ codes "blob 5" ++ 0 ∷ codes "hello" }
     ensures blob { hex (blob_id Sha1 []) ≡ codes "e69de29bb2d1d6434b8b29ae775ad8c2e48c5391" }
@@ -31,22 +32,23 @@ pub fn ids()
         ≡ codes "b8b673d28f410aa8dd3222ef9fffe69e44e01d26" }
 {}
 
-/// A commit without files, its files and itself shown.
+/// A commit without files; its files and the commit shown.
 pub fn first_commit()
     ensures { Gives first_stream first_output }
 {}
 
-/// A commit of one file without bytes, its files shown.
+/// A commit of one empty file; its files shown.
 pub fn empty_file()
     ensures { Gives empty_file_stream empty_file_output }
 {}
 
-/// A commit of the file `hello`, its files and the file's content shown.
+/// A commit of the file `a` with the content `hello`; its files and the content shown.
 pub fn hello_file()
     ensures { Gives hello_stream hello_output }
 {}
 
-/// Grafts into no files: a folder, a file, and all files of a commit; one that finds nothing, and one that puts back what stands.
+/// Grafts into no files: a folder, a file, and all files of a commit; one that finds nothing; and
+/// one that puts back what is there.
 pub fn grafts()
     ensures folder { GraftMakes (codes "dep") (codes "lib")
         ((codes "dep/x", content (codes "1")) ∷ (codes "dep/y/z", content (codes "2")) ∷ []) }
@@ -60,7 +62,8 @@ pub fn grafts()
         ≡ lines (codes "graft 3 main 3" ∷ codes "dep" ∷ codes "lib" ∷ []) }
 {}
 
-/// What begins with no command: a word that is none, the longest line, a line that is longer, and a command that is cut short.
+/// What begins with no command: a word that is none, the longest line, a longer line, and a command
+/// that is cut short.
 pub fn refusals()
     ensures hello { Refuses (line (codes "hello")) (line (codes "refused Syntax")) }
     ensures longest { Refuses (line (xs max_line)) (line (codes "refused Syntax")) }
@@ -69,7 +72,7 @@ pub fn refusals()
         (line (codes "refused Truncated")) }
 {}
 
-/// A stream without bytes gives none.
+/// An empty stream has an empty output.
 pub fn empty_stream()
     ensures { Gives [] [] }
 {}

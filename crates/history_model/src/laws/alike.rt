@@ -1,14 +1,16 @@
-//! Laws on commands that come to the same, over the definitions alone.
+//! Laws on commands with the same effect, over the definitions alone.
 
 ghost use Rattle.history_model.specs.Alike.{EditsCutAnyWay, OrdersPrintOneSet};
 
-/// One list of edits, cut in two ways into accepted commits from equal files in repositories of one kind, gives equal files
-/// and one id of the root tree.
+/// A list of edits, cut in two ways into accepted commits from equal files in repositories of one
+/// kind, gives equal files and one root tree id, if each graft's word means a commit with the same
+/// files however the list is cut.
 pub fn edits_cut_any_way()
     ensures { EditsCutAnyWay }
 {}
 
-/// For one list of tips and hidden words, by all parents, without a cutoff or a path, all orders print one set.
+/// For the same tips and hidden words, along all parents and without a cutoff or a path, all orders
+/// print the same set.
 pub fn orders_print_one_set()
     ensures { OrdersPrintOneSet }
 {}

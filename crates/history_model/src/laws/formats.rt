@@ -1,19 +1,20 @@
-//! Laws that tie the files of names and logs to the formats that gix_ref_format reads, over the definitions alone.
+//! Laws that tie the files of names and logs to gix_ref_format, over the definitions alone.
 
 ghost use Rattle.history_model.specs.Formats.{LooseReadsAlike, RecordsAlike, CandidatesAlike, LinesAlike};
 
-/// A loose file that reads as an id, or as a name, tells that id, or that name, by gix_ref_format, which knows more spellings.
+/// A loose file that reads as an id or a name has the same target in gix_ref_format, which accepts
+/// more spellings.
 pub fn loose_reads_alike()
     ensures { LooseReadsAlike }
 {}
 
-/// Of the names that a repository may hold the private ones alone have no record in `packed-refs`.
+/// Of the names that a repository may hold, only the private ones have no record in `packed-refs`.
 pub fn records_alike()
     ensures { RecordsAlike }
 {}
 
-/// The candidates of a word are itself and the names to which gix_ref_format completes it, of those below `refs/` the ones that
-/// aren't private.
+/// The candidates of a word are the word and the names to which gix_ref_format completes it, as far
+/// as they are below `refs/` and not private.
 pub fn candidates_alike()
     ensures { CandidatesAlike }
 {}

@@ -2,8 +2,9 @@
 
 ghost use Rattle.history_model.specs.Pasts.{PastsTellMoves};
 
-/// Over steps of which no changing command had a fault the past of a name begins with exactly the moves that they made since
-/// the name was last made, newest first.
+/// If no changing command had a fault, the past of a name is exactly the moves that these steps
+/// made since it was last created, newest first, and then those before these steps, if it existed
+/// all the while.
 pub fn pasts_tell_moves()
     ensures { PastsTellMoves }
 {}

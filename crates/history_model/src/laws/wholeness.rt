@@ -2,27 +2,28 @@
 
 ghost use Rattle.history_model.specs.Wholeness.{StepsKeepSound, SequencesKeepSound, StopsKeepSound, AcceptedStoreExactly, PairsAreOfOne};
 
-/// A step leaves a whole repository in written form whole and in written form, whatever the reply is.
+/// A step keeps a repository whole and in written form, whatever the reply is.
 pub fn steps_keep_sound()
     ensures { StepsKeepSound }
 {}
 
-/// Steps in a row do so too.
+/// So do several steps.
 pub fn sequences_keep_sound()
     ensures { SequencesKeepSound }
 {}
 
-/// What a stop during a command leaves of such a repository, once recovered, is one.
+/// So does a stop during a command, once recovered.
 pub fn stops_keep_sound()
     ensures { StopsKeepSound }
 {}
 
-/// What an accepted command stores stands afterwards, each value under its own id; what stood stays, and nothing else comes.
+/// Everything that an accepted command stores is stored afterwards, each value under its own id;
+/// what was stored stays, and nothing else is added.
 pub fn accepted_store_exactly()
     ensures { AcceptedStoreExactly }
 {}
 
-/// One pair of file trees stands for one whole repository of a kind.
+/// A pair of file trees represents at most one whole repository of a kind.
 pub fn pairs_are_of_one()
     ensures { PairsAreOfOne }
 {}
