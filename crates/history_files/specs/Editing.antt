@@ -1,4 +1,5 @@
--- What edits of a root's files come to: the trees that are to be stored for them, or why there are none.
+-- What edits of a root's files make: the trees that are to be stored for them, or why there are
+-- none.
 use Rattle.std.specs.Prelude.{◌≡◌, ◌⊎◌, ⊤, true, false, List, [], ◌∷◌, ◌++◌, map, Option, Some, None, option_map, Contains, IsTrue, IsFalse}
 use Rattle.std.specs.Borrow.{Bor}
 use Rattle.std.specs.List.{AllByRecursion, flat_map, list_all}
@@ -30,13 +31,13 @@ use Rattle.history_files.specs.declared.edits.EditError.TheVariants.{BadPath, Is
 abbrev pub root_id : Option (Bor ObjectId) → Option Id
 root_id root = option_map (λ root. id_of root.now) root
 
--- the files of the root, whose trees stand in the table; none without a root
+-- the files of the root, whose trees are in the table; none without a root
 abbrev pub IsBase : Table → Kind → Option Id → FileMap → Type 0
 IsBase table kind None files = files ≡ empty
 IsBase table kind (Some root) files = IsRootOf table kind files root
 
--- The change at this path is this edit of a file map: the id is that of the bytes that are put, and the trees of what is grafted stand
--- in the table.
+-- The change at this path is this edit of a file map: the id is that of the bytes that are put, and
+-- the trees of what is grafted are in the table.
 abbrev pub Names : Table → Kind → Bytes → Change → model.Edit → Type 0
 Names table kind path (Put file id) made =
     (bytes : Bytes) × (made ≡ model.Put file path bytes) × (id_of id ≡ blob_id kind bytes)
@@ -51,14 +52,14 @@ NameEdits table kind (edit ∷ edits) [] = ⊥
 NameEdits table kind (edit ∷ edits) (made ∷ more) =
     Names table kind edit.path.now edit.change made × NameEdits table kind edits more
 
--- It holds of the files that are edited, and of the edits that these are, where the store answers by its table.
+-- It holds of the files that are edited, and of the edits that these are, if the store is honest.
 abbrev pub OfEdits : Type 0 → Table → Kind → Option Id → List Edit
     → (FileMap → List model.Edit → Type 0) → Type 0
 OfEdits honest table kind root edits P =
     honest → (files : FileMap) (made : List model.Edit) → IsBase table kind root files
     → NameEdits table kind edits made → P files made
 
--- each path is one
+-- each path is well-formed
 abbrev pub HavePaths : List model.Edit → Type 0
 HavePaths made = IsTrue (list_all (λ edit. is_path (edit_path edit)) made)
 
@@ -77,7 +78,7 @@ AreTreesOf kind (files ∷ folders) [] = ⊥
 AreTreesOf kind (files ∷ folders) (tree ∷ trees) =
     IsTreeOf kind files tree × AreTreesOf kind folders trees
 
--- the folders that stand before: those of the files, and those of what is grafted
+-- the folders that exist before: those of the files, and those of what is grafted
 abbrev pub standing : FileMap → List model.Edit → List FileMap
 standing files made = own_folders files ++ flat_map other_folders made
 
@@ -86,14 +87,14 @@ abbrev pub HasTreeOf : Kind → List FileMap → FileMap → Type 0
 HasTreeOf kind folders files =
     (folder : FileMap) × Contains folders folder × (root kind folder ≡ root kind files)
 
--- each folder of the files is among those that are given, or one that stands has its tree
+-- each folder of the files is given, or its tree is that of a folder that exists before
 abbrev pub IsClosed : Kind → List FileMap → List FileMap → FileMap → Type 0
 IsClosed kind stands given files =
     AllByRecursion (λ folder. Contains given folder ⊎ HasTreeOf kind stands folder)
     (folders_of files)
 
--- Trees of folders of these files, the files' own last, each behind those of its own folders that haven't the tree of one that
--- stands.
+-- Trees of folders of these files, the files' own last. Each comes after those of its own folders,
+-- except those whose tree exists before.
 pub record AreGiven (kind : Kind) (stands : List FileMap) (files : FileMap)
     (trees : List EditedTree) : Type 0 where
   pub below : List FileMap
@@ -108,7 +109,7 @@ abbrev pub HaveIds : Kind → List model.Edit → Type 0
 HaveIds kind made =
     AllByRecursion (λ value. is_null (objects.id_of kind value) ≡ false) (flat_map put_bytes made)
 
--- The edits are accepted, and these are the trees of what they make of the files.
+-- The edits are accepted, and these are the trees of the resulting files.
 pub record AreEdited (kind : Kind) (files : FileMap) (made : List model.Edit)
     (edited : EditedFiles) : Type 0 where
   pub paths : HavePaths made
@@ -119,7 +120,7 @@ pub record AreEdited (kind : Kind) (files : FileMap) (made : List model.Edit)
 
 -- ---- why there are none
 
--- the bytes of each `put`, and the folders of what the edits make of the files
+-- the bytes of each `put`, and the folders of the resulting files
 abbrev pub values_of : FileMap → List model.Edit → List Value
 values_of files made =
     flat_map put_bytes made ++ map StoredFolder (folders_of (edited_by files made))
@@ -132,7 +133,8 @@ pub record HaveNull (kind : Kind) (files : FileMap) (made : List model.Edit) : T
   pub among : Contains (values_of files made) value
   pub null : is_null (objects.id_of kind value) ≡ true
 
--- an edit is refused, where all have paths; a store that has the trees fails only where a lookup fails, or for want of memory
+-- Why edits aren't made: a path isn't well-formed; or else an edit is refused, or a value has the
+-- null id. A store that has the trees fails only if a lookup fails or memory runs out.
 abbrev pub EditsFault : Type 0 → Kind → FileMap → List model.Edit → EditError → Type 0
 EditsFault may_fail kind files made BadPath =
     IsFalse (list_all (λ edit. is_path (edit_path edit)) made)

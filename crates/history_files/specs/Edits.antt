@@ -29,14 +29,16 @@ use Rattle.history_files.specs.declared.found.Found.{Found}
 use Rattle.history_files.specs.declared.error.ReadError as reading
 use Rattle.history_files.specs.declared.error.ReadError.TheVariants as unopened
 
--- what stands at a source, as a tree's entry names it: all the files at an empty one, where there are any
+-- what is at a source, as a tree's entry names it; at an empty source all the files, if there are
+-- any
 abbrev pub source_entry : Kind → FileMap → Bytes → Option (Bytes × Id)
 source_entry kind files source =
     if is_empty source
     then if is_empty (keys files) then None else Some (codes "40000", folder_id kind files)
     else entry_at kind files source
 
--- This is what stands at the source of files whose trees stand in the table. Its id isn't that of the tree without entries.
+-- This is what is at the source of files whose trees are in the table. Its id isn't that of the
+-- tree without entries.
 pub record IsSource (table : Table) (kind : Kind) (source : Bytes) (files : FileMap)
     (found : Option Found) : Type 0 where
   pub map : IsFileMap files
@@ -44,7 +46,7 @@ pub record IsSource (table : Table) (kind : Kind) (source : Bytes) (files : File
   pub is : option_map entry_of found ≡ source_entry kind files source
   pub isnt_empty : IfSome found (λ it. IsEmptyTree (entry_of it).1 → ⊥)
 
--- what is found is what this edit grafts
+-- what was found is what this edit grafts
 abbrev pub IsGraft : Table → Kind → Bytes → Option Found → model.Edit → Type 0
 IsGraft table kind path found made = (source : Bytes) × (files : FileMap)
     × (made ≡ model.Graft path source files) × IsSource table kind source files found
@@ -67,8 +69,8 @@ AreEdits table kind (edit ∷ edits) [] = ⊥
 AreEdits table kind (edit ∷ edits) (made ∷ more) =
     IsEdit table kind edit made × AreEdits table kind edits more
 
--- An editor that has the files of a file map then has those that the edits make of it, over each table of trees that has the
--- stored ones.
+-- An editor that has the files of a file map then has those that the edits make of it, over each
+-- table of trees that has the stored ones.
 abbrev pub EditsMake : Table → List Edit → (Trees → unfolded.FileMap) → (Trees → unfolded.FileMap)
     → Type 0
 EditsMake table edits old new =
@@ -76,13 +78,13 @@ EditsMake table edits old new =
     → HasStored table trees → AreEdits table kind edits made → IsUnfolded kind files (old trees)
     → IsUnfolded kind (edited_by files made) (new trees)
 
--- None of them is refused where its turn comes, if there is such a table at all.
+-- None of them is refused when its turn comes, if there is such a table at all.
 abbrev pub EditsPass : Table → List Edit → (Trees → unfolded.FileMap) → Type 0
 EditsPass table edits old = (trees : Trees) (kind : Kind) (files : FileMap) (made : List model.Edit)
     → HasStored table trees → AreEdits table kind edits made → IsUnfolded kind files (old trees)
     → IsFalse (some_refused files made)
 
--- the names in the paths of edits
+-- how many names the paths of edits have
 abbrev pub name_count : List Edit → ℕ
 name_count [] = 0
 name_count (edit ∷ edits) = length (components edit.path.now) + name_count edits

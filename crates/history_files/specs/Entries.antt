@@ -27,7 +27,7 @@ use Rattle.history_files.specs.declared.found.Found.TheVariants.{File, Folder}
 abbrev pub own_folders : FileMap → List FileMap
 own_folders files = map (λ folder. inside folder files) (flat_map beginnings (keys files))
 
--- the folders of files that are grafted, where there are any
+-- the folders of files that are grafted, if there are any files
 abbrev pub other_folders : model.Edit → List FileMap
 other_folders (model.Graft path source other) =
     if is_empty (keys other) then [] else folders_of other
@@ -58,7 +58,7 @@ names_only kind folders name leaf = is_filename name
     (is_folder_mode leaf.mode
     && (is_null leaf.id || list_any (λ folder. id_eq leaf.id (folder_id kind folder)) folders)))
 
--- what an entry names of what is found: that of nothing has the null id
+-- the entry of what was found; that of nothing has the null id
 abbrev pub found_leaf : Option Found → Leaf
 found_leaf (Some (File kind id)) = leaf_of_kind (entry_kind kind) id
 found_leaf (Some (Folder id)) = leaf_of_kind entries.Tree id
@@ -69,7 +69,7 @@ found_leaf None =
       id = null_id Sha1;
     }
 
--- what the edits put may stand at the names of their paths
+-- what the edits put may be at the names of their paths
 abbrev pub MayPut : Property → Bytes → Change → Type 0
 MayPut has path (Put file id) = MayStand has (components path) (leaf_of_kind (entry_kind file) id)
 MayPut has path Remove = ⊤

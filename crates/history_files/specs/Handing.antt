@@ -18,7 +18,7 @@ pub record IsTextOf (kind : Kind) (items : List Item) (tree : EditedTree) : Type
   pub content : tree.content.items ≡ writing.tree_text items
   pub id : id_of tree.id ≡ digest kind (tree_text (writing.tree_text items))
 
--- the tree is kept behind the others, and its id is given
+-- the tree is kept after the others, and its id is returned
 abbrev pub KeepsTree : Kind → List EditedTree → Tree → List EditedTree → ObjectId → Type 0
 KeepsTree kind old tree new id =
     (kept : EditedTree) × (new ≡ old ++ kept ∷ []) × (kept.id ≡ id)

@@ -1,4 +1,4 @@
--- Trees that are kept by their ids, before a store.
+-- Trees that are kept by their ids, in front of a store.
 use Rattle.std.specs.Prelude.{◌≡◌, ℕ, List, Vec, map, Option, None, Some}
 use Rattle.std.specs.BTreeMap.{BTreeMap, get_by, keys}
 use Rattle.std.specs.declared.alloc.Global.{Global}
@@ -21,7 +21,7 @@ ids_of contents = map id_of (keys contents)
 abbrev pub tree_object : Vec ℕ Global → Object
 tree_object content = record { kind = kinds.Tree; content = content.items }
 
--- what is kept, and else what stands in the table
+-- what is kept, or else what is in the table
 abbrev pub tree_or : Option (Vec ℕ Global) → Option Object → Option Object
 tree_or None other = other
 tree_or (Some content) other = Some (tree_object content)

@@ -1,4 +1,4 @@
--- What the laws say: file maps and what their trees unfold to.
+-- The statements of the laws on file maps and what their trees unfold to.
 use Rattle.std.specs.Prelude.{◌≡◌, false, List, Option, Some, option_map, IsFalse, ◌↔◌}
 use Rattle.std.specs.FinMap.{get}
 use Rattle.gix_hash_id.specs.Id.{Id}
@@ -39,7 +39,7 @@ WholeStoresHaveTrees =
     → get r.objects id ≡ Some (StoredFolder files)
     → HasTrees (table_of r) r.kind files
 
--- A put in a file map is one at the path's components, unless the bytes have the null id.
+-- A put in a file map is a put at the path's components, unless the bytes have the null id.
 abbrev pub PutsAgree : Type 0
 PutsAgree =
     (kind : Kind) (files : FileMap) (there : unfolded.FileMap) (path : Bytes) (content : Content)
@@ -48,7 +48,8 @@ PutsAgree =
     → IsUnfolded kind (put_at path content files)
     (unfolded.put trees (components path) (file_leaf kind content) there)
 
--- A graft in a file map puts what stands at its source at the path's components, over trees that have the other files and their folders.
+-- A graft in a file map puts what is at its source at the path's components, over trees that have
+-- the other files and their folders.
 abbrev pub GraftsAgree : Type 0
 GraftsAgree =
     (table : Table) (trees : Trees) (kind : Kind) (files other : FileMap)
@@ -58,28 +59,29 @@ GraftsAgree =
     → IsUnfolded kind (edited files (Graft path source other))
     (unfolded.put trees (components path) (found_leaf found) there)
 
--- A removal in a file map is one at the path's components.
+-- A removal in a file map is a removal at the path's components.
 abbrev pub RemovalsAgree : Type 0
 RemovalsAgree =
     (kind : Kind) (files : FileMap) (there : unfolded.FileMap) (path : Bytes)
     → IsUnfolded kind files there
     → IsUnfolded kind (removed path files) (unfolded.removed (components path) there)
 
--- Nothing stands below a path exactly where nothing stands below its components.
+-- There is nothing below a path exactly if there is nothing below its components.
 abbrev pub FoldersAgree : Type 0
 FoldersAgree =
     (kind : Kind) (files : FileMap) (there : unfolded.FileMap) (path : Bytes)
     → IsUnfolded kind files there
     → IsFalse (has_below files path) ↔ HasNoneBelow (components path) there
 
--- File maps that unfold to the same files have one root.
+-- File maps that unfold to the same files have the same root.
 abbrev pub UnfoldingsTellRoots : Type 0
 UnfoldingsTellRoots =
     (kind : Kind) (a b : FileMap) (there other : unfolded.FileMap) → IsUnfolded kind a there
     → IsUnfolded kind b other
     → SameFiles there other → root kind a ≡ root kind b
 
--- What spells the root of a file map spells a well-formed tree: its entries stand in Git's order, each name once.
+-- The entries that the root of a file map spells are a well-formed tree: in Git's order, each name
+-- once.
 abbrev pub RootsAreWellFormed : Type 0
 RootsAreWellFormed =
     (kind : Kind) (files : FileMap) (items : List Item) → IsFileMap files

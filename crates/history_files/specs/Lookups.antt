@@ -1,4 +1,4 @@
--- How many trees edits ask for.
+-- How many trees edits look up.
 use Rattle.std.specs.Prelude.{ℕ, ◌≡◌, ◌≤◌, ◌<◌, ◌+◌, ◌^◌, List, [], ◌∷◌, length, Option, Some, None}
 use Rattle.gix_hash_id.specs.Id.{Id}
 use Rattle.gix_object_entries.specs.Entry.{Item}
@@ -11,7 +11,8 @@ use Rattle.history_files.specs.declared.edits.Change.{Change}
 use Rattle.history_files.specs.declared.edits.Change.TheVariants.{Put, Remove, RemoveFile, Graft}
 use Rattle.history_files.specs.declared.edits.Edit.{Edit}
 
--- the names that lead to the trees for which an edit asks: a file's removal looks into a folder at its path too
+-- the names that lead to the trees that an edit looks up; a file's removal looks into a folder at
+-- its path too
 abbrev pub way_of : Bytes → Change → Path
 way_of path (Put kind id) = front_of (components path)
 way_of path Remove = front_of (components path)
@@ -36,13 +37,13 @@ abbrev pub root_count : Option Id → ℕ
 root_count None = 0
 root_count (Some root) = 1
 
--- The count rises so, where names lead into these trees at first: by those on the way of one edit, each once, and at more edits by no
--- fewer than those on the way of the first.
+-- How the count rises, if names lead into these trees at first: for one edit by the trees on its
+-- way, each once; for more edits at least by those on the way of the first.
 abbrev pub RisesBy : (Path → List Id) → List Edit → ℕ → ℕ → Type 0
 RisesBy into [] was now = now ≡ was
 RisesBy into (edit ∷ []) was now = now ≡ was + length (into (edit_way edit))
 RisesBy into (edit ∷ next ∷ edits) was now = was + length (into (edit_way edit)) ≤ now
 
--- as far as a count of 64 bits tells
+-- as long as the count fits into 64 bits
 abbrev pub AsksOf : (Path → List Id) → List Edit → ℕ → ℕ → Type 0
 AsksOf into edits was now = was + name_count edits < 2 ^ 64 → RisesBy into edits was now

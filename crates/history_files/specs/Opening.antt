@@ -1,4 +1,5 @@
--- An editor of a file map's files over trees that stand, and why it isn't opened or an edit isn't made.
+-- An editor of a file map's files over existing trees, and why it isn't opened or an edit isn't
+-- made.
 use Rattle.std.specs.Prelude.{⊤, List, Contains, IsTrue, IsFalse}
 use Rattle.std.specs.List.{AllByRecursion}
 use Rattle.std.specs.FinMap.{keys}
@@ -18,7 +19,7 @@ use Rattle.history_files.specs.Unfolding.{HasTrees, IsUnfolded}
 use Rattle.history_files.specs.declared.edits.EditError.{EditError}
 use Rattle.history_files.specs.declared.edits.EditError.TheVariants.{BadPath, IsFolder, NullId, EmptyTree, Failed, Broken, Memory}
 
--- Folders whose trees stand in the table, each with a file in it, and with each those in it.
+-- Folders whose trees are in the table. Each has a file, and the folders in it are among them.
 pub record AreStanding (table : Table) (kind : Kind) (stands : List FileMap) : Type 0 where
   pub maps : AllByRecursion IsFileMap stands
   pub trees : AllByRecursion (HasTrees table kind) stands
@@ -26,7 +27,7 @@ pub record AreStanding (table : Table) (kind : Kind) (stands : List FileMap) : T
   pub closed :
       AllByRecursion (λ folder. AllByRecursion (Contains stands) (own_folders folder)) stands
 
--- The editor has the files. Each entry of its opened trees names a file or one of the folders that stand.
+-- The editor has the files. Each entry of its opened trees names a file or one of these folders.
 pub record EditsFiles {S : Type 0} (table : Table) (kind : Kind) (stands : List FileMap)
     (files : FileMap) (editor : Editor S) : Type 0 where
   pub standing : AreStanding table kind stands
@@ -34,7 +35,7 @@ pub record EditsFiles {S : Type 0} (table : Table) (kind : Kind) (stands : List 
       → IsUnfolded kind files (files_of trees editor)
   pub each : EachEntryHas (names_only kind stands) editor
 
--- a tree that an error tells can't be read or isn't well-formed, where the store answers by its table
+-- the tree whose id an error has can't be read or isn't well-formed, if the store is honest
 abbrev pub TellsBroken : Type 0 → Table → EditError → Type 0
 TellsBroken honest table BadPath = ⊤
 TellsBroken honest table IsFolder = ⊤
@@ -44,7 +45,7 @@ TellsBroken honest table Failed = ⊤
 TellsBroken honest table (Broken oid) = honest → HasNoGoodTree table (id_of oid)
 TellsBroken honest table Memory = ⊤
 
--- why it isn't opened
+-- why the editor isn't opened
 abbrev pub OpenFault : Type 0 → EditError → Type 0
 OpenFault may_fail BadPath = ⊥
 OpenFault may_fail IsFolder = ⊥

@@ -1,5 +1,5 @@
--- What is read of the trees of files, and why they aren't read: `honest` says whether a store answers by its table, `may_fail`
--- whether its lookups may fail.
+-- What is read of the trees of files, and why they aren't read. `honest` says that a store returns
+-- what its table has, `may_fail` that its lookups may fail.
 use Rattle.std.specs.Prelude.{◌≡◌, ◌⊎◌, ⊤, Option, Some, None, option_map, option_and_then, List, [], codes}
 use Rattle.gix_hash_id.specs.Id.{Id, id_of}
 use Rattle.gix_hash_id.specs.declared.kind.Kind.{Kind}
@@ -45,7 +45,7 @@ abbrev pub as_looked_up : looking_up.Error → ReadError
 as_looked_up looked_up.Failed = Failed
 as_looked_up looked_up.Memory = Memory
 
--- a content that isn't read; or no memory was left to read it
+-- a content that isn't read; or memory ran out
 abbrev pub unless_memory : decode.Error → ReadError → ReadError
 unless_memory unread.FieldName error = error
 unless_memory unread.HexDigits error = error
@@ -59,11 +59,11 @@ as_read (not_given.Find error) = as_looked_up error
 as_read (not_given.NotFound oid) = Broken oid
 as_read (not_given.ObjectKind oid actual expected) = Broken oid
 
--- no tree stands under the id that can be read
+-- there is no readable tree under the id
 abbrev pub HasNoTree : Table → Id → Type 0
 HasNoTree table id = (items : List Item) → StandsAs table id objects.Tree (Tree items) → ⊥
 
--- a tree that an error tells can't be read, where the store answers by its table
+-- the tree whose id an error has can't be read, if the store is honest
 abbrev pub TellsUnread : Type 0 → Table → ReadError → Type 0
 TellsUnread honest table Failed = ⊤
 TellsUnread honest table (Broken oid) = honest → HasNoTree table (id_of oid)
@@ -75,26 +75,26 @@ TreeFault honest may_fail table id Failed = may_fail
 TreeFault honest may_fail table id (Broken oid) = (id_of oid ≡ id) × (honest → HasNoTree table id)
 TreeFault honest may_fail table id Memory = ⊤
 
--- the root's tree and those below it stand in the table, and it is the root of these files
+-- the root's tree and those below it are in the table, and it is the root of these files
 pub record IsRootOf (table : Table) (kind : Kind) (files : FileMap) (root : Id) : Type 0 where
   pub map : IsFileMap files
   pub trees : HasTrees table kind files
   pub id : root ≡ folder_id kind files
 
--- it holds of each file map whose root this is, where the store answers by its table
+-- it holds of each file map with this root, if the store is honest
 abbrev pub OfFiles : Type 0 → Table → Id → (Kind → FileMap → Type 0) → Type 0
 OfFiles honest table root P =
     honest → (kind : Kind) (files : FileMap) → IsRootOf table kind files root → P kind files
 
--- a store that has the trees fails only where a lookup fails, or for want of memory
+-- a store that has the trees fails only if a lookup fails or memory runs out
 abbrev pub OwnFault : Type 0 → ReadError → Type 0
 OwnFault may_fail Failed = may_fail
 OwnFault may_fail (Broken oid) = ⊥
 OwnFault may_fail Memory = ⊤
 
--- ---- what stands at a path
+-- ---- what is at a path
 
--- the mode and the id of what stands there
+-- the mode and the id of what was found
 abbrev pub entry_of : Found → Bytes × Id
 entry_of (File kind id) = (mode_of kind, id_of id)
 entry_of (Folder id) = (codes "40000", id_of id)
@@ -110,12 +110,13 @@ named_as entries.Commit id = None
 abbrev pub named_by : Item → Option (Bytes × Id)
 named_by item = named_as (kind_of item.mode.value) item.id
 
--- what is told of an answered entry
+-- what the entry names, if one was returned
 abbrev pub told_entry : Option Answer → Option (Bytes × Id)
 told_entry answer =
     option_and_then (λ (a : Answer). named_as (kind_of a.0.value) (id_of a.1)) answer
 
--- from what was found to what stands under a name in it: nothing in a file, and in a folder what its tree's entry names
+-- from what was found to what has a name in it: nothing in a file, and in a folder what its tree's
+-- entry names
 abbrev pub StepsBelow : Table → Found → Bytes → Option Found → Type 0
 StepsBelow table (File kind id) name next = next ≡ None
 StepsBelow table (Folder id) name next =
@@ -124,11 +125,11 @@ StepsBelow table (Folder id) name next =
 
 -- ---- all files below a root
 
--- what is told of a file
+-- the line of a file
 abbrev pub line_of : listing.File → FileLine
 line_of file = record { kind = file.kind; id = id_of file.id; path = file.path.items }
 
--- what is told of the file that an entry names, and of no other entry
+-- the line of the file that an entry names; none for any other entry
 abbrev pub line_named : EntryKind → Id → Bytes → Option FileLine
 line_named entries.Tree id path = None
 line_named entries.Blob id path = Some (record { kind = PlainFile; id = id; path = path })
@@ -147,22 +148,22 @@ as_walked root (walked.ObjectDecode error) = Broken root
 as_walked root walked.Cycle = Broken root
 as_walked root walked.Memory = Memory
 
--- Why files aren't listed: the walk in depth order from the root ends at a tree that isn't found or lies under itself, or in one of
--- which an entry can't be read; or no memory was left.
+-- Why files aren't listed: the walk in depth order from the root ends at a tree that is missing or
+-- is below itself, or in one of which an entry can't be read; or memory ran out.
 abbrev pub StopsBelow : Type 0 → Type 0 → Table → ObjectId → ReadError → Type 0
 StopsBelow honest may_fail table root error = (error ≡ Memory)
     ⊎ ((calls : List Call) × (cause : walking.Error) × (error ≡ as_walked root cause)
     × InDepth honest may_fail table [] (before (id_of root)) calls (failed cause))
 
--- Why it isn't told what stands at some paths: a tree to which what begins them leads isn't found, or has an entry that can't be
--- read; or no memory was left.
+-- Why what is at some paths isn't returned: a tree on the way of one is missing, or has an entry
+-- that can't be read; or memory ran out.
 abbrev pub StopsAtPaths : Type 0 → Type 0 → Table → ObjectId → List (List Bytes) → ReadError
     → Type 0
 StopsAtPaths honest may_fail table root paths error = (error ≡ Memory)
     ⊎ ((cause : walking.Error) × (error ≡ as_walked root cause)
     × EntriesFault honest may_fail table (id_of root) paths cause)
 
--- no tree stands under the id that can be read and is well-formed
+-- there is no readable and well-formed tree under the id
 abbrev pub HasNoGoodTree : Table → Id → Type 0
 HasNoGoodTree table id =
     (items : List Item) → StandsAs table id objects.Tree (Tree items) → IsWellFormed items → ⊥

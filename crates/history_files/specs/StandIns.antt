@@ -1,4 +1,4 @@
--- Edits that are tested in place of others: each puts what has one id that isn't null.
+-- Edits that are tested in place of others: whatever they put has one id, which isn't null.
 use Rattle.std.specs.Prelude.{Bool, false}
 use Rattle.gix_hash_id.specs.Id.{id_of}
 use Rattle.gix_hash_id.specs.declared.object_id.ObjectId.{ObjectId}

@@ -1,4 +1,5 @@
--- The files of a file map as Git's trees name them: what stands at a path's components, one below the other, is a mode and an id.
+-- The files of a file map as Git's trees name them: a mode and an id at the components of each
+-- path, one below the other.
 use Rattle.std.specs.Prelude.{◌≡◌, false, Some, option_map}
 use Rattle.std.specs.List.{AllByRecursion}
 use Rattle.std.specs.FinMap.{get}
@@ -33,13 +34,13 @@ file_leaf kind content =
       id = blob_id kind content.bytes;
     }
 
--- At the components of each path stands what names the file there, and nothing stands elsewhere.
+-- At the components of each path is what names the file there, and there is nothing elsewhere.
 pub record IsUnfolded (kind : Kind) (files : FileMap) (there : unfolded.FileMap) : Type 0 where
   pub at : (path : Bytes) → there (components path) ≡ option_map (file_leaf kind) (get files path)
   pub only : (names : Path) (leaf : Leaf) → there names ≡ Some leaf
       → (path : Bytes) × (components path ≡ names)
 
--- a folder stands under its id, as a tree of its text
+-- a folder is in the table under its id, as a tree of its text
 abbrev pub FolderStands : Table → Kind → Value → Type 0
 FolderStands table kind (StoredFolder files) =
     Stands table (folder_id kind files) objects.Tree (root kind files)
@@ -52,6 +53,6 @@ pub record IsInTable (table : Table) (kind : Kind) (value : Value) : Type 0 wher
   pub stands : FolderStands table kind value
   pub isnt_null : is_null (id_of kind value) ≡ false
 
--- the file map and each of its folders stand in the table as trees
+-- the file map and each of its folders are in the table as trees
 abbrev pub HasTrees : Table → Kind → FileMap → Type 0
 HasTrees table kind files = AllByRecursion (IsInTable table kind) (file_values files)

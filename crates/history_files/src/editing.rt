@@ -33,15 +33,18 @@ use gix_object_lookup::FindInto;
 use history_model::laws::edits_keep;
 use std::alloc::{AllocError, Global};
 
-/// Makes the edits of a root's files in their order, and gives the trees that are to be stored for what they make of them: those on
-/// the edited paths, and always the root's, also where it has no entries. Without a root there are no files before. Nothing is
-/// stored. The ids of what is put, and of the trees, are of this kind. Of the store it asks for the root's tree, and for each tree
-/// into which an edit leads and that wasn't asked for before: for one more than the names in the edited paths at most.
+/// Makes the edits of a root's files, in order, and returns the trees that are to be stored for the
+/// result: those on the edited paths, and always the root's, even if it has no entries. Without a
+/// root there are no files before. Nothing is stored. The ids of what is put, and of the trees, are
+/// of this kind. Looks up the root's tree, and each tree into which an edit leads and that wasn't
+/// looked up before: at most one more than there are names in the edited paths.
 ///
-/// It is `BadPath` where a path has an empty name or a zero byte, whatever the other edits are, and before anything is looked up;
-/// `IsFolder` where a `RemoveFile` finds files below its path; `EmptyTree` where what is grafted has the id of the tree without entries;
-/// `NullId` where no edit is refused and what is put or one of the trees has the null id; `Failed` where a lookup failed; `Broken` where the root or a tree on a path isn't there or can't be read; and
-/// `Memory` where no memory is left.
+/// Returns `BadPath` if a path has an empty name or a zero byte, whatever the other edits are,
+/// before anything is looked up; `IsFolder` if a `RemoveFile` finds files below its path;
+/// `EmptyTree` if what is grafted has the id of the tree without entries; `NullId` if no edit is
+/// refused and what is put or one of the trees has the null id; `Failed` if a lookup failed;
+/// `Broken` if the root or a tree on a path is missing or can't be read; and `Memory` if no memory
+/// is left.
 pub fn edit_files<S: FindInto>(
     alloc: Global,
     store: &S,
@@ -88,7 +91,7 @@ fn are_paths(edits: &[Edit<'_>]) -> bool
     edits.iter().all(|edit| is_path(edit.path))
 }
 
-// Whether no name is empty, and no byte is zero.
+// Returns whether no name is empty, and no byte is zero.
 fn is_path(path: &[u8]) -> bool
     ensures { result ≡ is_path path.now }
 {
@@ -102,7 +105,7 @@ fn has_names(path: &[u8]) -> bool
         .all(|name| !name.is_empty())
 }
 
-// An editor of the root's files, or of none.
+// Returns an editor of the root's files, or of none.
 fn editor_of<'a, S: FindInto>(
     alloc: Global,
     store: &'a S,
@@ -133,7 +136,7 @@ fn editor_of<'a, S: FindInto>(
     }
 }
 
-// Whether an edit puts what has the null id.
+// Returns whether an edit puts what has the null id.
 fn has_null(edits: &[Edit<'_>]) -> bool
     ensures { result ≡ list_any (λ edit. puts_null edit.change) edits.now }
 {
@@ -149,7 +152,8 @@ fn puts_null(change: &Change) -> bool
     }
 }
 
-// The edits, by which what has this id is put: they are tested so, since an editor has no file where the id is null.
+// Returns the edits with this id for all that is put: they are tested so, since an editor has no
+// file with the null id.
 fn with_id<'a>(alloc: Global, id: ObjectId, edits: &[Edit<'a>]) -> Result<Vec<Edit<'a>>, AllocError>
     ensures { IfOk result (λ tested. tested.items ≡ map (stand_in id) edits.now) }
 {
@@ -183,7 +187,7 @@ fn is_null(id: &ObjectId) -> bool
     id.is_null()
 }
 
-// How many roots are given.
+// Returns how many roots are given.
 fn roots(root: Option<&ObjectId>) -> u64
     ensures { result ≡ root_count (root_id root.entry) }
 {
@@ -193,7 +197,7 @@ fn roots(root: Option<&ObjectId>) -> u64
     }
 }
 
-// The trees that the editor hands out. So many were asked for before it counted.
+// Returns the trees that the editor hands out. So many were looked up before it counted.
 fn written<S: FindInto>(
     alloc: Global,
     kind: Kind,
@@ -222,7 +226,7 @@ fn written<S: FindInto>(
     }
 }
 
-// Keeps a tree that is handed out, and gives its id.
+// Keeps a tree that is handed out, and returns its id.
 fn keep(
     alloc: Global,
     kind: Kind,
@@ -237,7 +241,7 @@ fn keep(
     Ok(id)
 }
 
-// The tree's text. Each name was tested, so that a byte that no tree has isn't the cause where none is given.
+// Returns the tree's text. Each name was tested, so only memory can be the cause if there is none.
 fn content_of(alloc: Global, tree: &Tree) -> Result<Vec<u8>, AllocError>
     ensures { IfOk result (λ content.
         content.items ≡ tree_text (map own_item tree.now.entries.items)) }

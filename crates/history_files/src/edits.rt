@@ -34,19 +34,20 @@ use std::alloc::{AllocError, Global};
 /// What an edit does at its path.
 #[derive(Clone, Copy)]
 pub enum Change {
-    /// Puts a file there. All at or below the path goes, and each file above it.
+    /// Puts a file there. Everything at or below the path goes, and each file above it.
     Put {
         /// What the file is.
         kind: FileKind,
         /// The id of its bytes.
         id: ObjectId,
     },
-    /// Takes out all at or below the path.
+    /// Removes everything at or below the path.
     Remove,
-    /// The same, but refused where files stand below the path.
+    /// The same, but refused if there are files below the path.
     RemoveFile,
-    /// Puts there what was found in other files: a file, or a folder with all that it has. All at or below the path goes, and each
-    /// file above it; that alone, where nothing was found.
+    /// Puts there what was found in other files: a file, or a folder with all that it has.
+    /// Everything at or below the path goes, and each file above it; if nothing was found, only
+    /// that happens.
     Graft(Option<Found>),
 }
 
@@ -65,7 +66,7 @@ pub enum EditError {
     /// A path has an empty name.
     #[error("a path has an empty name")]
     BadPath,
-    /// Files stand below the path where a file is to be removed.
+    /// There are files below the path of a file that is to be removed.
     #[error("files stand below a path where a file is to be removed")]
     IsFolder,
     /// What is put, or the tree of a folder, has the null id, by which a tree names nothing.
@@ -77,7 +78,7 @@ pub enum EditError {
     /// The store failed to look a tree up.
     #[error("a tree couldn't be looked up")]
     Failed,
-    /// No tree that can be read stands under this id.
+    /// There is no readable tree under this id.
     #[error("no tree {oid} stands that can be read")]
     Broken {
         /// The id.
@@ -123,7 +124,7 @@ impl From<AllocError> for EditError {
     }
 }
 
-// Why a tree on a path isn't read.
+// Returns why a tree on a path isn't read.
 fn unread(error: existing_object::Error) -> EditError
     ensures { result ≡ as_unread error }
 {
@@ -141,11 +142,12 @@ fn unread(error: existing_object::Error) -> EditError
     }
 }
 
-/// Makes the edits in their order. The files are those that the editor has over trees of its store.
+/// Makes the edits in order. The files are those that the editor has over trees of its store.
 ///
-/// It is `BadPath` where a path has an empty name, `IsFolder` where a `RemoveFile` finds files below its path, `EmptyTree` where what
-/// is grafted has the id of the tree without entries, `Failed` where a lookup failed, `Broken` where a tree on a path isn't there or
-/// can't be read, and `Memory` where no memory is left. Some of the edits before may be made then.
+/// Returns `BadPath` if a path has an empty name, `IsFolder` if a `RemoveFile` finds files below
+/// its path, `EmptyTree` if what is grafted has the id of the tree without entries, `Failed` if a
+/// lookup failed, `Broken` if a tree on a path is missing or can't be read, and `Memory` if no
+/// memory is left. Some of the edits may have been made then.
 pub fn make_edits<S: FindInto>(
     alloc: Global,
     editor: &mut Editor<S>,
@@ -248,7 +250,7 @@ struct NewEntry {
     id: ObjectId,
 }
 
-// The entry of what was found; that of nothing has the null id.
+// Returns the entry of what was found; that of nothing has the null id.
 fn entry_for(found: Option<Found>) -> NewEntry
     ensures { leaf_of_kind result.kind result.id ≡ found_leaf found }
 {

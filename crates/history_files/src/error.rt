@@ -15,7 +15,7 @@ pub enum ReadError {
     /// The store failed to look a tree up.
     #[error("a tree couldn't be looked up")]
     Failed,
-    /// No tree that can be read stands under this id.
+    /// There is no readable tree under this id.
     #[error("no tree {oid} stands that can be read")]
     Broken {
         /// The id.

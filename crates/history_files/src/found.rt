@@ -1,4 +1,4 @@
-//! What stands at a path.
+//! The file or folder at a path.
 
 ghost use Rattle.std.specs.Prelude.{◌≡◌, map, List, IfOk, IfErr, IsErrOf, None, option_map, option_and_then};
 ghost use Rattle.gix_hash_id.specs.Id.{Id, id_of};
@@ -22,7 +22,7 @@ use gix_object_lookup::{self as lookup, FindInto};
 use history_model::FileKind;
 use std::alloc::Global;
 
-/// What stands at a path.
+/// What is at a path.
 #[derive(Clone, Copy, PartialEq, Eq)]
 pub enum Found {
     /// A file.
@@ -32,17 +32,18 @@ pub enum Found {
         /// The id of its bytes.
         id: ObjectId,
     },
-    /// A folder, that is, files stand below the path.
+    /// A folder: there are files below the path.
     Folder {
         /// The id of its tree.
         id: ObjectId,
     },
 }
 
-/// What stands at a path of a root's files: a file, a folder, or nothing. The root is the id of a tree.
+/// Returns what is at a path of a root's files: a file, a folder, or nothing. The root is the id of
+/// a tree.
 ///
-/// It is `Failed` where a lookup failed, `Broken` where a tree on the path isn't there or can't be read, and `Memory` where no
-/// memory is left.
+/// Returns `Failed` if a lookup failed, `Broken` if a tree on the path is missing or can't be read,
+/// and `Memory` if no memory is left.
 pub fn entry_at<S: FindInto>(
     alloc: Global,
     store: &S,
@@ -68,7 +69,7 @@ pub fn entry_at<S: FindInto>(
     Ok(Some(found))
 }
 
-// What stands under a name in what was found: nothing in a file.
+// Returns what has this name in what was found: nothing, if that is a file.
 fn below<S: FindInto>(
     alloc: Global,
     store: &S,
@@ -87,7 +88,7 @@ fn below<S: FindInto>(
     }
 }
 
-// What stands under a name in the tree of this id.
+// Returns what has this name in the tree of this id.
 fn named_in<S: FindInto>(
     alloc: Global,
     store: &S,
@@ -106,7 +107,7 @@ fn named_in<S: FindInto>(
     Ok(named_among(entries.as_slice(), name))
 }
 
-// The entries of the tree of this id, which stand in the buffer.
+// Returns the entries of the tree of this id, whose content is put into the buffer.
 pub(crate) fn entries_of<'a, S: FindInto>(
     alloc: Global,
     store: &S,
@@ -127,7 +128,7 @@ pub(crate) fn entries_of<'a, S: FindInto>(
     }
 }
 
-// Why a tree's content isn't read.
+// Returns why a tree's content isn't read.
 fn unread(error: decode::Error, oid: ObjectId) -> ReadError
     ensures { result ≡ unless_memory error (Broken oid) }
 {
@@ -137,7 +138,7 @@ fn unread(error: decode::Error, oid: ObjectId) -> ReadError
     }
 }
 
-// What the first entry of the name names.
+// Returns what the first entry of this name names.
 fn named_among(entries: &[EntryRef<'_>], name: &[u8]) -> Option<Found>
     ensures { option_map entry_of result
         ≡ option_and_then named_by (named name.now (map item_of entries.now)) }
@@ -150,14 +151,14 @@ fn named_among(entries: &[EntryRef<'_>], name: &[u8]) -> Option<Found>
     None
 }
 
-// What an entry names: a submodule is neither a file nor a folder.
+// Returns what an entry names; a submodule is neither a file nor a folder.
 fn found_by(entry: &EntryRef<'_>) -> Option<Found>
     ensures { option_map entry_of result ≡ named_by (item_of entry.now) }
 {
     found_of(entry.mode, ObjectId::from(entry.oid))
 }
 
-/// What an entry of this mode names.
+/// Returns what an entry of this mode names.
 pub(crate) fn found_of(mode: EntryMode, id: ObjectId) -> Option<Found>
     ensures { option_map entry_of result ≡ named_as (kind_of mode.value) (id_of id) }
 {

@@ -1,4 +1,4 @@
-//! What stands at each of several paths.
+//! The file or folder at each of several paths.
 
 ghost use Rattle.std.specs.Prelude.{◌≡◌, map, IfOk, IfErr, IsErrOf, option_map};
 ghost use Rattle.gix_hash_id.specs.Id.{id_of};
@@ -17,11 +17,11 @@ use gix_object_lookup::FindInto;
 use gix_traverse_tree::EntriesState;
 use std::alloc::{AllocError, Global};
 
-/// What stands at each of some paths of a root's files, in their order: a file, a folder, or nothing. The root is the id of a tree.
-/// Each tree on the paths is asked for once; the state tells how many were.
+/// Returns what is at each of some paths of a root's files, in order: a file, a folder, or nothing.
+/// The root is the id of a tree. Each tree on the paths is looked up once; the state counts them.
 ///
-/// It is `Failed` where a lookup failed, `Broken` where a tree on the paths isn't there (which it then tells) or can't be read (it
-/// then tells the root), and `Memory` where no memory is left.
+/// Returns `Failed` if a lookup failed; `Broken` with the id of a tree on the paths if it is
+/// missing, or with the root's if one can't be read; and `Memory` if no memory is left.
 pub fn entries_at<S: FindInto>(
     alloc: Global,
     store: &S,
@@ -47,7 +47,7 @@ pub fn entries_at<S: FindInto>(
     }
 }
 
-// What entries name.
+// Returns what the entries name.
 fn found_among(
     alloc: Global,
     entries: &[Option<(EntryMode, ObjectId)>],
@@ -62,7 +62,7 @@ fn found_among(
     Ok(found)
 }
 
-// What an entry names, if there is one.
+// Returns what an entry names, if there is one.
 fn found_by_answer(entry: &Option<(EntryMode, ObjectId)>) -> Option<Found>
     ensures { option_map entry_of result ≡ told_entry entry.now }
 {

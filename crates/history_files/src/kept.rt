@@ -1,4 +1,4 @@
-//! All files below a root, of which each different tree is read once.
+//! All files below a root; each distinct tree is read once.
 
 ghost use Rattle.std.specs.Prelude.{◌≡◌, ◌++◌, map, IfOk, IfErr, IsErrOf, OnOk};
 ghost use Rattle.std.specs.FinMap.{entries};
@@ -19,7 +19,7 @@ use gix_object_lookup::{FindInto, Lookup};
 use std::alloc::{AllocError, Global};
 use std::collections::BTreeMap;
 
-// The contents of trees under their ids, before a store that is asked for what isn't among them.
+// The contents of trees under their ids, and a store for what isn't among them.
 #[derive(Drop)]
 struct KeptTrees<S> {
     contents: BTreeMap<ObjectId, Vec<u8>>,
@@ -47,7 +47,8 @@ impl<S: FindInto> FindInto for KeptTrees<S> {
     }
 }
 
-/// As [`files`], but each different tree is asked for once, however often it stands: all of them are kept in memory meanwhile.
+/// Like [`files`], errors included, but looks each distinct tree up once, however often it occurs:
+/// all of them are kept in memory meanwhile.
 pub fn files_by_trees<S: FindInto>(
     alloc: Global,
     store: &S,
@@ -64,7 +65,7 @@ pub fn files_by_trees<S: FindInto>(
     files(alloc, &KeptTrees { contents, store }, root)
 }
 
-// The contents of the trees below a root, each read once. What can't be read is left out.
+// Returns the contents of the trees below a root, each read once. What can't be read is left out.
 fn trees_below<S: FindInto>(
     alloc: Global,
     store: &S,
@@ -85,7 +86,7 @@ fn trees_below<S: FindInto>(
     Ok(contents)
 }
 
-// Reads a tree that isn't kept yet. Its folders wait behind the others.
+// Reads a tree that isn't kept yet, and adds its folders to the waiting trees.
 fn read_tree<S: FindInto>(
     alloc: Global,
     store: &S,
@@ -109,7 +110,7 @@ fn read_tree<S: FindInto>(
     Ok(())
 }
 
-// Adds the folders that a tree's content names, where it can be read.
+// Adds the folders that a tree's content names, if it can be read.
 fn add_folders(
     alloc: Global,
     waiting: &mut Vec<ObjectId>,

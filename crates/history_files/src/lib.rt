@@ -1,4 +1,4 @@
-//! Whole file maps over stores of trees: what stands at a path.
+//! Whole file maps over stores of trees: what is at a path, all files, and edits.
 #![tactic(auto)]
 
 mod editing;

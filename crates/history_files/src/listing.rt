@@ -31,10 +31,12 @@ pub struct File {
     pub path: Vec<u8>,
 }
 
-/// All files below a root, which is the id of a tree, ascending by the bytes of their paths.
+/// Returns all files below a root, which is the id of a tree, ascending by the bytes of their
+/// paths.
 ///
-/// It is `Failed` where a lookup failed, `Broken` where the root or a tree below it isn't there (which it then tells), or where one
-/// can't be read or lies under itself (it then tells the root), and `Memory` where no memory is left.
+/// Returns `Failed` if a lookup failed; `Broken` with the id of the root or of a tree below it if
+/// that is missing, or with the root's if a tree can't be read or is below itself; and `Memory` if
+/// no memory is left.
 pub fn files<S: FindInto>(alloc: Global, store: &S, root: &ObjectId) -> Result<Vec<File>, ReadError>
     ensures files { OfFiles (S.is_honest store.now) (S.table store.now) (id_of root.now)
         (λ kind files. IfOk result (λ found.
@@ -49,7 +51,7 @@ pub fn files<S: FindInto>(alloc: Global, store: &S, root: &ObjectId) -> Result<V
     Ok(files_among(alloc, recorder.records.as_slice())?)
 }
 
-// All entries below a root, recorded with their paths.
+// Returns all entries below a root, recorded with their paths.
 fn recorded<S: FindInto>(alloc: Global, store: &S, root: &ObjectId) -> Result<Recorder, ReadError>
     ensures files { OfFiles (S.is_honest store.now) (S.table store.now) (id_of root.now)
         (λ kind files. IfOk result (λ recorder.
@@ -69,7 +71,7 @@ fn recorded<S: FindInto>(alloc: Global, store: &S, root: &ObjectId) -> Result<Re
     }
 }
 
-/// Why a walk from this root ended early.
+/// Returns why a walk from this root ended early.
 pub(crate) fn read_error(error: depthfirst::Error, root: ObjectId) -> ReadError
     ensures { result ≡ as_walked root error }
 {
@@ -80,7 +82,7 @@ pub(crate) fn read_error(error: depthfirst::Error, root: ObjectId) -> ReadError
     }
 }
 
-// The files among recorded entries.
+// Returns the files among recorded entries.
 fn files_among(alloc: Global, records: &[Entry]) -> Result<Vec<File>, AllocError>
     ensures { IfOk result (λ files.
         map line_of files.items ≡ filter_map line_recorded (map recorded_of records.now)) }
@@ -114,7 +116,7 @@ fn file_of(alloc: Global, kind: FileKind, entry: &Entry) -> Result<File, AllocEr
     })
 }
 
-// What a file of this mode is; `None` for what is no file.
+// Returns what a file of this mode is; `None` for what is no file.
 fn file_kind(mode: EntryMode) -> Option<FileKind>
     ensures { (id : Id) (path : Bytes)
         → option_map (λ kind. record { kind = kind; id = id; path = path }) result

@@ -18,10 +18,11 @@ use gix_object_entries::TreeRef;
 use gix_object_lookup::FindInto;
 use std::alloc::Global;
 
-/// An editor of a root's files, which looks trees up in the store. The root is the id of a tree.
+/// Returns an editor of a root's files, which looks trees up in the store. The root is the id of a
+/// tree.
 ///
-/// It is `Failed` where the lookup failed, `Broken` where no tree stands under the root's id that can be read and is well-formed,
-/// and `Memory` where no memory is left.
+/// Returns `Failed` if the lookup failed, `Broken` if there is no readable and well-formed tree
+/// under the root's id, and `Memory` if no memory is left.
 pub fn open_editor<S: FindInto>(
     alloc: Global,
     store: S,
@@ -39,7 +40,7 @@ where
         (λ kind files. IfErr result (OwnFault (S.may_fail store))) }
     ensures store { IfOk result (λ editor. editor.store ≡ store) }
     ensures uncounted { IfOk result (λ editor. editor.lookups ≡ 0) }
-    // No tree is opened but the root's.
+    // Only the root's tree is opened.
     ensures unopened { S.is_honest store → (trees : Trees) → HasStored (S.table store) trees
         → IfOk result (λ editor. (names : Path)
         → asked_by editor names trees ≡ root_into trees (Some (id_of root.now)) names) }

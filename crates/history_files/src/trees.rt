@@ -19,8 +19,9 @@ pub struct EditedTree {
 pub struct EditedFiles {
     /// The id of the tree of all files.
     pub root: ObjectId,
-    /// The trees that are to be stored, each behind those of its own folders. That of all files is the last.
+    /// The trees that are to be stored, each after those of its own folders. That of all files is
+    /// the last.
     pub trees: Vec<EditedTree>,
-    /// How many trees were asked of the store.
+    /// How many trees were looked up in the store.
     pub lookups: u64,
 }

@@ -56,7 +56,7 @@ to_targets c = spelling.Line (codes "move" ∷ []) ∷ map spelling.to_part c.to
 abbrev pub to_mover : model.MoveCommand → List spelling.Part
 to_mover c = to_targets c ++ spelling.actor_parts (codes "actor") c.actor
 
--- the parts of a command that come before its message, where it has one, and those up to it
+-- the parts of a command that come before its message, if it has one, and those up to it
 abbrev pub before_message : model.Command → Option (List spelling.Part)
 before_message (model.Commit c) = Some (to_committer c)
 before_message (model.Tag c) = Some (to_tagger c)
@@ -69,7 +69,7 @@ to_message (model.Tag c) = Some (to_tagger c ++ spelling.message_parts c.message
 to_message (model.Move c) = Some (to_mover c ++ spelling.message_parts c.message)
 to_message _ = None
 
--- the command has enough, and the draft has what came of it
+-- the command has enough parts, and the draft has what came of it
 pub record HasEnough (d : Draft) (order : model.Command) : Type 0 where
   pub enough : IsTrue (spelling.has_enough order)
   pub has : IsDraft d order
@@ -97,7 +97,7 @@ HasCome place.End d parts =
 HasCome place.Done d parts =
     (order : model.Command) × (parts ≡ spelling.parts_of order) × HasEnough d order
 
--- ---- what the readers of a line and of a line with its fields give
+-- ---- what the readers of a line and of a line with its fields return
 
 -- the line, without its line feed, is one of the table's
 pub record IsLine (line : Heading) (text : Bytes) : Type 0 where
@@ -137,7 +137,7 @@ heading_sizes (heading.Actor line) = line.name ∷ line.email ∷ []
 heading_sizes (heading.Message size) = size ∷ []
 heading_sizes _ = []
 
--- a line and these fields behind it
+-- a line, and these fields after it
 abbrev pub parts_with : lines.Heading → List Bytes → List spelling.Part
 parts_with heading fields = spelling.Line (lines.words_of heading) ∷ map spelling.Field fields
 
@@ -156,7 +156,7 @@ edit_fields (model.RemoveLine path) = path ∷ []
 edit_fields (model.RemoveFileLine path) = path ∷ []
 edit_fields (model.GraftLine path word source) = path ∷ source ∷ []
 
--- the fields of an edit were taken: it is each one of this line with these fields
+-- the fields of an edit were taken; the edit is any with this line and these fields
 pub record TakesEdit (heading : EditHeading) (edit : Option Edit) (taken : Bytes) : Type 0 where
   pub fields : List Bytes
   pub heads : edit_sizes heading ≡ map length fields
@@ -193,7 +193,7 @@ pub record TakesActor (heading : ActorHeading) (actor : Option ActorLine)
       (λ x. IsActor x
       (record { name = name; email = email; seconds = seconds; offset = offset }))
 
--- the fields behind the line that a command begins with were taken, and the draft has what came
+-- the fields after a command's first line were taken, and the draft has what came
 pub record TakesOpening (said : Opening) (new : Draft) (taken : Bytes) : Type 0 where
   pub fields : List Bytes
   pub heads : opening_sizes said ≡ map length fields
@@ -202,7 +202,7 @@ pub record TakesOpening (said : Opening) (new : Draft) (taken : Bytes) : Type 0 
       → runs.next_offered table.Start h ≡ Some (place_of next)
       → HasCome next new (parts_with h fields)
 
--- the fields behind a line were taken into the draft
+-- the fields after a line were taken into the draft
 pub record TakesFields (said : Heading) (old new : Draft) (taken : Bytes) : Type 0 where
   pub fields : List Bytes
   pub heads : heading_sizes said ≡ map length fields

@@ -1,4 +1,4 @@
--- What a command that was read stands for.
+-- What a command that was read means.
 use Rattle.std.specs.Prelude.{◌≡◌, ⊤, List, map, Option, Some, None, option_map}
 use Rattle.std.specs.List.{AllZip}
 use Rattle.history_model.specs.Bytes.{Bytes}
@@ -87,7 +87,7 @@ pub record IsRename (rename : Rename) (from to : Bytes) : Type 0 where
   pub from_is : rename.from.items ≡ from
   pub to_is : rename.to.items ≡ to
 
--- the name is this one, and is to be at the word's commit, if there is a word
+-- the name is this one, and must be at the word's commit, if there is a word
 pub record IsDelete (delete : Delete) (name : Bytes) (at : Option Bytes) : Type 0 where
   pub name_is : delete.name.items ≡ name
   pub expect : IsExpect delete.expect (option_expect at)
@@ -121,7 +121,7 @@ pub record IsLog (log : LogCommand) (line : model.LogCommand) : Type 0 where
   pub items : AllZip IsLogItem log.items.items line.items
   pub paths : ArePaths log.paths.items line.paths
 
--- the command that was read is this one, but for the bytes of fields over their limits
+-- the command that was read is this one, except for the bytes of fields over their limits
 abbrev pub IsCommandOf : Command → model.Command → Type 0
 IsCommandOf (command.Commit commit) (model.Commit order) = IsCommit commit order
 IsCommandOf (command.Tag tag) (model.Tag order) = IsTag tag order
@@ -139,7 +139,7 @@ IsCommandOf command.Index model.Index = ⊤
 IsCommandOf (command.Log log) (model.Log order) = IsLog log order
 IsCommandOf _ _ = ⊥
 
--- a command was read, or read past for want of memory
+-- a command was read, or was read to its end though memory ran out
 abbrev pub IsReceived : Received → model.Command → Type 0
 IsReceived (received.Command command) order = IsCommandOf command order
 IsReceived (received.NoMemory changing) order = changing ≡ is_changing order

@@ -1,4 +1,4 @@
--- What a command's draft, and the line that stands first, have of the command.
+-- What a command's draft, and the line that was read, have of the command.
 use Rattle.std.specs.Prelude.{◌≡◌, ℕ, ⊤, Bool, true, false, IsTrue, IsFalse, List, [], ◌∷◌, ◌++◌, Option, Some, None, option_map, map, IfSome, Vec}
 use Rattle.std.specs.List.{AllZip}
 use Rattle.std.specs.declared.alloc.Global.{Global}
@@ -54,7 +54,7 @@ place_of place.Message = table.ToMessage
 place_of place.End = table.ToEnd
 place_of place.Done = table.Done
 
--- The line of an edit is this one. A word that found no memory may be any.
+-- The line of an edit is this one. A word for which memory ran out may be any.
 abbrev pub IsEditHeading : EditHeading → lines.Heading → Type 0
 IsEditHeading (edit.Put kind path content) (lines.PutHeading k m n) =
     (kind ≡ k) × (path ≡ m) × (content ≡ n)
@@ -64,7 +64,7 @@ IsEditHeading (edit.Graft path word source) (lines.GraftHeading m w n) =
     (path ≡ m) × IfSome word (λ x. x.items ≡ w) × (source ≡ n)
 IsEditHeading _ _ = ⊥
 
--- The line is that of this log, whatever its paths are. A word that found no memory may be any.
+-- The line is that of this log, whatever its paths are. A word for which memory ran out may be any.
 pub record IsLogLine (line : LogLine) (log : model.LogCommand) : Type 0 where
   pub order : IfSome line.order (λ x. IsOrder x log.order)
   pub first_parents : line.first_parents ≡ log.first_parents
@@ -76,18 +76,18 @@ abbrev pub log_of : model.Order → Bool → List model.LogItem → model.LogCom
 log_of order first_parents items =
     record { order = order; first_parents = first_parents; items = items; paths = [] }
 
--- The line of an actor is this one. A word that found no memory may be any.
+-- The line of an actor is this one. A word for which memory ran out may be any.
 abbrev pub IsActorHeading : ActorHeading → lines.Heading → Type 0
 IsActorHeading line (lines.ActorHeading r m n s o) =
     (role_of line.role ≡ r) × (line.name ≡ m) × (line.email ≡ n)
     × IfSome line.seconds (λ word. word.items ≡ s) × IfSome line.offset (λ word. word.items ≡ o)
 IsActorHeading _ _ = ⊥
 
--- a name that is to move to a word's commit
+-- a name to be moved to a word's commit
 abbrev pub to_of : Bytes → model.Expect → Bytes → model.To
 to_of name expect word = record { name = name; expect = expect; word = word }
 
--- The line that a command begins with is this one. A word that found no memory may be any.
+-- The first line of a command is this one. A word for which memory ran out may be any.
 abbrev pub IsOpening : Opening → lines.Heading → Type 0
 IsOpening (opening.Commit name expect) (lines.CommitHeading n e) =
     IfSome name (λ word. word.items ≡ n) × IfSome expect (λ x. IsExpect x e)
@@ -111,7 +111,7 @@ IsOpening (opening.Log line) (lines.LogHeading order first_parents items paths) 
     IsLogLine line (log_of order first_parents items) × (listed line.paths ≡ paths)
 IsOpening _ _ = ⊥
 
--- The line is this one. A word that found no memory may be any.
+-- The line is this one. A word for which memory ran out may be any.
 abbrev pub IsHeading : Heading → lines.Heading → Type 0
 IsHeading (heading.Opening line) h = IsOpening line h
 IsHeading (heading.Parent word) (lines.ParentHeading w) = IfSome word (λ x. x.items ≡ w)
@@ -122,21 +122,21 @@ IsHeading (heading.Message size) (lines.MessageHeading n) = size ≡ n
 IsHeading heading.End lines.EndHeading = ⊤
 IsHeading _ _ = ⊥
 
--- What is read is what the words say; none is read where they say no line that may stand at a place of an offered command.
+-- What is read is what the words say; `None` if they say no line of an offered command.
 abbrev pub Says : Option Heading → Option lines.Heading → Type 0
 Says (Some line) (Some h) = IsHeading line h
 Says (Some line) None = ⊥
 Says None (Some h) = (p : Place) → runs.next_offered (place_of p) h ≡ None
 Says None None = ⊤
 
--- The words begin with what is expected, and the others are left; nothing is read where they begin with no such words.
+-- The words begin with what is expected, and the others are left; `None` if they don't begin so.
 abbrev pub SaysExpect : Option (Option Expect) → List Bytes → List Bytes → Type 0
 SaysExpect (Some expect) words left = (e : model.Expect)
     × IfSome expect (λ x. IsExpect x e) × (words ≡ spelling.expect_words e ++ left)
 SaysExpect None words left =
     (e : model.Expect) (more : List Bytes) → words ≡ spelling.expect_words e ++ more → ⊥
 
--- The words are a name, what is expected of it, and a word; nothing is read where they aren't.
+-- The words are a name, what is expected of it, and a word; `None` if they aren't.
 abbrev pub SaysTarget : Option (Option To) → List Bytes → Type 0
 SaysTarget (Some target) words = (name word : Bytes) × (e : model.Expect)
     × IfSome target (λ x. IsTo x (to_of name e word))
@@ -147,14 +147,16 @@ SaysTarget None words =
 abbrev pub SaysLog : Option LogLine → Option lines.Heading → Type 0
 SaysLog line h = Says (option_map (λ said. heading.Opening (opening.Log said)) line) h
 
--- The order is the one that the words begin with, and the others are left; none is read where they begin with none.
+-- The order is the one that the words begin with, and the others are left; `None` if they begin
+-- with no order.
 abbrev pub SaysOrder : Option (Option Order) → Option (model.Order × List Bytes) → List Bytes
     → Type 0
 SaysOrder (Some order) (Some (o, words)) left = IfSome order (λ x. IsOrder x o) × (left ≡ words)
 SaysOrder None None left = ⊤
 SaysOrder _ _ _ = ⊥
 
--- The items and the paths' sizes are the ones that the words say; none are read where they say none, or items without a tip.
+-- The items and the paths' sizes are those of the words; `None` if the words are no such, or no
+-- item is a tip.
 abbrev pub SaysItems : Option (Option (Vec LogItem Global) × Sizes) → Option table.Items
     → Type 0
 SaysItems (Some (items, sizes)) (Some (is, paths)) = IsTrue (spelling.are_items is)
@@ -167,7 +169,7 @@ abbrev pub item_with : Bool → Bytes → model.LogItem
 item_with true word = model.Tip word
 item_with false word = model.Hidden word
 
--- the draft of a commit has these parts, each that found memory
+-- the draft of a commit has these parts, except those for which memory ran out
 pub record IsCommitDraft (draft : CommitDraft) (order : model.CommitCommand) : Type 0 where
   pub name : IfSome draft.name (λ word. word.items ≡ order.name)
   pub expect : IfSome draft.expect (λ x. IsExpect x order.expect)
@@ -181,13 +183,13 @@ pub record IsCommitDraft (draft : CommitDraft) (order : model.CommitCommand) : T
 abbrev pub target_of : model.TagCommand → model.To
 target_of order = to_of order.name order.expect order.word
 
--- the draft of a tag has these parts, each that found memory
+-- the draft of a tag has these parts, except those for which memory ran out
 pub record IsTagDraft (draft : TagDraft) (order : model.TagCommand) : Type 0 where
   pub target : IfSome draft.target (λ x. IsTo x (target_of order))
   pub tagger : IfSome draft.tagger (λ actor. IsActor actor order.tagger)
   pub message : IfSome draft.message (λ field. Keeps max_content field order.message)
 
--- the draft of a move has these parts, each that found memory
+-- the draft of a move has these parts, except those for which memory ran out
 pub record IsMoveDraft (draft : MoveDraft) (order : model.MoveCommand) : Type 0 where
   pub to : IfSome draft.to (λ all. AreTos all.items order.to)
   pub actor : IfSome draft.actor (λ actor. IsActor actor order.actor)
@@ -222,7 +224,7 @@ with_edit order edit = record order { edits = order.edits ++ edit ∷ [] }
 abbrev pub with_to : model.MoveCommand → model.To → model.MoveCommand
 with_to order line = record order { to = order.to ++ line ∷ [] }
 
--- The command whose actor of that role is this one, where it has one.
+-- The command with this actor in that role, if it has such a role.
 abbrev pub with_actor : Role → model.Command → model.ActorLine → model.Command
 with_actor Author (model.Commit order) actor = model.Commit (record order { author = actor })
 with_actor Committer (model.Commit order) actor = model.Commit (record order { committer = actor })
@@ -230,7 +232,7 @@ with_actor Tagger (model.Tag order) actor = model.Tag (record order { tagger = a
 with_actor Mover (model.Move order) actor = model.Move (record order { actor = actor })
 with_actor role order actor = order
 
--- The command with this message, where it has one.
+-- The command with this message, if it has one.
 abbrev pub with_message : model.Command → Bytes → model.Command
 with_message (model.Commit order) message = model.Commit (record order { message = message })
 with_message (model.Tag order) message = model.Tag (record order { message = message })

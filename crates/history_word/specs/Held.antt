@@ -7,15 +7,15 @@ use Rattle.history_model.specs.Spelling.{max_line}
 abbrev pub room : ℕ
 room = 8_192
 
--- what stands from start to end
+-- the bytes from start to end
 unfoldable pub held : ℕ → ℕ → List ℕ → List ℕ
 held start end bytes = take (end - start) (drop start bytes)
 
--- no line feed stands in the bytes
+-- the bytes have no line feed
 abbrev pub IsUnbroken : List ℕ → Type 0
 IsUnbroken bytes = IsFalse (has_byte 10 bytes)
 
--- a line of n bytes stands first, within the limit
+-- the bytes begin with a line of n bytes, within the limit
 pub record IsLineOf (n : ℕ) (bytes : List ℕ) : Type 0 where
   pub short : n ≤ max_line
   pub within : n < length bytes

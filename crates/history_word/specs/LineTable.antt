@@ -1,4 +1,5 @@
--- The lines of the command grammar as a table: where each may stand, where the next line then stands, and what words say which line.
+-- The lines of the command grammar as a table: where each may be, where the next line then is, and
+-- which words say which line.
 use Rattle.std.specs.Prelude.{◌≡◌, ◌↔◌, ℕ, ◌^◌, Bool, true, false, ◌&&◌, ◌==◌, List, [], ◌∷◌, nat_lt, Option, Some, None, option_map, bytes_eq, codes, if◌then◌else◌, IsTrue}
 use Rattle.std.specs.Option.{option_and_then}
 use Rattle.history_model.specs.Bytes.{Bytes, is_decimal, digits_value}
@@ -8,21 +9,21 @@ use Rattle.history_model.specs.Lines.{Role, Author, Committer, Tagger, Mover, He
 use Rattle.history_model.specs.declared.FileKind.{FileKind}
 use Rattle.history_model.specs.declared.FileKind.TheVariants.{File, Exec, Link}
 
--- where the next line of a command stands
+-- where in a command the next line is
 pub data Place : Type 0 where
   Start : Place
   Parents : Place
   Edits : Place
   ToCommitter : Place
   ToTagger : Place
-  -- behind `move`, and behind a line `to`
+  -- after `move`, and after a line `to`
   ToFirst : Place
   ToMore : Place
   ToMessage : Place
   ToEnd : Place
   Done : Place
 
--- the lines that may stand behind the parents and the edits of a commit
+-- the lines that may follow the parents and the edits of a commit
 abbrev pub next_edit : Heading → Option Place
 next_edit (PutHeading kind path content) = Some Edits
 next_edit (RemoveHeading path) = Some Edits
@@ -31,7 +32,7 @@ next_edit (GraftHeading path word source) = Some Edits
 next_edit (ActorHeading Author name email seconds offset) = Some ToCommitter
 next_edit _ = None
 
--- the lines that may stand at a place, and the place of the line that follows
+-- the lines that may be at a place, and the place of the line after each
 abbrev pub next : Place → Heading → Option Place
 next Start (CommitHeading name expect) = Some Parents
 next Start (TagHeading name expect word) = Some ToTagger
@@ -79,17 +80,17 @@ expect_of (first ∷ []) = if bytes_eq first (codes "any") then Some Any
 expect_of (first ∷ word ∷ []) = if bytes_eq first (codes "at") then Some (At word) else None
 expect_of _ = None
 
--- a line of no more words
+-- a line without more words
 abbrev pub end_of_words : Heading → List Bytes → Option Heading
 end_of_words heading [] = Some heading
 end_of_words heading _ = None
 
--- a line of one word more
+-- a line with one more word
 abbrev pub word_of_words : (Bytes → Heading) → List Bytes → Option Heading
 word_of_words heading (word ∷ []) = Some (heading word)
 word_of_words heading _ = None
 
--- a line of one length more
+-- a line with one more length
 abbrev pub size_of_words : (ℕ → Heading) → List Bytes → Option Heading
 size_of_words heading (size ∷ []) = option_map heading (number_of size)
 size_of_words heading _ = None
@@ -148,13 +149,14 @@ names_of_words [] = Some (NamesHeading None)
 names_of_words (folder ∷ []) = Some (NamesHeading (Some folder))
 names_of_words _ = None
 
--- ---- of a log: its order, whether it follows first parents alone, its items, and its paths' lengths
+-- ---- of a log: its order, whether it follows only first parents, its items, and its paths'
+-- lengths
 
 abbrev pub since_of : (Bytes → Order) → List Bytes → Option (Order × List Bytes)
 since_of order [] = None
 since_of order (seconds ∷ words) = Some (order seconds, words)
 
--- the order, and the words behind it
+-- the order, and the words after it
 abbrev pub order_of : List Bytes → Option (Order × List Bytes)
 order_of [] = None
 order_of (first ∷ words) =
@@ -182,7 +184,7 @@ item_of (sign ∷ word) = if sign == 43 then Some (Tip word)
 abbrev pub Items : Type 0
 Items = List LogItem × List ℕ
 
--- lengths, each behind the word `path`
+-- lengths, each after the word `path`
 abbrev pub paths_of : List Bytes → Option (List ℕ)
 paths_of [] = Some []
 paths_of (first ∷ []) = None
@@ -209,7 +211,7 @@ walk_of_words order (parents ∷ words) =
 abbrev pub log_of_words : List Bytes → Option Heading
 log_of_words words = option_and_then (λ order. walk_of_words order.0 order.1) (order_of words)
 
--- ---- what the words of a line say, by the first
+-- ---- what the words of a line say, by the first word
 
 -- the lines of the commands that move names, and of those that read them
 abbrev pub name_heading_of : Bytes → List Bytes → Option Heading
@@ -246,7 +248,7 @@ heading_of (first ∷ words) =
     else if bytes_eq first (codes "show") then show_of_words words
     else name_heading_of first words
 
--- Words say what a line says exactly where they are that line's, and its lengths below 2 ^ 64.
+-- Words are read as a line exactly if they are that line's words, and its lengths are below 2 ^ 64.
 abbrev pub WordsAreHeadings : Type 0
 WordsAreHeadings = (words : List Bytes) (heading : Heading)
     → (heading_of words ≡ Some heading)

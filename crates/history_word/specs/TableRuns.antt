@@ -1,4 +1,5 @@
--- Running the table of lines over the parts of a command: how far they lead, and what that tells of what may follow.
+-- Running the table of lines over the parts of a command: how far they lead, and what then may
+-- follow.
 use Rattle.std.specs.Prelude.{◌≡◌, ◌≢◌, ◌↔◌, ℕ, ◌+◌, ◌<◌, ◌≤◌, Bool, true, ◌&&◌, List, [], ◌∷◌, ◌++◌, length, take, ◌==◌, Option, Some, None, option_map, if◌then◌else◌, IsTrue, IsFalse}
 use Rattle.std.specs.List.{join_with_byte}
 use Rattle.std.specs.Option.{option_and_then}
@@ -12,7 +13,8 @@ use Rattle.history_word.specs.LineTable.{heading_of, Place, Start, Done, next}
 use Rattle.history_model.specs.declared.Cause.{Cause}
 use Rattle.history_model.specs.declared.Cause.TheVariants.{Syntax, Truncated, LineTooLong}
 
--- how far a command has come: the lengths of the fields that come next, and the place of the line behind
+-- how far a command has come: the lengths of the fields that come next, and the place of the line
+-- after
 pub record Progress : Type 0 where
   pub fields : List ℕ
   pub place : Place
@@ -29,7 +31,7 @@ done = at [] Done
 -- ---- over the commands whose first lines are known
 
 module _ (is_known : Heading → Bool) where
-  -- A line that begins no known command may not stand at the start.
+  -- A line that begins no known command may not be at the start.
   abbrev pub next_of : Place → Heading → Option Place
   next_of Start heading = if is_known heading then next Start heading else None
   next_of place heading = next place heading
@@ -38,7 +40,7 @@ module _ (is_known : Heading → Bool) where
   after_line_of place heading =
       option_map (λ following. at (sizes heading) following) (next_of place heading)
 
-  -- one part more: a line that the table has here, or a field of the length that was told
+  -- one more part: a line that the table has here, or a field of the awaited length
   abbrev pub part_step_of : List ℕ → Place → Part → Option Progress
   part_step_of [] place (Line words) =
       if is_part (Line words) then option_and_then (after_line_of place) (heading_of words)
@@ -54,7 +56,7 @@ module _ (is_known : Heading → Bool) where
       option_and_then (λ after. run_from_of after parts)
       (part_step_of progress.fields progress.place part)
 
-  -- how far these parts of a command lead, if they may begin one
+  -- how far these parts lead, if some command may begin with them
   abbrev pub reached_of : List Part → Option Progress
   reached_of parts = run_from_of begin parts
 
@@ -71,9 +73,9 @@ pub record IsLineAtOf (is_known : Heading → Bool) (place : Place) (text : Byte
   pub stands : next_of is_known place heading ≡ Some following
 
 module _ (is_known : Heading → Bool) where
-  -- What follows doesn't go on from here, for this cause.
+  -- What follows can't continue from here, for this cause.
   abbrev pub StopsAtOf : List ℕ → Place → Bytes → Cause → Type 0
-  -- where a line stands
+  -- if a line is awaited
   StopsAtOf [] place tail Truncated =
       (place ≢ Done) × IsFalse (has_byte 10 tail) × (length tail ≤ max_line)
   StopsAtOf [] place tail LineTooLong =
@@ -81,7 +83,7 @@ module _ (is_known : Heading → Bool) where
   StopsAtOf [] place tail Syntax = (place ≢ Done)
       × ((text more : Bytes) × (tail ≡ line text ++ more) × IsFalse (has_byte 10 text)
       × (length text ≤ max_line) × ¬ (IsLineAtOf is_known place text))
-  -- where a field stands
+  -- if a field is awaited
   StopsAtOf (size ∷ fields) place tail Truncated = length tail ≤ size
   StopsAtOf (size ∷ fields) place tail Syntax =
       (bytes more : Bytes) × (byte : ℕ) × (length bytes ≡ size)
@@ -108,7 +110,7 @@ IsLineAt = IsLineAtOf opens
 abbrev pub StopsAt : List ℕ → Place → Bytes → Cause → Type 0
 StopsAt = StopsAtOf opens
 
--- ---- what the table tells, over all commands too
+-- ---- what the table says, also over all commands
 
 abbrev pub all_lines : Heading → Bool
 all_lines heading = true
@@ -118,22 +120,22 @@ module _ (is_known : Heading → Bool) where
   abbrev pub is_told : Command → Bool
   is_told command = has_spelling command && is_known (first_line command)
 
-  -- The parts that lead to the end are those of a command.
+  -- Parts lead to the end exactly if they are those of a command.
   abbrev pub TableTellsCommands : Type 0
   TableTellsCommands = (parts : List Part) → LeadsOf is_known parts [] Done
       ↔ ((command : Command) × IsTrue (is_told command) × (parts_of command ≡ parts))
 
-  -- Some command goes on with a part exactly where the table has a step for it.
+  -- Some command continues with a part exactly if the table has a step for it.
   abbrev pub TableTellsWhatGoesOn : Type 0
   TableTellsWhatGoesOn = (parts : List Part) (part : Part) → GoesOnOf is_told parts part
       ↔ ((progress : Progress) × (reached_of is_known (parts ++ part ∷ []) ≡ Some progress))
 
-  -- where fields are to come, a field of the first's length stands
+  -- if fields are awaited, some command has a field of the first's length
   abbrev pub TableTellsFields : Type 0
   TableTellsFields = (parts : List Part) (size : ℕ) (fields : List ℕ) (place : Place)
       → LeadsOf is_known parts (size ∷ fields) place → FieldStandsOf is_told parts size
 
-  -- where none is to come and the command isn't done, a line stands
+  -- if no field is awaited and the command isn't done, some command has a line
   abbrev pub TableTellsLines : Type 0
   TableTellsLines = (parts : List Part) (place : Place)
       → LeadsOf is_known parts [] place → place ≢ Done → LineStandsOf is_told parts
@@ -142,13 +144,13 @@ module _ (is_known : Heading → Bool) where
   TableTellsWhatFits = (parts : List Part) (place : Place) → LeadsOf is_known parts [] place
       → (text : Bytes) → LineFitsOf is_told parts text ↔ IsLineAtOf is_known place text
 
-  -- The cause that what follows has is told by the progress alone.
+  -- The cause for which a rest can't continue is determined by the progress alone.
   abbrev pub TableTellsStops : Type 0
   TableTellsStops = (parts : List Part) (fields : List ℕ) (place : Place)
       → LeadsOf is_known parts fields place → (tail : Bytes) (cause : Cause)
       → StopsByOf is_told parts tail cause ↔ StopsAtOf is_known fields place tail cause
 
-  -- A line of the table, and a field of the length that comes next, lead on.
+  -- A line of the table, and a field of the awaited length, lead on.
   abbrev pub TableTakesLines : Type 0
   TableTakesLines = (parts : List Part) (place following : Place) (heading : Heading)
       → LeadsOf is_known parts [] place → next_of is_known place heading ≡ Some following

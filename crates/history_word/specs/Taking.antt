@@ -4,7 +4,7 @@ use Rattle.std.specs.Io.KnownBytes.{Consumes}
 use Rattle.history_word.specs.declared.buffer.Buffer.{Buffer}
 use Rattle.history_word.specs.Buffer.{unread, readings_made, work}
 
--- each of the readings that were made between two buffers gave a byte of these, but for the last that a `u64` counts
+-- each reading made between two buffers gave a byte of these, except the last that a `u64` counts
 abbrev pub Gave : Buffer → Buffer → ℕ → List ℕ → Type 0
 Gave b c made more =
     (made ≤ length more)
@@ -18,7 +18,7 @@ pub record Took {S : Type 0} (left : S → Option (List ℕ)) (readings : S → 
   pub came : Consumes (left s) (left t) more
   pub same : unread b ++ more ≡ taken ++ unread c
   pub less_work : work c + length taken ≤ work b
-  -- how many readings that count were made meanwhile
+  -- how many counted readings were made meanwhile
   pub made : ℕ
   pub made_through : readings_made c ≡ readings_made b + made
   pub counted : min (readings s + made) (2 ^ 64 - 1) ≤ readings t
@@ -35,7 +35,8 @@ pub record Came {S : Type 0} (left : S → Option (List ℕ)) (readings : S → 
   pub counted : min (readings s + made) (2 ^ 64 - 1) ≤ readings t
   pub gave : Gave b c made more
 
--- Where what was taken stood in the buffer already, the source wasn't asked. Else nothing is said of how often it was.
+-- If what was taken was in the buffer already, the source wasn't called. Otherwise nothing is said
+-- of how often it was.
 abbrev pub AsksForMore : {S : Type 0} → S → Buffer → S → List ℕ → Type 0
 AsksForMore s b t taken = length taken ≤ length (unread b) → t ≡ s
 

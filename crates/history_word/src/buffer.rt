@@ -13,8 +13,8 @@ use memchr::memchr;
 /// How many bytes a buffer has room for.
 const ROOM: usize = 8_192;
 
-/// The count of readings after this reading, which gave so many bytes. One that gave none isn't counted, since a run makes it
-/// last; but the last that a `u64` counts is, whatever it gave.
+/// Returns the count of readings after this one, which gave so many bytes. A reading that gave none
+/// isn't counted, since it ends a run; but the last that a `u64` counts is, whatever it gave.
 fn counted(before: u64, reading: u64, count: usize) -> u64
     ensures gave { 0 < count → result ≡ reading }
     ensures idle { count ≡ 0 → reading ≢ 2 ^ 64 - 1 → result ≡ before }
@@ -33,7 +33,7 @@ pub struct Buffer {
     bytes: [u8; ROOM],
     start: usize,
     end: usize,
-    /// How many of the unread bytes were looked at and found to be no line feed.
+    /// How many of the unread bytes were searched and have no line feed.
     scanned: usize,
     /// How many readings gave a byte; and the last that a `u64` counts, whatever it gave.
     readings: u64,
@@ -47,7 +47,7 @@ impl Buffer {
     ghost use Rattle.history_word.specs.Buffer.{unread, readings_made, work};
     ghost use Rattle.history_word.specs.Taking.{Took, IsLast};
 
-    /// An empty buffer, through which no reading was made.
+    /// Returns an empty buffer, through which no reading was made.
     pub fn new() -> Self
         ensures empty { unread result ≡ [] }
         ensures fresh { readings_made result ≡ 0 }
@@ -61,14 +61,14 @@ impl Buffer {
         }
     }
 
-    /// The bytes that were read and not taken yet.
+    /// Returns the bytes that were read and not taken yet.
     pub(crate) fn unread(&self) -> &[u8]
         ensures { result.now ≡ unread self.now }
     {
         &self.bytes[self.start..self.end]
     }
 
-    /// Takes bytes that were read.
+    /// Takes so many of the bytes that were read.
     pub(crate) fn skip(&mut self, count: usize)
         requires { count ≤ length (unread self.old) }
         ensures rest { unread self.new ≡ drop count (unread self.old) }
@@ -79,7 +79,7 @@ impl Buffer {
         self.scanned = 0;
     }
 
-    /// Makes room behind what is unread, where it doesn't fill the buffer.
+    /// Makes room after the unread bytes, unless they fill the buffer.
     fn make_room(&mut self)
         ensures same { unread self.new ≡ unread self.old }
         ensures size { self.new.end - self.new.start ≡ self.old.end - self.old.start }
@@ -93,8 +93,8 @@ impl Buffer {
         }
     }
 
-    /// The length of the line that stands first, without its line feed, if it stands whole and within the limit.
-    /// No byte is looked at twice, however few come at a time.
+    /// Returns the length of the first line, without its line feed, if that line is whole and
+    /// within the limit. No byte is searched twice, however few come at a time.
     pub(crate) fn line(&mut self) -> Option<usize>
         ensures found { IfSome result (λ n. IsLineOf n (unread self.new)) }
         ensures none { IfNone result (IsUnbroken (take (max_line + 1) (unread self.new))) }
@@ -116,7 +116,8 @@ impl Buffer {
         }
     }
 
-    /// Reads once more. `false` is the end of the source.
+    /// Reads once more. Returns `false` at the end of the source, and `Broken` if the source has
+    /// failed or the last reading that a `u64` counts was made.
     pub(crate) fn fill<R: Source>(&mut self, source: &mut R) -> Result<bool, Broken>
         requires { length (unread self.old) < room }
         ensures took { Took R.left R.readings source.old self.old source.new self.new [] }
@@ -141,10 +142,10 @@ impl Buffer {
         Ok(count > 0)
     }
 
-    /// Whether a byte follows. Reads, once, only where none stands in the buffer.
+    /// Returns whether a byte follows. Reads at most once, and only if the buffer is empty.
     ///
-    /// `Broken` is answered where the source has failed, and at the 18,446,744,073,709,551,615th reading through this
-    /// buffer.
+    /// Returns `Broken` if the source has failed, and at the 18,446,744,073,709,551,615th reading
+    /// through this buffer.
     pub fn has_more<R: Source>(&mut self, source: &mut R) -> Result<bool, Broken>
         ensures took { Took R.left R.readings source.old self.old source.new self.new [] }
         ensures ok { IfOk result (λ is_more. MatchBool is_more

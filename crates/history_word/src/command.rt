@@ -4,7 +4,7 @@ use history_model::FileKind;
 use history_model::limits::MAX_TITLE;
 use std::alloc::{AllocError, Global};
 
-/// How many of its first bytes are kept of a field that is over its limit: they decide whether a title is one.
+/// How many of its first bytes are kept of a field over its limit: enough to judge a title.
 pub(crate) const MAX_KEPT: usize = MAX_TITLE + 1;
 
 /// A field of a command.
@@ -21,9 +21,9 @@ pub enum Field {
 pub enum Expect {
     /// Nothing.
     Any,
-    /// That it doesn't stand.
+    /// That it doesn't exist.
     New,
-    /// That it stands at the commit of this word.
+    /// That it is at the commit of this word.
     At(Vec<u8>),
 }
 
@@ -35,8 +35,9 @@ pub struct Put {
     pub content: Field,
 }
 
-/// What another commit's files have at or below a source, to be put at a path; an empty source is all of them. The commit is a
-/// word's. The path and the source have at most 4,096 bytes each.
+/// The files that another commit has at or below a source, to be put at a path; an empty source
+/// means all of them. The commit is a word's. The path and the source have at most 4,096 bytes
+/// each.
 #[derive(Drop)]
 pub struct Graft {
     pub path: Field,
@@ -48,15 +49,15 @@ pub struct Graft {
 #[derive(Drop)]
 pub enum Edit {
     Put(Put),
-    /// Takes out all at or below the path, also where nothing stands.
+    /// Removes everything at or below the path, if there is anything.
     Remove(Field),
-    /// Takes out the file at the path; nothing may stand below it.
+    /// Removes the file at the path; refused if there are files below it.
     RemoveFile(Field),
     Graft(Graft),
 }
 
-/// Who acts, and when: the words for the seconds and the offset are as they were sent. The name and the email have at
-/// most 512 bytes each.
+/// Who acts, and when: the seconds and the offset are the words that were sent. The name and the
+/// email have at most 512 bytes each.
 #[derive(Drop)]
 pub struct ActorLine {
     pub name: Field,
@@ -65,7 +66,8 @@ pub struct ActorLine {
     pub offset: Vec<u8>,
 }
 
-/// The parents are words, in their order; the edits are made in order. The message has at most 16,777,216 bytes.
+/// Stores a commit, and moves a name to it. The parents are words, in order; the edits are made in
+/// order. The message has at most 16,777,216 bytes.
 #[derive(Drop)]
 pub struct CommitCommand {
     pub name: Vec<u8>,
@@ -87,7 +89,7 @@ pub struct TagCommand {
     pub message: Field,
 }
 
-/// One name of a move: what is expected of it, and the word of the commit where it goes.
+/// One name of a move: what is expected of it, and the word of the commit to which it moves.
 #[derive(Drop)]
 pub struct To {
     pub name: Vec<u8>,
@@ -103,7 +105,7 @@ pub struct MoveCommand {
     pub message: Field,
 }
 
-/// Makes a name at what another holds, and deletes that one with its log.
+/// Creates a name with the id of another, and deletes that one with its log.
 #[derive(Drop)]
 pub struct Rename {
     pub from: Vec<u8>,
@@ -117,14 +119,14 @@ pub struct Delete {
     pub expect: Expect,
 }
 
-/// Shows a commit, or what stands at a path of its files. The path has at most 4,096 bytes.
+/// Shows a commit, or the file at a path. The path has at most 4,096 bytes.
 #[derive(Drop)]
 pub struct Show {
     pub word: Vec<u8>,
     pub path: Option<Field>,
 }
 
-/// In which order a log lists its commits. The words for the seconds are as they were sent.
+/// The order in which a log lists its commits. The seconds are the words that were sent.
 #[derive(Drop)]
 pub enum Order {
     Breadth,
@@ -152,14 +154,15 @@ pub enum LogItem {
 #[derive(Drop)]
 pub struct LogCommand {
     pub order: Order,
-    /// Whether of a commit's parents the first alone is followed.
+    /// Whether only the first of a commit's parents is followed.
     pub first_parents: bool,
     pub items: Vec<LogItem>,
-    /// Where there are none, all commits are listed.
+    /// If there are none, all commits are listed.
     pub paths: Vec<Field>,
 }
 
-/// What a client asks. A word is nonempty, without space or line feed, and a line's words have at most 4,096 bytes.
+/// A client's command. A word is nonempty, without space or line feed, and a line's words have at
+/// most 4,096 bytes.
 #[derive(Drop)]
 pub enum Command {
     Commit(CommitCommand),
@@ -172,9 +175,9 @@ pub enum Command {
     Show(Show),
     /// Lists the names, or those in this folder.
     Names(Option<Vec<u8>>),
-    /// Lists what this word's name has held.
+    /// Lists the moves of this word's name.
     Past(Vec<u8>),
-    /// Makes HEAD name this branch.
+    /// Sets HEAD to this branch.
     Switch(Vec<u8>),
     /// Writes every name to `packed-refs` and removes their own files.
     Pack,
@@ -188,7 +191,7 @@ impl Field {
     ghost use Rattle.history_model.specs.Bytes.{Bytes};
     ghost use Rattle.history_word.specs.Fields.{KeepsFront};
 
-    /// A field of this size, of which nothing has come yet.
+    /// Returns a field of this size, of which nothing has come yet.
     pub(crate) fn new(alloc: Global, size: u64, limit: usize) -> Self
         ensures { KeepsFront limit size result [] }
     {
@@ -199,7 +202,7 @@ impl Field {
         }
     }
 
-    /// Takes the next bytes.
+    /// Adds the next bytes. Fails if memory runs out.
     pub(crate) fn add(&mut self, bytes: &[u8]) -> Result<(), AllocError>
         ensures { (limit size : ℕ) (front : Bytes) → KeepsFront limit size self.old front
             → OnOk result (KeepsFront limit size self.new (front ++ bytes.now)) }

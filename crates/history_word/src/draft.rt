@@ -18,7 +18,7 @@ use crate::heading::Role;
 use history_model::FileKind;
 use std::alloc::Global;
 
-/// A commit as far as it has come. A part is `None` before it comes, and where it found no memory.
+/// A commit as far as it has come. A part is `None` until it comes, and if memory ran out for it.
 #[derive(Drop)]
 pub(crate) struct CommitDraft {
     name: Option<Vec<u8>>,
@@ -30,7 +30,7 @@ pub(crate) struct CommitDraft {
     message: Option<Field>,
 }
 
-/// A tag as far as it has come. A part is `None` before it comes, and where it found no memory.
+/// A tag as far as it has come. A part is `None` until it comes, and if memory ran out for it.
 #[derive(Drop)]
 pub(crate) struct TagDraft {
     target: Option<To>,
@@ -38,7 +38,7 @@ pub(crate) struct TagDraft {
     message: Option<Field>,
 }
 
-/// A move as far as it has come. A part is `None` before it comes, and where it found no memory.
+/// A move as far as it has come. A part is `None` until it comes, and if memory ran out for it.
 #[derive(Drop)]
 pub(crate) struct MoveDraft {
     to: Option<Vec<To>>,
@@ -308,7 +308,7 @@ impl Draft {
         }
     }
 
-    /// Whether the command changes the repository.
+    /// Returns whether the command changes the repository.
     pub(crate) fn is_changing(&self) -> bool
         ensures { (order : model.Command) → IsDraft self.now order → result ≡ is_changing order }
     {
@@ -324,7 +324,7 @@ impl Draft {
         )
     }
 
-    /// The command, if each of its parts found memory.
+    /// Returns the command, unless memory ran out for one of its parts.
     pub(crate) fn finish(self) -> Option<Command>
         ensures { (order : model.Command) → IsDraft self order
             → IfSome result (λ command. IsCommandOf command order) }
@@ -349,7 +349,7 @@ impl Draft {
     }
 }
 
-/// The list and one item more, if there is memory for them.
+/// Returns the list with one more item, if there is memory for both.
 pub(crate) fn pushed<T: Drop>(list: Option<Vec<T>>, item: Option<T>) -> Option<Vec<T>>
     ensures { IfSome result (λ all. MatchOption list ⊥
         (λ old. MatchOption item ⊥ (λ x. all.items ≡ old.items ++ x ∷ []))) }
@@ -359,7 +359,7 @@ pub(crate) fn pushed<T: Drop>(list: Option<Vec<T>>, item: Option<T>) -> Option<V
     Some(list)
 }
 
-/// The edit of a line and its two fields, if each of them found memory.
+/// Returns the edit of a line and its two fields, if there was memory for each field.
 pub(crate) fn put(kind: FileKind, path: Option<Field>, content: Option<Field>) -> Option<Edit>
     ensures { (p c : Bytes) → IfSome path (λ x. Keeps max_path x p)
         → IfSome content (λ x. Keeps max_content x c)
@@ -372,7 +372,7 @@ pub(crate) fn put(kind: FileKind, path: Option<Field>, content: Option<Field>) -
     }))
 }
 
-/// The graft of a line and its two fields, if each of its parts found memory.
+/// Returns the graft of a line and its two fields, if there was memory for each of its parts.
 pub(crate) fn graft(
     path: Option<Field>,
     word: Option<Vec<u8>>,
@@ -389,7 +389,7 @@ pub(crate) fn graft(
     }))
 }
 
-/// The actor of a line and its two fields, if each of its parts found memory.
+/// Returns the actor of a line and its two fields, if there was memory for each of its parts.
 pub(crate) fn actor_line(
     name: Option<Field>,
     email: Option<Field>,

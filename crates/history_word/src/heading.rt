@@ -29,7 +29,8 @@ pub(crate) enum Role {
     Mover,
 }
 
-/// What an edit's line says. A number is the size of a field that follows the line; a word is `None` where it found no memory.
+/// What an edit's line says. A number is the size of a field that follows the line; a word is
+/// `None` if memory ran out for it.
 #[derive(Drop)]
 pub(crate) enum EditHeading {
     Put {
@@ -50,8 +51,8 @@ pub(crate) enum EditHeading {
     },
 }
 
-/// What an actor's line says. The name and the email are the sizes of fields that follow the line; a word is `None` where
-/// it found no memory.
+/// What an actor's line says. The name and the email are the sizes of fields that follow the line;
+/// a word is `None` if memory ran out for it.
 #[derive(Drop)]
 pub(crate) struct ActorHeading {
     pub(crate) role: Role,
@@ -61,8 +62,8 @@ pub(crate) struct ActorHeading {
     pub(crate) offset: Option<Vec<u8>>,
 }
 
-/// What the line says that a command begins with. A path is the size of a field that follows the line; a word is `None`
-/// where it found no memory.
+/// What the first line of a command says. A path is the size of a field that follows the line; a
+/// word is `None` if memory ran out for it.
 #[derive(Drop)]
 pub(crate) enum Opening {
     Commit {
@@ -105,7 +106,8 @@ pub(crate) enum Opening {
     Log(LogLine),
 }
 
-/// What a line says. A number is the size of a field that follows the line; a word is `None` where it found no memory.
+/// What a line says. A number is the size of a field that follows the line; a word is `None` if
+/// memory ran out for it.
 #[derive(Drop)]
 pub(crate) enum Heading {
     Opening(Opening),
@@ -117,7 +119,7 @@ pub(crate) enum Heading {
     End,
 }
 
-/// A word of its own, if there is memory for it.
+/// Returns a copy of the word, if there is memory for it.
 pub(crate) fn kept(alloc: Global, word: &[u8]) -> Option<Vec<u8>>
     ensures { IfSome result (λ own. own.items ≡ word.now) }
 {
@@ -370,7 +372,7 @@ fn delete(alloc: Global, words: &mut Words) -> Option<Heading>
     }))
 }
 
-/// What the words of a line say that begins with this word and is about names or a log.
+/// Returns what a line says that begins with this word and is about names or a log.
 fn said_of_names(alloc: Global, first: &[u8], words: &mut Words) -> Option<Heading>
     ensures { Says result (name_heading_of first.now (left words.old)) }
 {
@@ -405,7 +407,7 @@ fn said_of_names(alloc: Global, first: &[u8], words: &mut Words) -> Option<Headi
     }
 }
 
-/// What the words of the line say, of which none is empty.
+/// Returns what the line says, of whose words none is empty.
 fn said(alloc: Global, line: &[u8]) -> Option<Heading>
     requires { length line.now ≤ max_line }
     ensures { Says result (heading_of (split_words line.now)) }
@@ -441,7 +443,8 @@ fn said(alloc: Global, line: &[u8]) -> Option<Heading>
     }
 }
 
-/// What the line says, which comes without its line feed.
+/// Returns what the line says, which is given without its line feed; `None` if no place of a
+/// command has such a line.
 pub(crate) fn parse(alloc: Global, line: &[u8]) -> Option<Heading>
     requires whole { IsUnbroken line.now }
     requires short { length line.now ≤ max_line }

@@ -6,42 +6,42 @@ ghost use Rattle.history_model.specs.Spelling.{has_spelling};
 ghost use Rattle.history_model.specs.Stage.{opens};
 ghost use Rattle.history_model.specs.Grammar.{is_command, RestBeginsOrHasCause};
 
-/// Words say what a line of the table says exactly where they are that line's words.
+/// Words are read as a line of the table exactly if they are that line's words.
 pub fn words_are_headings()
     ensures { WordsAreHeadings }
 {}
 
-/// Parts lead from the table's start to its end exactly where they are a command's.
+/// Parts lead from the table's start to its end exactly if they are a command's.
 pub fn table_tells_commands()
     ensures all { TableTellsCommands all_lines }
     ensures offered { TableTellsCommands opens }
 {}
 
-/// Some command goes on with a part exactly where the table has a step for it.
+/// Some command continues with a part exactly if the table has a step for it.
 pub fn table_tells_what_goes_on()
     ensures all { TableTellsWhatGoesOn all_lines }
     ensures offered { TableTellsWhatGoesOn opens }
 {}
 
-/// Where the table awaits a field, one of that length stands.
+/// If the table awaits a field, some command has one of that length there.
 pub fn table_tells_fields()
     ensures all { TableTellsFields all_lines }
     ensures offered { TableTellsFields opens }
 {}
 
-/// Where the table awaits a line, a line stands.
+/// If the table awaits a line, some command has a line there.
 pub fn table_tells_lines()
     ensures all { TableTellsLines all_lines }
     ensures offered { TableTellsLines opens }
 {}
 
-/// A whole line fits exactly where the table has it.
+/// A whole line fits exactly if the table has it.
 pub fn table_tells_what_fits()
     ensures all { TableTellsWhatFits all_lines }
     ensures offered { TableTellsWhatFits opens }
 {}
 
-/// The cause for which what follows doesn't go on is told by the place and the awaited fields alone.
+/// The cause for which a rest can't continue is determined by the place and the awaited fields.
 pub fn table_tells_stops()
     ensures all { TableTellsStops all_lines }
     ensures offered { TableTellsStops opens }
@@ -53,7 +53,7 @@ pub fn table_takes_lines()
     ensures offered { TableTakesLines opens }
 {}
 
-/// A field of the length that was told leads to the next one, or to the place behind it.
+/// A field of the awaited length leads to the next one, or to the place after it.
 pub fn table_takes_fields()
     ensures all { TableTakesFields all_lines }
     ensures offered { TableTakesFields opens }

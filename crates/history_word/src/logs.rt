@@ -17,7 +17,8 @@ use crate::sizes::Sizes;
 use crate::words::{Words, number};
 use std::alloc::Global;
 
-/// A line of `log`, and the sizes of the paths that follow it. The order or the items are `None` where they found no memory.
+/// A line of `log`, and the sizes of the paths that follow it. The order or the items are `None` if
+/// memory ran out for them.
 #[derive(Drop)]
 pub(crate) struct LogLine {
     order: Option<Order>,
@@ -27,7 +28,8 @@ pub(crate) struct LogLine {
 }
 
 impl LogLine {
-    /// What follows `log`: `<order> <all or first> <items>`, and any number of times `path <size>`.
+    /// Reads what follows `log`: `<order> <all or first> <items>`, and any number of times `path
+    /// <size>`.
     pub(crate) fn new(alloc: Global, words: &mut Words) -> Option<Self>
         ensures { SaysLog result (log_of_words (left words.old)) }
     {
@@ -42,7 +44,7 @@ impl LogLine {
         })
     }
 
-    /// The command with these paths, if they and each of the line's words found memory.
+    /// Returns the command with these paths, if there was memory for them and for the line's words.
     pub(crate) fn finish(self, paths: Option<Vec<Field>>) -> Option<LogCommand>
         ensures { (order : model.LogCommand) (told : List Bytes) → IsLogLine self order
             → IfSome paths (λ all. ArePaths all.items told)
@@ -57,7 +59,8 @@ impl LogLine {
     }
 }
 
-/// A word for an order, and the seconds behind it where it has some. It is `Some(None)` where these found no memory.
+/// Takes a word for an order, and the seconds after it if the order has some. Returns `Some(None)`
+/// if memory ran out for these, and `None` if the words begin with no order.
 fn order(alloc: Global, words: &mut Words) -> Option<Option<Order>>
     ensures { SaysOrder result (order_of (left words.old)) (left words.new) }
 {
@@ -83,7 +86,7 @@ fn order(alloc: Global, words: &mut Words) -> Option<Option<Order>>
     }
 }
 
-/// Whether the first parents alone are followed: `first` or `all`.
+/// Returns whether only first parents are followed: `first` or `all`. Any other word is `None`.
 fn first_parents(word: &[u8]) -> Option<bool>
     ensures { result ≡ first_parents_of word.now }
 {
@@ -96,8 +99,8 @@ fn first_parents(word: &[u8]) -> Option<bool>
     }
 }
 
-/// The words that are left: items, of which at least one is a tip, and the sizes of paths behind them. The items are `None`
-/// where they found no memory.
+/// Takes the words that are left: items, of which at least one is a tip, and then the sizes of
+/// paths. The items are `None` if memory ran out for them. Other words are `None`.
 fn items(alloc: Global, words: &mut Words) -> Option<(Option<Vec<LogItem>>, Sizes)>
     ensures { SaysItems result (items_of (left words.old)) }
 {
@@ -116,7 +119,7 @@ fn items(alloc: Global, words: &mut Words) -> Option<(Option<Vec<LogItem>>, Size
     if has_tip { Some((items, paths)) } else { None }
 }
 
-/// The sizes behind a word `path`: `<size>`, and any number of times `path <size>`.
+/// Takes the sizes after a word `path`: `<size>`, and any number of times `path <size>`.
 fn path_sizes(words: &mut Words) -> Option<Sizes>
     ensures { option_map listed result ≡ paths_of (codes "path" ∷ left words.old) }
 {
@@ -131,7 +134,7 @@ fn path_sizes(words: &mut Words) -> Option<Sizes>
     Some(sizes)
 }
 
-/// Whether the item is a tip, and its target: `+` and a word, or `-` and one.
+/// Returns whether the item is a tip, and its target: `+` and a word, or `-` and a word.
 fn item(word: &[u8]) -> Option<(bool, &[u8])>
     ensures found { IfSome result (λ item. item_of word.now ≡ Some (item_with item.0 item.1.now)) }
     ensures nonempty { IfSome result (λ item. item.1.now ≢ []) }
@@ -150,7 +153,7 @@ fn item(word: &[u8]) -> Option<(bool, &[u8])>
     }
 }
 
-/// A tip or a hidden word, if there is memory for it.
+/// Returns a tip or a hidden word, if there is memory for it.
 fn log_item(alloc: Global, is_tip: bool, target: &[u8]) -> Option<LogItem>
     ensures { IfSome result (λ item. IsLogItem item (item_with is_tip target.now)) }
 {

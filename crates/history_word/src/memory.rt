@@ -13,7 +13,7 @@ pub struct Bytes<'a> {
 }
 
 impl<'a> Bytes<'a> {
-    /// A source of these bytes.
+    /// Returns a source of these bytes.
     pub fn new(bytes: &'a [u8]) -> Self
         ensures left { ⟦<Bytes<'a> as Source>⟧.left result ≡ Some bytes.now }
         ensures readings { ⟦<Bytes<'a> as Source>⟧.readings result ≡ 0 }
@@ -25,7 +25,7 @@ impl<'a> Bytes<'a> {
     }
 }
 
-/// Copies as much of the front as there is room for, and says how much.
+/// Copies as much of the front as there is room for, and returns how much.
 fn copy_front(bytes: &[u8], buffer: &mut [u8]) -> usize
     ensures count { result ≡ min (length bytes.now) (length buffer.old) }
     ensures copied { take result buffer.new ≡ take result bytes.now }
@@ -50,7 +50,7 @@ impl<'a> Source for Bytes<'a> {
     }
 }
 
-/// A vector that takes what is written to it. It fails only where a growth is refused.
+/// A vector that takes what is written to it. It fails only if it can't grow.
 #[derive(Drop)]
 pub struct Collected {
     bytes: Vec<u8>,
@@ -58,7 +58,7 @@ pub struct Collected {
 }
 
 impl Collected {
-    /// A sink that has taken nothing yet.
+    /// Returns a sink that has taken nothing yet.
     pub fn new(alloc: Global) -> Self
         ensures contents { ⟦<Collected as Sink>⟧.contents result ≡ Some [] }
         ensures whole { ⟦<Collected as Sink>⟧.has_failed result ≡ false }
@@ -69,7 +69,7 @@ impl Collected {
         }
     }
 
-    /// What it has taken.
+    /// Returns what it has taken.
     pub fn as_slice(&self) -> &[u8]
         ensures { ⟦<Collected as Sink>⟧.contents self.now ≡ Some result.now }
     {

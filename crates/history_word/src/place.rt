@@ -1,4 +1,4 @@
-//! Which line may stand next.
+//! Which line may come next.
 
 ghost use Rattle.std.specs.Prelude.{◌≡◌, ℕ, Some, option_map};
 ghost use Rattle.history_model.specs.Bytes.{Bytes};
@@ -9,18 +9,18 @@ ghost use Rattle.history_word.specs.Drafts.{place_of, role_of, IsOpening, IsHead
 
 use crate::heading::{ActorHeading, Heading, Opening, Role};
 
-/// Where the next line of a command stands.
+/// Where in a command the next line is.
 #[derive(Clone, Copy, PartialEq, Eq)]
 pub(crate) enum Place {
     Start,
     Parents,
     Edits,
     Committer,
-    /// Behind `tag`.
+    /// After `tag`.
     Tagger,
-    /// Behind `move`.
+    /// After `move`.
     ToFirst,
-    /// Behind a line `to`.
+    /// After a line `to`.
     ToMore,
     Message,
     End,
@@ -28,7 +28,7 @@ pub(crate) enum Place {
 }
 
 impl Place {
-    /// The place behind a line that may stand here.
+    /// Returns the place after a line, if that line may be here.
     pub(crate) fn next(self, heading: &Heading) -> Option<Place>
         ensures { (h : lines.Heading) → IsHeading heading.now h
             → option_map place_of result ≡ next_offered (place_of self) h }
@@ -47,7 +47,7 @@ impl Place {
 }
 
 impl Opening {
-    /// The place behind the line that a command begins with.
+    /// Returns the place after the first line of a command.
     pub(crate) fn next(&self) -> Place
         ensures { (h : lines.Heading) → IsOpening self.now h
             → next_offered table.Start h ≡ Some (place_of result) }
@@ -62,7 +62,7 @@ impl Opening {
 }
 
 impl Role {
-    /// The place behind an actor's line that may stand at this place.
+    /// Returns the place after an actor's line, if that line may be at this place.
     pub(crate) fn next(self, place: Place) -> Option<Place>
         ensures { (name email : ℕ) (seconds offset : Bytes) → option_map place_of result
             ≡ next_offered (place_of place)

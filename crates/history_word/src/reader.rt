@@ -51,11 +51,12 @@ impl From<Broken> for Stop {
 #[derive(Drop)]
 pub enum Received {
     Command(Command),
-    /// Some part of it found no memory; it was read past all the same.
+    /// Memory ran out for some part of it; it was read to its end all the same.
     NoMemory { is_changing: bool },
 }
 
-/// Reads until a whole line stands first, and says how long it is without its line feed.
+/// Reads until the first line is whole, and returns its length without its line feed. Refused as
+/// `LineTooLong` or, at the end of the source, as `Truncated`.
 fn read_line<R: Source>(buffer: &mut Buffer, source: &mut R) -> Result<usize, Stop>
     ensures { Reads R.left R.has_failed R.readings source.old buffer.old source.new buffer.new
         (λ n taken. (taken ≡ []) × IsLineOf n (unread buffer.new)
@@ -74,7 +75,8 @@ fn read_line<R: Source>(buffer: &mut Buffer, source: &mut R) -> Result<usize, St
     }
 }
 
-/// Takes the line that stands at this place, and says what it says and where the next one stands.
+/// Takes the line at this place, and returns what it says and the place of the next one. Refused as
+/// `Syntax` if no such line may be here.
 fn read_heading<R: Source>(
     alloc: Global,
     buffer: &mut Buffer,
@@ -98,7 +100,7 @@ fn read_heading<R: Source>(
     Ok((heading, next))
 }
 
-/// Takes a field of this size and its line feed. It is `None` where it found no memory.
+/// Takes a field of this size and its line feed. It is `None` if memory ran out for it.
 fn read_field<R: Source>(
     alloc: Global,
     buffer: &mut Buffer,
@@ -132,7 +134,7 @@ fn read_field<R: Source>(
     Ok(field)
 }
 
-/// The field with its next bytes, if there is memory for them.
+/// Returns the field with its next bytes, if there is memory for them.
 fn added(field: Option<Field>, bytes: &[u8]) -> Option<Field>
     ensures { (limit size : ℕ) (front : Bytes)
         → IfSome field (λ kept. KeepsFront limit size kept front)
@@ -143,7 +145,7 @@ fn added(field: Option<Field>, bytes: &[u8]) -> Option<Field>
     Some(field)
 }
 
-/// Takes the fields of an edit's line. The edit is `None` where one of them found no memory.
+/// Takes the fields of an edit's line. The edit is `None` if memory ran out for one of them.
 fn read_edit<R: Source>(
     alloc: Global,
     buffer: &mut Buffer,
@@ -186,7 +188,7 @@ fn read_edit<R: Source>(
     }
 }
 
-/// Takes paths of these sizes. They are `None` where they found no memory.
+/// Takes paths of these sizes. They are `None` if memory ran out for them.
 fn read_paths<R: Source>(
     alloc: Global,
     buffer: &mut Buffer,
@@ -206,7 +208,7 @@ fn read_paths<R: Source>(
     Ok(paths)
 }
 
-/// Takes the paths that follow a log's line. The log is `None` where a part of it found no memory.
+/// Takes the paths that follow a log's line. The log is `None` if memory ran out for a part of it.
 fn read_log<R: Source>(
     alloc: Global,
     buffer: &mut Buffer,
@@ -223,7 +225,7 @@ fn read_log<R: Source>(
     Ok(line.finish(paths))
 }
 
-/// Takes the fields of an actor's line. The actor is `None` where a part of it found no memory.
+/// Takes the fields of an actor's line. The actor is `None` if memory ran out for a part of it.
 fn read_actor<R: Source>(
     alloc: Global,
     buffer: &mut Buffer,
@@ -241,7 +243,7 @@ fn read_actor<R: Source>(
     Ok(actor_line(name, email, heading.seconds, heading.offset))
 }
 
-/// Takes the fields of the line that a command begins with, and says what of the command has come.
+/// Takes the fields of a command's first line, and returns what has come of the command.
 fn read_opening<R: Source>(
     alloc: Global,
     buffer: &mut Buffer,
@@ -307,7 +309,7 @@ fn read_fields<R: Source>(
     Ok(())
 }
 
-/// Takes a line and its fields into the draft, and says where the next line stands.
+/// Takes a line and its fields into the draft, and returns the place of the next line.
 fn read_part<R: Source>(
     alloc: Global,
     buffer: &mut Buffer,
@@ -326,12 +328,13 @@ fn read_part<R: Source>(
     Ok(next)
 }
 
-/// Reads a whole command, and asks the source for no byte where the command stands in the buffer already.
+/// Reads a whole command. Calls the source only if the command isn't in the buffer already.
 ///
-/// `Refused` is answered where what came begins with no command: `LineTooLong` where 4,097 bytes come without a line
-/// feed in the place of a line, `Truncated` where the input ends inside a command, after which nothing is left unread,
-/// and `Syntax` where a whole line may not stand in its place or a field is not followed by a line feed. `Broken` is
-/// answered where the source has failed, and at the 18,446,744,073,709,551,615th reading through this buffer.
+/// Returns `Refused` if what came begins with no command: as `LineTooLong` if 4,097 bytes come
+/// without a line feed in place of a line, as `Truncated` if the input ends within a command, after
+/// which nothing is left unread, and as `Syntax` if a whole line may not be in its place or a field
+/// is not followed by a line feed. Returns `Broken` if the source has failed, and at the
+/// 18,446,744,073,709,551,615th reading through this buffer.
 pub fn read_command<R: Source>(
     alloc: Global,
     buffer: &mut Buffer,

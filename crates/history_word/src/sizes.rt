@@ -3,10 +3,12 @@
 ghost use Rattle.std.specs.Prelude.{◌≤◌, ◌≡◌, length};
 ghost use Rattle.history_word.specs.Lines.{max_sizes};
 
-/// At least as many as a line of 4,096 bytes can tell: each by ` path `, of 6 bytes, and a digit or more.
+/// At least as many as a line of 4,096 bytes can have: each takes ` path `, of 6 bytes, and a digit
+/// or more.
 const MAX_SIZES: usize = 586;
 
-/// Sizes of fields, in their order. They take no memory, so that the fields are read past also where none is left.
+/// Sizes of fields, in order. They take no memory, so that the fields are read to their end even if
+/// none is left.
 #[derive(Drop)]
 pub(crate) struct Sizes {
     items: [u64; MAX_SIZES],
@@ -19,7 +21,7 @@ impl Sizes {
     ghost use Rattle.std.specs.Prelude.{◌<◌, [], ◌∷◌, ◌++◌};
     ghost use Rattle.history_word.specs.Sizes.{listed};
 
-    /// None.
+    /// Returns no sizes.
     pub(crate) fn new() -> Self
         ensures { listed result ≡ [] }
     {
@@ -29,7 +31,7 @@ impl Sizes {
         }
     }
 
-    /// One more, behind the others.
+    /// Adds one after the others.
     pub(crate) fn add(&mut self, size: u64)
         requires { length (listed self.old) < max_sizes }
         ensures { listed self.new ≡ listed self.old ++ size ∷ [] }
@@ -38,7 +40,7 @@ impl Sizes {
         self.count += 1;
     }
 
-    /// All of them.
+    /// Returns all of them.
     pub(crate) fn as_slice(&self) -> &[u64]
         ensures { result.now ≡ listed self.now }
     {

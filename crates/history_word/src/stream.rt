@@ -5,8 +5,8 @@ ghost use Rattle.std.specs.Prelude.{◌≡◌, false};
 use crate::streams::{Broken, Sink, Source};
 use std::io::{Read, Write};
 
-/// A reader or a writer of std. It fails at the first error, an interrupted call included, and where a writer takes nothing
-/// of some bytes.
+/// A reader or a writer of std. It fails at the first error, an interrupted call included, and if a
+/// writer takes none of some bytes.
 #[derive(Drop)]
 pub struct Stream<T> {
     inner: T,
@@ -17,7 +17,7 @@ pub struct Stream<T> {
 impl<T> Stream<T> {
     ghost use Rattle.history_word.specs.StdStream.{inner_of, is_broken, readings_of};
 
-    /// A stream over a std reader or writer, which hasn't failed.
+    /// Returns a stream over a std reader or writer; it hasn't failed.
     pub fn new(inner: T) -> Self
         ensures inner { inner_of result ≡ inner }
         ensures whole { is_broken result ≡ false }

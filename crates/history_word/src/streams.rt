@@ -12,7 +12,7 @@ pub struct Broken;
 
 /// Where bytes come from.
 pub trait Source {
-    /// The bytes that readings will give from here on, where it tells them.
+    /// The bytes that readings will give from here on, if the source knows them.
     ghost left: { Self → Option (List ℕ) };
 
     /// Whether it has failed.
@@ -21,8 +21,9 @@ pub trait Source {
     /// How many readings were made, as far as a `u64` counts.
     ghost readings: { Self → ℕ };
 
-    /// Reads into a beginning of the buffer, and says how many bytes it has put there. None put into a buffer with room
-    /// is the end of the source. `Broken` is answered exactly where the source has then failed.
+    /// Reads into a beginning of the buffer, and returns how many bytes it put there: none, into a
+    /// buffer with room, at the end of the source. Returns `Broken` exactly if the source has then
+    /// failed.
     fn read(&mut self, buffer: &mut [u8]) -> Result<usize, Broken>
         ensures bound { ReadsAtMost result buffer.new }
         ensures bytes { ReadConsumes (left self.old) (left self.new) result buffer.new }
@@ -33,14 +34,14 @@ pub trait Source {
 
 /// Where bytes go.
 pub trait Sink {
-    /// The bytes that it has taken, where it tells them.
+    /// The bytes that it has taken, if the sink knows them.
     ghost contents: { Self → Option (List ℕ) };
 
     /// Whether it has failed.
     ghost has_failed: { Self → Bool };
 
-    /// Takes a beginning of the bytes, which isn't empty where the bytes aren't, and says how many it took. `Broken` is
-    /// answered exactly where the sink has then failed.
+    /// Takes a beginning of the bytes, at least one byte if there is one, and returns how many it
+    /// took. Returns `Broken` exactly if the sink has then failed.
     fn write(&mut self, bytes: &[u8]) -> Result<usize, Broken>
         ensures bound { WritesAtMost result bytes.now }
         ensures some { 0 < length bytes.now → IfOk result (λ count. 0 < count) }
@@ -49,7 +50,8 @@ pub trait Sink {
         ensures lasts { has_failed self.old ≡ true → has_failed self.new ≡ true };
 }
 
-/// Writes all of the bytes. `Broken` is answered where the sink has failed, which then has taken a beginning of them that isn't all.
+/// Writes all of the bytes. Returns `Broken` if the sink has failed, which has then taken fewer
+/// than all of them.
 pub fn write_all<W: Sink>(writer: &mut W, bytes: &[u8]) -> Result<(), Broken>
     ensures ok { OnOk result (Appends (W.contents writer.old) (W.contents writer.new) bytes.now) }
     ensures err { OnErr result ((W.has_failed writer.new ≡ true)

@@ -13,7 +13,8 @@ use crate::heading::{Heading, Opening, kept};
 use crate::words::Words;
 use std::alloc::Global;
 
-/// Takes `any`, `new` or `at <word>`. It is `Some(None)` where the word found no memory.
+/// Takes `any`, `new` or `at <word>`. Returns `Some(None)` if memory ran out for the word, and
+/// `None` if the words begin with none of these.
 pub(crate) fn expect(alloc: Global, words: &mut Words) -> Option<Option<Expect>>
     ensures { SaysExpect result (left words.old) (left words.new) }
 {
@@ -30,21 +31,22 @@ pub(crate) fn expect(alloc: Global, words: &mut Words) -> Option<Option<Expect>>
     }
 }
 
-/// What follows `to`.
+/// Reads what follows `to`.
 pub(crate) fn to(alloc: Global, words: &mut Words) -> Option<Heading>
     ensures { Says result (target_of_words ToHeading (left words.old)) }
 {
     Some(Heading::To(target(alloc, words)?))
 }
 
-/// What follows `tag`.
+/// Reads what follows `tag`.
 pub(crate) fn tag(alloc: Global, words: &mut Words) -> Option<Heading>
     ensures { Says result (target_of_words TagHeading (left words.old)) }
 {
     Some(Heading::Opening(Opening::Tag(target(alloc, words)?)))
 }
 
-/// Takes the rest of a line, `<name> <expect> <word>`. It is `Some(None)` where one of them found no memory.
+/// Takes the rest of a line, `<name> <expect> <word>`. Returns `Some(None)` if memory ran out for
+/// one of them, and `None` for any other rest.
 fn target(alloc: Global, words: &mut Words) -> Option<Option<To>>
     ensures { SaysTarget result (left words.old) }
 {
@@ -56,7 +58,7 @@ fn target(alloc: Global, words: &mut Words) -> Option<Option<To>>
     Some(to_line(own_name, expect, own_word))
 }
 
-/// A name that is to move, if each of its parts found memory.
+/// Returns a name to move, if there was memory for each of its parts.
 fn to_line(name: Option<Vec<u8>>, expect: Option<Expect>, word: Option<Vec<u8>>) -> Option<To>
     ensures { (line : model.To) → IfSome name (λ x. x.items ≡ line.name)
         → IfSome expect (λ x. IsExpect x line.expect) → IfSome word (λ x. x.items ≡ line.word)

@@ -10,7 +10,8 @@ ghost use Rattle.history_word.specs.Lines.{IsCut, split_words, are_nonempty, wor
 use gix_object_lines::decimal::read_unsigned;
 use history_model::FileKind;
 
-/// The words of a line that are still to come, with one space between. The line has at most 4,096 bytes.
+/// The words of a line that are still to come, separated by one space. The line has at most 4,096
+/// bytes.
 #[derive(Drop)]
 pub(crate) struct Words<'a> {
     rest: Option<&'a [u8]>,
@@ -20,7 +21,7 @@ pub(crate) struct Words<'a> {
 impl<'a> Words<'a> {
     ghost use Rattle.history_word.specs.Words.{left};
 
-    /// All words of a line without its line feed.
+    /// Returns all words of a line, which is given without its line feed.
     pub(crate) fn new(line: &'a [u8]) -> Self
         requires { length line.now ≤ max_line }
         ensures { left result ≡ split_words line.now }
@@ -39,7 +40,7 @@ impl<'a> Words<'a> {
         Some(word)
     }
 
-    /// Whether no word is left.
+    /// Returns whether no word is left.
     pub(crate) fn is_done(&self) -> bool
         ensures { IsTrue result ↔ (left self.now ≡ []) }
     {
@@ -56,7 +57,7 @@ impl<'a> Words<'a> {
     }
 }
 
-/// The word up to the first space, and what follows the space.
+/// Returns the word up to the first space, and what follows the space.
 fn first_word(line: &[u8]) -> (&[u8], Option<&[u8]>)
     ensures { IsCut line.now result.0.now (option_copied result.1) }
 {
@@ -68,7 +69,7 @@ fn first_word(line: &[u8]) -> (&[u8], Option<&[u8]>)
     (line, None)
 }
 
-/// Whether no word of the line is empty.
+/// Returns whether no word of the line is empty.
 pub(crate) fn are_words(line: &[u8]) -> bool
     requires { length line.now ≤ max_line }
     ensures { result ≡ are_nonempty (split_words line.now) }
@@ -82,7 +83,8 @@ pub(crate) fn are_words(line: &[u8]) -> bool
     true
 }
 
-/// The number below 2^64 that the word spells in digits, without a leading zero.
+/// Returns the number below 2^64 that the word spells in digits, without a leading zero, if it
+/// spells one.
 pub(crate) fn number(word: &[u8]) -> Option<u64>
     ensures { result ≡ number_of word.now }
 {
@@ -90,7 +92,7 @@ pub(crate) fn number(word: &[u8]) -> Option<u64>
     Some(number)
 }
 
-/// The kind of file that the word names.
+/// Returns the kind of file that the word names, if it names one.
 pub(crate) fn file_kind(word: &[u8]) -> Option<FileKind>
     ensures { result ≡ kind_of word.now }
 {
