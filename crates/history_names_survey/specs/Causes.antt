@@ -42,32 +42,34 @@ log_error path (logs.Bad number) = BadLog path number
 log_error path (logs.Long number) = LongLogLine path number
 log_error path logs.Memory = Memory
 
--- whether a repository, whole or with files that aren't renamed to their places, may have a file at the path
+-- whether a repository, whole or with files not yet renamed to their places, may have a file at the
+-- path
 abbrev pub may_hold_file : Bytes → Bool
 may_hold_file path =
     bytes_eq path head_place || bytes_eq path packed_place || is_lock_file path
     || begins refs_front path || is_log_place path
 
--- a file or a folder that stands where none may
+-- a file or a folder where none may be
 abbrev pub IsStray : Tree → Bytes → Type 0
 IsStray tree path =
     (IsTrue (is_file_at tree path) × IsFalse (may_hold_file path))
     ⊎ (IsTrue (is_folder (get tree path)) × IsFalse (is_name_folder path))
 
--- HEAD stands, and isn't the text of a branch
+-- HEAD exists, and isn't the text of a branch
 pub record HasBadHead (tree : Tree) : Type 0 where
   pub text : Bytes
   pub stands : file_at tree head_place ≡ Some text
   pub bad : (branch : Bytes) → IsTrue (is_branch branch) → text ≢ head_text branch
 
--- a file below `refs` that is to stay, whose path is no name, or that holds neither an id nor a name
+-- a file below `refs`, but no lock file, whose path is no name, or that holds neither an id nor a
+-- name
 pub record IsBadName (kind : Kind) (tree : Tree) (path : Bytes) : Type 0 where
   pub stands : IsTrue (is_file_at tree path)
   pub below : IsTrue (begins refs_front path)
   pub finished : IsFalse (is_lock_file path)
   pub bad : IsFalse (is_name path) ⊎ (name_state kind tree path ≡ states.Faulty)
 
--- of the text of the log that stands at the path this holds
+-- this holds of the text of the log at the path
 pub record IsLogOf (tree : Tree) (path : Bytes) (What : Bytes → Type 0) : Type 0 where
   pub text : Bytes
   pub place : IsTrue (is_log_place path)
@@ -81,11 +83,11 @@ pub record HasBadPeel (kind : Kind) (facts : Facts) (tree : Tree) (name : Bytes)
   pub named : entry.name ≡ name
   pub wrong : IsFalse (is_well_peeled facts entry)
 
--- the name reads as something, whether a file or a record tells it
+-- the name exists: it doesn't read as absent
 abbrev pub Stands : Kind → Tree → Bytes → Type 0
 Stands kind tree name = IsFalse (is_absent (name_state kind tree name))
 
--- The cause holds: of the files that stand, or that a reading may fail.
+-- The cause holds of these files; or a reading may fail, or memory ran out.
 abbrev pub HasCause : Type 0 → Kind → Facts → Tree → NamesError → Type 0
 HasCause MayFail kind facts tree NoHead = file_at tree head_place ≡ None
 HasCause MayFail kind facts tree BadHead = HasBadHead tree
@@ -121,13 +123,13 @@ HasCause MayFail kind facts tree Memory = ⊤
 
 -- ---- calls
 
--- where a file stands at the path, an error has its cause
+-- if there is a file at the path, an error has its cause
 abbrev pub Excuses : {T : Type 0} → Type 0 → Kind → Facts → Bytes → Result T NamesError → Tree
     → Type 0
 Excuses MayFail kind facts path result tree =
     IsTrue (is_file_at tree path) → IfErr result (HasCause MayFail kind facts tree)
 
--- why no commit and no tag is told to be stored under the id that a name holds
+-- why no commit or tag is found under the id that a name holds
 abbrev pub IsUnheld : Type 0 → Option ObjectKind → ObjectId → Vec ℕ Global → NamesError → Type 0
 IsUnheld MayFail stored id name (Missing missing holder) =
     (stored ≡ None) × (missing ≡ id) × (holder ≡ name)
@@ -137,13 +139,13 @@ IsUnheld MayFail stored id name File = MayFail
 IsUnheld MayFail stored id name Memory = ⊤
 IsUnheld MayFail stored id name _ = ⊥
 
--- the first name is a folder of the second one, which may not be told for want of memory
+-- the first name is a folder of the second one, unless memory ran out for the error
 abbrev pub IsCollisionOf : Bytes → Bytes → NamesError → Type 0
 IsCollisionOf folder name (Collides one other) = (one.items ≡ folder) × (other.items ≡ name)
 IsCollisionOf folder name Memory = ⊤
 IsCollisionOf folder name _ = ⊥
 
--- why a name isn't told to be apart from all others: one stands that is a folder of it
+-- why a name isn't found to be apart from all others: an existing one is a folder of it
 abbrev pub IsCollision : Type 0 → Kind → Tree → Bytes → NamesError → Type 0
 IsCollision MayFail kind tree name (Collides one other) =
     (other.items ≡ name) × IsTrue (is_below one.items name) × IsTrue (has_name kind tree one.items)
@@ -151,7 +153,7 @@ IsCollision MayFail kind tree name File = MayFail
 IsCollision MayFail kind tree name Memory = ⊤
 IsCollision MayFail kind tree name _ = ⊥
 
--- a call of the files or of the store failed, or memory was refused
+-- a call of the files or of the store failed, or memory ran out
 abbrev pub IsFault : NamesError → Type 0
 IsFault File = ⊤
 IsFault Memory = ⊤

@@ -25,14 +25,15 @@ pub record StandsStore (kind : Kind) (tree : Tree) (values : Values) : Type 0 wh
   pub whole : IsWholeStore (store_of kind values)
   pub written : (id : Id) (value : Value) → get values id ≡ Some value → IsWrittenValue kind value
 
--- So a repository stands, whole, with these values and on this branch.
+-- The pair represents a whole repository with these values, on this branch.
 pub record StandsOver (kind : Kind) (pair : Pair) (values : Values) (branch : Bytes) : Type 0 where
   pub r : Repository
   pub objects : r.objects ≡ values
   pub branch_is : r.branch ≡ branch
   pub stands : StandsWhole kind pair r
 
--- Where a tree of objects holds whole values and a names part is a repository's over their facts, the two stand for one.
+-- If a tree of objects holds whole values and a names part is a repository's over their facts, the
+-- two represent one repository.
 abbrev pub PartsJoin : Type 0
 PartsJoin =
     (kind : Kind) (pair : Pair) (facts : Facts) (values : Values) (branch : Bytes)

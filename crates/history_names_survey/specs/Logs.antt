@@ -12,7 +12,7 @@ use Rattle.history_names_survey.specs.declared.log.LineParts.{LineParts}
 use Rattle.history_names_survey.specs.declared.log.LogFault.{LogFault}
 use Rattle.history_names_survey.specs.declared.log.LogFault.TheVariants.{Bad, Long, Memory}
 
--- the most bytes of a line that is read, its line feed counted
+-- the most bytes of a line that is read, with its line feed
 abbrev pub max_log_line : ℕ
 max_log_line = 4_096
 
@@ -37,7 +37,8 @@ pub record BeginsWithLongLine (text : Bytes) : Type 0 where
   pub longer : max_log_line < length text
   pub endless : IsFalse (has_byte 10 (take max_log_line text))
 
--- Before the line of this number, the first being 1, stand moves' lines alone, and of the text from it on this holds.
+-- The lines before the one of this number, counted from 1, are moves', and this holds of the text
+-- from it on.
 pub record FailsAt (kind : Kind) (text : Bytes) (number : ℕ) (Wrong : Bytes → Type 0) : Type 0 where
   pub before : List LogEntry
   pub rest : Bytes
@@ -115,7 +116,7 @@ parts_of parts =
       message = parts.message.now;
     }
 
--- the text is these parts: no space stands in the first two, and no tab in the third
+-- the text is these parts: no space is in the first two, and no tab in the third
 pub record AreParts (parts : Parts) (text : Bytes) : Type 0 where
   pub spelled : text
       ≡ parts.before ++ 32 ∷ (parts.after ++ 32 ∷ (parts.actor ++ 9 ∷ parts.message))

@@ -16,11 +16,11 @@ use Rattle.history_model.specs.Places.{packed_place}
 abbrev pub record_names : List Record → List Bytes
 record_names records = map (λ entry. entry.name) records
 
--- each name comes before those behind it
+-- each name comes before those after it
 abbrev pub is_ascending : List Bytes → Bool
 is_ascending names = is_sorted by_bytes (map (λ name. (name, name)) names)
 
--- each is a name, private or not, none stands twice, and they ascend where the header says so
+-- each is a name, private or not, none occurs twice, and they ascend if the header says so
 abbrev pub are_good_names : Bool → List Bytes → Bool
 are_good_names sorted names = list_all is_name names && not (has_twice bytes_eq names)
     && (not sorted || is_ascending names)
@@ -29,7 +29,7 @@ abbrev pub is_good_file : PackedFile → Bool
 is_good_file packed =
     not packed.returns && are_good_names packed.sorted (record_names packed.records)
 
--- each line is in its form, without a carriage return, and its name may stand there
+-- each line is in its form, without a carriage return, and its name may follow those before it
 abbrev pub is_packed_text : Kind → Bytes → Bool
 is_packed_text kind text = unwrap_or (option_map is_good_file (packed_file kind text)) false
 
@@ -40,7 +40,8 @@ first_lines (suc count) [] = []
 first_lines (suc count) (byte ∷ rest) =
     if byte == 10 then byte ∷ first_lines count rest else byte ∷ first_lines (suc count) rest
 
--- The lines before the one of this number, the first being 1, are a file of packed names, and with it they are none.
+-- The lines before the one of this number, counted from 1, are a file of packed names, and with it
+-- they are none.
 pub record HasBadRecord (kind : Kind) (text : Bytes) (number : ℕ) : Type 0 where
   pub before : ℕ
   pub number_is : number ≡ before + 1
@@ -52,7 +53,7 @@ pub record HasBadRecord (kind : Kind) (text : Bytes) (number : ℕ) : Type 0 whe
 abbrev pub records_in : Kind → Bytes → List Record
 records_in kind text = unwrap_or (packed_records kind text) []
 
--- the records of `packed-refs`, of which none stand where there is no file
+-- the records of `packed-refs`; none if there is no such file
 abbrev pub records_at : Kind → Tree → List Record
 records_at kind tree = records_in kind (bytes_at tree packed_place)
 

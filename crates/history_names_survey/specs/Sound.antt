@@ -1,4 +1,4 @@
--- What may stand at each path of a repository's names part (gitrepository-layout(5)).
+-- What may be at each path of a repository's names part (gitrepository-layout(5)).
 use Rattle.std.specs.Prelude.{◌≡◌, ◌⊎◌, ⊤, ℕ, suc, Bool, ◌&&◌, [], Option, Some, None, Result, OnOk, drop, codes, IsTrue, IsFalse}
 use Rattle.std.specs.List.{AllByRecursion}
 use Rattle.std.specs.FinMap.{get}
@@ -32,7 +32,7 @@ ReadsAs kind text Faulty = loose_state kind text ≡ states.Faulty
 
 -- ---- files
 
--- no name stands whose folder this one would be in
+-- no existing name is a folder of this one
 abbrev pub IsApart : Kind → Tree → Bytes → Type 0
 IsApart kind tree name =
     (other : Bytes) → IsTrue (is_below other name) → IsFalse (has_name kind tree other)
@@ -46,7 +46,7 @@ pub record IsNameFile (kind : Kind) (facts : Facts) (tree : Tree) (name text : B
   pub holds : loose_state kind text ≡ states.Holds id
   pub held : IsTrue (may_be_held (kind_in facts id))
 
--- a log of such a name
+-- the log of such a name
 pub record IsLogFile (kind : Kind) (tree : Tree) (path text : Bytes) : Type 0 where
   pub place : IsTrue (is_log_place path)
   pub of_name : IsTrue (has_name kind tree (log_name path))
@@ -65,7 +65,7 @@ IsSoundAt kind facts tree path (Some folder) = IsTrue (is_name_folder path)
 
 -- ---- records
 
--- a record of a repository; its id counts where no file of the name stands
+-- a record of a repository; its id counts only if the name has no file
 pub record IsSoundRecord (kind : Kind) (facts : Facts) (tree : Tree) (entry : Record)
     : Type 0 where
   pub common : IsFalse (is_private entry.name)
@@ -80,19 +80,19 @@ AreSoundRecords kind facts tree =
 
 -- ---- calls
 
--- where the call says so, the file at the path is sound
+-- if the call succeeds, the file at the path is sound
 abbrev pub Sounds : {T E : Type 0} → Kind → Facts → Bytes → Result T E → Tree → Type 0
 Sounds kind facts path result tree =
     (text : Bytes) → file_at tree path ≡ Some text
     → OnOk result (IsSoundFile kind facts tree path text)
 
--- all that stands below a folder is sound
+-- everything below a folder is sound
 abbrev pub IsSoundBelow : Kind → Facts → Bytes → Tree → Type 0
 IsSoundBelow kind facts place tree =
     (n : ℕ) (path : Bytes) → above (suc n) path ≡ place
     → IsSoundAt kind facts tree path (get tree path)
 
--- all that stands is sound
+-- everything is sound
 pub record IsSound (kind : Kind) (facts : Facts) (tree : Tree) : Type 0 where
   pub below : IsSoundBelow kind facts [] tree
   pub packed : IsTrue (is_packed_text kind (bytes_at tree packed_place))

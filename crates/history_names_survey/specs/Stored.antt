@@ -1,4 +1,4 @@
--- What a store of objects tells of the ids that names hold.
+-- What a store of objects says about the ids that names hold.
 use Rattle.std.specs.Prelude.{◌≡◌, Bool, true, false, codes, take, drop, if◌then◌else◌, Option, Some, None, option_map, option_and_then, unwrap_or}
 use Rattle.std.specs.FinMap.{get}
 use Rattle.gix_hash_id.specs.Id.{Id}
@@ -83,7 +83,7 @@ is_of_wrong_kind (Some Tag) = false
 is_of_wrong_kind (Some Tree) = true
 is_of_wrong_kind (Some Blob) = true
 
--- ---- what records tell
+-- ---- what records say
 
 -- whether what is stored is a tag of this commit
 abbrev pub is_tag_of : Option Fact → Id → Bool

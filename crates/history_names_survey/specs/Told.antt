@@ -1,4 +1,4 @@
--- What a cause of a names part is told as where a folder is opened.
+-- How a cause of a names part is reported when a folder is opened.
 use Rattle.history_names_survey.specs.declared.error.NamesError.{NamesError}
 use Rattle.history_names_survey.specs.declared.error.NamesError.TheVariants as names
 use Rattle.history_texts.specs.declared.open_error.NamedBy.TheVariants.{Name}

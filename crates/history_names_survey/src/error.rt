@@ -22,7 +22,7 @@ pub enum NamesError {
     /// HEAD isn't `ref: `, a branch's name and a line feed.
     #[error("HEAD doesn't name a branch")]
     BadHead,
-    /// A file or a folder stands where no repository has one.
+    /// There is a file or a folder where no repository has one.
     #[error("stray: {0:?}")]
     Stray(Vec<u8>),
     /// A file that was to be renamed to its place.
@@ -34,7 +34,7 @@ pub enum NamesError {
     /// The name belongs to one working tree.
     #[error("private: {0:?}")]
     PrivateName(Vec<u8>),
-    /// The name stands for another name.
+    /// The name is symbolic: it holds another name.
     #[error("symbolic: {0:?}")]
     Symbolic(Vec<u8>),
     /// Nothing is stored under the id that the name holds.
@@ -43,8 +43,9 @@ pub enum NamesError {
     /// The name holds neither a commit nor a tag.
     #[error("wrong kind: {0:?}, which {1:?} holds")]
     WrongKind(ObjectId, Vec<u8>),
-    /// A line of `packed-refs` that isn't in its form, or whose name may not stand behind those before it: no name, one that has a
-    /// record already, or one that descends where the header says that they ascend.
+    /// A line of `packed-refs` that isn't in its form, or whose name may not follow those before
+    /// it: it is no name, it has a record already, or it descends though the header says that names
+    /// ascend.
     #[error("line {0} of the packed names may not stand there")]
     BadPacked(usize),
     /// The peeled id in the name's record isn't that of the commit of a tag that the record holds.
@@ -56,10 +57,10 @@ pub enum NamesError {
     /// A line of a log that isn't in its form and limits.
     #[error("{0:?}: line {1} tells no move")]
     BadLog(Vec<u8>, usize),
-    /// A line of a log that has more than 4,096 bytes, its line feed counted.
+    /// A line of a log that has more than 4,096 bytes, with its line feed.
     #[error("{0:?}: line {1} is too long")]
     LongLogLine(Vec<u8>, usize),
-    /// A log whose name doesn't stand.
+    /// A log whose name doesn't exist.
     #[error("no name has the log {0:?}")]
     LogWithoutName(Vec<u8>),
     #[error("a call of the files failed")]
@@ -107,7 +108,7 @@ impl<T: Drop> From<AllocFailed<T>> for NamesError {
 }
 
 impl NamesError {
-    /// The error of a log at this path.
+    /// Returns the error of a log at this path.
     pub(crate) fn of_log(path: Vec<u8>, fault: LogFault) -> NamesError
         ensures { result ≡ log_error path fault }
     {

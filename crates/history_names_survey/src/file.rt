@@ -32,11 +32,13 @@ use std::alloc::Global;
 /// How the path of a log begins.
 const LOGS: &[u8] = b"logs/";
 
-/// How the path of a file ends that is to be renamed to its place.
+/// How the path of a file that is to be renamed to its place ends.
 const LOCK_END: &[u8] = b".lock";
 
-/// Tests that the file at this path is one that a repository has there: a name's, which holds a stored commit or tag, or a log of a
-/// name that stands. The file has so many bytes. HEAD isn't read, and neither is a name's file that is too long to hold anything.
+/// Tests that the file at this path is one that a repository has there: a name's, which holds a
+/// stored commit or tag, or the log of an existing name. The file has so many bytes. HEAD isn't
+/// read, nor is a name's file that is too long to hold anything. Otherwise returns a cause that
+/// holds.
 pub(crate) fn test_file<F: Files, S: FindHeader>(
     alloc: Global,
     files: &F,
@@ -112,7 +114,8 @@ fn test_name<F: Files, S: FindHeader>(
     }
 }
 
-/// Tests that a commit or a tag is stored under the id that a name holds.
+/// Tests that a commit or a tag is stored under the id that a name holds. Otherwise returns
+/// `Missing` or `WrongKind`, or that the store failed or memory ran out.
 pub(crate) fn test_held<S: FindHeader>(
     stored: &S,
     id: ObjectId,
@@ -133,7 +136,7 @@ pub(crate) fn test_held<S: FindHeader>(
     }
 }
 
-/// Whether the name belongs to one working tree.
+/// Returns whether the name belongs to one working tree.
 pub(crate) fn is_private(name: &[u8]) -> bool
     ensures { result ≡ is_private name.now }
 {
@@ -169,7 +172,7 @@ fn test_log_file<F: Files>(
     }
 }
 
-// The name that a log is of.
+// Returns the name that a log belongs to.
 fn log_name(path: &[u8]) -> &[u8]
     requires { IsTrue (is_log_place path.now) }
     ensures { result.now ≡ log_name path.now }
@@ -177,7 +180,7 @@ fn log_name(path: &[u8]) -> &[u8]
     &path[LOGS.len()..]
 }
 
-// Tests that no name stands whose folder this one would be in.
+// Tests that no existing name is a folder of this one. Otherwise returns `Collides`.
 pub(crate) fn test_apart<F: Files>(
     alloc: Global,
     files: &F,
@@ -200,7 +203,7 @@ pub(crate) fn test_apart<F: Files>(
     Ok(())
 }
 
-// The error of two names that collide.
+// Returns the error of two names that collide.
 fn collision(alloc: Global, folder: &[u8], name: &[u8]) -> NamesError
     ensures { IsCollisionOf folder.now name.now result }
 {
@@ -210,7 +213,7 @@ fn collision(alloc: Global, folder: &[u8], name: &[u8]) -> NamesError
     }
 }
 
-// Whether a name stands, in a file of its own or in a record.
+// Returns whether a name exists, in a file of its own or in a record.
 fn stands<F: Files>(files: &F, packed: &Packed<'_>, name: &[u8]) -> Result<bool, FileError>
     ensures found { (kind : Kind) → Finds F.is_honest F.history files.now
         (λ tree. ReadsPacked kind packed.now tree
@@ -226,7 +229,7 @@ fn stands<F: Files>(files: &F, packed: &Packed<'_>, name: &[u8]) -> Result<bool,
     is_file(files, name)
 }
 
-/// Whether a file stands at the path.
+/// Returns whether there is a file at the path.
 pub(crate) fn is_file<F: Files>(files: &F, path: &[u8]) -> Result<bool, FileError>
     ensures found { Finds F.is_honest F.history files.now
         (λ tree. IfOk result (λ found. found ≡ is_file_at tree path.now)) }
@@ -235,7 +238,7 @@ pub(crate) fn is_file<F: Files>(files: &F, path: &[u8]) -> Result<bool, FileErro
     Ok(file_len(files, path)?.is_some())
 }
 
-/// How many bytes the file at the path has; `None` where none stands.
+/// Returns how many bytes the file at the path has; `None` if there is none.
 pub(crate) fn file_len<F: Files>(files: &F, path: &[u8]) -> Result<Option<u64>, FileError>
     ensures found { Finds F.is_honest F.history files.now
         (λ tree. IfOk result (λ len. len ≡ option_map length (file_at tree path.now))) }
@@ -248,7 +251,7 @@ pub(crate) fn file_len<F: Files>(files: &F, path: &[u8]) -> Result<Option<u64>, 
     }
 }
 
-/// What a file has in it, nothing where none stands.
+/// Returns what a file has in it; nothing if there is no file.
 pub(crate) fn text_at<F: Files>(alloc: Global, files: &F, path: &[u8]) -> Result<Vec<u8>, FileError>
     ensures found { Finds F.is_honest F.history files.now
         (λ tree. IfOk result (λ text. text.items ≡ bytes_at tree path.now)) }

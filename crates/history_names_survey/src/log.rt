@@ -15,13 +15,14 @@ use history_model::limits::MAX_TITLE;
 use history_texts::{Actor, hex_digits};
 use std::alloc::{AllocError, Global};
 
-/// The most bytes of a line that is read, its line feed counted.
+/// The most bytes of a line that is read, with its line feed.
 const MAX_LOG_LINE: usize = 4_096;
 
 /// The most bytes of a log that are read at once, more than a line may have.
 const MAX_PIECE: u64 = 65_536;
 
-/// Why a log isn't read: a line that tells no move, or one that is too long, by its number, the first being 1; or no memory is left.
+/// Why a log isn't read: a line that is no move's, or one that is too long, by its number, counted
+/// from 1; or no memory is left.
 #[derive(Clone, Copy)]
 pub(crate) enum LogFault {
     Bad(usize),
@@ -39,9 +40,11 @@ impl From<AllocError> for LogFault {
     }
 }
 
-/// The first fault of the log at a path, a file of so many bytes; `None` if each line is a move in the written form, within the limits.
+/// Returns the first fault of the log at a path, a file of so many bytes; `None` if each line is a
+/// move in the written form, within the limits.
 ///
-/// The log is read in pieces, each from the beginning of a line, so a long log takes no more memory than one piece.
+/// The log is read in pieces, each from the beginning of a line, so that a long log takes no more
+/// memory than one piece.
 pub(crate) fn log_fault<F: Files>(
     alloc: Global,
     files: &F,
@@ -70,7 +73,7 @@ pub(crate) fn log_fault<F: Files>(
     Ok(None)
 }
 
-// The bytes of a file from one on, at most so many, and at most those of a piece.
+// Returns the bytes of a file from a position on, at most so many, and at most those of a piece.
 fn piece_at<F: Files>(
     alloc: Global,
     files: &F,
@@ -138,7 +141,7 @@ fn test_line(alloc: Global, kind: Kind, line: &[u8], number: usize) -> Result<()
     Ok(())
 }
 
-// What is wrong with a line without a line feed.
+// Returns what is wrong with a line without a line feed.
 fn endless(text: &[u8], number: usize) -> LogFault
     ensures { IsEndless text.now number result }
 {
@@ -149,7 +152,7 @@ fn endless(text: &[u8], number: usize) -> LogFault
     }
 }
 
-// Whether the line, without its line feed, tells a move.
+// Returns whether the line, given without its line feed, is a move's.
 fn is_entry(alloc: Global, kind: Kind, line: &[u8]) -> Result<bool, AllocError>
     requires { IsFalse (has_byte 10 line.now) }
     ensures { IfOk result (SpellsEntry kind line.now) }
@@ -166,7 +169,7 @@ fn is_entry(alloc: Global, kind: Kind, line: &[u8]) -> Result<bool, AllocError>
     Ok(Actor::parse(alloc, parts.actor)?.is_some())
 }
 
-// Whether the digits are those of an id of the kind, in lower case.
+// Returns whether the digits are those of an id of the kind, in lower case.
 fn is_id(kind: Kind, digits: &[u8]) -> bool
     ensures { TellsLower kind digits.now result }
 {
@@ -187,7 +190,7 @@ struct LineParts<'a> {
 }
 
 impl<'a> LineParts<'a> {
-    // The parts of a line: no space stands in the first two, and no tab in the third.
+    // Returns the parts of a line: no space is in the first two, and no tab in the third.
     fn cut(line: &'a [u8]) -> Option<LineParts<'a>>
         ensures { MatchOption result (IsUncut line.now)
             (λ parts. AreParts (parts_of parts) line.now) }
@@ -203,7 +206,7 @@ impl<'a> LineParts<'a> {
         })
     }
 
-    // Whether the first two are ids of the kind.
+    // Returns whether the first two are ids of the kind.
     fn has_ids(&self, kind: Kind) -> bool
         ensures { TellsIds kind (parts_of self.now) result }
     {

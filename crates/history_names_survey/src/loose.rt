@@ -38,7 +38,7 @@ pub(crate) fn read_loose(kind: Kind, text: &[u8]) -> Loose
     }
 }
 
-// Whether the line is `ref: ` and a name.
+// Returns whether the line is `ref: ` and a name.
 fn is_symbolic(line: &[u8]) -> bool
     ensures { result ≡ is_symbolic_line line.now }
 {

@@ -19,7 +19,7 @@ use history_texts::is_name;
 use std::alloc::Global;
 use std::collections::BTreeSet;
 
-/// The records of `packed-refs` in their order, and their names.
+/// The records of `packed-refs`, in order, and their names.
 #[derive(Drop)]
 pub(crate) struct Packed<'a> {
     pub(crate) records: Vec<Reference<'a>>,
@@ -27,9 +27,10 @@ pub(crate) struct Packed<'a> {
 }
 
 impl<'a> Packed<'a> {
-    /// The records of a text, read line by line: each is a record of a name, with or without a peeled id, none stands twice, they ascend
-    /// where the header says so, and no line has a carriage return. Else `BadPacked` tells the first line that may not come after those
-    /// before it.
+    /// Returns the records of a text, read line by line: each is a record of a name, with or
+    /// without a peeled id, no name occurs twice, they ascend if the header says so, and no line
+    /// has a carriage return. Otherwise returns `BadPacked` with the first line that may not come
+    /// after those before it.
     pub(crate) fn read(alloc: Global, kind: Kind, text: &'a [u8]) -> Result<Packed<'a>, NamesError>
         ensures { MatchResult result (IsReadOf kind text.now) (IsPackedFault kind text.now) }
     {
@@ -43,7 +44,7 @@ impl<'a> Packed<'a> {
         }
     }
 
-    // The records of a text without a carriage return.
+    // Returns the records of a text without a carriage return.
     fn read_plain(alloc: Global, kind: Kind, text: &'a [u8]) -> Result<Packed<'a>, NamesError>
         requires { IsFalse (has_byte 13 text.now) }
         ensures { MatchResult result (IsReadOf kind text.now) (IsPackedFault kind text.now) }
@@ -72,7 +73,7 @@ impl<'a> Packed<'a> {
         Ok(Packed { records, names })
     }
 
-    /// Whether there is a record of this name.
+    /// Returns whether there is a record of this name.
     pub(crate) fn has(&self, name: &[u8]) -> bool
         ensures { result ≡ list_any (bytes_eq name.now) (names_in self.now.names.keys) }
     {
@@ -80,7 +81,7 @@ impl<'a> Packed<'a> {
     }
 }
 
-// The lines that end in a text, and how many they are.
+// Returns the lines that end in a text, and how many they are.
 fn whole_lines(text: &[u8]) -> (&[u8], usize)
     ensures { AreLinesOf text.now result.0.now result.1 }
 {
@@ -93,7 +94,7 @@ fn whole_lines(text: &[u8]) -> (&[u8], usize)
     (&text[..text.len() - rest.len()], count)
 }
 
-// Whether the header says that the records ascend.
+// Returns whether the header says that the records ascend.
 fn says_sorted(text: &[u8]) -> bool
     ensures { result ≡ says_sorted text.now }
 {
@@ -103,7 +104,7 @@ fn says_sorted(text: &[u8]) -> bool
     }
 }
 
-// The first line, with its line feed where it has one.
+// Returns the first line, with its line feed if it has one.
 fn first_line(text: &[u8]) -> &[u8]
     ensures { first_header (lines text.now) ≡ header_line result.now }
 {
@@ -113,14 +114,14 @@ fn first_line(text: &[u8]) -> &[u8]
     }
 }
 
-// The number of the first line that isn't the header.
+// Returns the number of the first line that isn't the header.
 fn first_number(text: &[u8]) -> usize
     ensures { result ≡ (if is_headed text.now then 2 else 1) }
 {
     if text.starts_with(b"#") { 2 } else { 1 }
 }
 
-// Whether the record is of a name, and that ascends where it has to, behind records that do.
+// Returns whether the record is of a name, and that ascends if it has to, after records that do.
 fn may_follow(records: &[Reference<'_>], sorted: bool, next: &Reference<'_>) -> bool
     ensures { IsTrue (not sorted || is_ascending (record_names (map record_of records.now)))
         → result ≡ (forms.is_name (record_of next.now).name
@@ -140,14 +141,14 @@ fn may_follow(records: &[Reference<'_>], sorted: bool, next: &Reference<'_>) -> 
     }
 }
 
-// Whether the one stands before the other, by their bytes.
+// Returns whether the one comes before the other, by their bytes.
 fn comes_before(one: &[u8], other: &[u8]) -> bool
     ensures { result ≡ is_lt (by_bytes one.now other.now) }
 {
     one.cmp(other).is_lt()
 }
 
-// How many lines a record has: its own, and that of its peeled id.
+// Returns how many lines a record has: its own, and that of its peeled id.
 fn lines_of(entry: &Reference<'_>) -> usize
     ensures { result ≡ (if is_some (record_of entry.now).peeled then 2 else 1) }
 {

@@ -27,8 +27,9 @@ use std::alloc::Global;
 /// The file of packed names.
 pub(crate) const PACKED_REFS: &[u8] = b"packed-refs";
 
-/// Tests that each record is one that a repository has: of a name that is no worktree's own and stands apart from all others; with the
-/// id of a stored commit or tag, unless the name has a file; and with no peeled id but that of its tag's commit.
+/// Tests that each record is one that a repository has: of a name that is no worktree's own and
+/// collides with no other; with the id of a stored commit or tag, unless the name has a file; and
+/// with no peeled id but that of its tag's commit. Otherwise returns a cause that holds.
 pub(crate) fn test_records<F: Files, S: FindInto + FindHeader>(
     alloc: Global,
     files: &F,
@@ -81,7 +82,7 @@ fn test_record<F: Files, S: FindInto + FindHeader>(
     Err(NamesError::BadPeeled(Vec::from_slice(alloc, name)?))
 }
 
-// Whether the record has no peeled id but the commit of a stored tag that it holds.
+// Returns whether the record has no peeled id, or that of the commit of a stored tag that it holds.
 fn is_well_peeled<S: FindInto>(
     alloc: Global,
     kind: Kind,
@@ -99,7 +100,7 @@ fn is_well_peeled<S: FindInto>(
     is_tag_of(alloc, kind, stored, entry.target, commit)
 }
 
-// Whether a tag of this commit is stored under the id.
+// Returns whether a tag of this commit is stored under the id.
 fn is_tag_of<S: FindInto>(
     alloc: Global,
     kind: Kind,
@@ -118,7 +119,7 @@ fn is_tag_of<S: FindInto>(
     }
 }
 
-// Whether this is what a tag is of.
+// Returns whether this is what a tag is of.
 fn is_target(kind: Kind, content: &[u8], commit: ObjectId) -> bool
     ensures { result
         ≡ unwrap_or (option_map (id_eq (id_of commit)) (target_in kind content.now)) false }
@@ -129,7 +130,7 @@ fn is_target(kind: Kind, content: &[u8], commit: ObjectId) -> bool
     }
 }
 
-// The id of what a tag is of, in its first line.
+// Returns the id of what a tag is of, in its first line.
 fn target_in(kind: Kind, content: &[u8]) -> Option<ObjectId>
     ensures { option_map id_of result ≡ target_in kind content.now }
 {

@@ -1,4 +1,4 @@
-//! All that stands in the names part.
+//! Everything that is in the names part.
 
 ghost use Rattle.std.specs.Prelude.{◌≡◌, ◌⊎◌, IfErr, IfOk, IsTrue, OnOk};
 ghost use Rattle.gix_ref_file.specs.Tree.{bytes_at};
@@ -28,12 +28,15 @@ use history_names::Names;
 use history_texts::{Part, is_name};
 use std::alloc::Global;
 
-/// HEAD's branch, where the names part is a repository's over this store of objects: HEAD names a branch, each name, in a file of its
-/// own or in `packed-refs`, holds a stored commit or tag and is no folder of another, a record's peeled id is its tag's commit, each
-/// log is of a name and tells moves alone, and nothing else stands but folders of names and logs. A name's own file wins over its
-/// record. No file is changed; each is read once, a long log in pieces, and each folder listed once.
+/// Returns HEAD's branch, if the names part is a repository's over this store of objects: HEAD
+/// names a branch; each name, in a file of its own or in `packed-refs`, holds a stored commit or
+/// tag and is no folder of another; a record's peeled id is its tag's commit; each log is of a name
+/// and has only moves; and there is nothing else but folders of names and logs. A name's own file
+/// takes precedence over its record. No file is changed; each is read once, a long log in pieces,
+/// and each folder is listed once.
 ///
-/// Else the error names a cause that holds. It is `File` where a call of the files failed, and `Memory` where a growth was refused.
+/// Otherwise the error names a cause that holds. It is `File` if a call of the files failed, and
+/// `Memory` if no memory is left.
 pub fn survey_names<F: Files, S: FindInto + FindHeader>(
     alloc: Global,
     names: &Names<F>,
@@ -51,7 +54,7 @@ pub fn survey_names<F: Files, S: FindInto + FindHeader>(
     ensures packed { S.is_honest stored.now
         → Finds F.is_honest F.history (files_of_names names.now) (λ tree. OnOk result (IsTrue
         (is_packed_text (kind_of_names names.now) (bytes_at tree packed_place)))) }
-    // A repository's names part is refused for a fault alone.
+    // A repository's names part is refused only for a fault.
     ensures accepted { (r : Repository) → S.is_honest stored.now
         → r.kind ≡ kind_of_names names.now
         → AreFactsOf (facts_in (kind_of_names names.now) (S.table stored.now)) r.objects
@@ -63,7 +66,7 @@ pub fn survey_names<F: Files, S: FindInto + FindHeader>(
     Ok(branch)
 }
 
-// The branch that HEAD names.
+// Returns the branch that HEAD names.
 fn head_branch<F: Files>(alloc: Global, names: &Names<F>) -> Result<Vec<u8>, NamesError>
     ensures found { Finds F.is_honest F.history (files_of_names names.now)
         (λ tree. IfOk result (λ branch. NamesBranch tree branch.items)) }
@@ -86,14 +89,14 @@ fn head_branch<F: Files>(alloc: Global, names: &Names<F>) -> Result<Vec<u8>, Nam
     Err(NamesError::BadHead)
 }
 
-// Whether it is a name of a branch.
+// Returns whether it is a branch's name.
 fn is_branch(name: &[u8]) -> bool
     ensures { result ≡ is_branch name.now }
 {
     is_name(name) && name.starts_with(HEADS)
 }
 
-// Tests all that stands.
+// Tests everything in the part.
 fn test_all<F: Files, S: FindInto + FindHeader>(
     alloc: Global,
     files: &F,
@@ -112,7 +115,7 @@ fn test_all<F: Files, S: FindInto + FindHeader>(
     test_records(alloc, files, kind, stored, &packed)
 }
 
-// Tests all that stands below a folder.
+// Tests everything below a folder.
 fn test_folder<F: Files, S: FindHeader>(
     alloc: Global,
     files: &F,

@@ -23,13 +23,13 @@ abbrev pub packed_reading : Kind → Tree → Bytes → NameState
 packed_reading kind tree name =
     unwrap_or (option_map (packed_text_state kind name) (file_at tree packed_place)) Absent
 
--- whether no record stands for the name, in a file that can be read
+-- whether there is no record of the name, in a file that is readable or missing
 abbrev pub lacks : Packed → Bytes → Bool
 lacks says.Absent name = true
 lacks (says.Records records) name = is_none (packed_hit (kept records) name)
 lacks says.Faulty name = false
 
--- it says what the tree's file does
+-- it says what the tree's file says
 abbrev pub Tells : Kind → Tree → Packed → Type 0
 Tells kind tree packed =
     (name : Bytes) → IsTrue (is_name name)
@@ -42,7 +42,7 @@ is_over kind tree path =
 
 -- ---- what is cleared
 
--- what stands at the path stays in recovery
+-- recovery keeps what is at the path
 abbrev pub IsKept : Kind → Tree → Bytes → Type 0
 IsKept kind tree path = IsSome (get tree path) → IsSome (get (recovered_names kind tree) path)
 
@@ -53,7 +53,7 @@ AreKeptBelow kind place tree =
 abbrev pub AreAllKept : Kind → Tree → Type 0
 AreAllKept kind tree = (path : Bytes) → IsKept kind tree path
 
--- The tree recovers as the old one does, and has at each path what stood there or nothing.
+-- The tree recovers as the old one does, and has at each path what was there, or nothing.
 pub record Clears (kind : Kind) (old tree : Tree) : Type 0 where
   pub alike : NamesAlike kind old tree
   pub goes : (path : Bytes) → (get tree path ≡ get old path) ⊎ (get tree path ≡ None)
@@ -64,25 +64,25 @@ pub record Clears (kind : Kind) (old tree : Tree) : Type 0 where
 abbrev pub IsLogFolder : Bytes → Type 0
 IsLogFolder place = IsTrue (begins (codes "logs/") (place ++ 47 ∷ []))
 
--- whether a file stands at the path whose last line has no line feed
+-- whether there is a file at the path whose last line has no line feed
 abbrev pub has_torn_end : Tree → Bytes → Bool
 has_torn_end tree path =
     let text = bytes_at tree path in not (bytes_eq text []) && not (ends (10 ∷ []) text)
 
--- a log at the path has whole lines alone
+-- a log at the path has only whole lines
 abbrev pub IsCut : Tree → Bytes → Type 0
 IsCut tree path = option_map (recovered_node path) (get tree path) ≡ get tree path
 
 abbrev pub AreCutBelow : Bytes → Tree → Type 0
 AreCutBelow place tree = (n : ℕ) (path : Bytes) → above (suc n) path ≡ place → IsCut tree path
 
--- at each path stands what stood there, or of a log its whole lines
+-- at each path is what was there, or of a log its whole lines
 abbrev pub Cuts : Tree → Tree → Type 0
 Cuts old new =
     (path : Bytes) → (get new path ≡ get old path)
     ⊎ (get new path ≡ option_map (recovered_node path) (get old path))
 
--- where a file is written before it is renamed to its place
+-- the path at which a file is written before it is renamed to its place
 abbrev pub lock_place : Bytes → Bytes
 lock_place path = path ++ codes ".lock"
 
@@ -94,6 +94,6 @@ pub record MayCut (kind : Kind) (log whole : Bytes) (tree : Tree) : Type 0 where
   pub stands : file_at tree log ≡ Some text
   pub lines : whole ≡ whole_lines text
 
--- the whole lines of a log stand in its place, and all else as before
+-- the log has only its whole lines, and everything else is as before
 abbrev pub Replaces : Bytes → Tree → Tree → Type 0
 Replaces log old new = new ≡ insert old log (file (whole_lines (bytes_at old log)))

@@ -29,11 +29,11 @@ AreNamesRecovered kind old new = new ≡ recovered_names kind old
 
 -- ---- both
 
--- the two trees that stand
+-- the two trees as they are now
 abbrev pub pair_of : History → History → Pair
 pair_of objects names = record { objects = objects.tree; names = names.tree }
 
--- The moment of both parts, of which failed calls are told elsewhere.
+-- The moment of both parts, without the counts of failed calls.
 abbrev pub now : History → History → Moment
 now objects names = record {
   objects = moment objects;
@@ -42,7 +42,8 @@ now objects names = record {
   name_failures = 0;
 }
 
--- A pair that stood since these histories: all changes of the objects part come before the first of the names part.
+-- A pair since these histories: all changes of the objects part come before the first of the names
+-- part.
 abbrev pub IsOnTheWay : History → History → History → History → Pair → Type 0
 IsOnTheWay old_objects old_names objects names pair =
     IsStepPair objects names (now old_objects old_names) (now objects names) pair

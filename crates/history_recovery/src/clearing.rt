@@ -13,7 +13,8 @@ use gix_ref_file::paths::{is_deeper, joined};
 use gix_ref_file::{FileError, Files, Place};
 use std::alloc::Global;
 
-/// Removes the leftovers below a folder, whose path is empty at the root, and the folders below it that are then deserted, the deepest first.
+/// Removes the leftovers below a folder, whose path is empty at the root, and the folders below it
+/// that are then deserted, the deepest first.
 pub(crate) fn clear_below<F: Files>(
     alloc: Global,
     files: &mut F,
@@ -42,7 +43,7 @@ pub(crate) fn clear_below<F: Files>(
     Ok(())
 }
 
-// Removes what stands at a path where it is left over, below which nothing is.
+// Removes what is at a path if it is left over. Nothing is left over below the path.
 fn clear_at<F: Files>(
     alloc: Global,
     files: &mut F,
@@ -69,7 +70,7 @@ fn clear_at<F: Files>(
     }
 }
 
-// Removes a file where it is left over.
+// Removes a file if it is left over.
 fn remove_leftover<F: Files>(
     alloc: Global,
     files: &mut F,
@@ -98,7 +99,7 @@ fn remove_leftover<F: Files>(
     files.remove_file(alloc, path)
 }
 
-// Removes a folder below `refs` or `logs` in which nothing stands.
+// Removes a folder below `refs` or `logs` if it is empty.
 fn remove_deserted<F: Files>(alloc: Global, files: &mut F, folder: &[u8]) -> Result<(), FileError>
     ensures honest { F.is_honest files.old → F.is_honest files.new }
     ensures clears { (kind : Kind)
@@ -124,7 +125,7 @@ fn remove_deserted<F: Files>(alloc: Global, files: &mut F, folder: &[u8]) -> Res
     files.remove_empty_folder(alloc, folder)
 }
 
-// Whether it is a path below `refs` or `logs`.
+// Returns whether the path is below `refs` or `logs`.
 fn may_be_deserted(folder: &[u8]) -> bool
     ensures { result
         ≡ (is_below (codes "refs") folder.now || is_below (codes "logs") folder.now) }

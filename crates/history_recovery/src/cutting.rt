@@ -1,4 +1,4 @@
-//! Cuts logs behind their last line feeds.
+//! Cuts logs after their last line feeds.
 ghost use Rattle.std.specs.Prelude.{◌≡◌, ◌≤◌, OnOk, IfOk, IsErrOf, IsTrue};
 ghost use Rattle.gix_ref_file.specs.Calls.{Achieves, Finds, HasFault, Passes};
 ghost use Rattle.gix_ref_file.specs.declared.files.FileError.TheVariants.{Failed, Memory};
@@ -47,7 +47,7 @@ pub(crate) fn cut_below<F: Files>(
     Ok(())
 }
 
-// Cuts the log at a path, if a file stands there. Only a log whose last line is torn is read whole.
+// Cuts the log at a path, if there is a file. Only a log whose last line is torn is read whole.
 fn cut_log<F: Files>(alloc: Global, files: &mut F, log: &[u8]) -> Result<(), FileError>
     ensures honest { F.is_honest files.old → F.is_honest files.new }
     ensures alike { (kind : Kind) → AreAllKept kind (F.history files.old).tree
@@ -77,7 +77,7 @@ fn cut_log<F: Files>(alloc: Global, files: &mut F, log: &[u8]) -> Result<(), Fil
     replace_log(alloc, files, log, whole)
 }
 
-// Whether the file at a path ends within a line, by its last byte alone.
+// Returns whether the file at a path ends within a line, by its last byte alone.
 fn is_torn<F: Files>(files: &F, path: &[u8]) -> Result<bool, FileError>
     ensures torn { Finds F.is_honest F.history files.now
         (λ tree. IfOk result (λ torn. torn ≡ has_torn_end tree path.now)) }
@@ -94,7 +94,8 @@ fn is_torn<F: Files>(files: &F, path: &[u8]) -> Result<bool, FileError>
     Ok(last[0] != b'\n')
 }
 
-// Puts its whole lines in the place of a log: writes them in its lock file, which is made anew, and renames that.
+// Replaces a log by its whole lines: writes them to its lock file, which is made anew, and renames
+// that.
 fn replace_log<F: Files>(
     alloc: Global,
     files: &mut F,
@@ -118,7 +119,7 @@ fn replace_log<F: Files>(
     files.rename(alloc, &lock, log)
 }
 
-// Where a file is written before it is renamed to its place.
+// Returns the path at which a file is written before it is renamed to its place.
 fn lock_path(alloc: Global, path: &[u8]) -> Result<Vec<u8>, AllocError>
     ensures { IfOk result (λ lock. lock.items ≡ lock_place path.now) }
 {
@@ -127,7 +128,7 @@ fn lock_path(alloc: Global, path: &[u8]) -> Result<Vec<u8>, AllocError>
     Ok(lock)
 }
 
-// The text up to its last line feed.
+// Returns the text up to its last line feed.
 fn whole_lines(text: &[u8]) -> &[u8]
     ensures { result.now ≡ logs.whole_lines text.now }
 {

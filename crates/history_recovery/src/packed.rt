@@ -1,4 +1,4 @@
-//! Which names read as absent: what `packed-refs` says, which is read once.
+//! Which names read as absent, by `packed-refs`, which is read once.
 ghost use Rattle.std.specs.Prelude.{◌≡◌, is_none, IfOk, IsErrOf, IsTrue};
 ghost use Rattle.gix_ref_format.specs.Lookup.{packed_hit};
 ghost use Rattle.gix_ref_format.specs.PackedKept.{kept};
@@ -26,16 +26,16 @@ const PACKED: &[u8] = b"packed-refs";
 /// What `packed-refs` says.
 #[derive(Debug, Drop)]
 pub(crate) enum Packed {
-    /// Nothing: no file stands.
+    /// Nothing: there is no such file.
     Absent,
     /// Its records.
     Records(Buffer),
-    /// Nothing that can be read: no name reads as absent that has no file.
+    /// Nothing that can be read: then no name reads as absent, even if it has no file.
     Faulty,
 }
 
 impl Packed {
-    /// What the file says whose ids are of this kind.
+    /// Reads the file, whose ids are of this kind.
     pub(crate) fn read<F: Files>(alloc: Global, files: &F, kind: Kind) -> Result<Packed, FileError>
         ensures tells { Finds F.is_honest F.history files.now
             (λ tree. IfOk result (Tells kind tree)) }
@@ -51,7 +51,7 @@ impl Packed {
         }
     }
 
-    /// Whether a file is left over: a lock file, or a log whose name reads as absent.
+    /// Returns whether a file is left over: a lock file, or a log whose name reads as absent.
     pub(crate) fn is_over<F: Files>(&self, files: &F, path: &[u8]) -> Result<bool, FileError>
         ensures found { (kind : Kind) → Finds F.is_honest F.history files.now
             (λ tree. Tells kind tree self.now
@@ -67,7 +67,7 @@ impl Packed {
         self.is_absent(files, &path[5..])
     }
 
-    // Whether the name reads as absent; what is no name does.
+    // Returns whether the name reads as absent, as anything does that is no name.
     fn is_absent<F: Files>(&self, files: &F, name: &[u8]) -> Result<bool, FileError>
         ensures found { (kind : Kind) → Finds F.is_honest F.history files.now
             (λ tree. Tells kind tree self.now → IfOk result
@@ -83,7 +83,7 @@ impl Packed {
         Ok(self.lacks(name))
     }
 
-    // Whether no record stands for the name, in a file that can be read.
+    // Returns whether there is no record of the name, in a file that is readable or missing.
     fn lacks(&self, name: &[u8]) -> bool
         ensures { IsTrue (forms.is_name name.now) → result ≡ lacks self.now name.now }
     {
@@ -95,7 +95,7 @@ impl Packed {
     }
 }
 
-// Whether no record stands for the name.
+// Returns whether there is no record of the name.
 fn has_no_record(records: &Buffer, name: &[u8]) -> bool
     ensures { IsTrue (forms.is_name name.now)
         → result ≡ is_none (packed_hit (kept records.now) name.now) }
@@ -118,7 +118,7 @@ fn is_file<F: Files>(files: &F, path: &[u8]) -> Result<bool, FileError>
     }
 }
 
-// Whether it is a name that a repository may hold, or one working tree.
+// Returns whether a repository, or a single working tree, may hold the name.
 fn is_name(name: &[u8]) -> bool
     ensures { result ≡ forms.is_name name.now }
 {

@@ -16,7 +16,7 @@ use gix_ref_file::{FileError, Files, Place};
 use std::alloc::Global;
 use thiserror::Error;
 
-// Where an object is written before it is renamed to its place.
+// The file in which an object is written before it is renamed to its place.
 const UNFINISHED: &[u8] = b"objects/unfinished";
 
 // The folder of the logs.
@@ -42,15 +42,17 @@ impl From<FileError> for RecoverError {
     }
 }
 
-/// Recovers a repository that a stopped or failed call left, whatever bytes its two parts hold; `kind` is that of its ids.
+/// Recovers a repository that a stopped or failed call left, whatever bytes its two parts hold;
+/// `kind` is that of its ids.
 ///
-/// `objects/unfinished` goes, and then, in the names part, each lock file (a file whose path ends with `.lock`), and each log whose
-/// name reads as absent: by its own file, by `packed-refs`, and by the rules of names. A log that doesn't end with a line feed
-/// is cut behind its last one, in its lock file, which is then renamed. Folders below `refs` and `logs` under which no file is left
-/// go too. Nothing else changes. Each folder is listed, and `packed-refs` is read once.
+/// Removes `objects/unfinished`, and then, in the names part, each lock file (a file whose path
+/// ends with `.lock`), and each log whose name reads as absent: by its own file, by `packed-refs`,
+/// and by the rules of names. A log that doesn't end with a line feed is cut after its last one, in
+/// its lock file, which is then renamed. Folders below `refs` and `logs` that have no file below
+/// them go too. Nothing else changes. Each folder is listed, and `packed-refs` is read once.
 ///
-/// It may be stopped at any call, and run again: what stands then recovers to the same. It is `File` where a call of the files failed, and
-/// `Memory` where no memory is left.
+/// It may be stopped at any call, and run again: what is left then recovers to the same. Returns
+/// `File` if a call of the files failed, and `Memory` if no memory is left.
 pub fn recover<F: Files>(
     alloc: Global,
     objects: &mut F,
@@ -63,7 +65,8 @@ pub fn recover<F: Files>(
         → OnOk result (pair_of (F.history objects.new) (F.history names.new)
         ≡ recovered kind (pair_of (F.history objects.old) (F.history names.old))) }
 
-    // Whatever the answer is, what is left recovers to what stood at first, and so does each pair on the way.
+    // Whatever is returned, what is left recovers to the same as what was there at first, and so
+    // does each pair on the way.
     ensures left { F.is_honest objects.old → F.is_honest names.old
         → recovered kind (pair_of (F.history objects.new) (F.history names.new))
         ≡ recovered kind (pair_of (F.history objects.old) (F.history names.old)) }
@@ -75,7 +78,7 @@ pub fn recover<F: Files>(
         → recovered kind pair
         ≡ recovered kind (pair_of (F.history objects.old) (F.history names.old)) }
 
-    // A call of the files fails only of itself.
+    // A failed call of the files is counted, and reported as `File` and nothing else.
     ensures objects_later { F.failures objects.old ≤ F.failures objects.new }
     ensures names_later { F.failures names.old ≤ F.failures names.new }
     ensures unfailed { OnOk result ((F.failures objects.new ≡ F.failures objects.old)
@@ -110,7 +113,7 @@ fn remove_unfinished<F: Files>(alloc: Global, objects: &mut F) -> Result<(), Fil
     }
 }
 
-// Removes what is left over of the names part, and then cuts the logs.
+// Removes the leftovers of the names part, and then cuts the logs.
 fn recover_names<F: Files>(alloc: Global, names: &mut F, kind: Kind) -> Result<(), FileError>
     ensures honest { F.is_honest names.old → F.is_honest names.new }
     ensures recovered { Achieves F.is_honest F.history names.old names.new result

@@ -30,18 +30,20 @@ pub record HasHead (old new : Tree) : Type 0 where
 abbrev pub SameHead : Tree → Tree → Type 0
 SameHead old new = file_at new head_place ≡ file_at old head_place
 
--- what stands while a leftover of a put is removed: each folder, and each file but that one, as before
+-- while a leftover of a put is removed, each folder, and each file but that one, is as before
 abbrev pub LeftoverMayGo : Tree → Tree → Type 0
 LeftoverMayGo old tree = KeepsFiles old tree × SameFolders old tree
 
--- What stands while HEAD is made: HEAD as before, or made; each other file but `HEAD.lock`, and each folder, as before.
+-- While HEAD is made, HEAD is as before, or made; each other file but `HEAD.lock`, and each folder,
+-- is as before.
 pub record HeadMayStand (old tree : Tree) : Type 0 where
   pub head : SameHead old tree ⊎ HasHead old tree
   pub others : (path : Bytes) → path ≢ head_place → path ≢ head_lock
       → file_at tree path ≡ file_at old path
   pub folders : SameFolders old tree
 
--- The two parts of a new repository: HEAD, which names the branch main, is the one file, and each folder is one of a repository.
+-- The two parts of a new repository: HEAD, which names the branch main, is the only file, and each
+-- folder is one of a repository.
 pub record IsNew (objects names : Tree) : Type 0 where
   pub no_object : (path : Bytes) → file_at objects path ≡ None
   pub object_folders : (path : Bytes) → IsTrue (is_folder (get objects path))

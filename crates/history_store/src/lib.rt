@@ -1,4 +1,4 @@
-//! Objects and names as files: Git's formats, and the two parts of a stored repository, and how they are made new.
+//! Objects and names as files: Git's formats, a repository's two parts, and how they are created.
 #![tactic(auto)]
 
 mod creation;

@@ -1,4 +1,4 @@
--- What a name, an email and a time say as an actor of the plain repository.
+-- What a name, an email and a time mean as an actor of the plain repository.
 use Rattle.std.specs.Prelude.{ℕ, ℤ, pos, ◌≡◌, ◌≢◌, ◌≤◌, ◌⊎◌, IsTrue, IsFalse, decimal, unsigned_abs}
 use Rattle.gix_object_lines.specs.Time.{IsSpellableOffset, offset_text}
 use Rattle.gix_object_lines.specs.declared.lines.actor.Actor as lines
@@ -17,7 +17,7 @@ plain_actor name email time =
       offset = offset_text time.offset;
     }
 
--- since 1970, and whole minutes below 100 hours ahead or behind
+-- since 1970, with an offset of whole minutes below 100 hours
 pub record IsPlainTime (time : Time) : Type 0 where
   pub since : time.seconds ≡ pos (unsigned_abs time.seconds)
   pub whole : IsSpellableOffset time.offset

@@ -32,7 +32,7 @@ pub record SaysCommit (kind : Kind) (commit : Commit) (value : CommitValue) : Ty
   pub committer : own_actor commit.committer ≡ value.committer
   pub message : commit.message ≡ value.message
 
--- no encoding is told, and no further headers
+-- there is no encoding, and no further header
 abbrev pub TellsNoMore : Parts → Type 0
 TellsNoMore parts = (parts.encoding ≡ None) × (parts.headers ≡ [])
 

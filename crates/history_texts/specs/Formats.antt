@@ -1,4 +1,4 @@
--- What the values of this crate stand for in the formats of objects and logs.
+-- What the values of this crate mean in the formats of objects and logs.
 use Rattle.std.specs.Prelude.{List, [], ◌∷◌, ◌++◌, map, decimal, None}
 use Rattle.history_model.specs.Bytes.{Bytes}
 use Rattle.history_model.specs.Objects.{hex}
@@ -30,7 +30,7 @@ person_of actor =
       time = decimal actor.seconds ++ 32 ∷ actor.offset;
     }
 
--- the parts of a commit that tells no encoding and has no further headers, its ids in lower-case hexadecimal
+-- the parts of a commit without an encoding and further headers, its ids in lower-case hexadecimal
 abbrev pub plain_parts : Id → List Id → model.Actor → model.Actor → Bytes → Parts
 plain_parts tree parents author committer message = record {
   tree = hex tree;
@@ -48,7 +48,7 @@ parts_of commit =
     plain_parts (id_of commit.tree) (map id_of commit.parents.items) (own_actor commit.author)
     (own_actor commit.committer) commit.message
 
--- the move that an entry tells
+-- the move that an entry is
 abbrev pub entry_of : entries.LogEntry → repository.LogEntry
 entry_of entry =
     record {

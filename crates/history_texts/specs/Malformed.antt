@@ -33,7 +33,7 @@ pub record IsTagBefore1970 (content : Bytes) : Type 0 where
   pub tagger : SpellsActor parts.tagger name email time
   pub before : IsTrue (is_before time)
 
--- the content of an object of this kind tells a time before 1970
+-- the content of an object of this kind has a time before 1970
 abbrev pub IsBefore1970 : Kind → ObjectKind → Bytes → Type 0
 IsBefore1970 digests kinds.Tree content = ⊥
 IsBefore1970 digests kinds.Blob content = ⊥
@@ -58,7 +58,7 @@ pub record IsTagOfOther (content : Bytes) : Type 0 where
 
 -- ---- laws
 
--- an object that tells a time before 1970 is in no written form
+-- an object with a time before 1970 is in no written form
 abbrev pub BeforeIsMalformed : Type 0
 BeforeIsMalformed = (digests : Kind) (kind : ObjectKind) (content : Bytes)
     → IsBefore1970 digests kind content → IsMalformed digests kind content

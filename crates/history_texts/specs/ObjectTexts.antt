@@ -30,7 +30,7 @@ is_empty_tree kinds.Blob content = false
 is_empty_tree kinds.Commit content = false
 is_empty_tree kinds.Tag content = false
 
--- The null id is no object's, and the empty tree's id is its own alone.
+-- No object has the null id, and only the empty tree has the empty tree's.
 abbrev pub is_reserved : Id → ObjectKind → Bytes → Bool
 is_reserved id kind content =
     id_eq id (null_id id.kind)

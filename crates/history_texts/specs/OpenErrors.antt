@@ -1,4 +1,4 @@
--- What a failed call of the files is told as where a folder is opened.
+-- How a failed call of the files is reported when a folder is opened.
 use Rattle.gix_ref_file.specs.declared.files.FileError.{FileError}
 use Rattle.gix_ref_file.specs.declared.files.FileError.TheVariants as files
 use Rattle.history_texts.specs.declared.open_error.OpenError.{OpenError}

@@ -1,5 +1,5 @@
--- What a store takes: the contents of objects in written form, and the objects that they name (git-fsck tells of other trees;
--- git-mktree, git-commit-tree and git-mktag write these).
+-- What a store takes: the contents of objects in written form, and the objects that they name
+-- (git-fsck reports other trees; git-mktree, git-commit-tree and git-mktag write these).
 use Rattle.std.specs.Prelude.{◌≡◌, ◌≢◌, ◌≤◌, List, [], ◌∷◌, ◌++◌, codes, length, map, IsTrue, IsFalse, if◌then◌else◌}
 use Rattle.std.specs.List.{All}
 use Rattle.gix_hash_id.specs.Id.{Id, id_of}
@@ -41,7 +41,7 @@ pub record IsWrittenEntry (digests : Kind) (item : Item) : Type 0 where
   pub mode : IsWrittenMode item.mode
   pub some : item.id ≢ empty_tree_id digests
 
--- the content is what is written of these entries, which stand in Git's order, each name once
+-- the content is the text of these entries, which are in Git's order, each name once
 pub record AreWritten (digests : Kind) (content : Bytes) (items : List Item) : Type 0 where
   pub text : content ≡ tree_text items
   pub well_formed : IsWellFormed items
@@ -60,11 +60,11 @@ named_by_item item = (item.id, entry_kind item)
 
 -- ---- commits
 
--- the parts of a commit of this tree, which tells all else as the value does
+-- the parts of a commit of this tree, with all else as the value has it
 abbrev pub commit_parts : Id → CommitValue → Parts
 commit_parts tree value = plain_parts tree value.parents value.author value.committer value.message
 
--- The parts are those of a commit in written form. (Which files the value has, the tree's id tells.)
+-- The parts are those of a commit in written form. (The tree's id determines the value's files.)
 pub record AreCommitParts (digests : Kind) (parts : Parts) (tree : Id)
     (value : CommitValue) : Type 0 where
   pub tree_is : IsTrue (is_id digests tree)
@@ -116,7 +116,7 @@ IsMalformed digests kind content =
 
 -- ---- the parts of a tag
 
--- what stands on the lines of a tag of a commit, and behind them
+-- what is on the lines of a tag of a commit, and after them
 pub record TagParts : Type 0 where
   pub target : Bytes
   pub name : Bytes
@@ -129,7 +129,7 @@ tag_lines parts =
     ++ (parts.target ++ 10 ∷ (codes "type commit\n" ++ (codes "tag " ++ (parts.name ++ 10 ∷
     (codes "tagger " ++ (parts.tagger ++ 10 ∷ (10 ∷ parts.message)))))))
 
--- no line feed stands in a line
+-- no line has a line feed in it
 pub record AreLines (parts : TagParts) : Type 0 where
   pub target : Lacks 10 parts.target
   pub name : Lacks 10 parts.name

@@ -32,7 +32,8 @@ impl Actor {
     ghost use Rattle.history_texts.specs.Formats.{actor_of, own_actor, person_of};
     ghost use Rattle.gix_object_lines.specs.Person as lines;
 
-    /// The actor of these parts; `None` where one of them is against the written form or its limit.
+    /// Returns the actor of these parts; `None` if one of them is against the written form or its
+    /// limit.
     pub fn new(name: Vec<u8>, email: Vec<u8>, time: Time) -> Option<Actor>
         ensures { MatchOption result (¬ IsFormed name.items email.items time)
             (λ actor. actor_of actor ≡ plain_actor name.items email.items time) }
@@ -43,7 +44,7 @@ impl Actor {
         Some(Actor { name, email, time })
     }
 
-    /// An actor of the same values.
+    /// Returns an actor with the same values.
     pub fn try_clone(&self) -> Result<Actor, AllocError>
         ensures { IfOk result (λ copy. actor_of copy ≡ actor_of self.now) }
     {
@@ -58,11 +59,11 @@ impl Actor {
     pub fn write_to(&self, out: &mut Vec<u8>) -> Result<(), AllocError>
         ensures { OnOk result (out.new.items ≡ out.old.items ++ actor_text (actor_of self.now)) }
     {
-        // Each actor can be spelled, so only a growth is refused.
+        // Each actor can be written, so only memory can be missing.
         write_actor_parts(&self.name, &self.email, self.time, out).map_err(|_| AllocError)
     }
 
-    /// The actor as a commit holds it. It takes no memory.
+    /// Returns the actor as a commit holds it. It takes no memory.
     pub(crate) fn into_own(self) -> lines::Actor
         ensures told { own_actor result ≡ actor_of self }
         ensures formed { HasActorForm result }
@@ -74,8 +75,9 @@ impl Actor {
         }
     }
 
-    /// The actor that a text spells; `None` where it spells none. The seconds are a number in decimal without a leading zero, of
-    /// 9,223,372,036,854,775,807 at most, the minutes are below 60, and `-0000` is no offset.
+    /// Returns the actor that a text spells; `None` if it spells none. The seconds are a decimal
+    /// number without a leading zero, at most 9,223,372,036,854,775,807, the minutes are below 60,
+    /// and `-0000` is no offset.
     pub fn parse(alloc: Global, text: &[u8]) -> Result<Option<Actor>, AllocError>
         ensures { IfOk result (λ found. MatchOption found
             ((actor : model.Actor) → IsTrue (is_actor actor) → text.now ≢ actor_text actor)
@@ -88,7 +90,8 @@ impl Actor {
         }
     }
 
-    /// The actor of these parts of a line; `None` where they are none's, as `parse` tells it.
+    /// Returns the actor of these parts of a line; `None` if they are none's, by the rules of
+    /// `parse`.
     pub(crate) fn from_ref(alloc: Global, parts: ActorRef<'_>) -> Result<Option<Actor>, AllocError>
         ensures { IfOk result (λ found. MatchOption found
             ((actor : model.Actor) → IsTrue (is_actor actor)
@@ -108,7 +111,7 @@ impl Actor {
     }
 }
 
-/// Whether this may be an actor's email or, if it isn't empty, a name.
+/// Returns whether this may be an actor's email or, if it isn't empty, a name.
 pub fn is_actor_part(part: &[u8]) -> bool
     ensures { result ≡ is_actor_part part.now }
 {
@@ -124,29 +127,30 @@ pub fn is_actor_part(part: &[u8]) -> bool
     part.len() <= MAX_ACTOR_PART
 }
 
-// Whether it holds a byte that no name and no email holds.
+// Returns whether it has a byte that no name and no email has.
 fn holds_barred(part: &[u8]) -> bool
     ensures { result ≡ list_any (λ byte. has_byte byte (60 ∷ 62 ∷ 0 ∷ 9 ∷ 13 ∷ 10 ∷ [])) part.now }
 {
     part.iter().any(|byte| is_barred(*byte))
 }
 
-// Whether neither a name nor an email holds this byte.
+// Returns whether neither a name nor an email has this byte.
 fn is_barred(byte: u8) -> bool
     ensures { result ≡ has_byte byte (60 ∷ 62 ∷ 0 ∷ 9 ∷ 13 ∷ 10 ∷ []) }
 {
     matches!(byte, b'<' | b'>' | 0 | b'\t' | b'\r' | b'\n')
 }
 
-// Whether an actor may name this time.
+// Returns whether an actor may have this time.
 fn is_plain(time: Time) -> bool
     ensures { IsTrue result ↔ IsPlainTime time }
 {
     time.seconds >= 0 && time.offset % 60 == 0 && time.offset.unsigned_abs() < 360_000
 }
 
-/// The time that two words spell: the seconds as a number in decimal without a leading zero, of 9,223,372,036,854,775,807 at most,
-/// and the offset as a sign and four digits, the last two below 60, but not `-0000`. `None` where one of them doesn't.
+/// Returns the time that two words spell: the seconds as a decimal number without a leading zero,
+/// at most 9,223,372,036,854,775,807, and the offset as a sign and four digits, the last two below
+/// 60, but not `-0000`. `None` if one of them doesn't spell it.
 pub fn parse_time(seconds: &[u8], offset: &[u8]) -> Option<Time>
     ensures { MatchOption result (IsNoTime seconds.now offset.now)
         (IsTimeOf seconds.now offset.now) }
@@ -156,7 +160,7 @@ pub fn parse_time(seconds: &[u8], offset: &[u8]) -> Option<Time>
     Some(Time { seconds, offset })
 }
 
-// A number in decimal without a leading zero, within the limit.
+// Returns the number that the word is in decimal, without a leading zero and within the limit.
 fn parse_seconds(word: &[u8]) -> Option<i64>
     ensures { MatchOption result
         ((seconds : ℕ) → seconds ≤ max_seconds → word.now ≢ decimal seconds)
@@ -170,7 +174,7 @@ fn parse_seconds(word: &[u8]) -> Option<i64>
     }
 }
 
-// The seconds of a sign and four digits, the last two below 60, but not `-0000`.
+// Returns the seconds of a sign and four digits, the last two below 60, but not `-0000`.
 fn parse_offset(word: &[u8]) -> Option<i32>
     ensures { MatchOption result (IsFalse (is_offset word.now))
         (λ offset. IsOffsetOf word.now offset) }
@@ -181,7 +185,7 @@ fn parse_offset(word: &[u8]) -> Option<i32>
     if c >= b'6' || word == b"-0000".as_slice() {
         return None;
     }
-    // Git reads more, as minutes of 60.
+    // Git accepts more, such as 60 minutes.
     let time = read_time(&[b'0', b' ', sign, a, b, c, d]).ok()?;
     Some(time.offset)
 }

@@ -26,7 +26,8 @@ use gix_object_lines::{ByteString, WriteTo};
 use smallvec::SmallVec;
 use std::alloc::{AllocError, Global};
 
-/// The commit that says this, with no encoding and no further headers. It takes no memory.
+/// Returns the commit with these values, with no encoding and no further headers. It takes no
+/// memory.
 pub fn plain_commit(
     alloc: Global,
     tree: ObjectId,
@@ -57,7 +58,7 @@ pub fn plain_commit(
 // Most commits' texts have no more bytes, and grow no further.
 const USUAL_LENGTH: usize = 512;
 
-/// The commit's content; `None` where a part of it can't be spelled, as with ids of two kinds.
+/// Returns the commit's content; `None` if a part of it can't be written, as with ids of two kinds.
 pub fn commit_bytes(alloc: Global, commit: &Commit) -> Result<Option<Vec<u8>>, AllocError>
     ensures { IfOk result (λ found. MatchOption found (own_refusal commit.now ≢ None)
         (λ text. (own_refusal commit.now ≡ None)
@@ -71,8 +72,9 @@ pub fn commit_bytes(alloc: Global, commit: &Commit) -> Result<Option<Vec<u8>>, A
     }
 }
 
-/// The commit that a content spells, with ids of this kind; `None` where it spells none: ids are in lower-case hex, both actors
-/// as `Actor` has them, and no encoding and no further headers are told.
+/// Returns the commit that a content spells, with ids of this kind; `None` if it spells none: ids
+/// are in lower-case hex, both actors are as `Actor` has them, and there is no encoding and no
+/// further header.
 pub fn parse_commit(alloc: Global, kind: Kind, content: &[u8]) -> Result<Option<Commit>, AllocError>
     ensures spelled { IfOk result (λ found. IfSome found
         (λ commit. SpellsCommit (hex_len kind) content.now (parts_of commit))) }
@@ -93,8 +95,8 @@ pub fn parse_commit(alloc: Global, kind: Kind, content: &[u8]) -> Result<Option<
     }
 }
 
-/// The tree that the first line of a commit's content names, in digits of either letter case; `None` where no such line stands there.
-/// It takes no memory, and nothing behind that line is read.
+/// Returns the tree that the first line of a commit's content names, in digits of either letter
+/// case; `None` if there is no such line. It takes no memory, and reads nothing after that line.
 pub fn commit_tree(kind: Kind, content: &[u8]) -> Option<ObjectId>
     ensures told { MatchOption result
         ((id : Id) (rest : List ℕ) → ¬ IsIdLine kind (codes "tree") content.now id rest)
@@ -106,7 +108,7 @@ pub fn commit_tree(kind: Kind, content: &[u8]) -> Option<ObjectId>
     CommitRefIter::from_bytes(content, kind).tree_id().ok()
 }
 
-// The commit of these parts; `None` where they aren't all as this crate writes them.
+// Returns the commit of these parts; `None` if they aren't all as this crate writes them.
 pub(crate) fn commit_of(
     alloc: Global,
     kind: Kind,
@@ -135,14 +137,14 @@ pub(crate) fn commit_of(
     Ok(Some(plain_commit(alloc, tree, parents, author, committer, message)))
 }
 
-// Whether the parts hold what no commit of the store does: an encoding, or further headers.
+// Returns whether the parts have what no commit of the store has: an encoding, or further headers.
 fn tells_more(parts: &CommitRef<'_>) -> bool
     ensures { IsFalse result ↔ TellsNoMore (views.parts_of parts.now) }
 {
     parts.encoding.is_some() || !parts.extra_headers.is_empty()
 }
 
-// The ids that these texts spell; `None` where one of them spells none.
+// Returns the ids that these texts spell; `None` if one of them spells none.
 fn ids_of(
     alloc: Global,
     kind: Kind,

@@ -23,7 +23,7 @@ pub fn push_hex(text: &mut Vec<u8>, id: &ObjectId) -> Result<(), AllocError>
     text.extend_from_slice(hex_digits(id, &mut digits))
 }
 
-/// The id of this kind that hex digits spell, all in lower case; `None` where they spell none.
+/// Returns the id of this kind that hex digits spell, all in lower case; `None` if they spell none.
 pub fn parse_lower_hex(kind: Kind, digits: &[u8]) -> Option<ObjectId>
     ensures { MatchOption result ((id : Id) → IsTrue (is_id kind id) → digits.now ≢ hex id)
         (λ id. IsTrue (is_id kind (id_of id)) × (digits.now ≡ hex (id_of id))) }

@@ -2,7 +2,8 @@
 
 ghost use Rattle.history_texts.specs.Malformed.{BeforeIsMalformed, OfOtherIsMalformed};
 
-/// No commit and no tag in written form tells a time before 1970, and no tag in written form is of something other than a commit.
+/// No commit and no tag in written form has a time before 1970, and no tag in written form is of
+/// something other than a commit.
 pub fn are_malformed()
     ensures before { BeforeIsMalformed }
     ensures of_other { OfOtherIsMalformed }

@@ -1,4 +1,4 @@
-//! What a repository's files have in them: written forms of actors, commits, trees and tags, texts of objects, lines of logs; and its two parts.
+//! What a repository's files contain: actors, objects, lines of logs; and the folder's two parts.
 #![tactic(auto)]
 
 mod actor;

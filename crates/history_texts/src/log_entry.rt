@@ -11,7 +11,7 @@ use crate::id_text::push_hex;
 use gix_hash::ObjectId;
 use std::alloc::{AllocError, Global};
 
-/// One move of a name. The id before is null where the name was made.
+/// One move of a name. The id before is null if the move created the name.
 #[derive(Drop)]
 pub struct LogEntry {
     pub before: ObjectId,
@@ -22,7 +22,7 @@ pub struct LogEntry {
 }
 
 impl LogEntry {
-    /// The entry's line.
+    /// Returns the entry's line.
     pub fn to_bytes(&self, alloc: Global) -> Result<Vec<u8>, AllocError>
         ensures { IfOk result (λ text. text.items ≡ log_line (entry_of self.now)) }
     {
@@ -39,8 +39,8 @@ impl LogEntry {
     }
 }
 
-/// The lines of a log without their line feeds, the newest first. What stands behind the last line feed is left out. An error is want
-/// of memory.
+/// Returns the lines of a log without their line feeds, the newest first. What follows the last
+/// line feed is left out. Fails only if memory runs out.
 pub fn log_lines(alloc: Global, log: &[u8]) -> Result<Vec<&[u8]>, AllocError>
     ensures { (lines : List Bytes) (rest : Bytes) → All (Lacks 10) lines → Lacks 10 rest
         → log.now ≡ flat_map line (reverse lines) ++ rest

@@ -20,7 +20,7 @@ pub struct NewObject {
 impl NewObject {
     ghost use Rattle.history_texts.specs.ObjectTexts.{object_id};
 
-    /// The object of this content, with its id of this kind of digest.
+    /// Returns the object of this content, with its id of this kind of digest.
     pub fn new(digests: Kind, kind: ObjectKind, content: Vec<u8>) -> Self
         ensures id { id_of result.id ≡ object_id digests kind content.items }
         ensures kind { result.kind ≡ kind }
@@ -31,11 +31,12 @@ impl NewObject {
     }
 }
 
-/// The id of an object: the digest of its text, which is `<kind> <length>`, a zero byte and the content (Git's object format).
+/// Returns the id of an object: the digest of its text, which is `<kind> <length>`, a zero byte and
+/// the content (Git's object format).
 fn object_id(kind: Kind, object: ObjectKind, content: &[u8]) -> ObjectId
     ensures { id_of result ≡ digest kind (object_text object content.now) }
 {
-    // The header is fed first and then the content, so that the text stands nowhere whole.
+    // The header is fed first and then the content, so that the whole text is never in memory.
     let header = encode::loose_header(object, content.len() as u64);
     let mut hasher = hasher(kind);
     hasher.update(&header);
@@ -43,7 +44,8 @@ fn object_id(kind: Kind, object: ObjectKind, content: &[u8]) -> ObjectId
     hasher.try_finalize()
 }
 
-/// The kind of an object's text, and where its content begins; `None` where the text is no object's.
+/// Returns the kind of an object's text, and where its content begins; `None` if the text is no
+/// object's.
 pub fn parse_header(text: &[u8]) -> Option<(ObjectKind, usize)>
     ensures within { IfSome result (λ r. r.1 ≤ length text.now) }
     ensures text { IfSome result (λ r. text.now ≡ object_text r.0 (drop r.1 text.now)) }

@@ -17,14 +17,14 @@ pub enum OpenError {
     /// HEAD isn't `ref: `, a branch's name and a line feed.
     #[error("HEAD doesn't name a branch")]
     BadHead,
-    /// A file or a folder stands where no repository has one.
+    /// There is a file or a folder where no repository has one.
     #[error("stray: {0:?}")]
     Stray(Vec<u8>),
-    /// A file stands where one is written before it has its place.
+    /// There is a file where files are written before they are renamed to their places.
     #[error("unfinished: {0:?}")]
     Unfinished(Vec<u8>),
-    /// The file's text is no object's, or that of a commit or a tag that isn't in written form within the limits, for another reason
-    /// than `BadTime` and `BadTag` have.
+    /// The file's text is no object's, or that of a commit or a tag that isn't in written form
+    /// within the limits, for a reason other than those of `BadTime` and `BadTag`.
     #[error("no object: {0:?}")]
     BadObject(Vec<u8>),
     /// The file's text has another id than its place says.
@@ -42,16 +42,16 @@ pub enum OpenError {
     /// The tag is of a blob, a tree or another tag.
     #[error("a tag of no commit: {0}")]
     BadTag(ObjectId),
-    /// The object isn't stored, and this names it.
+    /// The object isn't stored, but this names it.
     #[error("{0} is missing, named by {1:?}")]
     Missing(ObjectId, NamedBy),
     /// The object is of another kind than this says, which names it.
     #[error("{0} is of another kind than {1:?} says")]
     WrongKind(ObjectId, NamedBy),
-    /// The object reaches itself by what objects name.
+    /// The object reaches itself through what objects name.
     #[error("a cycle: {0}")]
     Cycle(ObjectId),
-    /// An object has the null id, or one that isn't the empty tree has that one's.
+    /// An object has the null id, or one that isn't the empty tree has the empty tree's.
     #[error("a reserved id")]
     IdReserved,
     /// A file below `refs` whose path is no name, or that holds neither an id of the repository's kind nor a name.
@@ -60,11 +60,12 @@ pub enum OpenError {
     /// The name belongs to one working tree.
     #[error("private: {0:?}")]
     PrivateName(Vec<u8>),
-    /// The name stands for another name.
+    /// The name is symbolic: it holds another name.
     #[error("symbolic: {0:?}")]
     Symbolic(Vec<u8>),
-    /// This line of `packed-refs` isn't in its form, or its name may not stand behind those before it: no name, one that has a record
-    /// already, or one that descends where the header says that they ascend.
+    /// This line of `packed-refs` isn't in its form, or its name may not follow those before it: it
+    /// is no name, it has a record already, or it descends though the header says that names
+    /// ascend.
     #[error("line {0} of the packed names may not stand there")]
     BadPacked(usize),
     /// The peeled id in the name's record isn't that of the commit of a tag that the record holds.
@@ -76,16 +77,16 @@ pub enum OpenError {
     /// The line of the log of this path isn't in its form and limits.
     #[error("{0:?}: line {1} tells no move")]
     BadLog(Vec<u8>, usize),
-    /// The line of the log of this path has more than 4,096 bytes, its line feed counted.
+    /// The line of the log of this path has more than 4,096 bytes, with its line feed.
     #[error("{0:?}: line {1} is too long")]
     LongLogLine(Vec<u8>, usize),
-    /// The name of the log of this path doesn't stand.
+    /// The name of the log of this path doesn't exist.
     #[error("no name has the log {0:?}")]
     LogWithoutName(Vec<u8>),
     /// A call of the files failed.
     #[error("a call of the files failed")]
     File,
-    /// A growth was refused.
+    /// Memory ran out.
     #[error("a growth was refused")]
     Memory,
 }

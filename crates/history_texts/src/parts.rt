@@ -1,4 +1,4 @@
-//! What stands in a part of the folder.
+//! What is in a part of the folder.
 ghost use Rattle.std.specs.Prelude.{◌≡◌, IfOk, IsErrOf, MatchOption, codes};
 ghost use Rattle.std.specs.List.{list_all};
 ghost use Rattle.gix_ref_file.specs.Calls.{Finds};
@@ -21,8 +21,8 @@ pub enum Part {
 }
 
 impl Part {
-    /// Whether a folder of this part may have this path: `objects` and `objects/xx`, or `refs`, `logs` and those below these two
-    /// whose paths don't end with `.lock`.
+    /// Returns whether a folder of this part may have this path: `objects` and `objects/xx`, or
+    /// `refs`, `logs` and those below these two whose paths don't end with `.lock`.
     pub fn may_hold_folder(self, path: &[u8]) -> bool
         ensures { result ≡ may_hold_folder self path.now }
     {
@@ -33,15 +33,16 @@ impl Part {
     }
 }
 
-/// Something that doesn't belong into a part that holds no names and no objects: the path of a file or a folder.
+/// Something that doesn't belong in a part that holds no names and no objects: the path of a file
+/// or a folder.
 #[derive(Drop)]
 pub enum Stray {
     File(Vec<u8>),
     Folder(Vec<u8>),
 }
 
-/// The first thing of a part that is neither a permitted folder nor the file of this path; `None` where there is none.
-/// What a folder lists and doesn't hold counts as a file.
+/// Returns the first thing in a part that is neither a permitted folder nor the file of this path;
+/// `None` if there is none. What a folder lists but doesn't hold counts as a file.
 pub fn survey<F: Files>(
     alloc: Global,
     files: &F,

@@ -1,4 +1,4 @@
-//! Where the objects of a part stand.
+//! Where the files of objects are.
 ghost use Rattle.std.specs.Prelude.{◌≡◌, IfOk};
 ghost use Rattle.gix_hash_id.specs.Id.{id_of};
 ghost use Rattle.history_model.specs.Places.{object_place};
@@ -7,13 +7,13 @@ use crate::id_text::hex_digits;
 use gix_hash::{Kind, ObjectId};
 use std::alloc::{AllocError, Global};
 
-/// Where an object is written before it is given its place.
+/// The file in which an object is written before it is renamed to its place.
 pub const UNFINISHED: &[u8] = b"objects/unfinished";
 
 // `objects/`, the digits of a SHA-256 id and the slash between them.
 const LONGEST_PLACE: usize = 73;
 
-/// The path of an object's file.
+/// Returns the path of an object's file.
 pub fn object_place(alloc: Global, id: &ObjectId) -> Result<Vec<u8>, AllocError>
     ensures { IfOk result (λ place. place.items ≡ object_place (id_of id.now)) }
 {

@@ -19,8 +19,9 @@ use gix_object_lines::{ByteString, Kind as ObjectKind, WriteTo};
 use gix_object_tag::{Tag, TagRefIter};
 use std::alloc::{AllocError, Global};
 
-/// The id of the object that a tag's content names on its first line, in digits of either letter case; `None` where no such line
-/// stands there. It takes no memory, and nothing behind that line is read.
+/// Returns the id of the object that a tag's content names on its first line, in digits of either
+/// letter case; `None` if there is no such line. It takes no memory, and reads nothing after that
+/// line.
 pub fn tag_target(kind: Kind, content: &[u8]) -> Option<ObjectId>
     ensures told { MatchOption result
         ((id : Id) (rest : List ℕ) → ¬ IsIdLine kind content.now id rest)
@@ -35,10 +36,10 @@ pub fn tag_target(kind: Kind, content: &[u8]) -> Option<ObjectId>
 // Most tags' texts have no more bytes, and grow no further.
 const USUAL_LENGTH: usize = 512;
 
-/// The content of the tag of a commit that has this name and tagger, with the message behind its lines as it is; `None` where its lines
-/// can't be spelled, as with a name that no tag has.
+/// Returns the content of the tag of a commit with this name and tagger, and after its lines the
+/// message as it is; `None` if the lines can't be written, as with a name that no tag has.
 ///
-/// An armor in the message is no signature here, of which `gix_object` would want to know apart.
+/// An armor in the message is no signature here; `gix_object` would want it apart.
 pub fn tag_bytes(
     alloc: Global,
     target: ObjectId,
@@ -58,7 +59,7 @@ pub fn tag_bytes(
     Ok(Some(text))
 }
 
-// The tag of a commit that tells this, without a message.
+// Returns the tag of a commit with these values, without a message.
 fn bare_tag(alloc: Global, target: ObjectId, name: Vec<u8>, tagger: Actor) -> Tag
     ensures target { result.target ≡ target }
     ensures kind { result.target_kind ≡ objects.Commit }
@@ -78,7 +79,7 @@ fn bare_tag(alloc: Global, target: ObjectId, name: Vec<u8>, tagger: Actor) -> Ta
     }
 }
 
-// The tag's content; `None` where a part of it can't be spelled.
+// Returns the tag's content; `None` if a part of it can't be written.
 fn written(alloc: Global, tag: &Tag) -> Result<Option<Vec<u8>>, AllocError>
     ensures { IfOk result (λ found. MatchOption found
         (tag_refusal (own_parts tag.now) (is_bad_actor (tag.now).tagger) ≢ None)

@@ -27,7 +27,7 @@ pub struct Named {
     pub kind: ObjectKind,
 }
 
-/// The objects that a content of this kind names; `None` where it isn't in written form.
+/// Returns the objects that a content of this kind names; `None` if it isn't in written form.
 pub fn named_by(
     alloc: Global,
     digests: Kind,
@@ -45,7 +45,7 @@ pub fn named_by(
     }
 }
 
-/// The title of a message: what stands before its first line feed, or all.
+/// Returns the title of a message: what comes before its first line feed, or all of it.
 pub fn title(message: &[u8]) -> &[u8]
     ensures { result.now ≡ title message.now }
 {

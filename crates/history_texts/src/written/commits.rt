@@ -18,7 +18,7 @@ use gix_object_lines::decode::Error;
 use history_model::limits::{MAX_PARENTS, MAX_TITLE};
 use std::alloc::{AllocError, Global};
 
-/// The objects that a commit's content names; `None` where it isn't in written form.
+/// Returns the objects that a commit's content names; `None` if it isn't in written form.
 pub(crate) fn named_by_commit(
     alloc: Global,
     digests: Kind,
@@ -37,7 +37,8 @@ pub(crate) fn named_by_commit(
     }
 }
 
-// The objects that a commit's parts name; `None` where they aren't those of one in written form.
+// Returns the objects that a commit's parts name; `None` if they aren't those of one in written
+// form.
 fn named_by_parts(
     alloc: Global,
     digests: Kind,
@@ -67,7 +68,7 @@ fn is_within_limits(commit: &Commit) -> bool
         && title(commit.message.as_bytes()).len() <= MAX_TITLE
 }
 
-/// Whether one of the ids stands twice.
+/// Returns whether one of the ids occurs twice.
 pub fn has_twice(ids: &[ObjectId]) -> bool
     ensures { result ≡ has_twice id_eq (map id_of ids.now) }
 {
@@ -87,7 +88,7 @@ fn is_among(ids: &[ObjectId], id: &ObjectId) -> bool
     ids.iter().any(|other| id == other)
 }
 
-// Its tree, and its parents in their order.
+// Returns its tree, and its parents in order.
 fn names_of(alloc: Global, commit: &Commit) -> Result<Vec<Named>, AllocError>
     ensures { IfOk result (λ named. map naming_of named.items
         ≡ (id_of commit.now.tree, kinds.Tree)

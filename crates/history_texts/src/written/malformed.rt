@@ -10,8 +10,8 @@ use gix_object_lines::decode::Error;
 use gix_object_lines::lines::read_actor;
 use std::alloc::{AllocError, Global};
 
-/// Whether the content is a commit's, by Git's format, or has the lines of a commit's tag, and one of its times is before 1970: the seconds
-/// have a minus.
+/// Returns whether the content is a commit's, by Git's format, or has the lines of a commit's tag,
+/// and one of its times is before 1970: the seconds have a minus.
 pub fn is_before_1970(
     alloc: Global,
     digests: Kind,
@@ -53,14 +53,15 @@ fn is_tag_before_1970(content: &[u8]) -> bool
     }
 }
 
-// Whether the seconds of a time have a minus.
+// Returns whether the seconds of a time have a minus.
 fn is_before(time: &[u8]) -> bool
     ensures { result ≡ is_before time.now }
 {
     time.starts_with(b"-")
 }
 
-/// Whether the content is of a tag of a blob, a tree or another tag, by its first two lines.
+/// Returns whether the content is of a tag of a blob, a tree or another tag, by its first two
+/// lines.
 pub fn is_tag_of_other(content: &[u8]) -> bool
     ensures { IsTrue result ↔ IsTagOfOther content.now }
 {
@@ -70,7 +71,7 @@ pub fn is_tag_of_other(content: &[u8]) -> bool
     is_type_of_other(rest)
 }
 
-// Whether a text begins with the line of another type than a commit's.
+// Returns whether a text begins with the line of another type than a commit's.
 fn is_type_of_other(text: &[u8]) -> bool
     ensures { result ≡ is_type_of_other text.now }
 {

@@ -17,7 +17,7 @@ use history_model::limits::{MAX_NAME, MAX_TITLE};
 use history_model::names::{REFS, TAGS};
 use std::alloc::{AllocError, Global};
 
-/// The objects that a tag's content names; `None` where it isn't in written form.
+/// Returns the objects that a tag's content names; `None` if it isn't in written form.
 pub(crate) fn named_by_tag(
     alloc: Global,
     digests: Kind,
@@ -44,7 +44,7 @@ pub(crate) fn named_by_tag(
     Ok(Some(named))
 }
 
-// What stands on the lines of a tag of a commit, and behind them.
+// What is on the lines of a tag of a commit, and after them.
 #[derive(Clone, Copy)]
 pub(crate) struct TagTexts<'a> {
     target: &'a [u8],
@@ -54,7 +54,7 @@ pub(crate) struct TagTexts<'a> {
 }
 
 impl<'a> TagTexts<'a> {
-    // The texts of a content; `None` where it hasn't these lines.
+    // Returns the texts of a content; `None` if it hasn't these lines.
     pub(crate) fn new(content: &'a [u8]) -> Option<TagTexts<'a>>
         ensures { MatchOption result
             ((parts : TagParts) → AreLines parts → content.now ≢ tag_lines parts)
@@ -74,7 +74,7 @@ impl<'a> TagTexts<'a> {
         })
     }
 
-    // Whether name, tagger and message are a tag's in written form.
+    // Returns whether name, tagger and message are those of a tag in written form.
     fn are_written(&self, alloc: Global) -> Result<bool, AllocError>
         ensures { IfOk result (λ are. IsTrue are ↔ AreTagParts (parts_of_tag self.now)) }
     {
@@ -91,7 +91,7 @@ impl<'a> TagTexts<'a> {
     }
 }
 
-// What stands behind the word on the line that it begins, and what follows that line.
+// Returns what follows the word on the line that it begins, and what follows that line.
 pub(crate) fn line_behind<'a>(text: &'a [u8], word: &[u8]) -> Option<(&'a [u8], &'a [u8])>
     ensures { MatchOption result
         ((line rest : Bytes) → Lacks 10 line → text.now ≢ word.now ++ (line ++ 10 ∷ rest))
@@ -100,7 +100,7 @@ pub(crate) fn line_behind<'a>(text: &'a [u8], word: &[u8]) -> Option<(&'a [u8], 
     split_once(strip_prefix(text, word)?, b'\n')
 }
 
-// Whether this may follow `refs/tags/` in a tag's name.
+// Returns whether this may follow `refs/tags/` in a tag's name.
 fn is_tag_name(alloc: Global, name: &[u8]) -> Result<bool, AllocError>
     ensures { IfOk result (λ is. is ≡ is_tag_name name.now) }
 {
@@ -115,7 +115,8 @@ fn is_tag_name(alloc: Global, name: &[u8]) -> Result<bool, AllocError>
     Ok(is_name(&full))
 }
 
-/// Whether a repository may hold the name, or one working tree may: a full name below `refs/`, in UTF-8, of at most 1,024 bytes.
+/// Returns whether a repository, or a single working tree, may hold the name: a full name below
+/// `refs/`, in UTF-8, of at most 1,024 bytes.
 pub fn is_name(name: &[u8]) -> bool
     ensures { result ≡ is_name name.now }
 {

@@ -13,7 +13,7 @@ use gix_object_lines::decode::Error;
 use gix_object_lines::{Kind as ObjectKind, WriteTo};
 use std::alloc::{AllocError, Global};
 
-/// The objects that a tree's content names; `None` where it isn't in written form.
+/// Returns the objects that a tree's content names; `None` if it isn't in written form.
 pub(crate) fn named_by_tree(
     alloc: Global,
     digests: Kind,
@@ -32,7 +32,7 @@ pub(crate) fn named_by_tree(
     }
 }
 
-// The objects that the entries of a content name; `None` where it isn't in written form.
+// Returns the objects that the entries of a content name; `None` if it isn't in written form.
 fn named_by_entries(
     alloc: Global,
     digests: Kind,
@@ -52,8 +52,9 @@ fn named_by_entries(
     }
 }
 
-/// Whether these entries of a content are those of a tree in written form: in Git's order, each name once, with the modes of files,
-/// programs, links and folders that aren't empty, in the digits that Git writes.
+/// Returns whether these entries of a content are those of a tree in written form: in Git's order,
+/// each name once, with the modes of files, programs, links and folders that aren't empty, in the
+/// digits that Git writes.
 pub fn is_written_tree(
     alloc: Global,
     digests: Kind,
@@ -67,7 +68,7 @@ pub fn is_written_tree(
         return Ok(false);
     }
     let mut text = Vec::with_capacity(alloc, content.len())?;
-    // Names without a zero byte can be written, so only a growth is refused.
+    // Names without a zero byte can be written, so only memory can be missing.
     tree.write_to(&mut text).map_err(|_| AllocError)?;
     Ok(text.as_slice() == content)
 }
