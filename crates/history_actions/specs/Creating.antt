@@ -1,4 +1,4 @@
--- What the making of a repository leaves of a folder's two parts.
+-- What making a repository leaves of a folder's two parts.
 use Rattle.std.specs.Prelude.{◌≡◌, ◌⊎◌, ⊤, ℕ, Vec, Result, OnErr, IfErr, IsErrOf}
 use Rattle.std.specs.declared.alloc.Global.{Global}
 use Rattle.gix_hash_id.specs.declared.kind.Kind.{Kind}
@@ -16,7 +16,7 @@ use Rattle.history_actions.specs.Failures.{IsDone}
 use Rattle.history_actions.specs.declared.failure.Failure.{Failure}
 use Rattle.history_actions.specs.declared.failure.Failure.TheVariants.{NotEmpty, Unopened, File, Memory, Read, Write, Ended}
 
--- what comes instead
+-- the failures that may be returned
 abbrev pub IsCreateFailure : Failure → Type 0
 IsCreateFailure (NotEmpty path) = ⊤
 IsCreateFailure File = ⊤
@@ -32,7 +32,7 @@ module _ {F : Type 0} (IsHonest : F → Type 0) (history : F → History) where
     pub new : IsNew (history objects).tree (history names).tree
     pub stands : StandsFor kind (trees_of history objects names) (fresh kind)
 
-  -- This file or folder stands, and stands in the way of a new repository.
+  -- This file or folder is in the way of a new repository.
   abbrev pub IsInTheWay : F → F → Vec ℕ Global → Type 0
   IsInTheWay objects names path =
       IsStrayAt Objects unfinished_place path.items (history objects).tree
@@ -44,7 +44,7 @@ module _ {F : Type 0} (IsHonest : F → Type 0) (history : F → History) where
     pub honest_names : IsHonest names → IsHonest names'
     pub made : IsHonest objects → IsHonest names
         → IsDone answer → IsMade kind objects' names'
-    -- nothing is changed where something stands in the way
+    -- nothing is changed if something is in the way
     pub kept : (path : Vec ℕ Global) → IsErrOf answer (NotEmpty path)
         → (objects' ≡ objects) × (names' ≡ names)
     pub in_the_way : IsHonest objects → IsHonest names → (path : Vec ℕ Global)

@@ -1,4 +1,4 @@
--- Why an action isn't done, by what the calls of `history` answer.
+-- Why an action isn't done, by what the calls of `history` return.
 use Rattle.std.specs.Prelude.{◌≡◌, ⊤, Result, Ok, Err}
 use Rattle.history_model.specs.declared.End.{End}
 use Rattle.history_model.specs.declared.End.TheVariants.{Input, Refused, Fault}
@@ -24,7 +24,7 @@ abbrev pub run_failure : RunError → Failure
 run_failure runs.Read = Read
 run_failure runs.Write = Write
 
--- A run is done where its input ends between two commands.
+-- A run is done if its input ends between two commands.
 abbrev pub IsAnswerOf : {T : Type 0} → Result End RunError → Result T Failure → Type 0
 IsAnswerOf (Ok Input) (Ok done) = ⊤
 IsAnswerOf (Ok Input) (Err failure) = ⊥
@@ -32,7 +32,7 @@ IsAnswerOf (Ok Refused) answer = answer ≡ Err (Ended Refused)
 IsAnswerOf (Ok Fault) answer = answer ≡ Err (Ended Fault)
 IsAnswerOf (Err error) answer = answer ≡ Err (run_failure error)
 
--- it was done, also where the writer failed when that was said
+-- it was done, even if the writer failed when that was written
 abbrev pub IsDone : {T : Type 0} → Result T Failure → Type 0
 IsDone (Ok done) = ⊤
 IsDone (Err Write) = ⊤

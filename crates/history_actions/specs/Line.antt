@@ -20,7 +20,7 @@ abbrev pub sha256_rule : Rule
 sha256_rule =
     record (new_rule (codes "sha256")) { long = Some (codes "sha256"); action = Some SetTrue }
 
--- an action's name, behind which a folder stands, and perhaps the flag
+-- an action's name, after which come a folder and perhaps the flag
 abbrev pub action : Text → App
 action name = with_rule (with_rule (new_app name) folder_rule) sha256_rule
 
@@ -40,11 +40,11 @@ action_name Run = codes "run"
 action_name Check = codes "check"
 action_name Recover = codes "recover"
 
--- which digests the flag asks for: `clap` reads one that is given as `true`
+-- the kind of digest that the flag chooses: `clap` reads one that is given as `true`
 abbrev pub kind_by : Option Text → Kind
 kind_by flag = if unwrap_or (option_map (bytes_eq (codes "true")) flag) false then Sha256 else Sha1
 
--- What is asked is the action that the words enter by `clap`'s rules, with its folder and its flag.
+-- The words mean the action that they enter by `clap`'s rules, with its folder and its flag.
 pub record IsAskedBy (asked : Asked) (found : Text × List Row) : Type 0 where
   pub action : found.0 ≡ action_name asked.action
   pub folder : first_of (codes "folder") found.1 ≡ Some (string_bytes asked.folder)
@@ -53,20 +53,21 @@ pub record IsAskedBy (asked : Asked) (found : Text × List Row) : Type 0 where
 abbrev pub IsAsked : List Text → Asked → Type 0
 IsAsked words asked = MatchOption (subcommand_of line words) ⊥ (IsAskedBy asked)
 
--- ---- words that ask for nothing
+-- ---- words without an action
 
--- the kinds of what `clap` finds wrong with the words, none where it takes them; the first word is the program's name
+-- the kinds of errors that `clap` finds in the words, none if it accepts them; the first word is
+-- the program's name
 abbrev pub faults_of : List Text → Kinds
 faults_of words = fault_of line words
 
--- help or the version is asked for
+-- help or the version is wanted
 abbrev pub IsRequest : ErrorKind → Type 0
 IsRequest kind = (kind ≡ DisplayHelp) ⊎ (kind ≡ DisplayVersion)
 
 abbrev pub HasRequest : Kinds → Type 0
 HasRequest kinds = (kind : ErrorKind) × IsRequest kind × IsAmong kind kinds
 
--- something is wrong that is no request
+-- there is an error that is no request
 abbrev pub HasMistake : Kinds → Type 0
 HasMistake kinds = (kind : ErrorKind) × (¬ IsRequest kind) × IsAmong kind kinds
 
@@ -74,13 +75,13 @@ HasMistake kinds = (kind : ErrorKind) × (¬ IsRequest kind) × IsAmong kind kin
 abbrev pub IsUnasked : List Text → Type 0
 IsUnasked words = (asked : Asked) → IsAsked words asked → ⊥
 
--- why the words ask for nothing
+-- why the words have no action
 abbrev pub IsRefusedFor : List Text → AskError → Type 0
 IsRefusedFor words (Help text) = HasRequest (faults_of words)
 IsRefusedFor words (Line text) = HasMistake (faults_of words) ⊎ IsUnasked words
 IsRefusedFor words Memory = ⊤
 
--- words with which nothing is wrong ask for what they enter, and others are refused
+-- words without errors mean what they enter, and others are refused
 abbrev pub Reads : List Text → Result Asked AskError → Type 0
 Reads words read = MatchResult read (λ asked. (faults_of words ≡ []) × IsAsked words asked)
     (IsRefusedFor words)

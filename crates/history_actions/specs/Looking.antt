@@ -38,14 +38,15 @@ is_names_place path =
 abbrev pub is_lock_of_place : Bytes → Bool
 is_lock_of_place path = is_lock_file path && is_names_place (take (length path - 5) path)
 
--- whether a repository, whole or with files that aren't renamed to their places, may have a file at the path
+-- whether a repository, whole or with files not yet renamed to their places, may have a file at the
+-- path
 abbrev pub may_have_file : Part → Kind → Bytes → Bool
 may_have_file Objects kind path = is_object_place kind path || bytes_eq path unfinished_place
 may_have_file Names kind path = is_names_place path || is_lock_of_place path
 
 -- ---- a repository's folder
 
--- a file at this path, where one stands, is a repository's
+-- a file at this path, if there is one, is a repository's
 abbrev pub IsOwnAt : Part → Kind → Bytes → Option Node → Type 0
 IsOwnAt part kind path None = ⊤
 IsOwnAt part kind path (Some (file text)) = IsTrue (may_have_file part kind path)
@@ -64,12 +65,12 @@ pub record IsRecoverable (kind : Kind) (pair : Pair) : Type 0 where
 
 -- ---- why a folder is none
 
--- a file stands that isn't a repository's
+-- there is a file that isn't a repository's
 abbrev pub IsStrayFile : Part → Kind → Tree → Bytes → Type 0
 IsStrayFile part kind tree path =
     IsTrue (is_file_at tree path) × IsFalse (may_have_file part kind path)
 
--- The cause holds: of the files that stand, or that a reading may fail.
+-- The cause holds of these files; or a reading may fail, or memory ran out.
 abbrev pub IsForeign : Type 0 → Kind → Pair → OpenError → Type 0
 IsForeign MayFail kind pair NoHead = file_at pair.names head_place ≡ None
 IsForeign MayFail kind pair BadHead = HasBadHead pair.names
@@ -81,7 +82,7 @@ IsForeign MayFail kind pair _ = ⊥
 
 -- ---- calls
 
--- `AreOwn` for all that stands below a folder
+-- `AreOwn` for everything below a folder
 abbrev pub AreOwnBelow : Part → Kind → Bytes → Tree → Type 0
 AreOwnBelow part kind place tree =
     (n : ℕ) (path : Bytes) → above (suc n) path ≡ place → IsOwnAt part kind path (get tree path)

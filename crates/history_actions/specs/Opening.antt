@@ -1,4 +1,5 @@
--- What comes of opening a folder's two parts: a repository to check or to run commands on, or a cause.
+-- The result of opening a folder's two parts: a repository to check or to run commands on, or a
+-- cause.
 use Rattle.std.specs.Prelude.{◌≡◌, ◌⊎◌, ℕ, Bool, true, false, List, Option, Result, Ok, Err, IfOk}
 use Rattle.std.specs.Io.KnownBytes.{Appends, Consumes, IsAtEnd}
 use Rattle.gix_hash_id.specs.declared.kind.Kind.{Kind}
@@ -25,7 +26,7 @@ use Rattle.history_actions.specs.Failures.{IsAnswerOf, IsDone}
 use Rattle.history_actions.specs.declared.answers.Performed.{Performed}
 use Rattle.history_actions.specs.declared.failure.Failure.TheVariants.{Unopened}
 
--- the two parts are handed back as they were
+-- the two parts are returned as they were
 pub record KeepsParts {F : Type 0} (objects names : F) (performed : Performed F) : Type 0 where
   pub same_objects : performed.objects ≡ objects
   pub same_names : performed.names ≡ names
@@ -36,7 +37,8 @@ module _ {F : Type 0} (IsHonest : F → Type 0) (history : F → History) where
   AreWhole kind objects names = (r : plain.Repository)
       × StandsWhole kind (trees_of history objects names) r
 
-  -- They aren't opened, for this cause, which holds of them; where they are a repository's, it is a fault.
+  -- They aren't opened, for this cause, which holds of them; if they are a repository's, it is a
+  -- fault.
   pub record IsUnopened (MayFail : Type 0) (kind : Kind) (objects names : F)
       (performed : Performed F) : Type 0 where
     pub cause : OpenError
@@ -47,7 +49,7 @@ module _ {F : Type 0} (IsHonest : F → Type 0) (history : F → History) where
     pub fault : IsHonest objects → IsHonest names → AreWhole kind objects names
         → IsOpenFault cause
 
-  -- They are whole, and handed back as they were.
+  -- They are whole, and returned as they were.
   pub record IsWhole (kind : Kind) (objects names : F) (performed : Performed F) : Type 0 where
     pub kept : KeepsParts objects names performed
     pub whole : IsHonest objects → IsHonest names → AreWhole kind objects names
@@ -80,7 +82,7 @@ module _ {F R W : Type 0} (IsHonest : F → Type 0) (history : F → History) (f
           → Stands IsHonest history ended new
       pub recovers : has_failed ended ≡ true → RecoversTo history ended new
 
-    -- They were opened, and commands run on what was.
+    -- They were opened, and commands were run on them.
     pub record IsRun (reader_failed : R → Bool) (writer_failed : W → Bool) (kind : Kind)
         (objects names : F) (reader reader' : R) (writer writer' : W) (performed : Performed F)
         : Type 0 where
@@ -96,7 +98,7 @@ module _ {F R W : Type 0} (IsHonest : F → Type 0) (history : F → History) (f
       pub whole : IsHonest objects → IsHonest names → AreWhole IsHonest history kind objects names
       pub is_it : (r : plain.Repository) → IsHonest objects → IsHonest names
           → StandsWhole kind (trees_of history objects names) r → Stands IsHonest history opened r
-      -- honest parts stay honest, and what stood before stays in their histories
+      -- honest parts stay honest, and their histories go on from those before
       pub honest : StaysHonest IsHonest opened ended
       pub later : (r : plain.Repository) → Stands IsHonest history opened r
           → GoesLater history failures opened ended
@@ -109,7 +111,7 @@ module _ {F R W : Type 0} (IsHonest : F → Type 0) (history : F → History) (f
       pub write : end ≡ Err run_errors.Write → writer_failed writer' ≡ true
       pub fault : IfOk end (λ it. has_failed ended ≡ is_fault_end it)
 
-    -- nothing is read or written where they aren't opened
+    -- nothing is read or written if they aren't opened
     pub record IsUnrun (kind : Kind) (objects names : F) (reader reader' : R) (writer writer' : W)
         (performed : Performed F) : Type 0 where
       pub unopened : IsUnopened IsHonest history MayFail kind objects names performed

@@ -35,7 +35,7 @@ module _ {F R W : Type 0} (IsHonest : F → Type 0) (history : F → History) (f
       × Says contents writer_failed writer writer' recovered performed.answer
       × (reader' ≡ reader)
 
-  -- What was asked for was performed, its failure told, and the status is by that.
+  -- The action was performed, its failure reported, and the status follows from that.
   pub record Acts (asked : Asked) (objects names : F) (reader reader' : R) (writer writer' : W)
       {E : Type 0} (told_by : E → Option Bytes) (errors_failed : E → Bool) (errors errors' : E)
       (answered : ℕ) : Type 0 where

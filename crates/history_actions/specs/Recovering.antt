@@ -1,4 +1,4 @@
--- What a recovery leaves of a folder's two parts: those of a repository alone are changed.
+-- What a recovery leaves of a folder's two parts: only those of a repository are changed.
 use Rattle.std.specs.Prelude.{◌≡◌, ◌⊎◌, ⊤, ℕ, Result, Err, IfErr, IsErrOf}
 use Rattle.gix_hash_id.specs.declared.kind.Kind.{Kind}
 use Rattle.gix_ref_file.specs.Calls.{HasFault}
@@ -11,7 +11,7 @@ use Rattle.history_actions.specs.Looking.{IsForeign, IsRecoverable}
 use Rattle.history_actions.specs.declared.failure.Failure.{Failure}
 use Rattle.history_actions.specs.declared.failure.Failure.TheVariants.{NotEmpty, Unopened, File, Memory, Read, Write, Ended}
 
--- what comes instead
+-- the failures that may be returned
 abbrev pub IsRecoverFailure : Failure → Type 0
 IsRecoverFailure File = ⊤
 IsRecoverFailure Memory = ⊤
@@ -32,7 +32,7 @@ module _ {F : Type 0} (IsHonest : F → Type 0) (history : F → History) where
     pub holds : IsHonest objects → IsHonest names
         → IsForeign MayFail kind (trees_of history objects names) cause
 
-  -- What is left of two parts, whatever they held, by the answer.
+  -- What is left of two parts, whatever they held, by the result.
   pub record Restores {T : Type 0} (failures : F → ℕ) (MayFail : Type 0) (kind : Kind)
       (objects names objects' names' : F) (answer : Result T Failure) : Type 0 where
     pub honest_objects : IsHonest objects → IsHonest objects'
@@ -40,7 +40,7 @@ module _ {F : Type 0} (IsHonest : F → Type 0) (history : F → History) where
     pub done : IsHonest objects → IsHonest names
         → IsDone answer → trees_of history objects' names'
         ≡ recovered kind (trees_of history objects names)
-    -- whatever the answer is, what is left recovers to the same
+    -- whatever is returned, what is left recovers to the same
     pub left : IsHonest objects → IsHonest names
         → recovered kind (trees_of history objects' names')
         ≡ recovered kind (trees_of history objects names)
@@ -48,7 +48,7 @@ module _ {F : Type 0} (IsHonest : F → Type 0) (history : F → History) where
         → HasFault failures MayFail objects objects' ⊎ HasFault failures MayFail names names'
     pub cause : IfErr answer IsRecoverFailure
 
-  -- They are a repository's, and are recovered, as far as the answer says.
+  -- They are a repository's, and are recovered, as far as the result says.
   pub record IsRestored {T : Type 0} (failures : F → ℕ) (MayFail : Type 0) (kind : Kind)
       (objects names objects' names' : F) (answer : Result T Failure) : Type 0 where
     pub looked : IsHonest objects → IsHonest names

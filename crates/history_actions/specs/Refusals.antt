@@ -1,4 +1,4 @@
--- What the parts of the reader tell of words that ask for nothing.
+-- What the parts of the reader return for words without an action.
 use Rattle.std.specs.Prelude.{◌≢◌, ⊤, List, Option, Result, MatchOption, MatchResult}
 use Rattle.clap.specs.Words.{Row, Text}
 use Rattle.clap.specs.declared.error.ErrorKind.{ErrorKind}
@@ -8,7 +8,7 @@ use Rattle.history_actions.specs.declared.command_line.asked.AskError.{AskError}
 use Rattle.history_actions.specs.declared.command_line.asked.AskError.TheVariants.{Help, Line, Memory}
 use Rattle.history_actions.specs.declared.command_line.asked.Asked.{Asked}
 
--- what is told of an error of `clap` of this kind
+-- what is returned for an error of `clap` of this kind
 abbrev pub Tells : ErrorKind → AskError → Type 0
 Tells kind (Help text) = IsRequest kind
 Tells kind (Line text) = (¬ IsRequest kind) × (kind ≢ OutOfMemory)
@@ -25,7 +25,7 @@ IsNothing found (Help text) = ⊥
 IsNothing found (Line text) = (asked : Asked) → MatchOption found ⊥ (IsAskedBy asked) → ⊥
 IsNothing found Memory = ⊤
 
--- what is asked by what the words enter
+-- what the entered words mean
 abbrev pub IsEntered : Option (Text × List Row) → Result Asked AskError → Type 0
 IsEntered found read =
     MatchResult read (λ asked. MatchOption found ⊥ (IsAskedBy asked)) (IsNothing found)

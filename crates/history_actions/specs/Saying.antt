@@ -1,4 +1,4 @@
--- What an action says where it is done.
+-- What an action writes if it is done.
 use Rattle.std.specs.Prelude.{◌≡◌, Bool, true, Option, Result, Ok, Err, codes}
 use Rattle.std.specs.Io.KnownBytes.{Appends}
 use Rattle.gix_hash_id.specs.Writes.{AppendsFewer}
@@ -15,7 +15,8 @@ whole = line (codes "whole")
 abbrev pub recovered : Bytes
 recovered = line (codes "recovered")
 
--- The writer has taken this where the action is done, a beginning of it where it failed at that, and else nothing.
+-- The writer has taken this if the action is done, a beginning of it if the writer failed, and else
+-- nothing.
 abbrev pub Says : {W T : Type 0} → (W → Option Bytes) → (W → Bool) → W → W → Bytes
     → Result T Failure → Type 0
 Says contents has_failed old new text (Ok done) = Appends (contents old) (contents new) text

@@ -1,4 +1,4 @@
--- What is told of an action that isn't done, and the program's status.
+-- What is reported of an action that isn't done, and the program's status.
 use Rattle.std.specs.Prelude.{◌≡◌, ◌⊎◌, ℕ, Bool, true, List, [], ◌∷◌, ◌++◌, Option, Result, Ok, Err, codes, decimal, if◌then◌else◌}
 use Rattle.std.specs.List.{flat_map}
 use Rattle.std.specs.Io.KnownBytes.{Appends}
@@ -97,16 +97,16 @@ failure_values Read = []
 failure_values Write = []
 failure_values (Ended end) = []
 
--- each behind a space
+-- each after a space
 abbrev pub values_text : List Bytes → Bytes
 values_text values = flat_map (λ value. 32 ∷ value) values
 
 abbrev pub failure_line : Failure → Bytes
 failure_line failure = line (failure_word failure ++ values_text (failure_values failure))
 
--- ---- what is noted behind the line
+-- ---- what is noted after the line
 
--- where a stray file would be an object's of the other hash function
+-- if a stray file would be an object's of the other hash function
 abbrev pub stray_note : Kind → Bytes → Bytes
 stray_note Sha1 path = if is_object_place Sha256 path
     then line (codes "note: is this a SHA-256 repository? (--sha256)") else []
@@ -124,7 +124,7 @@ failure_note kind _ = []
 abbrev pub failure_text : Kind → Failure → Bytes
 failure_text kind failure = failure_line failure ++ failure_note kind failure
 
--- what is told: nothing where it is done or where a run ended, which its replies say
+-- what is reported: nothing if it is done, or if a run ended, which its replies say
 abbrev pub told : {T : Type 0} → Kind → Result T Failure → Bytes
 told kind (Ok done) = []
 told kind (Err (Ended end)) = []
@@ -139,13 +139,13 @@ abbrev pub status : {T : Type 0} → Result T Failure → ℕ
 status (Ok done) = 0
 status (Err failure) = 1
 
--- ---- where it is told
+-- ---- where it is written
 
 -- The sink has taken this; or it failed, and took a beginning of it.
 abbrev pub Took : Option Bytes → Option Bytes → Bool → Bytes → Type 0
 Took old new failed text = Appends old new text ⊎ ((failed ≡ true) × AppendsFewer old new text)
 
--- the same of a call that answers which it was
+-- the same of a call that returns which it was
 abbrev pub Writes : {T E : Type 0} → Option Bytes → Option Bytes → Bool → Bytes → Result T E → Type 0
 Writes old new failed text (Ok done) = Appends old new text
 Writes old new failed text (Err broken) = (failed ≡ true) × AppendsFewer old new text

@@ -1,4 +1,4 @@
-//! Doing what a command line asks for.
+//! Performs the action of a command line.
 ghost use Rattle.history_actions.specs.Performing.{Acts, Performs};
 
 use crate::answers::Performed;
@@ -11,12 +11,13 @@ use gix_ref_file::Files;
 use history::{Sink, Source};
 use std::alloc::Global;
 
-/// Does what is asked for with a folder's two parts, one of which holds the objects and the other all else, and answers the program's
-/// status: 0 where it is done, else 1.
+/// Performs an action on a folder's two parts, one of which holds the objects and the other all
+/// else, and returns the program's status: 0 if it is done, else 1.
 ///
-/// `create` makes a repository of the two parts and writes `created`, `check` opens them and writes `whole`, `recover` recovers them, where
-/// they are a repository's, and writes `recovered`, each with a line feed; `run` opens them and runs commands, from `reader` to `writer`. Why it isn't done is told
-/// on `errors`, as [`report`] says.
+/// `create` makes a repository of the two parts and writes `created`, `check` opens them and writes
+/// `whole`, `recover` recovers them, if they are a repository's, and writes `recovered`, each with
+/// a line feed; `run` opens them and runs commands, from `reader` to `writer`. If it isn't done,
+/// the reason is written to `errors`, as [`report`] says.
 pub fn act<F: Files + Drop, R: Source, W: Sink, E: Sink>(
     alloc: Global,
     asked: &Asked,
@@ -34,7 +35,8 @@ pub fn act<F: Files + Drop, R: Source, W: Sink, E: Sink>(
     report(asked.kind, &performed.answer, errors)
 }
 
-/// The same as [`act`], but for the report: hands back the two parts as they are left, with what came of it.
+/// Like [`act`], but without the report: returns the two parts as they are left, with the action's
+/// result.
 pub fn perform<F: Files, R: Source, W: Sink>(
     alloc: Global,
     asked: &Asked,

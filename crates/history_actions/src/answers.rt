@@ -1,9 +1,9 @@
-//! What comes of an action.
+//! The result of an action.
 
 use crate::failure::Failure;
 use gix_ref_file::Files;
 
-/// What an action answers, and the folder's two parts as it leaves them.
+/// The result of an action, and the folder's two parts as it leaves them.
 #[derive(Drop)]
 pub struct Performed<F: Files> {
     pub answer: Result<(), Failure>,

@@ -1,4 +1,4 @@
-//! The program's command line: what it asks for.
+//! The program's command line: its actions, and how its words are read.
 
 mod asked;
 mod line;

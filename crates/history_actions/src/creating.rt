@@ -1,4 +1,4 @@
-//! Making a repository.
+//! Makes a repository.
 ghost use Rattle.history_actions.specs.Creating.{Creates};
 ghost use Rattle.history_actions.specs.Saying.{Says, created};
 
@@ -9,7 +9,7 @@ use history::{Sink, create};
 use history_word::write_all;
 use std::alloc::Global;
 
-/// Makes a repository of a folder's two parts, and says so.
+/// Makes a repository of a folder's two parts, and writes `created`.
 pub(crate) fn create_folder<F: Files, W: Sink>(
     alloc: Global,
     objects: &mut F,

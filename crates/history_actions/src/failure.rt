@@ -18,7 +18,7 @@ pub enum Failure {
     /// A call of the files failed.
     #[error("a call of the files failed")]
     File,
-    /// A growth was refused.
+    /// Memory ran out.
     #[error("a growth was refused")]
     Memory,
     /// The reader of a run has failed.
@@ -27,7 +27,7 @@ pub enum Failure {
     /// The writer has failed.
     #[error("the writer has failed")]
     Write,
-    /// The run ended where its input didn't.
+    /// The run ended before its input did.
     #[error("the run ended before its input")]
     Ended(End),
 }
@@ -55,7 +55,7 @@ impl From<RecoverError> for Failure {
     }
 }
 
-/// Of the writer of an action.
+/// The error of an action's writer.
 impl From<Broken> for Failure {
     ghost use Rattle.history_actions.specs.declared.failure.Failure.TheVariants.{Write};
 

@@ -1,7 +1,8 @@
-//! What the program does with a folder: it makes a repository there, runs commands on it, tells whether it is whole, or recovers it.
+//! The program's actions on a folder: make a repository, run commands on it, check it, recover it.
 //!
-//! [`command_line::read_words`] reads what is asked for. [`act`] does what a command line asks for and answers the program's status. [`perform`] does the same without telling why it isn't
-//! done, and hands the folder's two parts back; [`report`] tells that.
+//! [`command_line::read_words`] reads a command line. [`act`] performs its action and returns the
+//! program's status. [`perform`] does the same without reporting a failure, and returns the
+//! folder's two parts; [`report`] reports it.
 #![tactic(auto)]
 
 mod acting;

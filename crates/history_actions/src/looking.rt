@@ -1,4 +1,4 @@
-//! Whether a folder is a repository's, which alone is recovered.
+//! Whether a folder is a repository's; only such a folder is recovered.
 ghost use Rattle.std.specs.Prelude.{◌≡◌, ◌&&◌, IfErr, OnOk};
 ghost use Rattle.std.specs.List.{list_all};
 ghost use Rattle.gix_ref_file.specs.Calls.{Finds};
@@ -19,11 +19,13 @@ use history_names_survey::NamesError;
 use history_texts::{Part, is_name};
 use std::alloc::Global;
 
-/// Looks whether a folder's two parts are a repository's of this kind, as a stopped run leaves it: HEAD names a branch, and each file stands
-/// at a place of a repository, or is one that was to be renamed to such a place. Of what the files hold HEAD's text alone is read.
+/// Tests that a folder's two parts are a repository's of this kind, as a stopped run leaves it:
+/// HEAD names a branch, and each file is at a place of a repository, or is one that was to be
+/// renamed to such a place. Of the files' contents only HEAD's is read.
 ///
-/// Else the error tells why not: `NoHead` where no file HEAD stands, `BadHead` where that names no branch, `Stray` with the path of another
-/// file; or `File` where a call of the files failed, and `Memory` where a growth was refused.
+/// Otherwise returns why not: `NoHead` if there is no file HEAD, `BadHead` if it names no branch,
+/// `Stray` with the path of another file; or `File` if a call of the files failed, and `Memory` if
+/// memory ran out.
 pub(crate) fn look<F: Files>(
     alloc: Global,
     objects: &F,
@@ -42,7 +44,7 @@ pub(crate) fn look<F: Files>(
     Ok(())
 }
 
-// Looks whether HEAD names a branch.
+// Tests that HEAD names a branch.
 fn look_at_head<F: Files>(alloc: Global, names: &F) -> Result<(), NamesError>
     ensures named { Finds F.is_honest F.history names.now
         (λ tree. OnOk result ((branch : Bytes) × NamesBranch tree branch)) }
@@ -59,7 +61,7 @@ fn look_at_head<F: Files>(alloc: Global, names: &F) -> Result<(), NamesError>
     Ok(())
 }
 
-// Whether a text is `ref: `, the name of a branch and a line feed.
+// Returns whether a text is `ref: `, the name of a branch and a line feed.
 fn names_branch(text: &[u8]) -> bool
     ensures { TellsHead text.now result }
 {
@@ -78,7 +80,7 @@ fn is_branch(name: &[u8]) -> bool
     is_name(name) && name.starts_with(HEADS)
 }
 
-// Looks whether each file below a folder is one that a repository may have.
+// Tests that each file below a folder is one that a repository may have.
 fn look_below<F: Files>(
     alloc: Global,
     files: &F,
@@ -107,7 +109,8 @@ fn look_below<F: Files>(
     Ok(())
 }
 
-// Whether a repository of this kind may have a file at this path of the part, whole or unfinished.
+// Returns whether a repository of this kind may have a file at this path of the part, whole or
+// unfinished.
 fn may_have_file(part: Part, kind: Kind, path: &[u8]) -> bool
     ensures { result ≡ may_have_file part kind path.now }
 {
@@ -117,7 +120,7 @@ fn may_have_file(part: Part, kind: Kind, path: &[u8]) -> bool
     }
 }
 
-// Whether it is the place of an object with an id of this kind.
+// Returns whether it is the place of an object with an id of this kind.
 pub(crate) fn is_object_place(kind: Kind, path: &[u8]) -> bool
     ensures { result ≡ is_object_place kind path.now }
 {
@@ -135,7 +138,7 @@ fn is_lower_hex(digits: &[u8]) -> bool
         .all(|digit| matches!(*digit, b'0'..=b'9' | b'a'..=b'f'))
 }
 
-// Whether it is the place of HEAD, of packed names, of a name or of its log.
+// Returns whether it is the place of HEAD, of packed names, of a name or of its log.
 fn is_names_place(path: &[u8]) -> bool
     ensures { result ≡ is_names_place path.now }
 {
@@ -151,7 +154,7 @@ fn is_log_of_name(path: &[u8]) -> bool
     is_name(&path[5..])
 }
 
-// Whether a file of this path is written before it is renamed to such a place.
+// Returns whether a file of this path is written before it is renamed to such a place.
 fn is_lock_of_place(path: &[u8]) -> bool
     ensures { result ≡ is_lock_of_place path.now }
 {

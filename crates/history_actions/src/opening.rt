@@ -1,4 +1,4 @@
-//! Opening a folder, to tell whether it is whole or to run commands on it.
+//! Opens a folder, to check it or to run commands on it.
 ghost use Rattle.std.specs.Prelude.{◌≡◌, Err};
 ghost use Rattle.history_repository.specs.Face.{names_part, objects_part};
 ghost use Rattle.history_actions.specs.Failures.{IsAnswerOf, IsDone};
@@ -14,7 +14,7 @@ use history::{End, OpenRefusal, Repository, RunError, Sink, Source, run};
 use history_word::write_all;
 use std::alloc::Global;
 
-/// Opens a folder's two parts, which changes no file, and says that they are whole.
+/// Opens a folder's two parts, which changes no file, and writes `whole` if they are opened.
 pub(crate) fn check_folder<F: Files, W: Sink>(
     alloc: Global,
     objects: F,
@@ -52,7 +52,7 @@ pub(crate) fn run_folder<F: Files, R: Source, W: Sink>(
     handed_back(repository, answer_of(end))
 }
 
-// What comes of a repository, whose parts are handed back.
+// Returns the result for a repository, with its two parts.
 fn handed_back<F: Files>(repository: Repository<F>, answer: Result<(), Failure>) -> Performed<F>
     ensures answer { result.answer ≡ answer }
     ensures objects { result.objects ≡ objects_part repository }
@@ -66,7 +66,7 @@ fn handed_back<F: Files>(repository: Repository<F>, answer: Result<(), Failure>)
     }
 }
 
-// What comes of a folder that isn't opened.
+// Returns the result for a folder that isn't opened, with its two parts.
 fn unopened<F: Files>(refusal: OpenRefusal<F>) -> Performed<F>
     ensures kept { KeepsParts refusal.objects refusal.names result }
     ensures told { result.answer ≡ Err (Unopened refusal.error) }
@@ -91,7 +91,7 @@ fn say_whole<W: Sink>(writer: &mut W) -> Result<(), Failure>
     Ok(())
 }
 
-// Whether a run has come to the end of its input.
+// Returns whether a run came to the end of its input, and if not, why.
 fn answer_of(end: Result<End, RunError>) -> Result<(), Failure>
     ensures { IsAnswerOf end result }
 {

@@ -1,4 +1,4 @@
-//! Recovering a repository.
+//! Recovers a repository.
 ghost use Rattle.history_actions.specs.Recovering.{Recovers, Restores};
 ghost use Rattle.history_actions.specs.Saying.{Says, recovered};
 
@@ -10,7 +10,7 @@ use history::{Sink, recover};
 use history_word::write_all;
 use std::alloc::Global;
 
-/// Recovers a folder's two parts where they are a repository's, and says so.
+/// Recovers a folder's two parts if they are a repository's, and writes `recovered`.
 pub(crate) fn recover_folder<F: Files, W: Sink>(
     alloc: Global,
     objects: &mut F,
@@ -28,7 +28,7 @@ pub(crate) fn recover_folder<F: Files, W: Sink>(
     }
 }
 
-// Recovers two parts, whatever they hold, and says so.
+// Recovers two parts, whatever they hold, and writes `recovered`.
 fn restore<F: Files, W: Sink>(
     alloc: Global,
     objects: &mut F,

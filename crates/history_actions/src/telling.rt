@@ -1,4 +1,4 @@
-//! What the program tells of an action that isn't done, and its status.
+//! The report of an action that isn't done, and the program's status.
 ghost use Rattle.std.specs.Prelude.{◌≡◌, []};
 ghost use Rattle.history_actions.specs.Told.{Took, Writes, cause_note, cause_word, failure_line, failure_note, failure_text, failure_values, failure_word, status, stray_note, told, values_text};
 
@@ -9,12 +9,13 @@ use gix_hash::Kind;
 use history::{Broken, OpenError, Sink};
 use history_word::write_all;
 
-/// Tells why an action isn't done, in a line: `refused`, the cause and its values, or `fault` and the cause, with a space between two of
-/// them. Where a stray file would be an object's of the other hash function than `kind`, a second line asks for that. Answers the
-/// program's status: 0 where it is done, else 1.
+/// Writes why an action isn't done to `errors`, in a line: `refused`, the cause and its values, or
+/// `fault` and the cause, separated by spaces. If a stray file would be an object's of the other
+/// hash function than `kind`, a second line notes that. Returns the program's status: 0 if the
+/// action is done, else 1.
 ///
-/// Nothing is told where it is done, and where a run ended before its input did. Where `errors` fails, a beginning of the lines was told,
-/// and the status is the same. It takes no memory.
+/// Nothing is written if the action is done, or if a run ended before its input did. If `errors`
+/// fails, a beginning of the lines was written, and the status is the same. It takes no memory.
 pub fn report<E: Sink>(kind: Kind, answer: &Result<(), Failure>, errors: &mut E) -> u8
     ensures status { result ≡ status answer.now }
     ensures told { Took (E.contents errors.old) (E.contents errors.new) (E.has_failed errors.new)
@@ -50,7 +51,7 @@ fn tell_line<E: Sink>(failure: &Failure, errors: &mut E) -> Result<(), Broken>
     write_all(errors, b"\n")
 }
 
-// What is asked where the folder may be one of the other hash function.
+// Returns the note if the folder may be one of the other hash function.
 fn note_of(kind: Kind, failure: &Failure) -> &'static [u8]
     ensures { result.now ≡ failure_note kind failure.now }
 {
@@ -69,7 +70,7 @@ fn note_of_cause(kind: Kind, cause: &OpenError) -> &'static [u8]
     note_of_stray(kind, path)
 }
 
-// What is asked of a stray file that would be an object's of the other hash function.
+// Returns the note on a stray file that would be an object's of the other hash function.
 fn note_of_stray(kind: Kind, path: &[u8]) -> &'static [u8]
     ensures { result.now ≡ stray_note kind path.now }
 {

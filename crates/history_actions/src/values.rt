@@ -1,4 +1,4 @@
-//! Values behind a word, each behind a space.
+//! Writes values after a word, each after a space.
 ghost use Rattle.std.specs.Prelude.{◌∷◌, [], decimal};
 ghost use Rattle.gix_hash_id.specs.Id.{id_of};
 ghost use Rattle.history_model.specs.Objects.{hex};

@@ -1,4 +1,4 @@
-//! What the program's words ask for, done with a real folder.
+//! Performs the action of the program's words on a real folder.
 
 use crate::notes::{note_failure, note_refusal};
 use crate::turn::take_turn;
@@ -14,7 +14,7 @@ use std::io::{self, ErrorKind};
 /// The status of a line that isn't the program's.
 const BAD_LINE: u8 = 2;
 
-/// Does what the words ask for, and answers the program's status.
+/// Performs the action of the words, and returns the program's status.
 pub fn answer(rt: &HostRuntime, words: &[String]) -> u8 {
     match read_words(rt.alloc(), words) {
         Ok(asked) => act_in_turn(rt, &asked).unwrap_or_else(|_| tell_memory(rt)),
@@ -24,7 +24,7 @@ pub fn answer(rt: &HostRuntime, words: &[String]) -> u8 {
     }
 }
 
-/// Tells why there are no words, and answers the program's status.
+/// Reports why there are no words, and returns the program's status.
 pub fn refuse(rt: &HostRuntime, error: &io::Error) -> u8 {
     match error.kind() {
         ErrorKind::OutOfMemory => tell_memory(rt),
@@ -61,12 +61,13 @@ fn act_on_folder(rt: &HostRuntime, asked: &Asked) -> Result<u8, AllocError> {
     Ok(status)
 }
 
-// The folder's path.
+// Returns the folder's path.
 fn copy(rt: &HostRuntime, asked: &Asked) -> Result<String, AllocError> {
     String::from_str(rt.alloc(), asked.folder.as_str())
 }
 
-// Writes a text on standard error, and answers the status; where that fails nothing else can be told.
+// Writes a text to standard error, and returns the status. If that fails, nothing else can be
+// reported.
 fn tell(rt: &HostRuntime, text: &[u8], status: u8) -> u8 {
     let _ = write_all(&mut Stream::new(rt.stderr()), text);
     status
@@ -76,7 +77,7 @@ fn tell_memory(rt: &HostRuntime) -> u8 {
     tell(rt, b"fault Memory\n", 1)
 }
 
-// Writes help on standard output.
+// Writes help to standard output, and returns the status.
 fn tell_help(rt: &HostRuntime, text: &str) -> u8 {
     match write_all(&mut Stream::new(rt.stdout()), text.as_bytes()) {
         Ok(()) => 0,

@@ -1,7 +1,8 @@
 //! The program `wunthavel-history`.
 //!
-//! Without words it runs commands on a new repository in memory, from standard input to standard output; with words it does what they ask for
-//! with a folder. Without words at a terminal it tells how it is called.
+//! Without arguments it runs commands on a new repository in memory, from standard input to
+//! standard output; with arguments it performs their action on a folder. Without arguments at a
+//! terminal it reports how it is called.
 #![tactic(auto)]
 
 mod folder;
@@ -13,7 +14,7 @@ use std::io::IsTerminal;
 use std::process::ExitCode;
 use std::{env, io};
 
-/// The program's words, of which the first is its name.
+/// Returns the program's words, of which the first is its name.
 fn words(rt: &HostRuntime) -> io::Result<Vec<String>> {
     Ok(env::args(rt)?.collect(rt.alloc())?)
 }

@@ -1,4 +1,4 @@
-//! What is noted behind a fault: which file, and why.
+//! What is noted after a fault: which file, and why.
 
 use crate::turn::Refusal;
 use gix_ref_folder::{Disk, Folder};
@@ -19,7 +19,8 @@ pub fn note_failure(rt: &HostRuntime, part: &mut Folder<Disk<&HostRuntime>>) {
     }
 }
 
-// Writes a note on standard error. Where memory is refused for it, or that fails, nothing else can be told.
+// Writes a note to standard error. If memory runs out for it, or that fails, nothing else can be
+// reported.
 fn note(rt: &HostRuntime, text: Result<Vec<u8>, AllocError>) {
     let Ok(text) = text else {
         return;
@@ -36,7 +37,7 @@ fn line_of(alloc: Global, text: &[u8]) -> Result<Vec<u8>, AllocError> {
     Ok(line)
 }
 
-// The folder, and why it isn't acted on.
+// Returns the folder, and why it isn't acted on.
 fn text_of(alloc: Global, folder: &[u8], refusal: &Refusal) -> Result<Vec<u8>, AllocError> {
     let mut text = Vec::from_slice(alloc, folder)?;
     text.extend_from_slice(b": ")?;
@@ -47,7 +48,7 @@ fn text_of(alloc: Global, folder: &[u8], refusal: &Refusal) -> Result<Vec<u8>, A
     Ok(text)
 }
 
-// The system's words for an error, without its number.
+// Returns the system's words for an error, without its number.
 fn reason(alloc: Global, error: &io::Error) -> Result<String, AllocError> {
     let words = format!(in alloc; "{error}")?;
     match words.split_once(" (os error ") {

@@ -7,14 +7,18 @@ use std::io::{self, ErrorKind};
 /// Why a folder isn't acted on.
 #[derive(Drop)]
 pub enum Refusal {
-    /// Another process works there.
+    /// Another process is working there.
     Busy,
-    /// It isn't there, can't be opened, or can't be locked.
+    /// It doesn't exist, can't be opened, or can't be locked.
     File(io::Error),
 }
 
-/// Takes the system's lock on the folder, which is held as long as the file that is answered: `check` shares it with each other `check`, and
-/// whoever else works there has it alone. It makes no file. `create` first makes the folder where it doesn't exist, but not those that it lies in.
+/// Takes the system's lock on the folder, which is held as long as the file that is returned:
+/// `check` shares it with every other `check`, and any other action has it alone. It makes no file.
+/// `create` first makes the folder if it doesn't exist, but not its parents.
+///
+/// Returns `Busy` if another process has the lock, and `File` if the folder can't be made, opened
+/// or locked.
 pub fn take_turn(rt: &HostRuntime, asked: &Asked) -> Result<File, Refusal> {
     let held = match folder_of(rt, asked) {
         Ok(held) => held,
@@ -31,13 +35,13 @@ pub fn take_turn(rt: &HostRuntime, asked: &Asked) -> Result<File, Refusal> {
     }
 }
 
-// The folder, opened.
+// Returns the folder, opened.
 fn folder_of(rt: &HostRuntime, asked: &Asked) -> io::Result<File> {
     let folder = asked.folder.as_str();
     if asked.action == Action::Create {
         make(rt, folder)?;
     }
-    // A pipe would be waited for.
+    // Opening a pipe would wait.
     if !fs::metadata(rt, folder)?.is_dir() {
         return Err(io::Error::other("not a folder"));
     }

@@ -1,4 +1,4 @@
--- The names that each command moves or takes, where no cause holds.
+-- The names that each command moves or removes, if no cause holds.
 use Rattle.std.specs.Prelude.{◌≡◌, [], ◌∷◌, map, Option, Some, None}
 use Rattle.history_model.specs.Bytes.{Bytes}
 use Rattle.history_model.specs.Repository.{Repository}
@@ -9,7 +9,7 @@ use Rattle.history_steps.specs.OneNameSteps.{NameMove, commit_move, tag_move, en
 use Rattle.history_steps.specs.MoveSteps.{line_entry}
 use Rattle.history_steps.specs.EditSteps.{MovedName, AreEditsOf, renamed}
 
--- the name of a command that moves one
+-- the moved name of a command that moves one
 abbrev pub moved_by : Repository → NameMove → MovedName
 moved_by r move = record { name = move.name; entry = entry_of_move r move }
 

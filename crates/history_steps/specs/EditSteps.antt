@@ -22,7 +22,7 @@ use Rattle.history_steps.specs.Passing.{NamesOnTheWay}
 use Rattle.history_steps.specs.RenameSteps.{held_id, rename_entry}
 use Rattle.history_steps.specs.TakeSteps.{TakesRecord}
 
--- a name that moves, and what its log is to tell
+-- a name that moves, and the new entry of its log
 pub record MovedName : Type 0 where
   pub name : Bytes
   pub entry : LogEntry
@@ -30,8 +30,8 @@ pub record MovedName : Type 0 where
 abbrev pub moved_name : MovedName → Bytes
 moved_name m = m.name
 
--- The file is as before; or, once the log has the entry's line (where the entry's two ids aren't one), it holds the id after, whole.
--- Behind what the log held a beginning of the line may stand.
+-- The file is as before; or it holds the id after, whole, once the log has the entry's line (unless
+-- the entry's two ids are equal). A beginning of the line may follow what the log held.
 pub record NameMoves (old tree : Tree) (m : MovedName) : Type 0 where
   pub here : (file_at tree m.name ≡ file_at old m.name)
       ⊎ ((file_at tree m.name ≡ Some (line (hex m.entry.after)))
@@ -48,8 +48,8 @@ pub record NameMoves (old tree : Tree) (m : MovedName) : Type 0 where
 abbrev pub ShowsMove : Tree → MovedName → Type 0
 ShowsMove tree m = file_at tree m.name ≡ Some (line (hex m.entry.after))
 
--- The log of the name that goes is as before or gone; only where it is gone may its record be gone; only where that is gone too, its file.
--- Nothing of it goes before all moves show.
+-- The log of the name that goes is as before or gone; its record may be gone only if the log is,
+-- and its file only if the record is too. Nothing of it goes before all moves are made.
 pub record NameGoes (kind : Kind) (moved : List MovedName) (name : Bytes) (old tree : Tree)
     : Type 0 where
   pub log : (file_at tree (log_place name) ≡ file_at old (log_place name))
@@ -64,7 +64,7 @@ pub record NameGoes (kind : Kind) (moved : List MovedName) (name : Bytes) (old t
       × (file_at tree name ≡ file_at old name))
       ⊎ AllByRecursion (ShowsMove tree) moved
 
--- where none goes, packed records are as before
+-- if none goes, packed records are as before
 abbrev pub MayGo : Kind → List MovedName → Option Bytes → Tree → Tree → Type 0
 MayGo kind moved None old tree = file_at tree packed_place ≡ file_at old packed_place
 MayGo kind moved (Some name) old tree = NameGoes kind moved name old tree
@@ -73,7 +73,8 @@ MayGo kind moved (Some name) old tree = NameGoes kind moved name old tree
 abbrev pub edited_names : List MovedName → Option Bytes → List Bytes
 edited_names moved taken = map moved_name moved ++ option_to_list taken
 
--- What stands meanwhile. Of the other files at most lock files differ, and no folders stand but those of names and logs.
+-- The tree meanwhile. Of the other files only lock files may differ, and there are no folders but
+-- those of names and logs.
 pub record EditsOnTheWay (kind : Kind) (moved : List MovedName) (taken : Option Bytes)
     (old tree : Tree) : Type 0 where
   pub each : AllByRecursion (NameMoves old tree) moved
@@ -84,7 +85,8 @@ pub record EditsOnTheWay (kind : Kind) (moved : List MovedName) (taken : Option 
       → file_at tree path ≡ file_at old path
   pub folders : (path : Bytes) → get tree path ≡ Some folder → IsTrue (is_name_folder path)
 
--- The name's file holds the id after, and its log has the entry's line more, unless the two ids are one.
+-- The name's file holds the id after, and its log has the entry's line added, unless the two ids
+-- are equal.
 pub record NameMoved (old new : Tree) (m : MovedName) : Type 0 where
   pub here : ShowsMove new m
   pub appended : m.entry.before ≢ m.entry.after
@@ -98,12 +100,13 @@ pub record NameGone (kind : Kind) (name : Bytes) (old new : Tree) : Type 0 where
   pub log : file_at new (log_place name) ≡ None
   pub packed : TakesRecord kind name old new
 
--- where none has gone, packed records are as before
+-- if none has gone, packed records are as before
 abbrev pub HasGone : Kind → Option Bytes → Tree → Tree → Type 0
 HasGone kind None old new = file_at new packed_place ≡ file_at old packed_place
 HasGone kind (Some name) old new = NameGone kind name old new
 
--- What stands after all of it. Each other file stands as before, and no folders but those of names and logs.
+-- The tree after all of it. Each other file is as before, and there are no folders but those of
+-- names and logs.
 pub record EditsMade (kind : Kind) (moved : List MovedName) (taken : Option Bytes)
     (old new : Tree) : Type 0 where
   pub each : AllByRecursion (NameMoved old new) moved
@@ -115,7 +118,8 @@ pub record EditsMade (kind : Kind) (moved : List MovedName) (taken : Option Byte
 
 -- ---- the edits of a command
 
--- The command moves the name to the entry's id after. Its moves are the entry and those before, unless the entry's two ids are one.
+-- The command moves the name to the entry's id after. Its moves are the entry and those before, or
+-- only those before if the entry's two ids are equal.
 pub record MovesTo (r : Repository) (command : Command) (m : MovedName) : Type 0 where
   pub named : IsTrue (is_name m.name)
   pub holds : id_at (after r command) m.name ≡ Some m.entry.after
@@ -132,7 +136,7 @@ pub record TakesAway (r : Repository) (command : Command) (moved : List MovedNam
   pub gone : get (after r command).names name ≡ None
   pub apart : IsFalse (list_any (bytes_eq name) (map moved_name moved))
 
--- where none goes, nothing is said
+-- if none goes, nothing is said
 abbrev pub MayTake : Repository → Command → List MovedName → Option Bytes → Type 0
 MayTake r command moved None = ⊤
 MayTake r command moved (Some name) = TakesAway r command moved name
@@ -141,19 +145,20 @@ MayTake r command moved (Some name) = TakesAway r command moved name
 abbrev pub renamed : Repository → Bytes → Bytes → MovedName
 renamed r from to = record { name = to; entry = rename_entry r from to }
 
--- A rename moves the new name to the id that the old one holds, and takes the old one.
+-- A rename moves the new name to the id that the old one holds, and removes the old one.
 pub record IsRename (r : Repository) (from to : Bytes) (moved : List MovedName)
     (taken : Option Bytes) : Type 0 where
   pub goes : taken ≡ Some from
   pub comes : moved ≡ renamed r from to ∷ []
   pub held : id_at r from ≡ Some (held_id r from)
 
--- a rename is such, and of other commands no more is said
+-- a rename is such; of other commands nothing more is said
 abbrev pub MayRename : Repository → Command → List MovedName → Option Bytes → Type 0
 MayRename r (Rename from to) moved taken = IsRename r from to moved taken
 MayRename r _ moved taken = Unit {0}
 
--- The command moves these names so, takes that one, and changes no other name and not HEAD's branch.
+-- The command moves these names so, removes that one, and changes no other name and not HEAD's
+-- branch.
 pub record AreEditsOf (r : Repository) (command : Command) (moved : List MovedName)
     (taken : Option Bytes) : Type 0 where
   pub each : AllByRecursion (MovesTo r command) moved

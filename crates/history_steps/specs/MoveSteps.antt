@@ -15,18 +15,19 @@ use Rattle.history_model.specs.Wholeness.{IsSound}
 use Rattle.history_steps.specs.Passing.{HoldsBetween, MovesOnTheWay}
 use Rattle.history_steps.specs.TreeSteps.{MovesName, move_entry}
 
--- the entry of a line's move, to what its word stands for before the command
+-- the entry of a line's move, to the commit that its word means before the command
 abbrev pub line_entry : Repository → MoveCommand → To → LogEntry
 line_entry r c to =
     move_entry r to.name (unwrap_or (commit_of r to.word) (null_id r.kind)) (read_actor c.actor)
     c.message
 
--- the repository where the names of these lines have moved: after all of them it is that after the command
+-- the repository after the names of these lines have moved; after all lines it is the one after the
+-- command
 abbrev pub after_lines : Repository → MoveCommand → List To → Repository
 after_lines r c lines =
     record r { names = with_lines r (read_actor c.actor) c.message lines r.names }
 
--- The name may come to stand beside those that stand then.
+-- The name may exist beside those that exist then.
 pub record FitsThen (r : Repository) (name : Bytes) : Type 0 where
   pub named : IsTrue (is_name name)
   pub all_named : (other : Bytes) → IsTrue (stands r other) → IsTrue (is_name other)
@@ -40,20 +41,21 @@ pub record IsNextLine (r : Repository) (c : MoveCommand) (first rest : List To) 
   pub lines : c.to ≡ first ++ to ∷ rest
   pub stands : StandsFor r.kind pair (after_lines r c first)
 
--- The name of that line may come to stand beside those that stand then.
+-- The name of that line may exist beside those that exist then.
 abbrev pub NextLinesFit : Type 0
 NextLinesFit =
     (r : Repository) (c : MoveCommand) (first rest : List To) (to : To) (pair : Pair)
     → IsNextLine r c first rest to pair → FitsThen (after_lines r c first) to.name
 
--- Its move leaves the names of one line more moved.
+-- Its move leaves the names of one more line moved.
 abbrev pub NextLinesMove : Type 0
 NextLinesMove =
     (r : Repository) (c : MoveCommand) (first rest : List To) (to : To) (pair : Pair) (new : Tree)
     → IsNextLine r c first rest to pair → MovesName to.name (line_entry r c to) pair.names new
     → StandsFor r.kind (record pair { names = new }) (after_lines r c (first ++ to ∷ []))
 
--- Meanwhile each name, once recovered, is as before the command or as after it, and its log tells of each move that was made.
+-- Meanwhile each name, once recovered, is as before the command or as after it, and its log has
+-- each move that was made.
 abbrev pub NextLinesPass : Type 0
 NextLinesPass =
     (r : Repository) (c : MoveCommand) (first rest : List To) (to : To) (pair : Pair) (tree : Tree)

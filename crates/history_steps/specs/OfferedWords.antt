@@ -1,4 +1,4 @@
--- What names and ids stand for in a whole repository.
+-- What names and ids are in a whole repository.
 use Rattle.std.specs.Prelude.{◌≡◌, not, Some}
 use Rattle.std.specs.List.{AllByRecursion}
 use Rattle.history_model.specs.Bytes.{Bytes}
@@ -8,14 +8,14 @@ use Rattle.history_model.specs.Repository.{Repository, IsWholeStore, HasWholeNam
 use Rattle.history_model.specs.Commands.{CommitCommand}
 use Rattle.history_model.specs.Meaning.{name_commit, parents_of}
 
--- Each name holds a stored commit, or a tag of one: it stands for that commit.
+-- Each name holds a stored commit, or a tag of one, and peels to that commit.
 abbrev pub NamesStandForCommits : Type 0
 NamesStandForCommits =
     (r : Repository) (name : Bytes) (id : Id) → IsWholeStore r → HasWholeNames r
     → id_at r name ≡ Some id
     → (commit : Id) × (name_commit r name ≡ Some commit) × HoldsCommit r commit
 
--- An id is a tag's exactly where it stands for another one.
+-- An id is a tag's exactly if it peels to another id.
 abbrev pub TagsStandForOthers : Type 0
 TagsStandForOthers =
     (r : Repository) (id commit : Id) → IsWholeStore r → peeled r id ≡ Some commit

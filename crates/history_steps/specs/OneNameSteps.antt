@@ -15,7 +15,7 @@ use Rattle.history_steps.specs.TreeHalves.{HoldsValues}
 use Rattle.history_steps.specs.TreeSteps.{MovesName, move_entry}
 use Rattle.gix_hash_id.specs.declared.kind.Kind.{Kind}
 
--- a name that is to hold an id, and what its log is to tell: who moves it, and a message
+-- a name that is to hold an id, and the actor and the message for its log
 pub record NameMove : Type 0 where
   pub name : Bytes
   pub id : Id
@@ -54,7 +54,7 @@ pub record MovesOneName (r : Repository) (command : Command) (move : NameMove) :
   pub formed : IsTrue (is_id r.kind move.id)
   pub not_lost : (x : Repository) → IsNotLost r command x
 
--- So a commit and a tag do.
+-- A commit and a tag do so.
 abbrev pub CommitsMoveOneName : Type 0
 CommitsMoveOneName =
     (r : Repository) (c : CommitCommand) → MovesOneName r (Commit c) (commit_move r c)
@@ -62,7 +62,7 @@ CommitsMoveOneName =
 abbrev pub TagsMoveOneName : Type 0
 TagsMoveOneName = (r : Repository) (c : TagCommand) → MovesOneName r (Tag c) (tag_move r c)
 
--- Where the objects are those after the command, the pair stands for the repository after it.
+-- If the objects are those after the command, the pair represents the repository after it.
 abbrev pub OneNameMoves : Type 0
 OneNameMoves =
     (kind : Kind) (old new : Pair) (r : Repository) (command : Command) (move : NameMove)

@@ -19,7 +19,8 @@ use Rattle.history_model.specs.StandsFor.{StandsFor}
 use Rattle.history_model.specs.Wholeness.{IsSound}
 use Rattle.history_steps.specs.Passing.{HoldsBetween}
 
--- the record of a name that stands and isn't private: its id, and of a tag the commit that it is of
+-- the record of a name that exists and isn't private: its id, and for a tag the commit that it is
+-- of
 abbrev pub record_for : Repository → Bytes → Option Record
 record_for r name =
     if is_private name then None
@@ -31,19 +32,19 @@ record_for r name =
     })
     (id_at r name)
 
--- The records are those of the names that stand and aren't private.
+-- The records are those of the names that exist and aren't private.
 pub record HasAllNames (r : Repository) (packed : PackedFile) : Type 0 where
   pub formed : IsTrue (is_packed_form packed)
   pub each : (name : Bytes) → hit packed.records name ≡ record_for r name
 
--- The header, and behind it the records of the names that stand and aren't private, ascending.
+-- The header, and after it the records of the names that exist and aren't private, ascending.
 pub record IsTextOfAll (r : Repository) (text : Bytes) : Type 0 where
   pub records : List Record
   pub ascend : Ascend records
   pub each : (name : Bytes) → hit records name ≡ record_for r name
   pub is : text ≡ packed_text records
 
--- So `packed-refs` is.
+-- `packed-refs` is so.
 abbrev pub PacksAll : Repository → Option Bytes → Type 0
 PacksAll r None = ⊥
 PacksAll r (Some text) =
@@ -52,8 +53,8 @@ PacksAll r (Some text) =
 abbrev pub HasPacked : Repository → Tree → Type 0
 HasPacked r tree = PacksAll r (file_at tree packed_place)
 
--- All names are packed, their files are gone but those of private names, each other file stands as before, and no folders but those
--- of names and logs.
+-- All names are packed, their files are gone except those of private names, each other file is as
+-- before, and there are no folders but those of names and logs.
 pub record PacksNames (r : Repository) (old new : Tree) : Type 0 where
   pub packed : HasPacked r new
   pub gone : (name : Bytes) → IsTrue (stands r name) → IsFalse (is_private name)
@@ -64,8 +65,9 @@ pub record PacksNames (r : Repository) (old new : Tree) : Type 0 where
       → file_at new path ≡ file_at old path
   pub folders : (path : Bytes) → get new path ≡ Some folder → IsTrue (is_name_folder path)
 
--- What stands meanwhile: `packed-refs` is as before, or has all names; only then may the file of a name be gone that isn't private. Of
--- the other files at most lock files differ, and no folders stand but those of names and logs.
+-- The tree meanwhile: `packed-refs` is as before, or has all names; only then may the file of a
+-- name that isn't private be gone. Of the other files only lock files may differ, and there are no
+-- folders but those of names and logs.
 pub record PacksOnTheWay (r : Repository) (old tree : Tree) : Type 0 where
   pub packed : (file_at tree packed_place ≡ file_at old packed_place) ⊎ HasPacked r tree
   pub here : (name : Bytes) → IsTrue (stands r name)
@@ -75,7 +77,7 @@ pub record PacksOnTheWay (r : Repository) (old tree : Tree) : Type 0 where
       → IsFalse (is_lock_file path) → file_at tree path ≡ file_at old path
   pub folders : (path : Bytes) → get tree path ≡ Some folder → IsTrue (is_name_folder path)
 
--- At each moment of it every name reads as before, every log is as before, and so is HEAD.
+-- At each moment every name reads as before, every log is as before, and so is HEAD.
 pub record ReadsAlike (r : Repository) (old tree : Tree) : Type 0 where
   pub head : file_at tree head_place ≡ file_at old head_place
   pub states : (name : Bytes) → name_state r.kind tree name ≡ name_state r.kind old name
@@ -87,13 +89,13 @@ PacksReadAlike =
     (r : Repository) (pair : Pair) (tree : Tree) → StandsFor r.kind pair r
     → PacksOnTheWay r pair.names tree → ReadsAlike r pair.names tree
 
--- Once recovered, what stands then holds the names of before.
+-- Once recovered, such a tree holds the names of before.
 abbrev pub PacksPass : Type 0
 PacksPass =
     (r : Repository) (pair : Pair) (tree : Tree) → IsSound r → first_cause r Pack ≡ None
     → StandsFor r.kind pair r → PacksOnTheWay r pair.names tree → HoldsBetween r Pack tree
 
--- Where all is packed, the pair stands for the repository as before.
+-- When all names are packed, the pair represents the repository as before.
 abbrev pub PacksStand : Type 0
 PacksStand =
     (r : Repository) (pair : Pair) (new : Tree) → StandsFor r.kind pair r

@@ -31,7 +31,8 @@ use Rattle.gix_hash_id.specs.declared.kind.Kind.{Kind}
 
 -- ---- values
 
--- The tree, once recovered, holds the values that stood and the first of those to be stored, none of which has a taken id.
+-- The tree, once recovered, holds the values of before and the first of those to be stored, none of
+-- which has a taken id.
 pub record HoldsFirst (kind : Kind) (values : Values) (more : List Value)
     (tree : Tree) : Type 0 where
   pub first : List Value
@@ -40,7 +41,8 @@ pub record HoldsFirst (kind : Kind) (values : Values) (more : List Value)
   pub free : IsFalse (some_taken kind values first)
   pub holds : HoldsValues kind (recovered_objects tree) (store_all kind values first)
 
--- What stands while a value is put: its text is still to come or stands at its place, and each file but these two is as before.
+-- The tree while a value is put: the file at its place is as before or has the value's text, and
+-- each other file but the unfinished one is as before.
 pub record MayPut (kind : Kind) (value : Value) (old tree : Tree) : Type 0 where
   pub here :
       (file_at tree (object_place (id_of kind value))
@@ -58,13 +60,15 @@ PutsPass =
     → IsFalse (is_taken kind values value) → MayPut kind value old tree
     → HoldsFirst kind values (value ∷ []) tree
 
--- Each beginning of the values that takes no id leaves a whole store: what a value names stands before it.
+-- Each beginning of the values that takes no id leaves a whole store: what a value names comes
+-- before it.
 abbrev pub StoresWhole : Repository → List Value → Type 0
 StoresWhole r more =
     (first rest : List Value) → more ≡ first ++ rest → IsFalse (some_taken r.kind r.objects first)
     → IsWholeStore (record r { objects = store_all r.kind r.objects first })
 
--- Each folder in a folder of these stands before it, or its text is stored: the folders come children first.
+-- Each folder in a folder of these comes before it, or its text is stored: the folders come
+-- children first.
 abbrev pub AreChildrenFirst : Repository → List FileMap → Type 0
 AreChildrenFirst r folders =
     (before after : List FileMap) (folder inner : FileMap) → folders ≡ before ++ folder ∷ after
@@ -91,7 +95,7 @@ CommitsStoreWhole =
     → first_cause r (Commit c) ≡ None
     → AreNewFolders r (new_commit r c).files folders → StoresWhole r (commit_puts r c folders)
 
--- A tag's commit is stored before it.
+-- So does a tag, whose commit is stored already.
 abbrev pub TagsStoreWhole : Type 0
 TagsStoreWhole =
     (r : Repository) (c : TagCommand) → IsSound r → first_cause r (Tag c) ≡ None
@@ -125,9 +129,10 @@ pub record HoldsBetween (old : Repository) (command : Command) (tree : Tree) : T
   pub branch_is : (branch ≡ old.branch) ⊎ (branch ≡ (after old command).branch)
   pub not_lost : IsNotLost old command (passing old command names branch)
 
--- What stands while a name moves: its file is as before; or, once its log has the entry's line (where the entry's two ids aren't
--- one), it holds the id after, whole. Behind what the log held a beginning of the line may stand. Of the other files at most
--- lock files differ, and no folders stand but those of names and logs.
+-- The tree while a name moves: its file is as before; or it holds the id after, whole, once its log
+-- has the entry's line (unless the entry's two ids are equal). A beginning of the line may follow
+-- what the log held. Of the other files only lock files may differ, and there are no folders but
+-- those of names and logs.
 pub record MovesOnTheWay (name : Bytes) (entry : LogEntry) (old tree : Tree) : Type 0 where
   pub here : (file_at tree name ≡ file_at old name)
       ⊎ ((file_at tree name ≡ Some (line (hex entry.after)))
@@ -142,7 +147,8 @@ pub record MovesOnTheWay (name : Bytes) (entry : LogEntry) (old tree : Tree) : T
       → file_at tree path ≡ file_at old path
   pub folders : (path : Bytes) → get tree path ≡ Some folder → IsTrue (is_name_folder path)
 
--- So the name of a command that moves one is as before or moved, and its log tells of each move that was made.
+-- So the name of a command that moves one is as before or moved, and its log has each move that was
+-- made.
 abbrev pub FilesPass : Type 0
 FilesPass =
     (pair : Pair) (tree : Tree) (r : Repository) (command : Command) (move : NameMove)
@@ -163,11 +169,11 @@ MovingStops =
 
 -- ---- moments
 
--- The moment is one of these histories.
+-- The moment is within these histories.
 abbrev pub IsWithin : History → History → Moment → Type 0
 IsWithin objects names at = (at.objects ≤ moment objects) × (at.names ≤ moment names)
 
--- What commands did to the files they did also where the files went on since.
+-- What commands did to the files remains true when the files go on.
 abbrev pub ActsLater : Type 0 → Type 0
 ActsLater MayFail =
     (objects names later_objects later_names : History) (old : Repository) (begin : Moment)
@@ -177,7 +183,7 @@ ActsLater MayFail =
     → ActsOn objects names MayFail old begin commands replies moments new
     → ActsOn later_objects later_names MayFail old begin commands replies moments new
 
--- Commands after others, of which none failed, are commands in a row.
+-- Commands after others, none of which failed, are one sequence of commands.
 abbrev pub ActsThen : Type 0 → Type 0
 ActsThen MayFail =
     (objects names : History) (old : Repository) (begin : Moment) (commands : List Command)
@@ -191,14 +197,15 @@ ActsThen MayFail =
 
 -- ---- in any order
 
--- The tree, once recovered, holds the values that stood and some of those to be stored, whatever their order, and what is stored then is whole.
+-- The tree, once recovered, holds the values of before and some of those to be stored, in any
+-- order, and what is then stored is whole.
 pub record HoldsSome (r : Repository) (more : List Value) (tree : Tree) : Type 0 where
   pub some : List Value
   pub among : (value : Value) → Contains some value → Contains more value
   pub whole : IsWholeStore (record r { objects = store_all r.kind r.objects some })
   pub holds : HoldsValues r.kind (recovered_objects tree) (store_all r.kind r.objects some)
 
--- A stop then.
+-- A stop at such a tree is one in the command.
 abbrev pub SomeStops : Type 0
 SomeStops =
     (old : Repository) (command : Command) (pair : Pair) → IsSound old
@@ -206,7 +213,7 @@ SomeStops =
     → HoldsSome old (stored_by old command) pair.objects
     → HoldsNames (recovered_names old.kind pair.names) old → LeavesStopped old command pair
 
--- The first of values that leave whole stores are some of them.
+-- The first of values, of which each beginning leaves a whole store, are some of them.
 abbrev pub FirstAreSome : Type 0
 FirstAreSome =
     (r : Repository) (more : List Value) (tree : Tree) → StoresWhole r more
@@ -214,7 +221,7 @@ FirstAreSome =
 
 -- ---- several names
 
--- what a name that holds this id reads as, or one that doesn't stand
+-- what a name that holds this id reads as, or one that doesn't exist
 abbrev pub reads_as : Option Id → NameState
 reads_as (Some id) = Holds id
 reads_as None = Absent
@@ -223,15 +230,16 @@ reads_as None = Absent
 abbrev pub log_in : Tree → Bytes → Bytes
 log_in tree name = whole_lines (unwrap_or (file_at tree (log_place name)) [])
 
--- the old name of a rename or the new one reads as the id
+-- a rename leaves the id at the old name or at the new one
 abbrev pub ReadsKept : Repository → Command → Tree → Type 0
 ReadsKept old (Rename from to) tree =
     (name_state old.kind tree from ≡ reads_as (id_at old from))
     ⊎ (name_state old.kind tree to ≡ reads_as (id_at old from))
 ReadsKept old _ tree = Unit {0}
 
--- What the files of the names say on the way of a command, by their states: each name is as before or as after, and of one that
--- stands the log too; besides stand logs and lock files alone. Of a name that reads as absent the log may be anything.
+-- What the files show while a command is acted on, by the states of names: each name is as before
+-- or as after, and of one that exists the log too; besides there are only logs and lock files. The
+-- log of a name that reads as absent may be anything.
 pub record NamesOnTheWay (old : Repository) (command : Command) (tree : Tree) : Type 0 where
   pub head : (file_at tree head_place ≡ Some (head_text old.branch))
       ⊎ (file_at tree head_place ≡ Some (head_text (after old command).branch))
@@ -242,7 +250,7 @@ pub record NamesOnTheWay (old : Repository) (command : Command) (tree : Tree) : 
       → (log_in tree name ≡ log_text (moves_at old name))
       ⊎ (log_in tree name ≡ log_text (moves_at (after old command) name))
       ⊎ (IsTrue (deletes command name) × (log_in tree name ≡ []))
-  -- where a name that stands has moved, its log says so
+  -- if an existing name has moved, its log says so
   pub log_first : (name : Bytes) → IsFalse (is_absent (name_state old.kind tree name))
       → (name_state old.kind tree name ≡ reads_as (id_at old name))
       ⊎ (log_in tree name ≡ log_text (moves_at (after old command) name))
@@ -262,7 +270,7 @@ NamesPass =
     → first_cause old command ≡ None → NamesOnTheWay old command tree
     → HoldsBetween old command tree
 
--- What stands for the repository is at the beginning of that way.
+-- Files that represent the repository are at the beginning of that way.
 abbrev pub NamesBegin : Type 0
 NamesBegin =
     (old : Repository) (command : Command) (pair : Pair) → StandsFor old.kind pair old

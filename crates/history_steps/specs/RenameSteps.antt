@@ -1,4 +1,5 @@
--- The steps of a rename on the tree of names: the new name is made beside the old one, and then that goes.
+-- The steps of a rename on the tree of names: the new name is made beside the old one, and then the
+-- old one goes.
 use Rattle.std.specs.Prelude.{◌≡◌, None, unwrap_or, codes}
 use Rattle.gix_ref_file.specs.Tree.{Tree}
 use Rattle.gix_hash_id.specs.Id.{Id, null_id}
@@ -23,25 +24,25 @@ held_id r from = unwrap_or (id_at r from) (null_id r.kind)
 abbrev pub rename_entry : Repository → Bytes → Bytes → LogEntry
 rename_entry r from to = move_entry r to (held_id r from) history_actor (codes "rename")
 
--- the repository where the new name is made, and the old one is as before
+-- the repository when the new name is made, and the old one is as before
 abbrev pub with_both : Repository → Bytes → Bytes → Repository
 with_both r from to =
     record r { names = with_name r to (held_id r from) history_actor (codes "rename") r.names }
 
--- The new name may come to stand beside those that stand.
+-- The new name may exist beside those that exist.
 abbrev pub RenamesFit : Type 0
 RenamesFit =
     (r : Repository) (from to : Bytes) → IsSound r → first_cause r (Rename from to) ≡ None
     → FitsThen r to
 
--- No cause holds of the rename, and the pair stands for this repository on its way.
+-- No cause holds of the rename, and the pair represents this repository on its way.
 pub record IsOnItsWay (r : Repository) (from to : Bytes) (now : Repository)
     (pair : Pair) : Type 0 where
   pub sound : IsSound r
   pub none : first_cause r (Rename from to) ≡ None
   pub stands : StandsFor r.kind pair now
 
--- Once the new name's files have moved to what the old name holds, both names stand.
+-- Once the new name's files have moved to what the old name holds, both names exist.
 abbrev pub RenamesBring : Type 0
 RenamesBring =
     (r : Repository) (from to : Bytes) (pair : Pair) (new : Tree) → IsOnItsWay r from to r pair

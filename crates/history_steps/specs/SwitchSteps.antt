@@ -1,4 +1,5 @@
--- The step of a switch on the tree of names: HEAD is written anew, beside and then renamed to its place.
+-- The step of a switch on the tree of names: HEAD is written anew, to a lock file that is then
+-- renamed to its place.
 use Rattle.std.specs.Prelude.{◌≡◌, ◌≢◌, ◌⊎◌, Some, None, IsTrue, IsFalse}
 use Rattle.std.specs.FinMap.{get}
 use Rattle.gix_ref_file.specs.Tree.{Tree, folder}
@@ -13,20 +14,21 @@ use Rattle.history_model.specs.Wholeness.{IsSound}
 use Rattle.history_steps.specs.TreeHalves.{HoldsNames}
 use Rattle.history_steps.specs.Passing.{HoldsBetween}
 
--- HEAD names this branch, each other file stands as before, and no folders but those of names and logs.
+-- HEAD names this branch, each other file is as before, and there are no folders but those of names
+-- and logs.
 pub record NamesBranch (branch : Bytes) (old new : Tree) : Type 0 where
   pub here : file_at new head_place ≡ Some (head_text branch)
   pub others : (path : Bytes) → path ≢ head_place → file_at new path ≡ file_at old path
   pub folders : (path : Bytes) → get new path ≡ Some folder → IsTrue (is_name_folder path)
 
--- So a switch leaves the names after it.
+-- The tree then holds the names after the switch.
 abbrev pub SwitchesStand : Type 0
 SwitchesStand =
     (old new : Tree) (r : Repository) (name : Bytes) → HoldsNames old r → NamesBranch name old new
     → HoldsNames new (after r (Switch name))
 
--- What stands meanwhile: HEAD is as before, or names the branch, whole. Of the other files at most lock files differ, and no folders
--- stand but those of names and logs.
+-- The tree meanwhile: HEAD is as before, or names the branch, whole. Of the other files only lock
+-- files may differ, and there are no folders but those of names and logs.
 pub record HeadOnTheWay (branch : Bytes) (old tree : Tree) : Type 0 where
   pub here : (file_at tree head_place ≡ file_at old head_place)
       ⊎ (file_at tree head_place ≡ Some (head_text branch))

@@ -14,14 +14,14 @@ use Rattle.history_model.specs.Places.{Pair, file_at, packed_place, log_place, i
 use Rattle.history_model.specs.StandsFor.{StandsFor}
 use Rattle.history_steps.specs.Passing.{NamesOnTheWay}
 
--- The file has no record of the name, and of each other name the record that the other file has.
+-- The new file has no record of the name, and of each other name the record that the old one has.
 pub record LacksName (name : Bytes) (old new : PackedFile) : Type 0 where
   pub formed : IsTrue (is_packed_form new)
   pub each : (other : Bytes)
       → hit new.records other
       ≡ (if bytes_eq other name then None else hit old.records other)
 
--- So are these two texts of `packed-refs`; where none stands, none stands then.
+-- So are these two texts of `packed-refs`; if there is none, there is none then.
 abbrev pub LacksRecord : Kind → Bytes → Option Bytes → Option Bytes → Type 0
 LacksRecord kind name None new = new ≡ None
 LacksRecord kind name (Some text) None = ⊥
@@ -34,7 +34,8 @@ abbrev pub TakesRecord : Kind → Bytes → Tree → Tree → Type 0
 TakesRecord kind name old new =
     LacksRecord kind name (file_at old packed_place) (file_at new packed_place)
 
--- The name's file, its log and its record are gone, each other file stands as before, and no folders but those of names and logs.
+-- The name's file, its log and its record are gone, each other file is as before, and there are no
+-- folders but those of names and logs.
 pub record TakesName (kind : Kind) (name : Bytes) (old new : Tree) : Type 0 where
   pub here : file_at new name ≡ None
   pub log : file_at new (log_place name) ≡ None
@@ -43,9 +44,9 @@ pub record TakesName (kind : Kind) (name : Bytes) (old new : Tree) : Type 0 wher
       → file_at new path ≡ file_at old path
   pub folders : (path : Bytes) → get new path ≡ Some folder → IsTrue (is_name_folder path)
 
--- What stands while a name is deleted: its log is as before or gone; only where it is gone may the name's record be gone; and only
--- where that is gone too may the name's file be. Of the other files at most lock files differ, and no folders stand but those of names
--- and logs.
+-- The tree while a name is deleted: its log is as before or gone; its record may be gone only if
+-- the log is, and its file only if the record is too. Of the other files only lock files may
+-- differ, and there are no folders but those of names and logs.
 pub record TakesOnTheWay (kind : Kind) (name : Bytes) (old tree : Tree) : Type 0 where
   pub log : (file_at tree (log_place name) ≡ file_at old (log_place name))
       ⊎ (file_at tree (log_place name) ≡ None)
@@ -58,14 +59,15 @@ pub record TakesOnTheWay (kind : Kind) (name : Bytes) (old tree : Tree) : Type 0
       → IsFalse (is_lock_file path) → file_at tree path ≡ file_at old path
   pub folders : (path : Bytes) → get tree path ≡ Some folder → IsTrue (is_name_folder path)
 
--- The name is gone where its files and its record are.
+-- The name is gone when its files and its record are.
 abbrev pub TakingsStand : Type 0
 TakingsStand =
     (r : Repository) (name : Bytes) (at : Option Bytes) (pair : Pair) (new : Tree)
     → StandsFor r.kind pair r → IsTrue (is_name name) → TakesName r.kind name pair.names new
     → StandsFor r.kind (record pair { names = new }) (after r (Delete name at))
 
--- Meanwhile each name is as before the command or as after it, and of the deleted one the moves may be gone before it is.
+-- Meanwhile each name is as before the command or as after it; the moves of the deleted one may go
+-- before it does.
 abbrev pub TakingsPass : Type 0
 TakingsPass =
     (r : Repository) (name : Bytes) (at : Option Bytes) (pair : Pair) (tree : Tree)

@@ -1,4 +1,5 @@
--- What stands for a repository, cut into its two trees: the files of the values, and those of the names.
+-- A pair that represents a repository, cut into its two trees: the files of the values, and those
+-- of the names.
 use Rattle.std.specs.Prelude.{◌≡◌, ◌↔◌, [], Some, option_map, unwrap_or, MatchOption, IsTrue}
 use Rattle.std.specs.FinMap.{get}
 use Rattle.gix_ref_file.specs.Tree.{Tree, folder}
@@ -31,20 +32,20 @@ pub record HoldsNames (tree : Tree) (r : Repository) : Type 0 where
   pub places : (path text : Bytes) → file_at tree path ≡ Some text → IsTrue (is_name_place r path)
   pub folders : (path : Bytes) → get tree path ≡ Some folder → IsTrue (is_name_folder path)
 
--- A pair stands for a repository exactly where its kind is the pair's and each tree holds its half.
+-- A pair represents a repository exactly if the kinds are equal and each tree holds its half.
 abbrev pub HalvesStand : Type 0
 HalvesStand = (kind : Kind) (pair : Pair) (r : Repository)
     → StandsFor kind pair r
     ↔ ((r.kind ≡ kind) × HoldsValues r.kind pair.objects r.objects × HoldsNames pair.names r)
 
--- With more values the half of the names speaks of the same.
+-- A tree that holds a repository's names holds them with more values too.
 abbrev pub NamesSpeakOfMore : Type 0
 NamesSpeakOfMore =
     (tree : Tree) (r : Repository) (values : Values)
     → ((id : Id) (value : Value) → get r.objects id ≡ Some value → get values id ≡ Some value)
     → HoldsNames tree r → HoldsNames tree (record r { objects = values })
 
--- ---- what a tree of values tells
+-- ---- what a tree of values says
 
 -- Different ids have different places.
 abbrev pub PlacesTellIds : Type 0
@@ -52,7 +53,7 @@ PlacesTellIds =
     (kind : Kind) (a b : Id) → IsTrue (is_id kind a) → IsTrue (is_id kind b)
     → object_place a ≡ object_place b → a ≡ b
 
--- At an id's place stands the text of what is stored under it, and no file where nothing is.
+-- At an id's place is the text of what is stored under it, and no file if nothing is.
 abbrev pub PlacesTellValues : Type 0
 PlacesTellValues =
     (kind : Kind) (tree : Tree) (values : Values) → HoldsValues kind tree values
@@ -60,7 +61,7 @@ PlacesTellValues =
     → (id : Id) → IsTrue (is_id kind id)
     → file_at tree (object_place id) ≡ option_map (value_text kind) (get values id)
 
--- Nothing is stored under what is no id.
+-- Nothing is stored under anything but ids of the kind.
 abbrev pub ValuesHaveIds : Type 0
 ValuesHaveIds =
     (kind : Kind) (values : Values) → HaveOwnIds kind values → (id : Id) (value : Value)

@@ -1,4 +1,4 @@
--- What an object's file tells of the value that is stored.
+-- What an object's file says about the value that is stored.
 use Rattle.std.specs.Prelude.{◌≡◌, ◌∷◌, ◌++◌, length, decimal, Some, IsTrue, IsFalse}
 use Rattle.std.specs.FinMap.{get}
 use Rattle.gix_ref_file.specs.Tree.{Tree}
@@ -15,14 +15,14 @@ use Rattle.gix_object_lines.specs.Kind.{kind_word}
 use Rattle.gix_object_lines.specs.declared.kind.Kind.{Kind as ObjectKind}
 use Rattle.gix_object_lines.specs.declared.kind.Kind.TheVariants as objects
 
--- an object of this kind and content stands at the id's place
+-- an object of this kind and content is at the id's place
 pub record HasObject (kind : Kind) (tree : Tree) (id : Id) (object : ObjectKind)
     (content : Bytes) : Type 0 where
   pub formed : IsTrue (is_id kind id)
   pub stands : file_at tree (object_place id) ≡ Some (object_text object content)
 
--- Where a word without a space, a content's length and the content stand there, a value of that kind and content is stored
--- under the id: so the word is a kind's.
+-- If a word without a space, a content's length and the content are there, a value of that kind and
+-- content is stored under the id: so the word is a kind's.
 abbrev pub ObjectsTellValues : Type 0
 ObjectsTellValues =
     (kind : Kind) (tree : Tree) (values : Values) (id : Id) (word content : Bytes)

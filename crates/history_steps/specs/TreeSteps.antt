@@ -16,7 +16,8 @@ use Rattle.gix_hash_id.specs.declared.kind.Kind.{Kind}
 
 -- ---- values
 
--- The value's text stands at its place, each other file as before, and no folders but those of objects.
+-- The value's text is at its place, each other file is as before, and there are no folders but
+-- those of objects.
 pub record PutsValue (kind : Kind) (value : Value) (old new : Tree) : Type 0 where
   pub here : file_at new (object_place (id_of kind value)) ≡ Some (value_text kind value)
   pub others : (path : Bytes) → path ≢ object_place (id_of kind value)
@@ -31,7 +32,7 @@ PutsStore =
     → HoldsValues kind old values → PutsValue kind value old new
     → HoldsValues kind new (store_one kind values value)
 
--- Where the text of a value stands at its place, the value is stored already, or one of the same text is.
+-- If the text of a value is at its place, storing the value changes nothing.
 abbrev pub StandingIsStored : Type 0
 StandingIsStored =
     (kind : Kind) (tree : Tree) (values : Values) (value : Value) → HaveOwnIds kind values
@@ -47,7 +48,8 @@ StoredStands =
     → IsTrue (contains_key values (id_of kind value))
     → file_at tree (object_place (id_of kind value)) ≡ Some (value_text kind value)
 
--- whether a file of other bytes than the value's stands at its place, or its id is null or the empty tree's and the value is no empty tree
+-- whether the file at the value's place has other bytes, or its id is null, or it is the empty
+-- tree's though the value is no empty tree
 abbrev pub is_taken_at : Kind → Tree → Value → Bool
 is_taken_at kind tree value =
     let id = id_of kind value in
@@ -57,20 +59,21 @@ is_taken_at kind tree value =
     (option_map (λ text. not (bytes_eq (value_text kind value) text))
     (file_at tree (object_place id))) false
 
--- The tree tells whether a value's id is taken.
+-- The tree determines whether a value's id is taken.
 abbrev pub TreesTellTaken : Type 0
 TreesTellTaken =
     (kind : Kind) (tree : Tree) (values : Values) (value : Value) → HaveOwnIds kind values
     → HoldsValues kind tree values
     → is_taken kind values value ≡ is_taken_at kind tree value
 
--- What stores a value keeps each value under its own id.
+-- Storing a value keeps each value under its own id.
 abbrev pub OwnIdsStay : Type 0
 OwnIdsStay =
     (kind : Kind) (values : Values) (value : Value) → HaveOwnIds kind values
     → HaveOwnIds kind (store_one kind values value)
 
--- The order of values tells nothing: not whether an id of them is taken, and where none is, neither the files nor the ids.
+-- The order of values makes no difference: neither to whether an id of them is taken nor, if none
+-- is, to the files and the ids.
 pub record StoresAlike (kind : Kind) (values : Values) (more others : List Value) : Type 0 where
   pub taken : some_taken kind values others ≡ some_taken kind values more
   pub holds : (tree : Tree) → IsFalse (some_taken kind values more)
@@ -86,7 +89,7 @@ HasText kind values value =
     (other : Value) × (get values (id_of kind value) ≡ Some other)
     × (value_text kind other ≡ value_text kind value)
 
--- So it is where some are left out whose text is stored already.
+-- This holds even if values are left out whose text is stored already.
 abbrev pub StoresInAnyOrder : Type 0
 StoresInAnyOrder = (r : Repository) (more others : List Value) → IsWholeStore r
     → ((value : Value) → Contains more value → Contains others value)
@@ -94,13 +97,13 @@ StoresInAnyOrder = (r : Repository) (more others : List Value) → IsWholeStore 
     → Contains more value ⊎ HasText r.kind r.objects value)
     → StoresAlike r.kind r.objects more others
 
--- No file stands where an object is written before it is renamed to its place.
+-- There is no file where an object is written before it is renamed to its place.
 abbrev pub NoneUnfinished : Type 0
 NoneUnfinished =
     (kind : Kind) (tree : Tree) (values : Values) → HaveOwnIds kind values
     → HoldsValues kind tree values → file_at tree unfinished_place ≡ None
 
--- So a text that was written there and renamed is put, where each other file stands as before.
+-- A text that was written there and renamed is put, if each other file is as before.
 pub record RenamesValue (kind : Kind) (value : Value) (old new : Tree) : Type 0 where
   pub here : file_at new (object_place (id_of kind value)) ≡ Some (value_text kind value)
   pub gone : file_at new unfinished_place ≡ None
@@ -127,8 +130,8 @@ move_entry r name id actor message =
       message = message;
     }
 
--- The name's file holds the id after, its log has the entry's line more, unless the two ids are one, each other file stands
--- as before, and no folders but those of names and logs.
+-- The name's file holds the id after, its log has the entry's line added (unless the two ids are
+-- equal), each other file is as before, and there are no folders but those of names and logs.
 pub record MovesName (name : Bytes) (entry : LogEntry) (old new : Tree) : Type 0 where
   pub here : file_at new name ≡ Some (line (hex entry.after))
   pub appended : entry.before ≢ entry.after
@@ -139,7 +142,7 @@ pub record MovesName (name : Bytes) (entry : LogEntry) (old new : Tree) : Type 0
       → file_at new path ≡ file_at old path
   pub folders : (path : Bytes) → get new path ≡ Some folder → IsTrue (is_name_folder path)
 
--- A move of a name's files moves the name, also where it has a record: its own file wins over that.
+-- A move of a name's files moves the name, even if it has a record: its own file takes precedence.
 abbrev pub FilesMoveNames : Type 0
 FilesMoveNames =
     (old new : Tree) (r : Repository) (name : Bytes) (id : Id) (actor : Actor) (message : Bytes)

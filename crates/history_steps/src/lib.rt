@@ -1,4 +1,4 @@
-//! Laws of what stands between the definitions and the code: each is the contract of a function that does nothing.
+//! Laws from the definitions to the code: each is the contract of a function that does nothing.
 #![tactic(auto)]
 
 pub mod offered;

@@ -1,4 +1,4 @@
-//! Laws of what files, names and ids stand for in whole repositories, over the definitions alone.
+//! Laws on what files, names and ids are in whole repositories, over the definitions alone.
 
 ghost use Rattle.history_steps.specs.Offered.{FilesAreStored};
 ghost use Rattle.history_steps.specs.OfferedWords.{NamesStandForCommits, TagsStandForOthers, ParentsAreCommits};
@@ -8,12 +8,12 @@ pub fn files_are_stored()
     ensures { FilesAreStored }
 {}
 
-/// Each name stands for a stored commit.
+/// Each name peels to a stored commit.
 pub fn names_stand_for_commits()
     ensures { NamesStandForCommits }
 {}
 
-/// An id is a tag's exactly where it stands for another one.
+/// An id is a tag's exactly if it peels to another id.
 pub fn tags_stand_for_others()
     ensures { TagsStandForOthers }
 {}

@@ -9,73 +9,78 @@ ghost use Rattle.history_steps.specs.SwitchSteps.{SwitchesStand, SwitchesPass};
 ghost use Rattle.history_steps.specs.EditSteps.{EditsPass, EditsStand};
 ghost use Rattle.history_steps.specs.CommandEdits.{CommitsEdit, TagsEdit, MovesEdit, RenamesEdit, DeletesEdit};
 
-/// While a value is put that takes no id, the values that stood are there once recovered, and the value whole or not at all.
+/// While a value is put that takes no id, the tree, once recovered, holds the values of before, and
+/// the new value whole or not at all.
 pub fn puts_pass()
     ensures { PutsPass }
 {}
 
-/// The bytes of a commit's `put`s, its new folders, children first, and the commit stand in an order in which each beginning leaves a
-/// whole store.
+/// A commit stores the bytes of its `put`s, its new folders, children first, and the commit in an
+/// order in which each beginning leaves a whole store.
 pub fn commits_store_whole()
     ensures { CommitsStoreWhole }
 {}
 
-/// A tag leaves a whole store, and so does what stands before it.
+/// A tag leaves a whole store, and so does each beginning of what it stores.
 pub fn tags_store_whole()
     ensures { TagsStoreWhole }
 {}
 
-/// Stopped while its values are stored, a command leaves a repository before its names move.
+/// A stop while a command's values are stored leaves a repository in which no name has moved.
 pub fn storing_stops()
     ensures { StoringStops }
 {}
 
-/// Stopped while its names move, a command leaves each name before the command or after it.
+/// A stop while a command's names move leaves each name as before the command or as after it.
 pub fn moving_stops()
     ensures { MovingStops }
 {}
 
-/// What commands did to the files they did also where the files went on since.
+/// What commands did to the files remains true when the files go on.
 pub fn acts_later()
     ensures { ActsLater (Unit {0}) }
 {}
 
-/// Commands after others, of which none failed, are commands in a row.
+/// Commands after others, none of which failed, are one sequence of commands.
 pub fn acts_then()
     ensures { ActsThen (Unit {0}) }
 {}
 
-/// Stopped while its values are stored in any order that leaves whole stores, a command leaves a repository before its names move.
+/// A stop while a command's values are stored, in any order that leaves whole stores, leaves a
+/// repository in which no name has moved.
 pub fn some_stops()
     ensures { SomeStops }
 {}
 
-/// The first of values that leave whole stores are some of them.
+/// A tree that holds the first of some values, of which each beginning leaves a whole store, holds
+/// some of them.
 pub fn first_are_some()
     ensures { FirstAreSome }
 {}
 
-/// While names move, each name's state as before the command or as after it, recovery leaves each name and HEAD as before or after.
+/// If each name's state is as before the command or as after it, recovery leaves each name and HEAD
+/// as before or as after.
 pub fn names_pass()
     ensures { NamesPass }
 {}
 
-/// Files that stand for a repository are at the beginning of the way of each command.
+/// Files that represent a repository are at the beginning of each command's way.
 pub fn names_begin()
     ensures { NamesBegin }
 {}
 
-/// Where no cause holds of a rename, the new name may come to stand.
+/// If no cause holds of a rename, the new name may exist beside the others.
 pub fn renames_fit()
     ensures { RenamesFit }
 {}
 
-/// Where HEAD alone was written anew, the tree holds the names and the branch after a switch.
+/// If only HEAD was written anew, the tree holds the names and the branch after a switch.
 pub fn switches_stand()
     ensures { SwitchesStand }
 {}
 
-/// Meanwhile HEAD's branch, once recovered, is as before the switch or as after it, and each name as before.
+/// Meanwhile HEAD's branch, once recovered, is as before the switch or as after it, and each name
+/// is as before.
 pub fn switches_pass()
     ensures { SwitchesPass }
 {}
@@ -85,12 +90,13 @@ pub fn files_pass()
     ensures { FilesPass }
 {}
 
-/// Where the names of a move's first lines have moved, the name of the next may come to stand, whatever is packed.
+/// When the names of a move's first lines have moved, the name of the next may exist beside the
+/// others, whatever is packed.
 pub fn next_lines_fit()
     ensures { NextLinesFit }
 {}
 
-/// The move of its files moves it.
+/// A move of its files moves that name.
 pub fn next_lines_move()
     ensures { NextLinesMove }
 {}
@@ -100,7 +106,8 @@ pub fn next_lines_pass()
     ensures { NextLinesPass }
 {}
 
-/// Where the files of a deleted name are gone and its record, what stands stands for the repository after its deletion.
+/// When the files of a deleted name and its record are gone, the pair represents the repository
+/// after the deletion.
 pub fn takings_stand()
     ensures { TakingsStand }
 {}
@@ -110,7 +117,8 @@ pub fn takings_pass()
     ensures { TakingsPass }
 {}
 
-/// Where no cause holds of a rename, the move of the new name's files makes it beside the old name, whatever is packed.
+/// If no cause holds of a rename, the move of the new name's files makes it beside the old name,
+/// whatever is packed.
 pub fn renames_bring()
     ensures { RenamesBring }
 {}
@@ -120,7 +128,8 @@ pub fn bringing_passes()
     ensures { BringingPasses }
 {}
 
-/// Where the old name's files are gone too and its record, what stands stands for the repository after the rename.
+/// When the old name's files and its record are gone too, the pair represents the repository after
+/// the rename.
 pub fn renames_end()
     ensures { RenamesEnd }
 {}
@@ -135,12 +144,12 @@ pub fn packs_read_alike()
     ensures { PacksReadAlike }
 {}
 
-/// Stopped then and recovered, what stands holds the names of before.
+/// Stopped then and recovered, the tree holds the names of before.
 pub fn packs_pass()
     ensures { PacksPass }
 {}
 
-/// Where all names are packed, what stands stands for the repository as before.
+/// When all names are packed, the pair represents the repository as before.
 pub fn packs_stand()
     ensures { PacksStand }
 {}
@@ -150,7 +159,7 @@ pub fn edits_pass()
     ensures { EditsPass }
 {}
 
-/// After all of it the tree holds the names of the repository after the command.
+/// After all edits the tree holds the names of the repository after the command.
 pub fn edits_stand()
     ensures { EditsStand }
 {}
@@ -170,12 +179,12 @@ pub fn moves_edit()
     ensures { MovesEdit }
 {}
 
-/// A rename moves the new name to the id that the old one holds, and takes the old one.
+/// A rename moves the new name to the id that the old one holds, and removes the old one.
 pub fn renames_edit()
     ensures { RenamesEdit }
 {}
 
-/// A deletion takes its name.
+/// A deletion removes its name.
 pub fn deletes_edit()
     ensures { DeletesEdit }
 {}

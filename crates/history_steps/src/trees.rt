@@ -1,11 +1,11 @@
-//! Laws of the trees that stand for a repository, over the definitions alone.
+//! Laws of the trees that represent a repository, over the definitions alone.
 
 ghost use Rattle.history_steps.specs.TreeHalves.{HalvesStand, NamesSpeakOfMore, PlacesTellIds, PlacesTellValues, ValuesHaveIds};
 ghost use Rattle.history_steps.specs.TreeSteps.{PutsStore, StandingIsStored, StoredStands, TreesTellTaken, OwnIdsStay, StoresInAnyOrder, FilesMoveNames, NoneUnfinished, RenamesPut};
 ghost use Rattle.history_steps.specs.OneNameSteps.{CommitsMoveOneName, TagsMoveOneName, OneNameMoves};
 ghost use Rattle.history_steps.specs.TreeReads.{ObjectsTellValues, CommitsAreRead, FoldersAreRead, BytesAreRead};
 
-/// A pair stands for a repository exactly where each of its trees holds its half.
+/// A pair represents a repository exactly if each of its trees holds its half.
 pub fn halves_stand()
     ensures { HalvesStand }
 {}
@@ -15,12 +15,12 @@ pub fn places_tell_ids()
     ensures { PlacesTellIds }
 {}
 
-/// At the place of an id stands the text of what is stored under it, or no file.
+/// At the place of an id is the text of what is stored under it, or no file.
 pub fn places_tell_values()
     ensures { PlacesTellValues }
 {}
 
-/// What a value is stored under is an id.
+/// Values are stored only under ids of the kind.
 pub fn values_have_ids()
     ensures { ValuesHaveIds }
 {}
@@ -30,22 +30,22 @@ pub fn puts_store()
     ensures { PutsStore }
 {}
 
-/// Where the text of a value stands at its place, to store it changes nothing.
+/// If the text of a value is at its place, storing the value changes nothing.
 pub fn standing_is_stored()
     ensures { StandingIsStored }
 {}
 
-/// Under an id that is not taken stands the text of the value, if anything.
+/// Under an id that is not taken is the text of the value, if anything.
 pub fn stored_stands()
     ensures { StoredStands }
 {}
 
-/// The tree tells whether the id of a value is taken.
+/// The tree determines whether the id of a value is taken.
 pub fn trees_tell_taken()
     ensures { TreesTellTaken }
 {}
 
-/// To store a value keeps each value under its own id.
+/// Storing a value keeps each value under its own id.
 pub fn own_ids_stay()
     ensures { OwnIdsStay }
 {}
@@ -60,33 +60,33 @@ pub fn tags_move_one_name()
     ensures { TagsMoveOneName }
 {}
 
-/// Where an object stands, a value of its type and content is stored.
+/// If the tree has an object, a value of its type and content is stored.
 pub fn objects_tell_values()
     ensures { ObjectsTellValues }
 {}
 
-/// Where a commit stands, one of its content is stored.
+/// If the tree has a commit, one of its content is stored.
 pub fn commits_are_read()
     ensures { CommitsAreRead }
 {}
 
-/// Where a tree stands, a folder of its content is stored.
+/// If the tree has a tree, a folder of its content is stored.
 pub fn folders_are_read()
     ensures { FoldersAreRead }
 {}
 
-/// Where a blob stands, its bytes are stored.
+/// If the tree has a blob, its bytes are stored.
 pub fn bytes_are_read()
     ensures { BytesAreRead }
 {}
 
-/// Values may be stored in any order, and those may be left out whose text is stored: this tells neither whether an id is taken, nor
-/// the files, nor the ids that are known.
+/// Values may be stored in any order, and those whose text is stored already may be left out: it
+/// changes neither whether an id is taken, nor the files, nor the known ids.
 pub fn stores_in_any_order()
     ensures { StoresInAnyOrder }
 {}
 
-/// No file stands where an object is written before it is renamed to its place.
+/// There is no file where an object is written before it is renamed to its place.
 pub fn none_unfinished()
     ensures { NoneUnfinished }
 {}
@@ -96,7 +96,7 @@ pub fn renames_put()
     ensures { RenamesPut }
 {}
 
-/// With more values the tree of names speaks of the same, whatever is packed.
+/// A tree that holds a repository's names holds them with more values too, whatever is packed.
 pub fn names_speak_of_more()
     ensures { NamesSpeakOfMore }
 {}
@@ -106,8 +106,8 @@ pub fn files_move_names()
     ensures { FilesMoveNames }
 {}
 
-/// The objects after a command that moves one name, and the move of that name, make what stands for the repository after it, whatever is
-/// packed.
+/// The objects after a command that moves one name, and the move of that name, represent the
+/// repository after it, whatever is packed.
 pub fn one_name_moves()
     ensures { OneNameMoves }
 {}

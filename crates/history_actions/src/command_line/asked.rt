@@ -1,4 +1,4 @@
-//! What the words of a command line ask for.
+//! What the words of a command line mean.
 ghost use Rattle.std.specs.Prelude.{◌≡◌, ◌↔◌, IfOk, MatchOption, map, option_map};
 ghost use Rattle.clap.specs.Words.{kind_of, subcommand_rows_of};
 ghost use Rattle.history_actions.specs.Line.{IsAskedBy, Reads, action_name, kind_by};
@@ -20,13 +20,13 @@ pub enum Action {
     Create,
     /// Run commands on it.
     Run,
-    /// Tell whether it is whole.
+    /// Check whether it is whole.
     Check,
     /// Remove what a stopped run left.
     Recover,
 }
 
-/// What a command line asks for.
+/// What a command line means: an action on a folder, with ids of a kind.
 #[derive(Drop)]
 pub struct Asked {
     pub action: Action,
@@ -34,14 +34,14 @@ pub struct Asked {
     pub kind: Kind,
 }
 
-/// Why a command line asks for nothing.
+/// Why a command line has no action.
 #[derive(Drop)]
 pub enum AskError {
-    /// It asks for help or for the version: this text.
+    /// It wants help or the version: this text.
     Help(String),
     /// It isn't one of the program's: this text says why.
     Line(String),
-    /// Memory was refused.
+    /// Memory ran out.
     Memory,
 }
 
@@ -53,7 +53,7 @@ impl From<AllocError> for AskError {
     }
 }
 
-// The action of this name.
+// Returns the action of this name, if there is one.
 fn action_of(name: &str) -> Option<Action>
     ensures { MatchOption result ((action : Action) → name.now ≡ action_name action → ⊥)
         (λ action. name.now ≡ action_name action) }
@@ -67,7 +67,7 @@ fn action_of(name: &str) -> Option<Action>
     }
 }
 
-// What `clap` says of words that it doesn't take.
+// Returns the error for words that `clap` refuses, with its text.
 fn refusal(alloc: Global, error: &Error) -> AskError
     ensures { Tells (kind_of error.now) result }
 {
@@ -81,11 +81,11 @@ fn refusal(alloc: Global, error: &Error) -> AskError
     }
 }
 
-/// Reads the words of a command line, of which the first is the program's name: `create`, `run`, `check` or `recover`, a folder, and
-/// perhaps `--sha256` before or behind the folder.
+/// Reads the words of a command line, of which the first is the program's name: `create`, `run`,
+/// `check` or `recover`, a folder, and perhaps `--sha256` before or after the folder.
 ///
-/// `Help` comes where the words ask for help or the version, with `clap`'s text of it; `Line` where they aren't the program's, with `clap`'s text of why;
-/// `Memory` where memory was refused.
+/// Returns `Help` if the words want help or the version, with `clap`'s text of it; `Line` if they
+/// aren't the program's, with `clap`'s text of why; and `Memory` if memory ran out.
 pub fn read_words<S: AsStr>(alloc: Global, words: &[S]) -> Result<Asked, AskError>
     ensures { Reads (map S.text words.now) result }
 {
@@ -96,7 +96,7 @@ pub fn read_words<S: AsStr>(alloc: Global, words: &[S]) -> Result<Asked, AskErro
     read_given(alloc, &matches)
 }
 
-// What the matches ask for.
+// Returns what the matches mean.
 fn read_given(alloc: Global, matches: &ArgMatches<'_>) -> Result<Asked, AskError>
     ensures { IsEntered (subcommand_rows_of matches.now) result }
 {
@@ -116,7 +116,8 @@ fn read_given(alloc: Global, matches: &ArgMatches<'_>) -> Result<Asked, AskError
     })
 }
 
-// Says that no action is given with a folder. `clap` takes no such words, so nobody sees this text.
+// Returns the error for words without an action and a folder. `clap` accepts no such words, so
+// nobody sees this text.
 fn unasked(alloc: Global) -> AskError
     ensures { IsNoHelp result }
 {
@@ -126,7 +127,7 @@ fn unasked(alloc: Global) -> AskError
     }
 }
 
-// Which digests a flag asks for, by `clap`'s text of it.
+// Returns the kind of digest that a flag chooses, by `clap`'s text of it.
 fn kind_of_flag(flag: Option<&str>) -> Kind
     ensures { result ≡ kind_by (option_map (λ text. text.now) flag.entry) }
 {

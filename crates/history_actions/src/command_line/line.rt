@@ -8,7 +8,8 @@ use crate::command_line::version::VERSION;
 use clap::{Arg, ArgAction, Command};
 use std::alloc::{AllocError, Global};
 
-/// The line: an action, each with a folder and the flag `--sha256`; or `--help` or `--version`.
+/// Returns the line: an action, each with a folder and the flag `--sha256`; or `--help` or
+/// `--version`.
 pub fn line<'a>(alloc: Global) -> Result<Command<'a>, AllocError>
     ensures read { IfOk result (λ made. app_of made ≡ line) }
     ensures local { IfOk result (λ made. (fields_of made).has_globals ≡ false) }
@@ -27,7 +28,7 @@ pub fn line<'a>(alloc: Global) -> Result<Command<'a>, AllocError>
         .subcommand(action(alloc, "recover", "Removes what a stopped run left", RECOVER)?)
 }
 
-// What the help of all says first; and last, as that of each action.
+// The first text of the program's help; then its last, and that of each action's.
 const ABOUT: &str = "A version store with Git's object ids, reference names and logs";
 
 const EXAMPLE: &str =
@@ -49,7 +50,7 @@ const CHECK: &str = "Example, which changes no file:
 const RECOVER: &str = "Example, after check said refused Unfinished:
   wunthavel-history recover pages";
 
-// An action, with its folder and the flag, and an example behind its help.
+// Returns an action, with its folder and the flag, and an example at the end of its help.
 fn action<'a>(
     alloc: Global,
     name: &'a str,
@@ -72,7 +73,7 @@ fn action<'a>(
         .arg(sha256)
 }
 
-// A command of this name, with the texts of its help.
+// Returns a command of this name, with the texts of its help.
 fn described<'a>(alloc: Global, name: &'a str, about: &'a str, example: &'a str) -> Command<'a>
     ensures app { app_of result ≡ new_app name.now }
     ensures local { (fields_of result).has_globals ≡ false }
