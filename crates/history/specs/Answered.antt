@@ -1,4 +1,4 @@
--- What a stream of commands is answered with over a new repository in memory.
+-- What a run over a stream of commands writes, on a new repository in memory.
 use Rattle.std.specs.Prelude.{◌≡◌, ◌⊎◌, ⊤, Bool, false, List, [], ◌++◌, Option, Some, None, IsTrue}
 use Rattle.std.specs.List.{list_all}
 use Rattle.history_model.specs.Bytes.{Bytes}
@@ -23,7 +23,8 @@ pub record IsAnswered (kind : Kind) (input written : Bytes) (end : End) : Type 0
   pub all : input ≡ read ++ unread
   pub runs : Runs (unread ≡ []) ⊥ (fresh kind) commands replies read written end failed new
 
--- The plain repository answers the whole input with this: no reply is a fault, and each command has one reply alone.
+-- The plain repository replies to the whole input with this: no reply is a fault, and each command
+-- has only one reply.
 pub record IsMeant (kind : Kind) (input output : Bytes) : Type 0 where
   pub commands : List Command
   pub replies : List Reply
@@ -32,13 +33,13 @@ pub record IsMeant (kind : Kind) (input output : Bytes) : Type 0 where
   pub no_fault : IsTrue (have_no_fault replies)
   pub sure : IsTrue (list_all is_sure commands)
 
--- the known bytes answer the input
+-- a run over the input wrote the known bytes
 abbrev pub Answers : Kind → Bytes → Option Bytes → End → Type 0
 Answers kind input None end = ⊥
 Answers kind input (Some written) end = IsAnswered kind input written end
 
--- Whichever run answered the input with the known bytes: they are this output, or one of its own replies is a fault, or it ended
--- with one.
+-- Whichever run over the input wrote the known bytes: they are this output, or one of its own
+-- replies is a fault, or it ended with one.
 abbrev pub AreOrTellFault : Kind → Bytes → Option Bytes → End → Bytes → Type 0
 AreOrTellFault kind input None end output = ⊥
 AreOrTellFault kind input (Some written) end output =

@@ -1,4 +1,4 @@
--- What the clauses on one command take for granted.
+-- The premises of the clauses on one command.
 use Rattle.std.specs.Prelude.{IsTrue}
 use Rattle.gix_ref_file.specs.History.{History}
 use Rattle.history_model.specs.Stage.{is_spoken}
@@ -9,7 +9,7 @@ use Rattle.history_repository.specs.declared.repository.Repository.{Repository}
 use Rattle.history_model.specs.Commands as orders
 use Rattle.history_model.specs.Repository as plain
 
--- A repository is asked for what was read: this command, which is offered.
+-- The command that was read is this one, which is offered, for this repository.
 pub record Asked {F : Type 0} (IsHonest : F → Type 0) (history : F → History)
     (repository : Repository F) (received : Received)
     (r : plain.Repository) (order : orders.Command) : Type 0 where

@@ -19,15 +19,16 @@ KeepsRows None kept = kept ≡ None
 KeepsRows (Some plain) None = ⊥
 KeepsRows (Some plain) (Some rows) = AreTheRows plain rows
 
--- These commands with these replies, from this repository on, lead from the first rows to the second: those that the last `ok index`
--- counted, in the state where it stood.
+-- These commands with these replies, from this repository on, lead from the first rows to the
+-- second: those that the last `ok index` counted, in the state at that time.
 abbrev pub FollowsRows : Option (List Row) → Option (List Row) → Repository → List Command
     → List Reply → Type 0
 FollowsRows old new r commands replies =
     (rows : Option (List model.Row)) → KeepsRows rows old
     → KeepsRows (rows_after r rows commands replies) new
 
--- an accepted `index` leaves the repository's rows; another command, a refusal or a fault those that were
+-- an accepted `index` leaves the repository's rows; another command, a refusal or a fault those
+-- before
 abbrev pub LeavesRows : Repository → Command → Result (Vec ℕ Global) Stopped → Option (List Row)
     → Option (List Row) → Type 0
 LeavesRows r Index (Ok text) old new = KeepsRows (Some (rows_of r)) new

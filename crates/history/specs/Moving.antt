@@ -17,7 +17,7 @@ pub record MovesNamesAlone {F : Type 0} (old new : Repository F) : Type 0 where
   pub rows : new.rows ≡ old.rows
   pub failed : new.has_failed ≡ old.has_failed
 
--- The names stand as they are to, or a fault was met.
+-- The names are as they should be, or there was a fault.
 abbrev pub LeavesMoved : Type 0 → Type 0 → Result (Unit {0}) Fault → Type 0
 LeavesMoved CallFailed Moved (Ok done) = Moved
 LeavesMoved CallFailed Moved (Err Memory) = ⊤

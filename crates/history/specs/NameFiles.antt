@@ -1,4 +1,4 @@
--- What accepted commands do to the files of the names part; and which reply tells of a failed call.
+-- What accepted commands do to the files of the names part, and which reply reports a failed call.
 use Rattle.std.specs.Prelude.{◌≡◌, ◌≢◌, ⊤, ℕ, List, ◌∷◌, Result, Vec, OnOk, IsFalse}
 use Rattle.std.specs.declared.alloc.Global.{Global}
 use Rattle.gix_ref_file.specs.History.{History}
@@ -15,28 +15,29 @@ use Rattle.history_repository.specs.declared.stopped.Stopped.{Stopped}
 use Rattle.history_model.specs.Repository as plain
 use Rattle.history_model.specs.declared.Fault.TheVariants.{File}
 
--- each file but HEAD's stands as before; of lock files nothing is said
+-- each file but HEAD's is as before; of lock files nothing is said
 abbrev pub ChangesHeadAlone : Tree → Tree → Type 0
 ChangesHeadAlone old new = (path : Bytes) → path ≢ head_place → IsFalse (is_lock_file path)
     → file_at new path ≡ file_at old path
 
--- each file but the name's and its log stands as before
+-- each file but the name's and its log is as before
 abbrev pub ChangesNameAlone : Bytes → Tree → Tree → Type 0
 ChangesNameAlone name old new = (path : Bytes) → path ≢ name → path ≢ log_place name
     → file_at new path ≡ file_at old path
 
--- so does each but these two and `packed-refs`
+-- so is each but these two and `packed-refs`
 abbrev pub TakesNameAlone : Bytes → Tree → Tree → Type 0
 TakesNameAlone name old new = (path : Bytes) → path ≢ name → path ≢ log_place name
     → path ≢ packed_place → file_at new path ≡ file_at old path
 
--- so does each but those of two names and `packed-refs`
+-- so is each but those of two names and `packed-refs`
 abbrev pub RenamesAlone : Bytes → Bytes → Tree → Tree → Type 0
 RenamesAlone from to old new = (path : Bytes) → path ≢ to → path ≢ log_place to → path ≢ from
     → path ≢ log_place from → path ≢ packed_place → file_at new path ≡ file_at old path
 
--- A `commit` and a `tag` change the files of the name that they move alone, a `delete` those of its name and `packed-refs`, a `rename`
--- those of its two names and `packed-refs`, a `switch` HEAD; a `pack` packs all names. Of a `move` nothing is said here.
+-- A `commit` and a `tag` change only the files of the name that they move, a `delete` only those of
+-- its name and `packed-refs`, a `rename` only those of its two names and `packed-refs`, a `switch`
+-- only HEAD; a `pack` packs all names. Of a `move` nothing is said here.
 abbrev pub LeavesAsAsked : plain.Repository → Command → Tree → Tree → Type 0
 LeavesAsAsked r (Commit c) old new = ChangesNameAlone (commit_move r c).name old new
 LeavesAsAsked r (Tag c) old new = ChangesNameAlone (tag_move r c).name old new
@@ -60,7 +61,7 @@ LeavesFiles r order result old new = ⊤
 
 -- ---- in a run
 
--- The names part went from the tree that stood at one moment to the one at another.
+-- The names part went from the tree at one moment to the one at another.
 pub record GoesBetween (names : History) (begin finish : Moment) (Goes : Tree → Tree → Type 0)
     : Type 0 where
   pub old : Tree
@@ -69,7 +70,7 @@ pub record GoesBetween (names : History) (begin finish : Moment) (Goes : Tree �
   pub ends : StoodAt names finish.names new
   pub goes : Goes old new
 
--- Between its two moments a command that was answered as accepted did so.
+-- Between its two moments a command with an accepting reply did so.
 abbrev pub ChangesAsSaid : History → plain.Repository → Moment → Command → Reply → Moment → Type 0
 ChangesAsSaid names r begin (Commit c) (Committed id) finish =
     GoesBetween names begin finish (ChangesNameAlone (commit_move r c).name)
@@ -84,16 +85,18 @@ ChangesAsSaid names r begin (Switch name) Switched finish =
 ChangesAsSaid names r begin Pack Packed finish = GoesBetween names begin finish (PacksNames r)
 ChangesAsSaid names r begin command reply finish = ⊤
 
--- A failed call that was counted is told as `fault File`: with another reply both parts count as many as before.
+-- A failed call that was counted is reported as `fault File`: with another reply both parts count
+-- as many as before.
 abbrev pub CountsAsSaid : Moment → Reply → Moment → Type 0
 CountsAsSaid begin reply finish = reply ≢ Faulted File → CountsStay begin finish
 
--- Both hold of a command that was answered, between its two moments.
+-- Both hold of a command with this reply, between its two moments.
 abbrev pub LeavesAsSaid : History → plain.Repository → Moment → Command → Reply → Moment → Type 0
 LeavesAsSaid names r begin command reply finish =
     ChangesAsSaid names r begin command reply finish × CountsAsSaid begin reply finish
 
--- They hold of each of these commands, from this repository on, where each ends and the next begins at these moments.
+-- They hold of each of these commands, from this repository on; at each of these moments one ends
+-- and the next begins.
 abbrev pub AllLeaveAsSaid : History → plain.Repository → Moment → List Command → List Reply
     → List Moment → Type 0
 AllLeaveAsSaid names r begin (command ∷ commands) (reply ∷ replies) (finish ∷ moments) =

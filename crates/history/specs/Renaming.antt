@@ -1,4 +1,4 @@
--- What is asked of the files of a `rename`.
+-- The premises of a `rename`'s moves.
 use Rattle.std.specs.Prelude.{◌≡◌, None}
 use Rattle.gix_ref_file.specs.History.{History}
 use Rattle.history_model.specs.Bytes.{Bytes}

@@ -23,7 +23,8 @@ is_answer (RefusedFor cause) = false
 is_answer (Faulted fault) = false
 is_answer _ = true
 
--- what was answered is this reply: its text, where no cause holds and no fault was met; the cause; or the fault
+-- what was returned is this reply: its text, if it is neither a refusal nor a fault; the cause; or
+-- the fault
 abbrev pub Tells : Reply → replies.Reply → Type 0
 Tells (Text text) reply = IsTrue (is_answer reply) × (text.items ≡ reply_text reply)
 Tells (Refused cause) reply = reply ≡ RefusedFor cause
@@ -36,7 +37,7 @@ is_fault (Fault fault) = true
 
 -- ---- commands that change files
 
--- the word that tells that these moves were made
+-- the word that says that these moves were made
 abbrev pub done_word : Moves → Bytes
 done_word (move.Commit one) = codes "commit"
 done_word (move.Tag one) = codes "tag"
@@ -47,6 +48,6 @@ done_word (move.Switch branch) = codes "switch"
 done_word (move.Pack names) = codes "pack"
 done_word move.Nothing = []
 
--- the bytes are the reply to the command, where it is done
+-- the bytes are the reply to the command, if it is done
 abbrev pub TellsDone : Repository → Command → Bytes → Type 0
 TellsDone r order text = (reply : replies.Reply) × Answers r order reply × (text ≡ reply_text reply)

@@ -23,7 +23,7 @@ is_fault_end Fault = true
 is_fault_end Input = false
 is_fault_end Refused = false
 
--- the end of a turn, where it is the run's last
+-- whether a turn is the run's last and ends it with a fault
 abbrev pub is_last_fault : Option End → Bool
 is_last_fault (Some end) = is_fault_end end
 is_last_fault None = false
@@ -67,8 +67,8 @@ module _ {S : Type 0} (left : S → Option (List ℕ)) (readings : S → ℕ) wh
 
 -- ---- what was read, written and left
 
--- A run from old that acted on these commands with these replies, over what was read and written, ends so, by what it tells,
--- and leaves new.
+-- A run from old that acted on these commands with these replies, over what was read and written,
+-- ends as it returned, and leaves new.
 abbrev pub EndsRun : Type 0 → Type 0 → Type 0 → plain.Repository → List Command → List Reply
     → Bytes → Bytes → Result End RunError → Bool → plain.Repository → Type 0
 EndsRun AtEnd LastReading CallFailed old commands replies read written (Ok end) failed new =
@@ -80,8 +80,9 @@ EndsRun AtEnd LastReading CallFailed old commands replies read written (Err Writ
 
 -- ---- turns
 
--- The last turn of a run from old: it acted on these commands with these replies, read and wrote these bytes, and ended so. What
--- it leaves stands; or, after a fault in a changing command, what recovery makes of it.
+-- The last turn of a run from old: it acted on these commands with these replies, read and wrote
+-- these bytes, and ended so. The repository represents what it leaves; or, after a fault in a
+-- changing command, the recovered files do.
 pub record EndsHere (Reads Writes : Bytes → Type 0)
     (StandsNow RecoversNow : plain.Repository → Type 0)
     (IsTraced : List Command → List Reply → plain.Repository → Type 0)
@@ -100,7 +101,8 @@ pub record EndsHere (Reads Writes : Bytes → Type 0)
   pub stands : failed ≡ false → StandsNow new
   pub recovers : failed ≡ true → RecoversNow new
 
--- A turn after which the run goes on: the bytes of commands were taken, their replies written, and what they leave stands.
+-- A turn after which the run goes on: the bytes of commands were taken, their replies written, and
+-- the repository represents what they leave.
 pub record GoesOn (Takes Writes : Bytes → Type 0) (StandsNow : plain.Repository → Type 0)
     (IsTraced : List Command → List Reply → plain.Repository → Type 0) (CallFailed : Type 0)
     (old : plain.Repository) : Type 0 where

@@ -27,7 +27,7 @@ use Rattle.history.specs.declared.moves.Moves.TheVariants as move
 use Rattle.history_model.specs.Commands as orders
 use Rattle.history_model.specs.Repository as plain
 
--- A repository is asked for a command that changes files.
+-- The command is this one, which changes files, for this repository.
 pub record AskedChange {F : Type 0} (IsHonest : F → Type 0) (history : F → History)
     (repository : Repository F) (command : Command)
     (r : plain.Repository) (order : orders.Command) : Type 0 where
@@ -49,15 +49,15 @@ TellMoves r (orders.Switch name) (move.Switch branch) = branch.items ≡ name
 TellMoves r orders.Pack (move.Pack names) = AreAllNames r names.items
 TellMoves r _ _ = ⊥
 
--- These are the moves of a command of which no cause holds, so that no name stands twice or collides, and each holds what is
--- expected of it; and what it stores takes no id.
+-- These are the moves of a command of which no cause holds, so that no name occurs twice or
+-- collides, and each holds what is expected of it; and what it stores takes no id.
 pub record AreMovesOf (r : plain.Repository) (order : orders.Command)
     (moves : Moves) : Type 0 where
   pub none : first_cause r order ≡ None
   pub free : IsFalse (takes_id r order)
   pub told : TellMoves r order moves
 
--- the moves of a command that stores nothing; or the first cause is told, or a fault of reading was met
+-- the moves of a command that stores nothing; or the first cause, or a fault of reading
 abbrev pub GivesMoves : Type 0 → plain.Repository → orders.Command → Result Moves Stopped → Type 0
 GivesMoves MayFail r order (Ok moves) = AreMovesOf r order moves
 GivesMoves MayFail r order (Err (Refused cause)) = first_cause r order ≡ Some cause
@@ -65,8 +65,8 @@ GivesMoves MayFail r order (Err (Fault fault)) = IsReadingFault MayFail (Fault f
 
 -- ---- objects
 
--- The repository stood for this plain one before the command, and all but its objects is as it was: they are those after the
--- command, so that each id that a name is to move to is stored.
+-- The repository represented this plain one before the command, and all but its objects is as it
+-- was: they are those after the command, so that each id that a name is to move to is stored.
 pub record HasStored {F : Type 0} (IsHonest : F → Type 0) (history : F → History)
     (repository : Repository F) (r : plain.Repository) (order : orders.Command) : Type 0 where
   pub before : Repository F
@@ -77,7 +77,7 @@ pub record HasStored {F : Type 0} (IsHonest : F → Type 0) (history : F → His
   pub holds : HoldsValues r.kind (objects_tree history repository) (after r order).objects
   pub known : KnowsIds repository (after r order).objects
 
--- The objects are stored, and these are the moves; else the first cause is told, or a fault was met.
+-- The objects are stored, and these are the moves; else the first cause is returned, or a fault.
 abbrev pub StoresObjects : Type 0 → Type 0 → plain.Repository → orders.Command
     → Result Moves Stopped → Type 0
 StoresObjects CallFailed Stored r order (Ok moves) = AreMovesOf r order moves × Stored
@@ -86,7 +86,7 @@ StoresObjects CallFailed Stored r order (Err (Fault Memory)) = ⊤
 StoresObjects CallFailed Stored r order (Err (Fault File)) = CallFailed
 StoresObjects CallFailed Stored r order (Err (Fault IdTaken)) = MayTake r order
 
--- whether a fault is why there is no result
+-- whether a fault is returned
 abbrev pub is_fault_of : {T : Type 0} → Result T Stopped → Bool
 is_fault_of (Ok value) = false
 is_fault_of (Err (Refused cause)) = false

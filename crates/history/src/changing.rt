@@ -28,7 +28,7 @@ use history_store::hex_digits;
 use history_word::Command;
 use std::alloc::{AllocError, Global};
 
-/// The word that tells which command is done.
+/// Returns the word that says which command is done.
 fn done_word(moves: &Moves) -> &'static [u8]
     ensures { result.now ≡ done_word moves.now }
 {
@@ -44,7 +44,7 @@ fn done_word(moves: &Moves) -> &'static [u8]
     }
 }
 
-/// The text that tells with this word that a command is done.
+/// Returns the text that says with this word that a command is done.
 fn word_text(alloc: Global, word: &[u8]) -> Result<Vec<u8>, AllocError>
     ensures { IfOk result (λ text. text.items
         ≡ parts_text (Line (codes "ok" ∷ word.now ∷ []) ∷ [])) }
@@ -54,7 +54,7 @@ fn word_text(alloc: Global, word: &[u8]) -> Result<Vec<u8>, AllocError>
     Ok(text)
 }
 
-/// The text that tells, with the id that was made.
+/// Returns the text that says so, with the id that was made.
 fn id_text(alloc: Global, word: &[u8], id: &ObjectId) -> Result<Vec<u8>, AllocError>
     ensures { IfOk result (λ text. text.items
         ≡ parts_text (Line (codes "ok" ∷ word.now ∷ hex (id_of id.now) ∷ []) ∷ [])) }
@@ -68,7 +68,7 @@ fn id_text(alloc: Global, word: &[u8], id: &ObjectId) -> Result<Vec<u8>, AllocEr
     Ok(text)
 }
 
-/// The text of the reply to a command whose moves these are.
+/// Returns the text of the reply to a command with these moves.
 fn done_text(alloc: Global, moves: &Moves) -> Result<Vec<u8>, AllocError>
     ensures { (r : plain.Repository) (order : orders.Command) → AreMovesOf r order moves.now
         → IfOk result (λ text. TellsDone r order text.items) }
@@ -80,8 +80,9 @@ fn done_text(alloc: Global, moves: &Moves) -> Result<Vec<u8>, AllocError>
     }
 }
 
-/// Acts on a command that changes files, and answers its reply. The reply is made once the objects are stored, and before the first
-/// name moves.
+/// Acts on a command that changes files, and returns the text of its reply, which is made once the
+/// objects are stored and before the first name moves. Otherwise returns the first cause that
+/// holds, and nothing has changed, or a fault.
 pub(crate) fn change<F: Files>(
     repository: &mut Repository<F>,
     alloc: Global,

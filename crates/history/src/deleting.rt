@@ -25,7 +25,7 @@ use history_repository::{Repository, Stopped};
 use history_word::Delete;
 use std::alloc::Global;
 
-/// The name that goes in a `delete`, where no cause holds. It changes nothing.
+/// Returns the name that a `delete` removes, or the first cause that holds. Changes nothing.
 pub(crate) fn plan_deletion<F: Files>(
     repository: &Repository<F>,
     alloc: Global,

@@ -1,4 +1,4 @@
-//! A stream of commands, answered over a new repository in memory: `create`, `Repository::open` and `run` as one call.
+//! A run over a new repository in memory: `create`, `Repository::open` and `run` as one call.
 
 mod answer;
 mod opened;

@@ -16,7 +16,7 @@ use history_queries::{all_rows, line};
 use history_repository::{Repository, Stopped};
 use std::alloc::{AllocError, Global};
 
-/// The text that tells how many rows were made.
+/// Returns the text that says how many rows were made.
 fn index_text(alloc: Global, rows: usize) -> Result<Vec<u8>, AllocError>
     ensures { IfOk result (λ text. text.items ≡ reply_text (Indexed rows)) }
 {
@@ -33,8 +33,8 @@ fn index_text(alloc: Global, rows: usize) -> Result<Vec<u8>, AllocError>
     Ok(text)
 }
 
-/// Makes rows of all stored commits, and answers how many there are. Where it is a fault nothing changes, and the rows stay those
-/// that the last `ok index` counted.
+/// Makes rows of all stored commits, and returns the text with their number. After a fault nothing
+/// has changed, and the rows stay those that the last `ok index` counted.
 pub(crate) fn index<F: Files>(
     repository: &mut Repository<F>,
     alloc: Global,

@@ -1,9 +1,10 @@
 //! A version store with Git's ids, names and logs: a repository, and a run of commands over it.
 //!
-//! [`create`] makes a repository of two file trees, [`Repository::open`] opens one, and [`run`] reads commands, acts on
-//! each by [`answer`] and writes its reply. [`recover`] makes whole what a stopped or failed call left. A command that changes files is
-//! two calls, [`Repository::store_objects`] and [`Repository::move_names`], and a run changes files by what these call alone. [`in_memory`]
-//! answers a stream of commands over a new repository.
+//! [`create`] makes a repository of two file trees, [`Repository::open`] opens one, and [`run`]
+//! reads commands, acts on each by [`answer`] and writes its reply. [`recover`] makes whole what a
+//! stopped or failed call left. A command that changes files is two calls,
+//! [`Repository::store_objects`] and [`Repository::move_names`], and a run changes files only by
+//! what these call. [`in_memory`] runs a stream of commands over a new repository.
 #![tactic(auto)]
 
 mod act;
@@ -22,12 +23,12 @@ mod running;
 mod switching;
 mod tagging;
 
-/// How a store of objects answers: what stands under an id.
+/// How a store of objects is looked up: what is stored under an id.
 pub mod lookups {
     pub use gix_object::{Data, Exists, Find, FindHeader, FindInto, Header, Kind, Lookup, find};
 }
 
-/// What a [`Command`] asks: what it is made of, as it is read.
+/// The parts of a [`Command`], as it is read.
 pub mod commands {
     pub use history_model::FileKind;
     pub use history_word::{

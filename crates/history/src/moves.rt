@@ -1,6 +1,7 @@
 //! The two halves of a command that changes files: its objects are stored, and then names move.
 //!
-//! A run changes files by these two calls alone, in this order. The methods of `Repository` that have their names make one of them each.
+//! A run changes files only by these two calls, in this order. The methods of `Repository` with
+//! their names make one of them each.
 
 ghost use Rattle.std.specs.Prelude.{◌≡◌, Ok, IsOk, IfErr, OnOk, false, IsErrOf};
 ghost use Rattle.gix_ref_file.specs.History.{Adds};
@@ -46,9 +47,9 @@ pub enum Moves {
     Tag(NameMove),
     /// The names of a `move`, one after another.
     Together(Vec<NameMove>),
-    /// A name is made, and then the old one goes.
+    /// A name is made, and then the old one is removed.
     Rename { to: NameMove, from: Vec<u8> },
-    /// A name goes, with its log and its record.
+    /// A name is removed, with its log and its record.
     Delete(Vec<u8>),
     /// HEAD is to name this branch.
     Switch(Vec<u8>),
@@ -58,7 +59,7 @@ pub enum Moves {
     Nothing,
 }
 
-/// The fault that a failed change of files is told as.
+/// Returns the fault for a failed change of files.
 pub(crate) fn fault_of(error: FileError) -> Fault
     ensures { result ≡ file_fault error }
 {
@@ -68,8 +69,9 @@ pub(crate) fn fault_of(error: FileError) -> Fault
     }
 }
 
-/// Answers the first cause that holds of a command that changes files, and then nothing has changed; else puts its objects, and
-/// answers how its names are to move. Whether the repository has failed is left to the callers, which know what else they do.
+/// Puts the objects of a command that changes files, and returns how its names are to move.
+/// Otherwise returns the first cause that holds, and nothing has changed, or a fault. The callers,
+/// which know what else they do, set whether the repository has failed.
 pub(crate) fn store_objects<F: Files>(
     repository: &mut Repository<F>,
     alloc: Global,
@@ -89,7 +91,8 @@ pub(crate) fn store_objects<F: Files>(
         → AskedChange F.is_honest F.history repository.old command r order
         → StoresObjects (CountsFailure F.failures F.reading_may_fail repository.old repository.new)
         (HasStored F.is_honest F.history repository.new r order) r order result }
-    // Where anything is put no cause holds, and each tree on the way holds some of what is stored, and is whole, once recovered.
+    // If anything is put, no cause holds, and each tree on the way, once recovered, holds some of
+    // what is stored and is whole.
     ensures passes { (r : plain.Repository) (order : orders.Command)
         → AskedChange F.is_honest F.history repository.old command r order
         → ObjectsPass F.history r order repository.old repository.new }
@@ -106,7 +109,8 @@ pub(crate) fn store_objects<F: Files>(
     }
 }
 
-/// Moves names, once the objects of their command are stored. Whether the repository has failed is left to the callers.
+/// Moves names, once the objects of their command are stored. The callers set whether the
+/// repository has failed.
 pub(crate) fn move_names<F: Files>(
     repository: &mut Repository<F>,
     alloc: Global,

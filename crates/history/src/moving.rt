@@ -24,7 +24,7 @@ use history_repository::{Repository, Stopped};
 use history_word::MoveCommand;
 use std::alloc::Global;
 
-/// The moves of a `move`, where no cause holds. It changes nothing.
+/// Returns the moves of a `move`, or the first cause that holds. Changes nothing.
 pub(crate) fn plan_together<F: Files>(
     repository: &Repository<F>,
     alloc: Global,
@@ -37,7 +37,7 @@ pub(crate) fn plan_together<F: Files>(
     Ok(Moves::Together(plan_moves(repository, alloc, command)?))
 }
 
-/// Moves names, one after another, each once its log tells so. The objects stay as they are.
+/// Moves names, one after another, each once its log says so. The objects stay as they are.
 pub(crate) fn move_each<F: Files>(
     repository: &mut Repository<F>,
     alloc: Global,

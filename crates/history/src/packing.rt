@@ -23,7 +23,7 @@ use history_repository::{Repository, Stopped};
 use history_store::PackedName;
 use std::alloc::Global;
 
-/// All names, which a `pack` packs: it is refused for nothing. It changes nothing.
+/// Returns all names, which a `pack` packs; no cause refuses it. Changes nothing.
 pub(crate) fn plan_pack<F: Files>(
     repository: &Repository<F>,
     alloc: Global,

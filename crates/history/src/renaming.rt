@@ -1,4 +1,4 @@
-//! The command `rename`: a name is made at what another holds, and that one goes, with its log.
+//! The command `rename`: a name is made with the id of another, which goes, with its log.
 
 ghost use Rattle.std.specs.Prelude.{◌≡◌, OnOk, IsErrOf};
 ghost use Rattle.gix_ref_file.specs.History.{Adds};
@@ -28,7 +28,7 @@ use history_repository::{Repository, Stopped};
 use history_word::Rename;
 use std::alloc::Global;
 
-/// How the names of a `rename` move, where no cause holds. It changes nothing.
+/// Returns how the names of a `rename` move, or the first cause that holds. Changes nothing.
 pub(crate) fn plan_renaming<F: Files>(
     repository: &Repository<F>,
     alloc: Global,
@@ -45,7 +45,8 @@ pub(crate) fn plan_renaming<F: Files>(
     })
 }
 
-/// Makes the new name, once its log tells so, and then removes the old one's log and the old one. The objects stay as they are.
+/// Makes the new name, once its log says so, and then removes the old one's log and the old one.
+/// The objects stay as they are.
 pub(crate) fn rename_name<F: Files>(
     repository: &mut Repository<F>,
     alloc: Global,
@@ -59,7 +60,7 @@ pub(crate) fn rename_name<F: Files>(
     ensures unfailed { OnOk result (KeepsCounts F.failures repository.old repository.new) }
     ensures memory { OnlyFileCounts F.failures repository.old repository.new
         (λ fault. IsErrOf result fault) }
-    // Each file of others than these names is as it was, but for `packed-refs`.
+    // Each file that isn't of these names is as it was, except `packed-refs`.
     ensures alone { (r : plain.Repository) (to : Bytes)
         → AskedRename F.is_honest F.history repository.old moves.now r from.now to
         → OnOk result (RenamesAlone from.now to

@@ -5,18 +5,18 @@ ghost use Rattle.history_model.specs.Replies.{reply_text, RefusedFor, Faulted};
 
 use history_model::{Cause, Fault};
 
-/// What a command is answered with.
+/// The reply to a command.
 #[derive(Drop)]
 pub enum Reply {
     /// The whole text of the reply to an accepted command, made before a byte of it is written.
     Text(Vec<u8>),
     /// The first cause that holds.
     Refused(Cause),
-    /// Why a command that isn't refused has no reply.
+    /// Why a command fails that isn't refused.
     Fault(Fault),
 }
 
-/// The text of a refusal, which needs no memory.
+/// Returns the text of a refusal, which needs no memory.
 fn refusal_text(cause: Cause) -> &'static [u8]
     ensures { result.now ≡ reply_text (RefusedFor cause) }
 {
@@ -50,7 +50,7 @@ fn refusal_text(cause: Cause) -> &'static [u8]
     }
 }
 
-/// The text of a fault, which needs no memory.
+/// Returns the text of a fault, which needs no memory.
 fn fault_text(fault: Fault) -> &'static [u8]
     ensures { result.now ≡ reply_text (Faulted fault) }
 {
@@ -64,7 +64,7 @@ fn fault_text(fault: Fault) -> &'static [u8]
 impl Reply {
     ghost use Rattle.history.specs.Replies.{text_of, is_fault};
 
-    /// The whole text, with its line feeds.
+    /// Returns the whole text, with its line feeds.
     pub fn text(&self) -> &[u8]
         ensures { result.now ≡ text_of self.now }
     {
@@ -75,7 +75,7 @@ impl Reply {
         }
     }
 
-    /// Whether a fault is told.
+    /// Returns whether the reply is a fault.
     pub fn is_fault(&self) -> bool
         ensures { result ≡ is_fault self.now }
     {

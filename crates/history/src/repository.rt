@@ -37,8 +37,9 @@ use std::marker::Model;
 
 /// A repository over two file trees: one holds the objects, the other HEAD, the names and their logs.
 ///
-/// Its fields are its own, so that what it keeps in memory stays that of its files, and one that has failed stays so: a later `run`
-/// reads and writes nothing, and its parts are to be recovered and opened again.
+/// Its fields are private, so that what it keeps in memory stays that of its files, and one that
+/// has failed stays so: a later `run` reads and writes nothing, and its parts are to be recovered
+/// and opened again.
 #[derive(Drop)]
 pub struct Repository<F: Files> {
     pub(crate) state: State<F>,
@@ -53,12 +54,13 @@ impl<F: Files> Model for Repository<F> {
 }
 
 impl<F: Files> Repository<F> {
-    /// Opens a folder whose two parts are those of one repository with ids of this kind: whole, in written form and within the limits,
-    /// with no file and no folder besides. So are those that `create` and `run` leave, and, where a
-    /// call stopped or failed, `recover` behind it. No file is changed.
+    /// Opens a folder whose two parts are those of one repository with ids of this kind: whole, in
+    /// written form and within the limits, with no other file or folder. `create` and `run` leave
+    /// such parts, and, if a call stopped or failed, `recover` after it. No file is changed.
     ///
-    /// Else the refusal names a cause that holds of them, and hands both parts back. The objects are surveyed before the names.
-    /// `File` comes where a call of the files failed, `Memory` where a growth was refused.
+    /// Otherwise the refusal names a cause that holds of the parts, and returns both of them. The
+    /// objects are surveyed before the names. The cause is `File` if a call of the files failed,
+    /// and `Memory` if memory ran out.
     pub fn open(
         alloc: Global,
         objects: F,
@@ -68,22 +70,22 @@ impl<F: Files> Repository<F> {
         ensures ok { IfOk result (λ opened. (objects_part opened ≡ objects)
             × (names_part opened ≡ names) × (has_failed opened ≡ false)
             × (rows_in opened ≡ None)) }
-        // What is opened stands for a repository of this kind, whole and in its written form.
+        // What is opened represents a repository of this kind, whole and in its written form.
         ensures stands { F.is_honest objects → F.is_honest names
             → IfOk result (λ opened. (r : plain.Repository) × (r.kind ≡ kind)
             × Stands F.is_honest F.history opened r) }
-        // Whichever repository the two parts stand for, it is that one.
+        // If the two parts represent a repository, it is that one.
         ensures same { (r : plain.Repository) → F.is_honest objects → F.is_honest names
             → StandsWhole kind (trees_of F.history objects names) r
             → IfOk result (λ opened. Stands F.is_honest F.history opened r) }
-        // Of a new folder it is the one without names and objects, on `refs/heads/main`.
+        // For a new folder it is the one without names and objects, on `refs/heads/main`.
         ensures fresh { F.is_honest objects → F.is_honest names
             → IsNew (F.history objects).tree (F.history names).tree
             → IfOk result (λ opened. Stands F.is_honest F.history opened (fresh kind)) }
         ensures refused { F.is_honest objects → F.is_honest names → IfErr result (λ refusal.
             IsOpenCause F.reading_may_fail kind (trees_of F.history objects names)
             refusal.error) }
-        // A repository's parts are refused for a fault alone.
+        // A repository's parts are refused only for a fault.
         ensures accepted { (r : plain.Repository) → F.is_honest objects → F.is_honest names
             → StandsWhole kind (trees_of F.history objects names) r
             → IfErr result (λ refusal. IsOpenFault refusal.error) }
@@ -96,7 +98,7 @@ impl<F: Files> Repository<F> {
         }
     }
 
-    /// Gives back the objects part and the names part, as they stand.
+    /// Returns the objects part and the names part, as they are.
     pub fn into_parts(self) -> (F, F)
         ensures objects { result.0 ≡ objects_part self }
         ensures names { result.1 ≡ names_part self }
@@ -104,26 +106,30 @@ impl<F: Files> Repository<F> {
         self.state.into_parts()
     }
 
-    /// The rows of the commits that the last `ok index` counted; none before the first. It takes no memory.
+    /// Returns the rows of the commits that the last `ok index` counted; none before the first. It
+    /// takes no memory.
     pub fn rows(&self) -> Option<&Graph>
         ensures { option_map (λ rows. rows.now) result ≡ rows_in self.now }
     {
         self.state.rows()
     }
 
-    /// Whether a command that changes files met a fault. The files then hold what a stop may leave, and `run`
-    /// acts on no further command: the parts are to be recovered and opened again.
+    /// Returns whether a command that changes files had a fault. The files are then as a stop may
+    /// leave them, and `run` acts on no further command: the parts are to be recovered and opened
+    /// again.
     pub fn has_failed(&self) -> bool
         ensures { result ≡ has_failed self.now }
     {
         self.state.has_failed()
     }
 
-    /// Answers the first cause that holds of a command that changes files, and then nothing has changed; else puts its objects, and
-    /// answers how its names are to move. The names stay as they are. Of a command that changes no file it stores nothing.
+    /// Puts the objects of a command that changes files, and returns how its names are to move.
+    /// Otherwise returns the first cause that holds, and nothing has changed, or a fault. The names
+    /// stay as they are. For a command that changes no file it stores nothing.
     ///
-    /// It asks for a repository that hasn't failed. After a fault it has, and some of the objects may stand: the folder is to be opened
-    /// again. A failed change of the files that was counted is reported as the fault `File`, never as `Memory`.
+    /// Call this for a repository that hasn't failed. After a fault it has failed, and some of the
+    /// objects may be stored: the folder is to be opened again. A failed change of the files that
+    /// was counted is reported as the fault `File`, never as `Memory`.
     pub fn store_objects(&mut self, alloc: Global, command: Command) -> Result<Moves, Stopped>
         ensures refused { IfErr result (λ stopped. IsRefusal stopped → self.new ≡ self.old) }
         ensures failed { has_failed self.new ≡ (has_failed self.old || is_fault_of result) }
@@ -141,7 +147,8 @@ impl<F: Files> Repository<F> {
             → AskedChange F.is_honest F.history self.old command r order
             → StoresObjects (CountsFailure F.failures F.reading_may_fail self.old self.new)
             (HasStored F.is_honest F.history self.new r order) r order result }
-        // Where anything is put no cause holds, and each tree on the way holds some of what is stored, and is whole, once recovered.
+        // If anything is put, no cause holds, and each tree on the way, once recovered, holds some
+        // of what is stored and is whole.
         ensures passes { (r : plain.Repository) (order : orders.Command)
             → AskedChange F.is_honest F.history self.old command r order
             → ObjectsPass F.history r order self.old self.new }
@@ -158,10 +165,11 @@ impl<F: Files> Repository<F> {
 
     /// Moves names, once the objects of their command are stored. The objects stay as they are.
     ///
-    /// It asks for a repository that hasn't failed, and for moves that `store_objects` answered for it: then each id that a name moves to
-    /// is stored, no name stands twice or collides, and each holds what is expected of it. After a fault it has failed, and some of the
-    /// names may have moved: the folder is to be recovered and opened again. A failed change of the files that was counted is reported as
-    /// the fault `File`, never as `Memory`.
+    /// Call this for a repository that hasn't failed, with moves that `store_objects` returned for
+    /// it: then each id that a name moves to is stored, no name occurs twice or collides, and each
+    /// holds what is expected of it. After a fault the repository has failed, and some of the names
+    /// may have moved: the folder is to be recovered and opened again. A failed change of the files
+    /// that was counted is reported as the fault `File`, never as `Memory`.
     pub fn move_names(&mut self, alloc: Global, moves: Moves) -> Result<(), Fault>
         ensures failed { has_failed self.new ≡ (has_failed self.old || is_err result) }
         ensures kept { (self.new.objects ≡ self.old.objects)

@@ -23,7 +23,8 @@ use history_plans::test_switch;
 use history_repository::{Repository, Stopped};
 use std::alloc::Global;
 
-/// The branch that HEAD is to name after a `switch`, where no cause holds. It changes nothing.
+/// Returns the branch that HEAD is to name after a `switch`, or the first cause that holds. Changes
+/// nothing.
 pub(crate) fn plan_switch<F: Files>(
     repository: &Repository<F>,
     name: Vec<u8>,
@@ -35,7 +36,8 @@ pub(crate) fn plan_switch<F: Files>(
     Ok(Moves::Switch(name))
 }
 
-/// Makes HEAD name the branch, and the branch in memory changes once that took effect. The objects stay as they are.
+/// Sets HEAD to the branch; the branch in memory changes once that took effect. The objects stay as
+/// they are.
 pub(crate) fn switch_head<F: Files>(
     repository: &mut Repository<F>,
     alloc: Global,
@@ -48,7 +50,7 @@ pub(crate) fn switch_head<F: Files>(
     ensures unfailed { OnOk result (KeepsCounts F.failures repository.old repository.new) }
     ensures memory { OnlyFileCounts F.failures repository.old repository.new
         (λ fault. IsErrOf result fault) }
-    // Each other file is as it was, but for lock files.
+    // Each other file is as it was, except lock files.
     ensures alone { F.is_honest (names_part repository.old) → OnOk result (ChangesHeadAlone
         (names_tree F.history repository.old) (names_tree F.history repository.new)) }
     // On the way HEAD, once recovered, names the branch before or after.

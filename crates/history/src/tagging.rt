@@ -21,7 +21,8 @@ use history_repository::{Repository, Stopped};
 use history_word::TagCommand;
 use std::alloc::Global;
 
-/// Answers the first cause that holds of a `tag`, and then nothing has changed; else puts the tag.
+/// Puts the tag of a `tag`, and returns how its name moves. Otherwise returns the first cause that
+/// holds, and nothing has changed, or a fault.
 pub(crate) fn store_tag<F: Files>(
     repository: &mut Repository<F>,
     alloc: Global,

@@ -1,4 +1,4 @@
--- What a round over two parts comes to, and one more behind others.
+-- What a round over two parts is, and one more after others.
 use Rattle.std.specs.Prelude.{◌≡◌, ◌⊎◌, ⊤, ℕ, Bool, List, [], ◌∷◌, ◌++◌, Option, Some, None, Result, Ok, Err}
 use Rattle.std.specs.Io.KnownBytes.{Appends, Consumes, IsAtEnd}
 use Rattle.gix_ref_file.specs.History.{History, HasRisen, moment}
@@ -26,7 +26,7 @@ use Rattle.history_rounds.specs.declared.rounds.Made.{Made}
 use Rattle.history_rounds.specs.declared.rounds.Unmade.{Unmade}
 use Rattle.history_rounds.specs.declared.rounds.Unmade.TheVariants.{Unopened, Unrecovered}
 
--- ---- what is handed back
+-- ---- what is returned
 
 abbrev pub objects_left : {F : Type 0} → Result (Made F) (Unmade F) → F
 objects_left (Ok made) = made.objects
@@ -38,7 +38,7 @@ names_left (Ok made) = made.names
 names_left (Err (Unopened refusal)) = refusal.names
 names_left (Err (Unrecovered made error)) = made.names
 
--- how the run ended, where there was one
+-- how the run ended, if there was one
 abbrev pub ended_of : {F : Type 0} → Result (Made F) (Unmade F) → Option (Result End RunError)
 ended_of (Ok made) = Some made.ended
 ended_of (Err (Unopened refusal)) = None
@@ -50,8 +50,9 @@ IfUnopened _ P = ⊤
 
 -- ---- a round
 
--- From where the old histories stood, of this repository, a round was made over what was read, which wrote what was written and left a
--- pair. Wherever its run is stopped and what stands then is recovered, that is a round too.
+-- From the end of the old histories, of this repository, a round was made over what was read, which
+-- wrote what was written and left a pair. Wherever its run is stopped and what is then left
+-- recovered, that is a round too.
 pub record IsRoundOver (kind : Kind) (old_objects old_names : History) (r : plain.Repository)
     (Reads Writes : Bytes → Type 0)
     (Ends : plain.Repository → List Command → List Reply → Bytes → Bytes → Bool
@@ -72,7 +73,8 @@ pub record IsRoundOver (kind : Kind) (old_objects old_names : History) (r : plai
   pub covers : ((last_moment round.begin moments).objects ≡ moment round.objects)
       × ((last_moment round.begin moments).names ≡ moment round.names)
   pub files : AllLeaveAsSaid round.names r round.begin commands round.replies moments
-  -- its histories are the files' own, which recovery may have added to, and it began where they stood
+  -- its histories are the files' own, which recovery may have added to, and it began at the end of
+  -- the old ones
   pub own : GoesOnFrom round.objects objects × GoesOnFrom round.names names
   pub begins_at : (round.begin.objects ≡ moment old_objects)
       × (round.begin.names ≡ moment old_names)
@@ -83,8 +85,9 @@ pub record IsRoundOver (kind : Kind) (old_objects old_names : History) (r : plai
 
 -- ---- rounds
 
--- These are rounds from a pair that stands for the repository, and leave this one, which stands for a whole repository: steps and stops
--- of the plain repository explain one after another what each replied, wrote and left.
+-- These are rounds from a pair that represents the repository, and leave this one, which represents
+-- a whole repository: steps and stops of the plain repository explain, one after another, what each
+-- replied, wrote and left.
 pub record AreExplained (kind : Kind) (pair : Pair) (rounds : List Round) (r : plain.Repository)
     (left : Pair) : Type 0 where
   pub are_rounds : AreRounds kind pair rounds
@@ -93,7 +96,8 @@ pub record AreExplained (kind : Kind) (pair : Pair) (rounds : List Round) (r : p
   pub outcomes : Outcomes r rounds new
   pub stands : StandsWhole kind left new
 
--- A round behind others, all of which are explained, as it ended and wherever its run is stopped and what stands then recovered.
+-- A round after others, all of which are explained, as it ended and wherever its run is stopped and
+-- what is then left recovered.
 pub record IsOneMore (kind : Kind) (pair : Pair) (rounds : List Round) (r : plain.Repository)
     (old_objects old_names : History) (Reads Writes : Bytes → Type 0)
     (Ends : plain.Repository → List Command → List Reply → Bytes → Bytes → Bool
@@ -109,7 +113,7 @@ pub record IsOneMore (kind : Kind) (pair : Pair) (rounds : List Round) (r : plai
       (rounds ++ stopped_round kind over.round.objects over.round.names over.round.begin
       over.round.input made stop ∷ []) r (recovered kind stop)
 
--- ---- by what is answered
+-- ---- by what is returned
 
 module _ {F R W : Type 0} (history : F → History) (failures : F → ℕ) (MayFail : Type 0)
     (left : R → Option Bytes) (readings : R → ℕ) (contents : W → Option Bytes) (kind : Kind)
@@ -133,7 +137,8 @@ module _ {F R W : Type 0} (history : F → History) (failures : F → ℕ) (MayF
       (Appends (contents writer) (contents writer')) (EndsSo made)
       (history made.objects) (history made.names)
 
-  -- A round was made; or the parts weren't opened, for a fault; or one was made but for a recovery, which is to be done anew.
+  -- A round was made; or the parts weren't opened, for a fault; or one was made except for its
+  -- recovery, which is to be done again.
   abbrev pub MakesRound : plain.Repository → Result (Made F) (Unmade F) → Type 0
   MakesRound r (Ok made) = MakesSo r made (trees_of history made.objects made.names)
   MakesRound r (Err (Unopened refusal)) = IsOpenFault refusal.error
@@ -147,7 +152,7 @@ module _ {F R W : Type 0} (history : F → History) (failures : F → ℕ) (MayF
       (Consumes (left reader) (left reader')) (Appends (contents writer) (contents writer'))
       (EndsSo made) (history made.objects) (history made.names)
 
-  -- So it goes on behind others.
+  -- So it goes on after others.
   abbrev pub GoesOn : Pair → List Round → plain.Repository → Result (Made F) (Unmade F) → Type 0
   GoesOn pair rounds r (Ok made) =
       GoesOnSo pair rounds r made (trees_of history made.objects made.names)

@@ -1,4 +1,4 @@
-//! The headline: what `open`, `run`, `into_parts` and `recover` come to together, over any files, by their public contracts alone.
+//! The headline: `open`, `run`, `into_parts` and `recover` together, by their contracts alone.
 #![tactic(auto)]
 
 mod rounds;

@@ -29,16 +29,18 @@ pub struct Made<F: Files> {
 pub enum Unmade<F: Files> {
     /// The parts weren't opened, and are as they were.
     Unopened(OpenRefusal<F>),
-    /// A command that changes files had a fault, and what it left is recovered in part: it is to be recovered anew.
+    /// A command that changes files had a fault, and what it left is recovered only in part: it is
+    /// to be recovered again.
     Unrecovered(Made<F>, RecoverError),
 }
 
-/// Opens two parts, runs over an input, and gives the parts back: as the run left them, or recovered, where a command that changes files
-/// had a fault.
+/// Opens two parts, runs over an input, and returns the parts: as the run left them, or recovered,
+/// if a command that changes files had a fault.
 ///
-/// Of honest parts that stand for a repository this is a round, to which the law `rounds` applies; and so it is where the run is
-/// stopped at any moment and what stands then is recovered. `Unopened` comes where the parts aren't opened, then for a fault alone,
-/// `Unrecovered` where a call of the recovery failed or memory ran out there.
+/// For honest parts that represent a repository this is a round, to which the law `rounds` applies;
+/// and so it is if the run is stopped at any moment and what is then left is recovered. Returns
+/// `Unopened` if the parts aren't opened, such parts only for a fault, and `Unrecovered` if a call
+/// of the recovery failed or memory ran out in it.
 pub fn round<R: Source, W: Sink, F: Files>(
     alloc: Global,
     objects: F,
@@ -92,11 +94,12 @@ pub fn round<R: Source, W: Sink, F: Files>(
     }
 }
 
-/// One round more, behind any rounds, each of which was stopped or ended: the same call as [`round`].
+/// One more round, after any rounds, each of which was stopped or ended: the same call as
+/// [`round`].
 ///
-/// Behind rounds from a pair that stands for a whole repository, of which the last left these parts, steps and stops of the plain repository
-/// explain what all rounds and this one replied, wrote and left, wherever its run is stopped; and what is left stands for a whole
-/// repository again.
+/// After rounds from a pair that represents a whole repository, of which the last left these parts,
+/// steps and stops of the plain repository explain what all rounds and this one replied, wrote and
+/// left, wherever its run is stopped; and what is left represents a whole repository again.
 pub fn round_after<R: Source, W: Sink, F: Files>(
     alloc: Global,
     objects: F,

@@ -1,4 +1,4 @@
-//! A stream of commands and what it is answered with.
+//! A stream of commands, and what a run over it writes.
 
 ghost use Rattle.std.specs.Prelude.{◌≡◌, IfOk};
 ghost use Rattle.history_model.specs.Bytes as model;
@@ -20,10 +20,10 @@ pub struct Answer {
     pub written: Collected,
 }
 
-/// Why a stream isn't answered.
+/// Why there is no answer to a stream.
 #[derive(Debug, Drop, Error)]
 pub enum AnswerError {
-    /// No repository stands.
+    /// No repository was made.
     #[error("no repository")]
     New(NewError),
     /// The run over the stream was cut off.
@@ -47,14 +47,15 @@ impl From<RunError> for AnswerError {
     }
 }
 
-/// Answers a stream of commands over a new repository in memory, with ids of this kind.
+/// Runs a stream of commands over a new repository in memory, with ids of this kind.
 ///
-/// What is written is the replies to the commands at the front of the input, and the answer to a rest that is no command. The
-/// repository goes with the call. `New` comes where no repository is made, `Run` where the run is cut off: nothing is answered then.
+/// Writes the replies to the commands at the front of the input, and the answer to a rest that is
+/// no command. The repository goes with the call. Returns `New` if no repository was made, and
+/// `Run` if the run was cut off.
 pub fn answer_stream(alloc: Global, kind: Kind, input: &[u8]) -> Result<Answer, AnswerError>
     ensures answers { IfOk result (λ answer.
         Answers kind input.now (⟦<Collected as Sink>⟧.contents answer.written) answer.end) }
-    // What the plain repository answers the whole input with is what is written; or the run told a fault.
+    // What the plain repository replies to the whole input is written; or the run reported a fault.
     ensures meant { (output : model.Bytes) → IsMeant kind input.now output
         → IfOk result (λ answer. AreOrTellFault kind input.now
         (⟦<Collected as Sink>⟧.contents answer.written) answer.end output) }

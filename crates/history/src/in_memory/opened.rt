@@ -15,7 +15,7 @@ use history_store::{CreateError, create};
 use std::alloc::Global;
 use thiserror::Error;
 
-/// Why no new repository stands in memory.
+/// Why there is no new repository in memory.
 #[derive(Debug, Drop, Error)]
 pub enum NewError {
     /// Its files weren't made.
@@ -42,8 +42,8 @@ impl From<OpenRefusal<MemoryFiles>> for NewError {
     }
 }
 
-/// Makes a repository without names and objects in memory, and opens it. Nothing is left of it after an error, which is that of
-/// [`create`] or of [`Repository::open`].
+/// Makes a repository without names and objects in memory, and opens it. Nothing is left of it
+/// after an error, which is that of [`create`] or of [`Repository::open`].
 pub fn new_repository(alloc: Global, kind: Kind) -> Result<Repository<MemoryFiles>, NewError>
     ensures unfailed { IfOk result (λ made. has_failed made ≡ false) }
     ensures stands { IfOk result

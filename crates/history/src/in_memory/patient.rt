@@ -6,7 +6,7 @@ ghost use Rattle.std.specs.IoError.{error_kind};
 
 use std::io::{self, ErrorKind, Read};
 
-/// A reader that reads again where a reading was interrupted, and answers each other error.
+/// A reader that reads again if a reading was interrupted, and returns each other error.
 #[derive(Drop)]
 pub struct Patient<T> {
     inner: T,
@@ -16,7 +16,7 @@ impl<T> Patient<T> {
     ghost use Rattle.std.specs.Prelude.{◌≡◌};
     ghost use Rattle.history.specs.Patience.{inner_of};
 
-    /// Reads from this reader.
+    /// Returns a reader that reads from this one.
     pub fn new(inner: T) -> Self
         ensures { inner_of result ≡ inner }
     {

@@ -1,4 +1,4 @@
-//! Worked streams, answered.
+//! Worked streams, run.
 
 ghost use Rattle.std.specs.Prelude.{IfOk};
 ghost use Rattle.history_model.specs.Rows.{first_stream, first_output, hello_stream, hello_output};
@@ -42,7 +42,7 @@ show main path 1
 a
 ";
 
-/// Answers the worked stream of a commit without files, whose files and itself are shown.
+/// Runs the worked stream of a commit without files; its files and the commit are shown.
 pub fn first_commit(alloc: Global) -> Result<Answer, AnswerError>
     ensures answers { IfOk result (λ answer.
         Answers Sha1 first_stream (⟦<Collected as Sink>⟧.contents answer.written) answer.end) }
@@ -53,7 +53,8 @@ pub fn first_commit(alloc: Global) -> Result<Answer, AnswerError>
     answer_stream(alloc, Kind::Sha1, FIRST)
 }
 
-/// Answers the worked stream of a commit of the file `hello`, whose files and content are shown.
+/// Runs the worked stream of a commit of the file `a` with the content `hello`; its files and the
+/// content are shown.
 pub fn hello_file(alloc: Global) -> Result<Answer, AnswerError>
     ensures answers { IfOk result (λ answer.
         Answers Sha1 hello_stream (⟦<Collected as Sink>⟧.contents answer.written) answer.end) }

@@ -7,7 +7,7 @@ use gix_hash::Kind;
 use history_model::End;
 use history_word::Stream;
 
-// Makes a repository and runs on it. `None` where that didn't succeed.
+// Makes a repository and runs on it. Returns `None` if that failed.
 fn run_on_new(rt: &HostRuntime) -> Option<End> {
     let alloc = rt.alloc();
     let mut repository = new_repository(alloc, Kind::Sha1).ok()?;
@@ -17,8 +17,9 @@ fn run_on_new(rt: &HostRuntime) -> Option<End> {
     run(alloc, &mut reader, &mut writer, &mut repository).ok()
 }
 
-/// Runs on a new repository with ids of SHA-1, and answers a program's status: 0 where the input ended between two commands; else 1, where
-/// the run ended otherwise, reader or writer failed, or no repository was made.
+/// Runs on a new repository with ids of SHA-1, and returns a program's status: 0 if the input ended
+/// between two commands; 1 if the run ended otherwise, reader or writer failed, or no repository
+/// was made.
 pub fn serve(rt: &HostRuntime) -> u8 {
     match run_on_new(rt) {
         Some(End::Input) => 0,
