@@ -1,4 +1,4 @@
-//! A program to copy: commands, a branch made by a transaction, and a walk over commits, in memory and, with a word, in a new folder.
+//! A program to copy: commands, a transaction's branch, and a walk, in memory and in a folder.
 #![tactic(auto)]
 
 use anyhow::{Context, Result, ensure};
@@ -29,8 +29,9 @@ fn main(rt: HostRuntime) -> Result<()> {
     tour(&rt, (objects, names), &commands)
 }
 
-// Makes a repository of two empty parts, and prints the replies to the commands, the log of a branch that is then made at HEAD's
-// commit, and the commits that it reaches. Nobody else may work on the parts meanwhile.
+// Makes a repository of two empty parts, and prints the replies to the commands, the log of a
+// branch that is then made at HEAD's commit, and the commits that it reaches. Nobody else may work
+// on the parts meanwhile.
 fn tour<F: Files + Drop>(rt: &HostRuntime, parts: (F, F), commands: &[u8]) -> Result<()> {
     let alloc = rt.alloc();
     let (mut objects, mut names) = parts;
@@ -47,7 +48,7 @@ fn tour<F: Files + Drop>(rt: &HostRuntime, parts: (F, F), commands: &[u8]) -> Re
     run(alloc, &mut reader, &mut reply, &mut repository)?;
     let tip = shown_commit(reply.as_slice()).context("HEAD has no commit")?;
 
-    // What is changed beside the repository is read by one that is opened again.
+    // Changes made beside the repository are seen by one that is opened after them.
     let (objects, names) = repository.into_parts();
     let names = add_branch(alloc, names, tip)?;
     let opened = Repository::open(alloc, objects, names, Kind::Sha1);
@@ -63,14 +64,14 @@ fn tour<F: Files + Drop>(rt: &HostRuntime, parts: (F, F), commands: &[u8]) -> Re
     Ok(())
 }
 
-// The id in the first line of a reply, if that is `ok show commit <id>`.
+// Returns the id in the first line of a reply, if that is `ok show commit <id>`.
 fn shown_commit(reply: &[u8]) -> Option<ObjectId> {
     let line = reply.split(|byte| *byte == b'\n').next()?;
     ObjectId::from_hex(line.strip_prefix(b"ok show commit ")?).ok()
 }
 
-// Makes the branch `refs/heads/topic` at a commit, with a line in its log, and returns the files. If the branch exists, the transaction
-// changes nothing.
+// Makes the branch `refs/heads/topic` at a commit, with a line in its log, and returns the files.
+// If the branch exists, the transaction changes nothing.
 fn add_branch<F: Files + Drop>(alloc: Global, names: F, commit: ObjectId) -> Result<F> {
     let mut log = LogChange::new(alloc);
     log.message = ByteString::from_slice(alloc, b"branch: Created from HEAD")?;

@@ -6,7 +6,7 @@ use history_actions::command_line::{Action, AskError, Asked, read_words};
 use std::alloc::Global;
 use std::str;
 
-/// What words ask for, which a comma parts.
+/// Shows what words mean, which are separated by commas.
 pub fn read(alloc: Global, rest: &str, page: &mut Page) -> Option<()> {
     let mut words = Vec::new(alloc);
     for word in rest.split(',') {
@@ -44,7 +44,7 @@ fn action_name(action: Action) -> &'static str {
     }
 }
 
-/// The action of this name.
+/// Returns the action of this name.
 pub fn action_of(name: &str) -> Option<Action> {
     match name {
         "create" => Some(Action::Create),

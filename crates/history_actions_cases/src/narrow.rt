@@ -4,7 +4,7 @@ ghost use Rattle.std.specs.Prelude.{None};
 use history::{Broken, Sink};
 use std::alloc::Global;
 
-/// Takes one byte a call, so many in all, and fails then.
+/// Takes one byte a call, so many in all, and then fails.
 #[derive(Drop)]
 pub struct Narrow {
     taken: Vec<u8>,
@@ -13,7 +13,7 @@ pub struct Narrow {
 }
 
 impl Narrow {
-    /// A sink that takes so many bytes.
+    /// Returns a sink that takes so many bytes.
     pub fn new(alloc: Global, room: usize) -> Narrow {
         Narrow {
             taken: Vec::new(alloc),
@@ -22,7 +22,7 @@ impl Narrow {
         }
     }
 
-    /// What it has taken.
+    /// Returns what it has taken.
     pub fn taken(&self) -> &[u8] {
         &self.taken
     }

@@ -9,7 +9,7 @@ use history_actions::act;
 use history_actions::command_line::{Action, Asked};
 use std::{fs, io};
 
-// A part of the folder at this path.
+// Returns a part of the folder at this path.
 fn part<'a>(
     rt: &'a HostRuntime,
     root: &str,
@@ -19,7 +19,8 @@ fn part<'a>(
     Ok(Folder::new(rt.alloc(), Disk::new(rt), root, part))
 }
 
-/// What the words of a line answer, over a folder that is made for the line of this number in the one that the program runs in.
+/// Returns the answer to the words of a line, over a folder that is made for the line of this
+/// number in the one that the program runs in.
 pub fn answer(rt: &HostRuntime, number: u64, line: &str) -> io::Result<String> {
     let alloc = rt.alloc();
     let root = format!(in alloc; "case-{number}")?;

@@ -48,7 +48,7 @@ impl Session for Folder {
 }
 
 impl Folder {
-    // What is asked for; the two parts stand in the place of the folder's path.
+    // Returns what a command line means; the two parts take the place of the folder's path.
     fn asked(&self, alloc: Global, action: Action) -> Option<Asked> {
         Some(Asked {
             action,
@@ -57,7 +57,7 @@ impl Folder {
         })
     }
 
-    // Takes the two parts out; none of their files stands then.
+    // Takes the two parts out; the session then has none of their files.
     fn take(&mut self, alloc: Global) -> (Trial, Trial) {
         (
             mem::replace(&mut self.objects, sound(MemoryFiles::new(alloc))),
@@ -98,7 +98,7 @@ impl Folder {
         Some(())
     }
 
-    // `COUNT:STREAM`: a run whose reader gives one byte a time and fails behind so many.
+    // `COUNT:STREAM`: a run whose reader gives one byte at a time and fails after so many.
     fn run_from_drops(&mut self, alloc: Global, rest: &str, page: &mut Page) -> Option<()> {
         let (good, stream) = rest.split_once(':')?;
         let input = read_bytes(alloc, stream)?;
@@ -122,7 +122,8 @@ impl Folder {
         Some(())
     }
 
-    // `ACTION:COUNT`: does all in one call, which keeps neither part, and whose errors go where so many bytes are taken.
+    // `ACTION:COUNT`: does all in one call, which keeps neither part, and whose errors go to a sink
+    // that takes so many bytes.
     fn act_last(&mut self, alloc: Global, rest: &str, page: &mut Page) -> Option<()> {
         let (name, room) = rest.split_once(':')?;
         let asked = self.asked(alloc, action_of(name)?)?;
@@ -144,7 +145,7 @@ impl Folder {
     }
 }
 
-/// The status, and what was written and told.
+/// Shows the status, what was written and what was reported.
 pub fn show(status: u8, written: &[u8], errors: &[u8], page: &mut Page) {
     page.value(status);
     page.text(":");

@@ -1,4 +1,4 @@
-//! The store of objects by the face alone.
+//! The store of objects, by its public calls alone.
 
 use case_words::{Page, read_bytes};
 use gix_ref_file::MemoryFiles;
@@ -6,8 +6,8 @@ use history::lookups::{Exists, FindInto};
 use history::{Kind, Objects, ObjectsRefusal, OpenError, PutError, lookups};
 use std::alloc::Global;
 
-/// A blob that is put and found; then a tag of it, which is malformed; and the part, which is opened with the blob, and isn't with ids of
-/// the other kind.
+/// Shows a blob that is put and found; then a tag of it, which is malformed; and the part, which is
+/// opened with the blob, but not with ids of the other kind.
 pub fn put(alloc: Global, kind: Kind, content: &str, page: &mut Page) -> Option<()> {
     let mut objects = Objects::open(alloc, MemoryFiles::new(alloc), kind).ok()?;
     let id = objects

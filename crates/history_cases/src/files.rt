@@ -5,7 +5,7 @@ use gix_ref_file::paths::joined;
 use gix_ref_file::{FileError, Files, Place};
 use std::alloc::Global;
 
-// A file: where it stands, and its bytes.
+// A file: its path, and its bytes.
 #[derive(Drop)]
 struct Found {
     path: Vec<u8>,
@@ -28,7 +28,7 @@ pub fn show(part: &str, alloc: Global, files: &Trial, page: &mut Page) {
     }
 }
 
-// All files of a part, of at most a hundred folders.
+// Returns all files of a part, of at most a hundred folders.
 fn all_files(alloc: Global, files: &Trial) -> Result<Vec<Found>, FileError> {
     let mut found = Vec::new(alloc);
     let mut folders = Vec::new(alloc);
@@ -42,7 +42,7 @@ fn all_files(alloc: Global, files: &Trial) -> Result<Vec<Found>, FileError> {
     Ok(found)
 }
 
-// Adds what stands right in a folder.
+// Adds the files and folders right in a folder.
 fn add_files(
     alloc: Global,
     files: &Trial,

@@ -4,7 +4,8 @@ use case_words::{Page, Trial};
 use history::{Kind, ObjectId, Repository};
 use std::alloc::Global;
 
-/// The row of the commit of this id: its tree, its parents, its seconds and its generation; or `none`.
+/// Shows the row of the commit of this id: its tree, its parents, its seconds and its generation;
+/// or `none`.
 pub fn show_row(
     alloc: Global,
     repository: &Repository<Trial>,

@@ -1,4 +1,6 @@
-//! Answers cases of `history` and, behind `files`, of `history_files`, a line each: a hash function, and words.
+//! Answers cases of `history` and, after `files`, of `history_files`, a line each.
+//!
+//! A line is a hash function, and words.
 #![tactic(auto)]
 
 mod edits;

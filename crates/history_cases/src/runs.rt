@@ -8,8 +8,8 @@ use history::in_memory::{Answer, AnswerError, answer_stream, rows};
 use history::{Bytes, Collected, End, Kind, Repository, RunError, create};
 use std::alloc::Global;
 
-/// Runs commands on a repository: `STREAM`, or `COUNT:STREAM` through a reader that fails behind so many bytes. What is written is told as
-/// it is, or by a digest at `sum`.
+/// Runs commands on a repository: `STREAM`, or `COUNT:STREAM` through a reader that fails after so
+/// many bytes. Shows what is written, or a digest of it for `sum`.
 pub fn run(
     alloc: Global,
     repository: &mut Repository<Trial>,
@@ -46,7 +46,7 @@ pub fn run(
     Some(())
 }
 
-// The first four digits of the SHA-1 digest.
+// Shows the first four digits of the SHA-1 digest.
 fn show_sum(name: &str, written: &[u8], page: &mut Page) {
     let mut digest = hasher(Kind::Sha1);
     digest.update(written);
@@ -65,7 +65,8 @@ fn end_name(ended: Result<End, RunError>) -> &'static str {
     }
 }
 
-/// Answers a stream over a new repository in memory, or a worked one; or counts what a command reads behind another.
+/// Runs a stream over a new repository in memory, or a worked one; or counts what a command reads
+/// after another.
 pub fn answer(
     alloc: Global,
     kind: Kind,
@@ -98,7 +99,7 @@ fn show_answer(answer: Result<Answer, AnswerError>, page: &mut Page) {
     }
 }
 
-// How many calls on the objects part a run makes, on a new repository.
+// Returns how many calls on the objects part a run makes, on a new repository.
 fn calls(alloc: Global, kind: Kind, input: &[u8]) -> Option<u64> {
     let mut objects = sound(MemoryFiles::new(alloc));
     let mut names = sound(MemoryFiles::new(alloc));

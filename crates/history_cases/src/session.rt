@@ -8,7 +8,8 @@ use history::{CreateError, Kind, RecoverError, Repository, create, recover};
 use std::alloc::Global;
 use std::mem;
 
-/// The two parts of a repository, or the repository that was opened from them; they have no files then.
+/// The two parts of a repository, or the repository that was opened from them; then they have no
+/// files.
 #[derive(Drop)]
 pub struct Store {
     kind: Kind,
@@ -72,7 +73,7 @@ impl Session for Store {
 }
 
 impl Store {
-    // Takes the parts back out of a repository that was opened.
+    // Takes the parts out of a repository that was opened.
     fn close(&mut self) {
         if let Some(repository) = mem::replace(&mut self.opened, None) {
             let (objects, names) = repository.into_parts();

@@ -39,7 +39,7 @@ pub const REPLIES: ByKind = ByKind {
     sha256: b"ok commit 81c6fcd6b041c1d6f5e62076e03094f5af903b3e3a10c1860742675b69f1184b\nok files 1\nfile 8aec4e4876f854f688d0ebfc8f37598f38e5fd6903cccc850ca36591175aeb60 1\na\nok show content file 8aec4e4876f854f688d0ebfc8f37598f38e5fd6903cccc850ca36591175aeb60 5\nhello\n",
 };
 
-/// A commit on that of the input.
+/// A commit on top of the input's.
 pub const SECOND: &[u8] =
     b"commit refs/heads/main any\nput file 1 7\na\ngoodbye\nauthor 1 3 2 +0000\nA\na@b\ncommitter 1 3 2 +0000\nA\na@b\nmessage 3\ntwo\nend\n";
 
@@ -48,13 +48,13 @@ pub const SECOND_REPLY: ByKind = ByKind {
     sha256: b"ok commit a5ea25249d07efccaadbf8c78d176b8ccc8ebfb7d3ee2e5e80bf06d2bd831a1a\n",
 };
 
-/// The id in replies that begin with `ok commit <id>`.
+/// Returns the id in replies that begin with `ok commit <id>`.
 pub fn made_id(replies: &[u8]) -> Option<ObjectId> {
     let line = replies.split(|byte| *byte == b'\n').next()?;
     ObjectId::from_hex(line.strip_prefix(b"ok commit ")?).ok()
 }
 
-/// The command that an input begins with.
+/// Returns the command that an input begins with.
 pub fn first_command(rt: &impl Abort, alloc: Global, input: &[u8]) -> Command {
     match read_command(alloc, &mut Buffer::new(), &mut Bytes::new(input)) {
         Ok(Received::Command(command)) => command,
@@ -62,7 +62,7 @@ pub fn first_command(rt: &impl Abort, alloc: Global, input: &[u8]) -> Command {
     }
 }
 
-/// The two parts of a new repository in memory, after these inputs.
+/// Returns the two parts of a new repository in memory, after these inputs.
 pub fn parts_after(
     rt: &impl Abort,
     alloc: Global,
@@ -81,7 +81,7 @@ pub fn parts_after(
     repository.into_parts()
 }
 
-/// The same as the crates below `history` take it.
+/// Returns the repository opened over such parts, as the crates below `history` take it.
 pub fn opened_after(
     rt: &impl Abort,
     alloc: Global,

@@ -10,10 +10,11 @@ use history::{
 use std::alloc::Global;
 use std::process::Abort;
 
-/// More calls than either part meets.
+/// More calls than either part gets.
 const MANY: u64 = 60;
 
-/// A new repository over parts each of which fails at the call of its number; none where opening it meets that call.
+/// Returns a new repository over parts each of which fails at the call of its number; `None` if
+/// opening it makes that call.
 fn fresh(
     alloc: Global,
     kind: Kind,
@@ -28,7 +29,7 @@ fn fresh(
     Repository::open(alloc, objects, names, kind).ok()
 }
 
-/// What a run over this input writes, and how it ends.
+/// Returns what a run over this input writes, and how it ends.
 fn answer(
     alloc: Global,
     repository: &mut Repository<Fuse<MemoryFiles>>,
@@ -39,7 +40,7 @@ fn answer(
     (written, ended.ok())
 }
 
-/// Stops where the repository hasn't failed, or a run over it reads or writes.
+/// Stops if the repository hasn't failed, or a run over it reads or writes.
 fn check_failed(
     rt: &impl Abort,
     alloc: Global,
@@ -58,10 +59,10 @@ fn check_failed(
     assert!(rt; matches!(reader.read(&mut unread), Ok(6)) && unread.starts_with(b"names\n"));
 }
 
-/// Which half of a commit met a failed call.
+/// The half of a commit in which a call failed.
 #[derive(Clone, Copy, PartialEq, Eq)]
 enum Met {
-    /// None: it came before them, or behind.
+    /// None: it came before them, or after.
     Neither,
     Storing,
     Moving,

@@ -16,7 +16,7 @@ fn first_stream_gives()
     rows::first_commit();
 }
 
-// The objects of a commit stand in an order in which each beginning leaves a whole store.
+// A commit stores its objects in an order in which each beginning leaves a whole store.
 fn commits_store_whole()
     ensures { CommitsStoreWhole }
 {

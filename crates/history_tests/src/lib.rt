@@ -1,4 +1,4 @@
-//! Tests of what no line of a case can say: ample memory, refused growths, failing writers, rounds, and crates below `history`.
+//! Tests of what no case can say: ample memory, failing writers, rounds, crates below `history`.
 #![tactic(auto)]
 
 #[cfg(test)]

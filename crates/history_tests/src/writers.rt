@@ -9,7 +9,7 @@ use history::{Broken, Bytes, Collected, End, Kind, Repository, RunError, Sink, r
 use std::alloc::Global;
 use std::process::Abort;
 
-/// Takes one byte a call, and fails where it has taken so many.
+/// Takes one byte a call, and fails once it has taken so many.
 #[derive(Drop)]
 struct Narrow {
     bytes: Vec<u8>,
@@ -36,7 +36,7 @@ impl Sink for Narrow {
     }
 }
 
-/// A new repository in memory.
+/// Returns a new repository in memory.
 fn fresh(rt: &impl Abort, alloc: Global, kind: Kind) -> Repository<MemoryFiles> {
     match new_repository(alloc, kind) {
         Ok(repository) => repository,
@@ -44,7 +44,7 @@ fn fresh(rt: &impl Abort, alloc: Global, kind: Kind) -> Repository<MemoryFiles> 
     }
 }
 
-/// What a writer that takes so many bytes holds, and how the run over it ends.
+/// Returns what a writer that takes so many bytes holds, and how the run over it ends.
 fn squeeze(
     alloc: Global,
     repository: &mut Repository<MemoryFiles>,
@@ -60,7 +60,8 @@ fn squeeze(
     (bytes, ended)
 }
 
-/// Stops where a writer that fails behind so many bytes isn't told, or the first command isn't done.
+/// Stops if a run reports no error of a writer that fails after so many bytes, or its first command
+/// isn't done.
 fn try_writer(rt: &impl Abort, alloc: Global, kind: Kind, room: usize) {
     let mut repository = fresh(rt, alloc, kind);
     let (bytes, ended) = squeeze(alloc, &mut repository, room);

@@ -21,7 +21,7 @@ fn read_file_kind(word: &str) -> Option<FileKind> {
     }
 }
 
-/// The word of a file's kind.
+/// Returns the word of a file's kind.
 pub fn kind_word(kind: FileKind) -> &'static str {
     match kind {
         FileKind::File => "file",
@@ -30,7 +30,7 @@ pub fn kind_word(kind: FileKind) -> &'static str {
     }
 }
 
-// What is grafted: `none`, or a folder or a file of a kind with its id.
+// Returns what is grafted: `none`, or a folder or a file of a kind with its id.
 fn read_found(what: &str, id: Option<&str>) -> Option<Option<Found>> {
     if what == "none" {
         return Some(None);
@@ -43,7 +43,7 @@ fn read_found(what: &str, id: Option<&str>) -> Option<Option<Found>> {
     Some(Some(Found::File { kind, id }))
 }
 
-/// The edit that a word spells.
+/// Returns the edit that a word spells.
 pub fn read_edit(alloc: Global, word: &str) -> Option<PathEdit> {
     let mut parts = word.split(':');
     let (path, change) = match parts.next()? {
@@ -66,7 +66,7 @@ pub fn read_edit(alloc: Global, word: &str) -> Option<PathEdit> {
     Some(PathEdit { path, change })
 }
 
-/// The edits, with their paths lent.
+/// Returns the edits, with their paths lent.
 pub fn lent(alloc: Global, edits: &[PathEdit]) -> Option<Vec<Edit<'_>>> {
     let mut all = Vec::new(alloc);
     for edit in edits {

@@ -10,7 +10,7 @@ use history_files::{
 };
 use std::alloc::{AllocError, Global};
 
-/// What the words of a line answer.
+/// Returns the answer to the words of a line.
 pub fn answer(alloc: Global, line: &str) -> Result<String, AllocError> {
     let mut page = Page::new(alloc);
     if play(alloc, line, &mut page).is_none() {
@@ -38,7 +38,7 @@ struct Session {
 }
 
 impl Session {
-    // No root and no trees.
+    // Returns a session without a root and trees.
     fn new(alloc: Global, kind: Kind) -> Session {
         Session {
             kind,
@@ -63,14 +63,14 @@ impl Session {
         }
     }
 
-    // One tree more, whose id is told.
+    // Adds a tree, and shows its id.
     fn add(&mut self, alloc: Global, content: &str, page: &mut Page) -> Option<()> {
         let row = row_of_content(self.kind, read_digits(alloc, content)?);
         page.value(row.oid);
         self.trees.add(row).ok()
     }
 
-    // Another root, or none at `-`.
+    // Sets another root, or none for `-`.
     fn stand_on(&mut self, root: &str) -> Option<()> {
         self.root = match root {
             "-" => None,
@@ -79,13 +79,14 @@ impl Session {
         Some(())
     }
 
-    // The asking at which the trees fail.
+    // Sets the lookup at which the trees fail.
     fn fail_at(&self, number: &str) -> Option<()> {
         self.trees.fail_at(number.parse().ok()?);
         Some(())
     }
 
-    // Makes the edits. Where they are accepted their trees come to the others, and the root is another.
+    // Makes the edits. If they are accepted, their trees are added to the others, and the root
+    // becomes theirs.
     fn edit(&mut self, alloc: Global, page: &mut Page) -> Option<()> {
         let made = self.made(alloc)?;
         self.edits.clear();
@@ -130,19 +131,19 @@ impl Session {
         self.trees.add(row).ok()
     }
 
-    // All files of the root, each folder read.
+    // Shows all files of the root, each folder read.
     fn list_files(&self, alloc: Global, page: &mut Page) -> Option<()> {
         let found = files(alloc, &self.trees, self.root.as_ref()?);
         self.list(found, page)
     }
 
-    // All files of the root, each different tree read once.
+    // Shows all files of the root, each distinct tree read once.
     fn list_by_trees(&self, alloc: Global, page: &mut Page) -> Option<()> {
         let found = files_by_trees(alloc, &self.trees, self.root.as_ref()?);
         self.list(found, page)
     }
 
-    // The files that were found.
+    // Shows the files that were found.
     fn list(&self, found: Result<Vec<File>, ReadError>, page: &mut Page) -> Option<()> {
         match found {
             Ok(found) => {
@@ -162,7 +163,7 @@ impl Session {
         Some(())
     }
 
-    // What the root has at a path.
+    // Shows what the root has at a path.
     fn find(&self, alloc: Global, path: &str, page: &mut Page) -> Option<()> {
         let path = read_digits(alloc, path)?;
         match entry_at(alloc, &self.trees, self.root.as_ref()?, path.as_slice()) {
@@ -173,7 +174,8 @@ impl Session {
         Some(())
     }
 
-    // What the root has at each of the paths that a word names, and how many trees the call says that it asked for.
+    // Shows what the root has at each of the paths that a word names, and how many lookups the call
+    // counted.
     fn find_each(&self, alloc: Global, word: &str, page: &mut Page) -> Option<()> {
         let root = self.root.as_ref()?;
         let paths = paths_in(alloc, word)?;
@@ -197,7 +199,7 @@ impl Session {
         self.show_asked(page);
     }
 
-    // How often the trees were asked for one. The count begins once more.
+    // Shows how often trees were looked up, and counts anew.
     fn show_asked(&self, page: &mut Page) {
         page.word("asked");
         page.value(self.trees.asked());
@@ -246,7 +248,7 @@ fn show_broken(oid: ObjectId, page: &mut Page) {
     page.text(")");
 }
 
-// The paths as they are lent.
+// Returns the paths, lent.
 fn lent_paths(alloc: Global, paths: &[Vec<u8>]) -> Option<Vec<&[u8]>> {
     let mut lent = Vec::new(alloc);
     for path in paths {
@@ -255,7 +257,7 @@ fn lent_paths(alloc: Global, paths: &[Vec<u8>]) -> Option<Vec<&[u8]>> {
     Some(lent)
 }
 
-// The paths that a word names behind its first part.
+// Returns the paths that a word names after its first part.
 fn paths_in(alloc: Global, word: &str) -> Option<Vec<Vec<u8>>> {
     let mut parts = word.split(':');
     parts.next()?;

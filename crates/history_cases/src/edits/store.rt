@@ -5,7 +5,7 @@ use gix_hash::{Kind, ObjectId};
 use gix_object_entries::TreeRef;
 use std::alloc::Global;
 
-/// Whether each tree stands that a tree of this content names.
+/// Returns whether there is each tree that a tree of this content names.
 pub fn has_named(trees: &Trees, alloc: Global, kind: Kind, content: &[u8]) -> bool {
     let Ok(tree) = TreeRef::from_bytes(alloc, content, kind) else {
         return false;
