@@ -52,7 +52,7 @@ fn act_on_word(
     })
 }
 
-// `ACTION`, or `run:STREAM`.
+// Performs `ACTION`, or `run:STREAM`.
 fn act_on_folder(
     rt: &HostRuntime,
     root: &str,

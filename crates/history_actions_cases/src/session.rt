@@ -86,7 +86,7 @@ impl Folder {
         Some(report(self.kind, &answer, errors))
     }
 
-    // `ACTION`, or `run:STREAM`.
+    // Performs `ACTION`, or `run:STREAM`.
     fn perform(&mut self, alloc: Global, name: &str, stream: &str, page: &mut Page) -> Option<()> {
         let input = read_bytes(alloc, if stream.is_empty() { "-" } else { stream })?;
         let mut written = Collected::new(alloc);
@@ -98,7 +98,8 @@ impl Folder {
         Some(())
     }
 
-    // `COUNT:STREAM`: a run whose reader gives one byte at a time and fails after so many.
+    // Performs a run of `COUNT:STREAM`, whose reader gives one byte at a time and fails after so
+    // many.
     fn run_from_drops(&mut self, alloc: Global, rest: &str, page: &mut Page) -> Option<()> {
         let (good, stream) = rest.split_once(':')?;
         let input = read_bytes(alloc, stream)?;
@@ -110,7 +111,7 @@ impl Folder {
         Some(())
     }
 
-    // `COUNT:ACTION`: an action whose writer takes so many bytes and fails.
+    // Performs `COUNT:ACTION`, whose writer takes so many bytes and fails.
     fn write_narrowly(&mut self, alloc: Global, rest: &str, page: &mut Page) -> Option<()> {
         let (room, name) = rest.split_once(':')?;
         let mut written = Narrow::new(alloc, room.parse().ok()?);
@@ -122,8 +123,8 @@ impl Folder {
         Some(())
     }
 
-    // `ACTION:COUNT`: does all in one call, which keeps neither part, and whose errors go to a sink
-    // that takes so many bytes.
+    // Performs `ACTION:COUNT` in one call, which keeps neither part; its errors go to a sink that
+    // takes so many bytes.
     fn act_last(&mut self, alloc: Global, rest: &str, page: &mut Page) -> Option<()> {
         let (name, room) = rest.split_once(':')?;
         let asked = self.asked(alloc, action_of(name)?)?;

@@ -40,7 +40,7 @@ fn show_id(cause: &str, id: &ObjectId, page: &mut Page) {
     page.put(*id);
 }
 
-// An object, and what names it.
+// Shows an object, and what names it.
 fn show_named(cause: &str, id: &ObjectId, by: &NamedBy, page: &mut Page) {
     show_id(cause, id, page);
     page.text(":");
@@ -50,21 +50,21 @@ fn show_named(cause: &str, id: &ObjectId, by: &NamedBy, page: &mut Page) {
     }
 }
 
-// A line of a log.
+// Shows a line of a log.
 fn show_line(cause: &str, path: &[u8], line: usize, page: &mut Page) {
     page.named(cause, path);
     page.text(":");
     page.put(line);
 }
 
-// A line of the packed names.
+// Shows a line of the packed names.
 fn show_number(cause: &str, line: usize, page: &mut Page) {
     page.word(cause);
     page.text(":");
     page.put(line);
 }
 
-// Two names.
+// Shows two names.
 fn show_pair(cause: &str, name: &[u8], other: &[u8], page: &mut Page) {
     page.named(cause, name);
     page.text(":");

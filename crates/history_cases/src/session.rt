@@ -99,7 +99,7 @@ impl Store {
         }
     }
 
-    // From here on no call fails.
+    // Lets no call fail from here on.
     fn mend(&mut self, alloc: Global) {
         mend(alloc, &mut self.objects);
         mend(alloc, &mut self.names);

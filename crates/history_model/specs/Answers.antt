@@ -27,7 +27,7 @@ parents_at r id = unwrap_or (option_map (λ commit. commit.parents) (commit_at r
 abbrev pub time_at : Repository → Id → ℕ
 time_at r id = unwrap_or (option_map (λ commit. (commit.committer).seconds) (commit_at r id)) 0
 
--- 1 for a root, else one more than the greatest of its parents; follows at most so many commits
+-- 1 for a root, else one more than the greatest among its parents; counts at most so many steps
 unfoldable pub generation_within : ℕ → Repository → Id → ℕ
 generation_within zero r id = 0
 generation_within (suc steps) r id =

@@ -73,7 +73,7 @@ words_in _ = []
 
 -- ---- paths, actors, times and contents
 
--- an empty source, for all files of the other commit, is no path
+-- an empty source means all files of the other commit, and is no path
 abbrev pub source_paths : Bytes → List Bytes
 source_paths source = if is_empty source then [] else source ∷ []
 

@@ -123,8 +123,8 @@ store_all kind objects (value ∷ values) = store_all kind (store_one kind objec
 abbrev pub is_other : Kind → Bytes → Value → Bool
 is_other kind text value = not (bytes_eq text (value_text kind value))
 
--- whether the value's id is null, the empty tree's though the value isn't it, or that of other
--- stored bytes
+-- whether the value's id is null, or the empty tree's though the value isn't the empty tree, or
+-- that of other stored bytes
 abbrev pub is_taken : Kind → FinMap by_id Value → Value → Bool
 is_taken kind objects value =
     let id = id_of kind value in

@@ -69,8 +69,8 @@ CountsStay begin finish =
     (finish.object_failures ≡ begin.object_failures)
     × (finish.name_failures ≡ begin.name_failures)
 
--- Why a command may report a failed call: it changes files and the call was counted; or a reading
--- may fail, in any command.
+-- Why a command may report a failed call: it changes files, and a failure was counted; or, in any
+-- command, a reading may fail.
 abbrev pub HasFailedCall : Type 0 → Command → Moment → Moment → Type 0
 HasFailedCall ReadingMayFail command begin finish =
     (IsTrue (is_changing command) × HasCountedFailure begin finish) ⊎ ReadingMayFail

@@ -9,7 +9,8 @@ use Rattle.gix_hash_id.specs.Id.{Id}
 use Rattle.history_model.specs.Repository.{Repository, stands}
 use Rattle.history_model.specs.Words.{head_word}
 
--- The objects part has all below `objects`, the names part all else. Paths in both are whole.
+-- The objects part has all below `objects`, the names part all else. Paths in both begin at the
+-- repository's folder.
 pub record Pair : Type 0 where
   pub objects : Tree
   pub names : Tree

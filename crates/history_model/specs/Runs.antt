@@ -92,8 +92,8 @@ CutsShort AtEnd CallFailed old [] [] rest part failed new =
     ⊎ IsCutFrom part (reply_text (Faulted Memory)))
 CutsShort _ _ _ _ _ _ _ _ _ = ⊥
 
--- The writer failed: the replies to the answered commands are written whole, and at most one more
--- command was acted on.
+-- The writer failed: the replies to these commands are written whole, and at most one more command
+-- was acted on.
 pub record EndsWriting (AtEnd CallFailed : Type 0) (old : Repository) (commands : List Command)
     (replies : List Reply) (input output : Bytes) (failed : Bool)
     (new : Repository) : Type 0 where

@@ -29,7 +29,7 @@ pub data WordMeaning : Type 0 where
   Unknown : WordMeaning
   Ambiguous : WordMeaning
 
--- 4 digits up to the kind's length
+-- from 4 digits to the kind's full length
 abbrev pub is_short_id : Kind → Bytes → Bool
 is_short_id kind word =
     nat_le 4 (length word) && nat_le (length word) (hex_len kind) && list_all is_hex_digit word
@@ -51,8 +51,8 @@ abbrev pub name_meaning : Option Id → WordMeaning
 name_meaning None = Unborn
 name_meaning (Some id) = ReadsAs id
 
--- HEAD always exists, and reads as its branch. Any other word means its first candidate that
--- exists, even if it could be an id.
+-- HEAD always exists, and reads as its branch. Any other word means the first of its candidates
+-- that exists; only if none exists, it may be an id.
 abbrev pub word_meaning : Repository → Bytes → WordMeaning
 word_meaning r word =
     if bytes_eq word head_word then name_meaning (id_at r r.branch)

@@ -205,7 +205,7 @@ pub record HoldsSome (r : Repository) (more : List Value) (tree : Tree) : Type 0
   pub whole : IsWholeStore (record r { objects = store_all r.kind r.objects some })
   pub holds : HoldsValues r.kind (recovered_objects tree) (store_all r.kind r.objects some)
 
--- A stop at such a tree is one in the command.
+-- A stop at such a tree leaves what a stop in the command may leave.
 abbrev pub SomeStops : Type 0
 SomeStops =
     (old : Repository) (command : Command) (pair : Pair) → IsSound old

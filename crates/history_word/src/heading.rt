@@ -126,7 +126,7 @@ pub(crate) fn kept(alloc: Global, word: &[u8]) -> Option<Vec<u8>>
     Vec::from_slice(alloc, word).ok()
 }
 
-/// What follows `commit`: `<name> <expect>`.
+/// Reads what follows `commit`: `<name> <expect>`.
 fn commit(alloc: Global, words: &mut Words) -> Option<Heading>
     ensures { Says result (commit_of_words (left words.old)) }
 {
@@ -141,7 +141,7 @@ fn commit(alloc: Global, words: &mut Words) -> Option<Heading>
     }))
 }
 
-/// What follows `parent`: `<word>`.
+/// Reads what follows `parent`: `<word>`.
 fn parent(alloc: Global, words: &mut Words) -> Option<Heading>
     ensures { Says result (word_of_words ParentHeading (left words.old)) }
 {
@@ -151,7 +151,7 @@ fn parent(alloc: Global, words: &mut Words) -> Option<Heading>
     })
 }
 
-/// What follows `put`: `<file, exec or link> <path size> <content size>`.
+/// Reads what follows `put`: `<file, exec or link> <path size> <content size>`.
 fn put(words: &mut Words) -> Option<Heading>
     ensures { Says result (put_of_words (left words.old)) }
 {
@@ -165,7 +165,7 @@ fn put(words: &mut Words) -> Option<Heading>
     }))
 }
 
-/// What follows `remove`: `<path size>`.
+/// Reads what follows `remove`: `<path size>`.
 fn remove(words: &mut Words) -> Option<Heading>
     ensures { Says result (size_of_words RemoveHeading (left words.old)) }
 {
@@ -173,7 +173,7 @@ fn remove(words: &mut Words) -> Option<Heading>
     Some(Heading::Edit(EditHeading::Remove { path }))
 }
 
-/// What follows `remove-file`: `<path size>`.
+/// Reads what follows `remove-file`: `<path size>`.
 fn remove_file(words: &mut Words) -> Option<Heading>
     ensures { Says result (size_of_words RemoveFileHeading (left words.old)) }
 {
@@ -181,7 +181,7 @@ fn remove_file(words: &mut Words) -> Option<Heading>
     Some(Heading::Edit(EditHeading::RemoveFile { path }))
 }
 
-/// What follows `graft`: `<path size> <word> <source size>`.
+/// Reads what follows `graft`: `<path size> <word> <source size>`.
 fn graft(alloc: Global, words: &mut Words) -> Option<Heading>
     ensures { Says result (graft_of_words (left words.old)) }
 {
@@ -195,7 +195,7 @@ fn graft(alloc: Global, words: &mut Words) -> Option<Heading>
     }))
 }
 
-/// What follows a role: `<name size> <email size> <seconds> <offset>`.
+/// Reads what follows a role: `<name size> <email size> <seconds> <offset>`.
 fn actor(alloc: Global, role: Role, words: &mut Words) -> Option<Heading>
     ensures { Says result (actor_of_words (role_of role) (left words.old)) }
 {
@@ -212,7 +212,7 @@ fn actor(alloc: Global, role: Role, words: &mut Words) -> Option<Heading>
     }))
 }
 
-/// What follows `message`: `<size>`.
+/// Reads what follows `message`: `<size>`.
 fn message(words: &mut Words) -> Option<Heading>
     ensures { Says result (size_of_words MessageHeading (left words.old)) }
 {
@@ -220,7 +220,7 @@ fn message(words: &mut Words) -> Option<Heading>
     Some(Heading::Message { size })
 }
 
-/// What follows `end`: nothing.
+/// Reads what follows `end`: nothing.
 fn end(words: &Words) -> Option<Heading>
     ensures { Says result (end_of_words EndHeading (left words.now)) }
 {
@@ -231,7 +231,7 @@ fn end(words: &Words) -> Option<Heading>
     }
 }
 
-/// What follows `files`: `<word>`.
+/// Reads what follows `files`: `<word>`.
 fn files(alloc: Global, words: &mut Words) -> Option<Heading>
     ensures { Says result (word_of_words FilesHeading (left words.old)) }
 {
@@ -241,7 +241,7 @@ fn files(alloc: Global, words: &mut Words) -> Option<Heading>
     }))
 }
 
-/// What follows `show`: `<word>`, or `<word> path <size>`.
+/// Reads what follows `show`: `<word>`, or `<word> path <size>`.
 fn show(alloc: Global, words: &mut Words) -> Option<Heading>
     ensures { Says result (show_of_words (left words.old)) }
 {
@@ -261,7 +261,7 @@ fn show(alloc: Global, words: &mut Words) -> Option<Heading>
     }))
 }
 
-/// What follows `names`: nothing, or `<folder>`.
+/// Reads what follows `names`: nothing, or `<folder>`.
 fn names(alloc: Global, words: &mut Words) -> Option<Heading>
     ensures { Says result (names_of_words (left words.old)) }
 {
@@ -274,7 +274,7 @@ fn names(alloc: Global, words: &mut Words) -> Option<Heading>
     }))
 }
 
-/// What follows `past`: `<word>`.
+/// Reads what follows `past`: `<word>`.
 fn past(alloc: Global, words: &mut Words) -> Option<Heading>
     ensures { Says result (word_of_words PastHeading (left words.old)) }
 {
@@ -284,7 +284,7 @@ fn past(alloc: Global, words: &mut Words) -> Option<Heading>
     }))
 }
 
-/// What follows `switch`: `<name>`.
+/// Reads what follows `switch`: `<name>`.
 fn switch(alloc: Global, words: &mut Words) -> Option<Heading>
     ensures { Says result (word_of_words SwitchHeading (left words.old)) }
 {
@@ -294,7 +294,7 @@ fn switch(alloc: Global, words: &mut Words) -> Option<Heading>
     }))
 }
 
-/// What follows `pack`: nothing.
+/// Reads what follows `pack`: nothing.
 fn pack(words: &Words) -> Option<Heading>
     ensures { Says result (end_of_words PackHeading (left words.now)) }
 {
@@ -305,7 +305,7 @@ fn pack(words: &Words) -> Option<Heading>
     }
 }
 
-/// What follows `index`: nothing.
+/// Reads what follows `index`: nothing.
 fn index(words: &Words) -> Option<Heading>
     ensures { Says result (end_of_words IndexHeading (left words.now)) }
 {
@@ -316,7 +316,7 @@ fn index(words: &Words) -> Option<Heading>
     }
 }
 
-/// What follows `log`.
+/// Reads what follows `log`.
 fn log(alloc: Global, words: &mut Words) -> Option<Heading>
     ensures { Says result (log_of_words (left words.old)) }
 {
@@ -324,7 +324,7 @@ fn log(alloc: Global, words: &mut Words) -> Option<Heading>
     Some(Heading::Opening(Opening::Log(line)))
 }
 
-/// What follows `move`: nothing.
+/// Reads what follows `move`: nothing.
 fn move_line(words: &Words) -> Option<Heading>
     ensures { Says result (end_of_words MoveHeading (left words.now)) }
 {
@@ -335,7 +335,7 @@ fn move_line(words: &Words) -> Option<Heading>
     }
 }
 
-/// What follows `rename`: `<old name> <new name>`.
+/// Reads what follows `rename`: `<old name> <new name>`.
 fn rename(alloc: Global, words: &mut Words) -> Option<Heading>
     ensures { Says result (rename_of_words (left words.old)) }
 {
@@ -347,7 +347,7 @@ fn rename(alloc: Global, words: &mut Words) -> Option<Heading>
     }))
 }
 
-/// What follows `delete`: `<name> any`, or `<name> at <word>`.
+/// Reads what follows `delete`: `<name> any`, or `<name> at <word>`.
 fn delete(alloc: Global, words: &mut Words) -> Option<Heading>
     ensures { Says result (delete_of_words (left words.old)) }
 {
