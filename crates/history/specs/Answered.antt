@@ -11,8 +11,8 @@ use Rattle.gix_hash_id.specs.declared.kind.Kind.{Kind}
 use Rattle.history_model.specs.declared.End.{End}
 use Rattle.history_model.specs.declared.End.TheVariants.{Input}
 
--- From the repository without names and objects a run acted on the commands at the front of the input, wrote this, and ended so. No
--- call of files in memory fails.
+-- From the repository without names and objects a run acted on the commands at the front of the
+-- input, wrote this, and ended so. No call of files in memory fails.
 pub record IsAnswered (kind : Kind) (input written : Bytes) (end : End) : Type 0 where
   pub commands : List Command
   pub replies : List Reply

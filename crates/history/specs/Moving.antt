@@ -11,7 +11,8 @@ use Rattle.history_repository.specs.declared.repository.Repository.{Repository}
 use Rattle.history_plans.specs.Moving.{AreMoves}
 use Rattle.history_model.specs.Repository as plain
 
--- Names move, and what is kept in memory of names; the objects, the rows and whether a command has failed stay.
+-- Names move, and what is kept in memory of names; the objects, the rows and whether a command has
+-- failed stay.
 pub record MovesNamesAlone {F : Type 0} (old new : Repository F) : Type 0 where
   pub objects : new.objects ≡ old.objects
   pub rows : new.rows ≡ old.rows

@@ -49,7 +49,8 @@ is_changing (received.Command command) = changes_files command
 is_changing (received.NoMemory changing) = changing
 
 module _ {S : Type 0} (left : S → Option (List ℕ)) (readings : S → ℕ) where
-  -- The readings made through the buffer meanwhile were counted by the reader, as far as a `u64` counts, and gave bytes.
+  -- The readings made through the buffer meanwhile were counted by the reader, as far as a `u64`
+  -- counts, and gave bytes.
   pub record MadeReadings (s : S) (b : Buffer) (t : S) (c : Buffer) : Type 0 where
     pub more : List ℕ
     pub came : Consumes (left s) (left t) more

@@ -38,7 +38,8 @@ use history_store::PackedName;
 use history_word::Command;
 use std::alloc::Global;
 
-/// What is to be done to names, once the objects of a command are stored: one command's edits of them.
+/// What is to be done to names, once the objects of a command are stored: one command's edits of
+/// them.
 #[derive(Drop)]
 pub enum Moves {
     /// The name of a `commit` moves to it: the id after is the commit that was made.

@@ -34,7 +34,8 @@ pub(crate) fn plan_pack<F: Files>(
     Ok(Moves::Pack(names_to_pack(repository, alloc)?))
 }
 
-/// Writes a record for each of the names, and then removes their own files. The objects stay as they are.
+/// Writes a record for each of the names, and then removes their own files. The objects stay as
+/// they are.
 pub(crate) fn pack_names<F: Files>(
     repository: &mut Repository<F>,
     alloc: Global,

@@ -65,7 +65,8 @@ pub(crate) fn rename_name<F: Files>(
         → AskedRename F.is_honest F.history repository.old moves.now r from.now to
         → OnOk result (RenamesAlone from.now to
         (names_tree F.history repository.old) (names_tree F.history repository.new)) }
-    // On the way each name, once recovered, is as before or as after, and the old one or the new one holds the id.
+    // On the way each name, once recovered, is as before or as after, and the old one or the new
+    // one holds the id.
     ensures passes { (r : plain.Repository) (to : Bytes)
         → AskedRename F.is_honest F.history repository.old moves.now r from.now to
         → Adds (HoldsBetween r (orders.Rename from.now to)) (F.history (names_part repository.old))

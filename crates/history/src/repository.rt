@@ -35,7 +35,8 @@ use history_word::Command;
 use std::alloc::Global;
 use std::marker::Model;
 
-/// A repository over two file trees: one holds the objects, the other HEAD, the names and their logs.
+/// A repository over two file trees: one holds the objects, the other HEAD, the names and their
+/// logs.
 ///
 /// Its fields are private, so that what it keeps in memory stays that of its files, and one that
 /// has failed stays so: a later `run` reads and writes nothing, and its parts are to be recovered

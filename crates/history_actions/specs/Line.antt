@@ -1,4 +1,5 @@
--- The program's command line, as `clap` reads it: `wunthavel-history create|run|check|recover <folder> [--sha256]`.
+-- The program's command line, as `clap` reads it: `wunthavel-history create|run|check|recover
+-- <folder> [--sha256]`.
 use Rattle.std.specs.Prelude.{◌≡◌, ◌⊎◌, ⊤, true, false, List, [], Option, Some, Result, MatchOption, MatchResult, bytes_eq, codes, string_bytes, if◌then◌else◌, option_map, unwrap_or}
 use Rattle.clap.specs.Words.{App, IsAmong, Kinds, Rule, Row, Text, fault_of, first_of, new_app, new_rule, subcommand_of, with_rule, with_subcommand}
 use Rattle.clap.specs.Simple.{on_top}

@@ -59,8 +59,8 @@ module _ {F : Type 0} (IsHonest : F → Type 0) (history : F → History) where
   Checks MayFail kind objects names performed =
       IsUnopened MayFail kind objects names performed ⊎ IsWhole kind objects names performed
 
--- A run from this plain repository on: the commands that it acted on, what was read, written and left, and what the files went
--- through meanwhile.
+-- A run from this plain repository on: the commands that it acted on, what was read, written and
+-- left, and what the files went through meanwhile.
 module _ {F R W : Type 0} (IsHonest : F → Type 0) (history : F → History) (failures : F → ℕ)
     (MayFail : Type 0) (left : R → Option Bytes) (readings : R → ℕ) (contents : W → Option Bytes)
   where

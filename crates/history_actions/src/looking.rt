@@ -100,7 +100,8 @@ fn look_below<F: Files>(
                 look_below(alloc, files, part, kind, &path)?;
             }
             Place::File(_) if may_have_file(part, kind, &path) => {}
-            // The last two are no path, and a name of nothing: the folder changed while it was read.
+            // The last two are no path, and a name of nothing: the folder changed while it was
+            // read.
             Place::File(_) => return Err(NamesError::Stray(path)),
             Place::Folder => return Err(NamesError::Stray(path)),
             Place::Absent => return Err(NamesError::Stray(path)),

@@ -51,7 +51,8 @@ abbrev pub IsGraft : Table → Kind → Bytes → Option Found → model.Edit �
 IsGraft table kind path found made = (source : Bytes) × (files : FileMap)
     × (made ≡ model.Graft path source files) × IsSource table kind source files found
 
--- the change at this path is this edit of a file map; the bytes that are put have the id, which isn't null
+-- the change at this path is this edit of a file map; the bytes that are put have the id, which
+-- isn't null
 abbrev pub IsChange : Table → Kind → Bytes → Change → model.Edit → Type 0
 IsChange table kind path (Put file id) made = (bytes : Bytes) × (made ≡ model.Put file path bytes)
     × (id_of id ≡ blob_id kind bytes) × (is_null (id_of id) ≡ false)

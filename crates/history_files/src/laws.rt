@@ -1,4 +1,4 @@
-//! Laws of file maps and of what their trees unfold to: each is the contract of a function that does nothing.
+//! Laws of file maps and their unfolded trees, each the contract of a function that does nothing.
 
 ghost use Rattle.history_files.specs.Laws.{TreesUnfold, WholeStoresHaveTrees, PutsAgree, GraftsAgree, RemovalsAgree, FoldersAgree, UnfoldingsTellRoots, RootsAreWellFormed};
 

@@ -73,7 +73,8 @@ is_tag_name rest =
 
 -- ---- actors
 
--- an email, or a name that is not empty: no `<`, `>`, zero byte, tab, CR or LF, and no space at either end
+-- an email, or a name that is not empty: no `<`, `>`, zero byte, tab, CR or LF, and no space at
+-- either end
 abbrev pub is_actor_part : Bytes → Bool
 is_actor_part part = not (list_any (λ b. has_byte b (60 ∷ 62 ∷ 0 ∷ 9 ∷ 13 ∷ 10 ∷ [])) part)
     && not (begins (32 ∷ []) part) && not (ends (32 ∷ []) part)

@@ -1,4 +1,5 @@
--- The grammar of a stream: the texts of commands, one after another, and a rest that begins with none.
+-- The grammar of a stream: the texts of commands, one after another, and a rest that begins with
+-- none.
 use Rattle.std.specs.Prelude.{◌≡◌, ◌≢◌, ℕ, ◌+◌, ◌<◌, ◌≤◌, ◌⊎◌, Bool, ◌&&◌, List, [], ◌∷◌, ◌++◌, length, take, IsTrue, IsFalse}
 use Rattle.history_model.specs.Bytes.{Bytes, has_byte, line}
 use Rattle.history_model.specs.Commands.{Command}

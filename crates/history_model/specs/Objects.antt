@@ -1,5 +1,6 @@
--- The objects of Git's object format and their ids: blobs, trees, commits and annotated tags ("Git Objects" in the book
--- Pro Git; git-hash-object, git-mktree, git-commit-tree, git-mktag). Each text is written here uncompressed.
+-- The objects of Git's object format and their ids: blobs, trees, commits and annotated tags ("Git
+-- Objects" in the book Pro Git; git-hash-object, git-mktree, git-commit-tree, git-mktag). Each text
+-- is written here uncompressed.
 use Rattle.std.specs.Prelude.{ℕ, zero, suc, List, [], ◌∷◌, ◌++◌, length, fold, max, ◌==◌, if◌then◌else◌, bytes_eq, codes, decimal, Option, Some, option_map}
 use Rattle.std.specs.List.{flat_map, before_first, after_first}
 use Rattle.std.specs.FinMap.{entries, keys, get}
@@ -116,7 +117,8 @@ empty_tree_id kind = digest kind (tree_text [])
 
 -- ---- commits and tags
 
--- Who wrote something and when: seconds since 1970, and the offset from UTC as its text, a sign and four digits.
+-- Who wrote something and when: seconds since 1970, and the offset from UTC as its text, a sign and
+-- four digits.
 pub record Actor : Type 0 where
   pub name : Bytes
   pub email : Bytes

@@ -1,4 +1,5 @@
--- The file `packed-refs` of a repository, read as gix_ref_format reads it: a header, and a record for each packed name.
+-- The file `packed-refs` of a repository, read as gix_ref_format reads it: a header, and a record
+-- for each packed name.
 use Rattle.std.specs.Prelude.{◌≡◌, ◌-◌, bytes_eq, unwrap_or, Bool, false, not, ◌&&◌, ◌||◌, List, [], ◌∷◌, length, take, map, if◌then◌else◌, Option, None, option_map, IfSome, Some, IsTrue}
 use Rattle.std.specs.List.{list_any, list_all, AllByRecursion}
 use Rattle.std.specs.FinMap.{is_sorted}

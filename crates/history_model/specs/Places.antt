@@ -1,4 +1,5 @@
--- The places of files, as gitrepository-layout(5) has them, in the two parts of a repository's folder.
+-- The places of files, as gitrepository-layout(5) has them, in the two parts of a repository's
+-- folder.
 use Rattle.std.specs.Prelude.{ℕ, Bool, ◌&&◌, ◌||◌, not, ◌∷◌, ◌++◌, length, take, drop, ◌==◌, Option, bytes_eq, codes}
 use Rattle.std.specs.List.{list_any, list_all}
 use Rattle.gix_ref_file.specs.Tree.{Tree, node_at, bytes_of}

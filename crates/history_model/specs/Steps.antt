@@ -31,7 +31,8 @@ pub record Accepts (old : Repository) (command : Command) (reply : Reply)
   pub answer : Answers old command reply
   pub result : new ≡ after old command
 
--- A refusal is for the first cause that holds. A fault in a changing command leaves what a stop in it may leave.
+-- A refusal is for the first cause that holds. A fault in a changing command leaves what a stop in
+-- it may leave.
 abbrev pub Step : Repository → Command → Reply → Repository → Type 0
 Step old command (RefusedFor cause) new = (first_cause old command ≡ Some cause) × (new ≡ old)
 Step old command (Faulted fault) new =

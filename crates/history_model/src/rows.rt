@@ -1,4 +1,4 @@
-//! Worked examples, computed on the definitions: each is the contract of a function that does nothing.
+//! Worked examples, computed on the definitions, each the contract of a function without effect.
 
 ghost use Rattle.std.specs.Prelude.{◌≡◌, ◌+◌, ◌++◌, ◌∷◌, [], length, codes, IsTrue};
 ghost use Rattle.history_model.specs.Bytes.{line};

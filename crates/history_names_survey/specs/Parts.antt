@@ -19,7 +19,8 @@ pub record StandsNames (tree : Tree) (r : Repository) : Type 0 where
   pub names : (name : Bytes) (ref : Reference) → get r.names name ≡ Some ref
       → IsTrue (is_name name && not (is_private name) && is_reference r.kind ref)
 
--- The tree is the names part of a repository on this branch, over each store of objects of these facts.
+-- The tree is the names part of a repository on this branch, over each store of objects of these
+-- facts.
 pub record IsNamesPart (kind : Kind) (facts : Facts) (tree : Tree) (branch : Bytes) : Type 0 where
   pub names : FinMap by_bytes Reference
   pub stands : (values : Values) → AreFactsOf facts values

@@ -13,8 +13,8 @@ use history_texts::{NamedBy, OpenError};
 use std::alloc::{AllocError, AllocFailed};
 use thiserror::Error;
 
-/// Why a names part isn't a repository's. Paths and names are in bytes, whole from the part's root; lines count
-/// from 1.
+/// Why a names part isn't a repository's. Paths and names are in bytes, whole from the part's root;
+/// lines count from 1.
 #[derive(Debug, Drop, Error)]
 pub enum NamesError {
     #[error("no HEAD stands")]
@@ -28,7 +28,8 @@ pub enum NamesError {
     /// A file that was to be renamed to its place.
     #[error("unfinished: {0:?}")]
     Unfinished(Vec<u8>),
-    /// A file below `refs` whose path is no name, or that holds neither an id of the repository's kind nor a name.
+    /// A file below `refs` whose path is no name, or that holds neither an id of the repository's
+    /// kind nor a name.
     #[error("no name: {0:?}")]
     BadName(Vec<u8>),
     /// The name belongs to one working tree.

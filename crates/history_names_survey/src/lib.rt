@@ -1,4 +1,4 @@
-//! The names part of a folder: whether it holds HEAD, names and logs of a repository, and nothing else.
+//! The names part of a folder: whether it has HEAD, names and logs of a repository, nothing else.
 #![tactic(auto)]
 
 mod error;

@@ -93,8 +93,9 @@ fn piece_at<F: Files>(
     Ok(piece)
 }
 
-// Tests the lines that end in a piece of a log: each is a move in the written form, within the limits. So many lines are before the
-// piece. Returns how many are before what is left of it, and how many of its bytes were taken, at least one.
+// Tests the lines that end in a piece of a log: each is a move in the written form, within the
+// limits. So many lines are before the piece. Returns how many are before what is left of it, and
+// how many of its bytes were taken, at least one.
 //
 // If no line ends in the piece, the error is the fault of the line that the piece begins with.
 fn test_piece(

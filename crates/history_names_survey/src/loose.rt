@@ -22,7 +22,8 @@ pub(crate) enum Loose {
     Faulty,
 }
 
-/// Reads the text of a name's file: an id's hex digits of either letter case, or `ref: ` and a name, and a line feed.
+/// Reads the text of a name's file: an id's hex digits of either letter case, or `ref: ` and a
+/// name, and a line feed.
 pub(crate) fn read_loose(kind: Kind, text: &[u8]) -> Loose
     ensures { ReadsAs kind text.now result }
 {

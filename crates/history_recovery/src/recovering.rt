@@ -78,7 +78,7 @@ pub fn recover<F: Files>(
         → recovered kind pair
         ≡ recovered kind (pair_of (F.history objects.old) (F.history names.old)) }
 
-    // A failed call of the files is counted, and reported as `File` and nothing else.
+    // `File` is returned only after a failed call; with any other result none was counted.
     ensures objects_later { F.failures objects.old ≤ F.failures objects.new }
     ensures names_later { F.failures names.old ≤ F.failures names.new }
     ensures unfailed { OnOk result ((F.failures objects.new ≡ F.failures objects.old)

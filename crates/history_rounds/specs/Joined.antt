@@ -68,7 +68,8 @@ pub record IsRoundOver (kind : Kind) (old_objects old_names : History) (r : plai
   pub failed : Bool
   pub new : plain.Repository
   pub ends : Ends r commands round.replies round.input round.written failed new
-  -- the moments lead from its begin to the end of its run; between two of them each command changed the files of names as it says
+  -- the moments lead from its begin to the end of its run; between two of them each command changed
+  -- the files of names as it says
   pub moments : List Moment
   pub covers : ((last_moment round.begin moments).objects ≡ moment round.objects)
       × ((last_moment round.begin moments).names ≡ moment round.names)

@@ -1,4 +1,5 @@
--- The steps of a transaction on the tree of names: names move, in any order between them, and then one name may go.
+-- The steps of a transaction on the tree of names: names move, in any order between them, and then
+-- one name may go.
 use Rattle.std.specs.Prelude.{◌≡◌, ◌≢◌, ◌⊎◌, ℕ, ⊤, not, List, [], ◌∷◌, ◌++◌, map, take, bytes_eq, Option, Some, None, IsTrue, IsFalse}
 use Rattle.std.specs.List.{AllByRecursion, list_any}
 use Rattle.std.specs.Option.{option_to_list}

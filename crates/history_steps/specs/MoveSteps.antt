@@ -33,7 +33,8 @@ pub record FitsThen (r : Repository) (name : Bytes) : Type 0 where
   pub all_named : (other : Bytes) → IsTrue (stands r other) → IsTrue (is_name other)
   pub apart : (other : Bytes) → IsTrue (stands r other) → IsFalse (do_collide name other)
 
--- No cause holds of the move, the names of its first lines have moved, and this line's is to move next.
+-- No cause holds of the move, the names of its first lines have moved, and this line's is to move
+-- next.
 pub record IsNextLine (r : Repository) (c : MoveCommand) (first rest : List To) (to : To)
     (pair : Pair) : Type 0 where
   pub sound : IsSound r

@@ -1,5 +1,5 @@
--- The step of a command that moves one name, as a commit and a tag do, on the two trees: its values are stored, in any order, and its
--- name moves.
+-- The step of a command that moves one name, as a commit and a tag do, on the two trees: its values
+-- are stored, in any order, and its name moves.
 use Rattle.std.specs.Prelude.{◌≡◌, IsTrue}
 use Rattle.gix_hash_id.specs.Id.{Id}
 use Rattle.history_model.specs.Bytes.{Bytes}

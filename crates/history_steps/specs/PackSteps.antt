@@ -1,5 +1,5 @@
--- The steps of a `pack` on the tree of names: `packed-refs` is replaced by one with a record of each name, and then the files of names
--- go, one after another.
+-- The steps of a `pack` on the tree of names: `packed-refs` is replaced by one with a record of
+-- each name, and then the files of names go, one after another.
 use Rattle.std.specs.Prelude.{◌≡◌, ◌≢◌, ◌⊎◌, List, Option, Some, None, MatchOption, option_map, if◌then◌else◌, IsTrue, IsFalse}
 use Rattle.std.specs.FinMap.{get}
 use Rattle.gix_ref_file.specs.Tree.{Tree, folder}

@@ -116,7 +116,8 @@ StoringStops =
 abbrev pub passing : Repository → Command → References → Bytes → Repository
 passing old command names branch = record (after old command) { names = names; branch = branch }
 
--- The tree, once recovered, holds names and a branch that are each as before the command or as after it.
+-- The tree, once recovered, holds names and a branch that are each as before the command or as
+-- after it.
 pub record HoldsBetween (old : Repository) (command : Command) (tree : Tree) : Type 0 where
   pub names : References
   pub branch : Bytes
@@ -263,7 +264,8 @@ pub record NamesOnTheWay (old : Repository) (command : Command) (tree : Tree) : 
   pub folders : (path : Bytes) → get tree path ≡ Some folder → IsTrue (is_name_folder path)
   pub not_lost : ReadsKept old command tree
 
--- Such files, once recovered, hold names and a branch that are each as before the command or as after it.
+-- Such files, once recovered, hold names and a branch that are each as before the command or as
+-- after it.
 abbrev pub NamesPass : Type 0
 NamesPass =
     (old : Repository) (command : Command) (tree : Tree) → IsSound old

@@ -49,7 +49,8 @@ RenamesBring =
     → MovesName to (rename_entry r from to) pair.names new
     → IsOnItsWay r from to (with_both r from to) (record pair { names = new })
 
--- Meanwhile each name, once recovered, is as before the rename or as after it, and the old one holds its id.
+-- Meanwhile each name, once recovered, is as before the rename or as after it, and the old one
+-- holds its id.
 abbrev pub BringingPasses : Type 0
 BringingPasses =
     (r : Repository) (from to : Bytes) (pair : Pair) (tree : Tree) → IsOnItsWay r from to r pair
@@ -63,7 +64,8 @@ RenamesEnd =
     → IsOnItsWay r from to (with_both r from to) pair → TakesName r.kind from pair.names new
     → StandsFor r.kind (record pair { names = new }) (after r (Rename from to))
 
--- Meanwhile each name, once recovered, is as before the rename or as after it, and the new one holds the id.
+-- Meanwhile each name, once recovered, is as before the rename or as after it, and the new one
+-- holds the id.
 abbrev pub TakingPasses : Type 0
 TakingPasses =
     (r : Repository) (from to : Bytes) (pair : Pair) (tree : Tree)

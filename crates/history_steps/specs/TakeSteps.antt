@@ -1,4 +1,5 @@
--- The steps of a deletion on the tree of names, whatever is packed: the name's log goes, then its record, then its file.
+-- The steps of a deletion on the tree of names, whatever is packed: the name's log goes, then its
+-- record, then its file.
 use Rattle.std.specs.Prelude.{◌≡◌, ◌≢◌, ◌⊎◌, Option, Some, None, MatchOption, bytes_eq, if◌then◌else◌, IsTrue, IsFalse}
 use Rattle.std.specs.FinMap.{get}
 use Rattle.gix_ref_file.specs.Tree.{Tree, folder}
@@ -21,7 +22,7 @@ pub record LacksName (name : Bytes) (old new : PackedFile) : Type 0 where
       → hit new.records other
       ≡ (if bytes_eq other name then None else hit old.records other)
 
--- So are these two texts of `packed-refs`; if there is none, there is none then.
+-- These two texts of `packed-refs` are so; without an old one there is no new one.
 abbrev pub LacksRecord : Kind → Bytes → Option Bytes → Option Bytes → Type 0
 LacksRecord kind name None new = new ≡ None
 LacksRecord kind name (Some text) None = ⊥

@@ -154,7 +154,8 @@ pub fn packs_stand()
     ensures { PacksStand }
 {}
 
-/// While names move, in any order between them, and one goes after them, each name is as before the command or as after it.
+/// While names move, in any order between them, and one goes after them, each name is as before the
+/// command or as after it.
 pub fn edits_pass()
     ensures { EditsPass }
 {}

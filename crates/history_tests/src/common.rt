@@ -1,4 +1,4 @@
-//! Two commits of one file and what reads the first, with what Git's ids make of it; and a repository that has them.
+//! Two commits of one file, reads of the first, the replies with Git's ids, and their repository.
 
 use gix_ref_file::MemoryFiles;
 use history::in_memory::new_repository;

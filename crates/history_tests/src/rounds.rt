@@ -10,7 +10,8 @@ use std::process::{self, Abort};
 use std::test::Fail;
 use std::{env, fs};
 
-// Makes a repository of two empty parts; stops if a round, and one after it, don't reply as one run does.
+// Makes a repository of two empty parts; stops if a round, and one after it, don't reply as one run
+// does.
 fn check_rounds<F: Files + Drop>(rt: &impl Abort, alloc: Global, kind: Kind, parts: (F, F)) {
     let (mut objects, mut names) = parts;
     assert!(rt; create(alloc, &mut objects, &mut names, kind).is_ok());

@@ -15,7 +15,8 @@ abbrev pub has_ids_of : Kind → Commit → Bool
 has_ids_of kind commit =
     is_id kind (id_of commit.tree) && list_all (is_id kind) (map id_of commit.parents.items)
 
--- a commit as the store holds it: of this kind, its actors in their written form, with no encoding and no further headers
+-- a commit as the store holds it: of this kind, its actors in their written form, with no encoding
+-- and no further headers
 pub record IsPlainCommit (kind : Kind) (commit : Commit) : Type 0 where
   pub ids : IsTrue (has_ids_of kind commit)
   pub author : HasActorForm commit.author

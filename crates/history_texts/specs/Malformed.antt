@@ -1,4 +1,5 @@
--- Why a commit or a tag in no written form is refused: its time is before 1970, or it is no commit's tag.
+-- Why a commit or a tag in no written form is refused: its time is before 1970, or it is no
+-- commit's tag.
 use Rattle.std.specs.Prelude.{◌≡◌, Bool, ◌||◌, ◌∷◌, ◌++◌, codes, IsTrue}
 use Rattle.gix_hash_id.specs.Kind.{hex_len}
 use Rattle.gix_hash_id.specs.declared.kind.Kind.{Kind}

@@ -9,7 +9,8 @@ use Rattle.history_model.specs.Objects.{TagValue}
 use Rattle.history_texts.specs.Formats.{actor_of}
 use Rattle.history_texts.specs.declared.actor.Actor.{Actor}
 
--- A tag with these parts says what this value says, which has its written form with an id of this kind.
+-- A tag with these parts says what this value says, which has its written form with an id of this
+-- kind.
 pub record SaysTag (kind : Kind) (target : ObjectId) (name : Bytes) (tagger : Actor)
     (message : Bytes) (value : TagValue) : Type 0 where
   pub form : IsTrue (is_tag_form kind value)

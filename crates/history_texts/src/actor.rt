@@ -12,9 +12,9 @@ use gix_object_lines::lines::{self, ActorRef, Time, read_actor, read_time, write
 use history_model::limits::{MAX_ACTOR_PART, MAX_SECONDS};
 use std::alloc::{AllocError, Global};
 
-/// The author or committer of a commit, or whoever moved a name. A name isn't empty; neither it nor the email begins or ends with
-/// a space, has more than 512 bytes or holds `<`, `>`, a zero byte, a tab or an end of line. The time is since 1970, its offset
-/// whole minutes below 100 hours.
+/// The author or committer of a commit, or whoever moved a name. A name isn't empty; neither it nor
+/// the email begins or ends with a space, has more than 512 bytes or holds `<`, `>`, a zero byte, a
+/// tab or an end of line. The time is since 1970, its offset whole minutes below 100 hours.
 #[derive(Drop)]
 pub struct Actor {
     pub name: Vec<u8>,

@@ -8,7 +8,8 @@ use gix_hash::{Kind, ObjectId};
 use gix_ref_format::ids::parse_hex;
 use std::alloc::AllocError;
 
-/// Writes an id's lower-case hex digits to the start of a buffer, which `Kind::hex_buf` makes, and returns them.
+/// Writes an id's lower-case hex digits to the start of a buffer, which `Kind::hex_buf` makes, and
+/// returns them.
 pub fn hex_digits<'b>(id: &ObjectId, buffer: &'b mut [u8; 64]) -> &'b [u8]
     ensures { result.now ≡ hex (id_of id.now) }
 {

@@ -8,8 +8,8 @@ use gix_ref_file::FileError;
 use std::alloc::{AllocError, AllocFailed};
 use thiserror::Error;
 
-/// Why a folder isn't opened: a cause that holds of its two parts. Paths and names are in bytes, whole from the part's root; lines
-/// count from 1.
+/// Why a folder isn't opened: a cause that holds of its two parts. Paths and names are in bytes,
+/// whole from the part's root; lines count from 1.
 #[derive(Debug, Drop, Error)]
 pub enum OpenError {
     #[error("no HEAD stands")]
@@ -54,7 +54,8 @@ pub enum OpenError {
     /// An object has the null id, or one that isn't the empty tree has the empty tree's.
     #[error("a reserved id")]
     IdReserved,
-    /// A file below `refs` whose path is no name, or that holds neither an id of the repository's kind nor a name.
+    /// A file below `refs` whose path is no name, or that holds neither an id of the repository's
+    /// kind nor a name.
     #[error("no name: {0:?}")]
     BadName(Vec<u8>),
     /// The name belongs to one working tree.

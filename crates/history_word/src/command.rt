@@ -79,7 +79,8 @@ pub struct CommitCommand {
     pub message: Field,
 }
 
-/// Stores a tag of a word's commit, and moves a name to it. The message has at most 16,777,216 bytes.
+/// Stores a tag of a word's commit, and moves a name to it. The message has at most 16,777,216
+/// bytes.
 #[derive(Drop)]
 pub struct TagCommand {
     pub name: Vec<u8>,
@@ -112,7 +113,8 @@ pub struct Rename {
     pub to: Vec<u8>,
 }
 
-/// Deletes a name with its log. What is expected of the name is nothing, or that it is at a word's commit.
+/// Deletes a name with its log. What is expected of the name is nothing, or that it is at a word's
+/// commit.
 #[derive(Drop)]
 pub struct Delete {
     pub name: Vec<u8>,
@@ -149,8 +151,8 @@ pub enum LogItem {
     Hidden(Vec<u8>),
 }
 
-/// Lists the commits that some commits reach, or those of them that differ at some paths. At least one item is a tip. A path
-/// has at most 4,096 bytes.
+/// Lists the commits that some commits reach, or those of them that differ at some paths. At least
+/// one item is a tip. A path has at most 4,096 bytes.
 #[derive(Drop)]
 pub struct LogCommand {
     pub order: Order,

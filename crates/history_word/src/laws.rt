@@ -1,4 +1,4 @@
-//! Laws of the table of lines, over the definitions alone: of all commands, and of those that are offered.
+//! Laws of the table of lines, over the definitions alone: of all commands, and of those offered.
 
 ghost use Rattle.history_word.specs.LineTable.{WordsAreHeadings};
 ghost use Rattle.history_word.specs.TableRuns.{all_lines, TableTellsCommands, TableTellsWhatGoesOn, TableTellsFields, TableTellsLines, TableTellsWhatFits, TableTellsStops, TableTakesLines, TableTakesFields};

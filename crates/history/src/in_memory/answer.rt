@@ -49,9 +49,9 @@ impl From<RunError> for AnswerError {
 
 /// Runs a stream of commands over a new repository in memory, with ids of this kind.
 ///
-/// Writes the replies to the commands at the front of the input, and the answer to a rest that is
-/// no command. The repository goes with the call. Returns `New` if no repository was made, and
-/// `Run` if the run was cut off.
+/// Returns how the run ended, and what it wrote: the replies to the commands at the front of the
+/// input, and the answer to a rest that is no command. The repository goes with the call. Returns
+/// `New` if no repository was made, and `Run` if the run was cut off.
 pub fn answer_stream(alloc: Global, kind: Kind, input: &[u8]) -> Result<Answer, AnswerError>
     ensures answers { IfOk result (λ answer.
         Answers kind input.now (⟦<Collected as Sink>⟧.contents answer.written) answer.end) }

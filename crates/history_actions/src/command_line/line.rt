@@ -28,7 +28,7 @@ pub fn line<'a>(alloc: Global) -> Result<Command<'a>, AllocError>
         .subcommand(action(alloc, "recover", "Removes what a stopped run left", RECOVER)?)
 }
 
-// The first text of the program's help; then its last, and that of each action's.
+// The beginning of the program's help; then its end, and the end of each action's help.
 const ABOUT: &str = "A version store with Git's object ids, reference names and logs";
 
 const EXAMPLE: &str =

@@ -1,4 +1,4 @@
-//! Laws that make rounds of runs, for the law [`rounds`](super::rounds), over the definitions alone.
+//! Laws that make rounds of runs, for the law [`rounds`](super::rounds), by definitions alone.
 
 ghost use Rattle.history_model.specs.Joined.{RunsMakeRounds, StopsMakeRounds};
 
