@@ -48,7 +48,7 @@ pub mod prefix {
     pub use gix_hash_prefix::prefix::{Error, Prefix};
 }
 
-/// Whether an id is the expected one.
+/// Comparison of an id with an expected one.
 pub mod verify {
     pub use gix_hash_id::verify::Error;
 }

@@ -12,15 +12,16 @@ piece_lengths n (suc k) = min 65535 n ∷ piece_lengths (n - 65535) k
 abbrev pub bytes_in_pieces : ℕ → ℕ → ℕ
 bytes_in_pieces n k = min n (65535 * k)
 
--- the progress was told the length of each of the first k pieces of n bytes, and the interruption was
--- asked after each and gave these answers
+-- the progress was given the length of each of the first k pieces of n bytes, and the interruption
+-- was polled after each, with these answers
 pub record TellsPieces {P I : Type 0} (told : P → ℕ → P → Type 0) (answered : I → Bool → I → Type 0)
     (progress progress_after : P) (interrupt interrupt_after : I) (n k : ℕ)
     (answers : List Bool) : Type 0 where
   pub progressed : FoldsTo told progress (piece_lengths n k) progress_after
   pub asked : FoldsTo answered interrupt answers interrupt_after
 
--- a reader gave the first k pieces of n bytes, which are these bytes, and each was told and asked about
+-- a reader gave the first k pieces of n bytes, which are these bytes, and each was reported to the
+-- progress, with a poll of the interruption after it
 pub record ReadsPieces {R P I : Type 0} (remaining : R → Option (List ℕ))
     (told : P → ℕ → P → Type 0) (answered : I → Bool → I → Type 0)
     (reader reader_after : R) (progress progress_after : P) (interrupt interrupt_after : I)
@@ -34,8 +35,9 @@ pub record ReadsPieces {R P I : Type 0} (remaining : R → Option (List ℕ))
 abbrev pub GivesFewer : Option (List ℕ) → Option (List ℕ) → ℕ → Type 0
 GivesFewer old new n = (bytes : List ℕ) × (length bytes < n) × Consumes old new bytes
 
--- a reader gave the first k pieces of n bytes, and some of the next piece but not all: these bytes. The
--- pieces that it gave whole were told and asked about, and each answer was no
+-- a reader gave the first k pieces of n bytes, and some of the next piece but not all: these bytes.
+-- The whole pieces were reported to the progress, with a poll of the interruption after each, and
+-- each answer was no
 pub record StopsAfterPieces {R P I : Type 0} (remaining : R → Option (List ℕ))
     (told : P → ℕ → P → Type 0) (answered : I → Bool → I → Type 0)
     (reader reader_after : R) (progress progress_after : P) (interrupt interrupt_after : I)

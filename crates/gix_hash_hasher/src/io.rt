@@ -22,13 +22,13 @@ use std::{fmt, fs, io};
 pub enum Error {
     /// The reader failed, or ended early.
     Io(io::Error),
-    /// The interruption was asked for.
+    /// The interruption was requested.
     Interrupted,
 }
 
-/// What is told of the bytes that have been hashed.
+/// What the lengths of hashed pieces are reported to.
 pub trait Progress {
-    // A call took the progress from one state to another, and told it so many bytes.
+    // A call took the progress from one state to another, and reported so many bytes to it.
     ghost told: { Self → ℕ → Self → Type 0 } = { λ _ _ _. ⊤ };
 
     /// So many bytes more have been hashed.
@@ -36,12 +36,12 @@ pub trait Progress {
         ensures { told self.old step self.new };
 }
 
-/// What is asked whether to go on.
+/// What decides whether to stop.
 pub trait Interrupt {
-    // A call took the interruption from one state to another, and had this answer.
+    // A call took the interruption from one state to another, and returned this.
     ghost answered: { Self → Bool → Self → Type 0 } = { λ _ _ _. ⊤ };
 
-    /// Whether to stop.
+    /// Returns whether to stop.
     fn asked(&mut self) -> bool
         ensures { answered self.old result self.new };
 }
@@ -133,13 +133,14 @@ pub fn bytes<R: io::Read, P: Progress, I: Interrupt>(
     )
 }
 
-/// The id that is the digest of what the hasher was fed and then the reader's next
+/// Returns the id that is the digest of what the hasher was fed and then the reader's next
 /// `num_bytes_from_start` bytes. All together are at most 2^61 - 1 bytes, as FIPS 180-4 allows.
 ///
-/// It reads pieces of 65,535 bytes, the last of which may be shorter. After each that it has hashed
-/// it tells the progress the piece's length, and asks the interruption, also after the last: on a
-/// yes it answers `Interrupted`. An error of the reader, or its early end, is `Io`: the reader then
-/// gave fewer bytes, and of the piece that it stopped in nothing was told.
+/// It reads pieces of 65,535 bytes, the last of which may be shorter. After each that it has
+/// hashed, also after the last, it reports the piece's length to the progress and polls the
+/// interruption. It returns `Interrupted` if the interruption says yes. It returns `Io` if the
+/// reader fails or ends early: the reader then gave fewer bytes, and the piece that it stopped in
+/// isn't reported.
 pub fn bytes_with_hasher<R: io::Read, P: Progress, I: Interrupt>(
     read: &mut R,
     num_bytes_from_start: u64,
@@ -204,7 +205,7 @@ fn fill<R: io::Read>(read: &mut R, piece: &mut [u8]) -> io::Result<()>
     Ok(())
 }
 
-// One read, which is tried again where a signal interrupted it.
+// One read, tried again if a signal interrupted it.
 fn read_some<R: io::Read>(read: &mut R, buffer: &mut [u8]) -> io::Result<usize>
     ensures bound { ReadsAtMost result buffer.new }
     ensures bytes { ReadConsumes (R.remaining read.old) (R.remaining read.new) result buffer.new }
@@ -244,7 +245,7 @@ impl<T> Write<T> {
     }
 }
 
-// One write, which is tried again where a signal interrupted it.
+// One write, tried again if a signal interrupted it.
 fn write_some<T: io::Write>(writer: &mut Write<T>, buf: &[u8]) -> io::Result<usize>
     ensures bound { WritesAtMost result buf.now }
     ensures bytes { WriteAppends (T.contents writer.old.inner)

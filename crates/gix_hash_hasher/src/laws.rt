@@ -20,8 +20,8 @@ pub fn digest_of_pieces(kind: Kind, pieces: &[&[u8]]) -> ObjectId
     hasher.try_finalize()
 }
 
-/// The amounts that a progress is told of k pieces add up to the bytes of these pieces, and so to all
-/// bytes where the pieces are all.
+/// The lengths of k pieces that are reported to a progress add up to the bytes of these pieces, and
+/// so to all bytes if the pieces are all.
 pub fn told_amounts_add_up(num_bytes: u64, pieces: u64)
     ensures pieces { sum (piece_lengths num_bytes pieces) ≡ bytes_in_pieces num_bytes pieces }
     ensures all { IsPieceCount num_bytes pieces → sum (piece_lengths num_bytes pieces) ≡ num_bytes }

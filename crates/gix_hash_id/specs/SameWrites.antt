@@ -10,6 +10,6 @@ pub same_write : (xs ys : List ℕ) → IsTrue (pointwise nat_eq xs ys)
     → ◌≡◌ {A = List (List ℕ)} (xs ∷ []) (ys ∷ [])
 same_write xs ys h = ap (λ (zs : List ℕ). zs ∷ []) ((bytes_eq-Decides xs ys).0 h)
 
--- values that differ are not asked about
+-- no fact is needed of values that differ
 pub no_write : IsTrue false → ⊥
 no_write h = false≢true h

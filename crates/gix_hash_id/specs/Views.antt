@@ -30,7 +30,7 @@ IsFaultOf value text (InvalidHexEncodingLength n) = (n ≡ length text) × (n �
 IsFaultOf value text Invalid =
     ((length text ≢ 40) → length text ≡ 64) × Any (λ c. value c ≡ None) text
 
--- bytes that are no id for their number, which the error tells
+-- bytes whose number is no id's; the error holds that number
 abbrev pub IsWrongLength : List ℕ → borrowed.Error → Type 0
 IsWrongLength bytes (InvalidByteSliceLength n) = (n ≡ length bytes) × (n ≢ 20) × (n ≢ 32)
 

@@ -112,8 +112,8 @@ impl<'a> oid<'a> {
         written(&digits[..2 * self.bytes.len()], buf)
     }
 
-    /// Writes the id in lower-case hexadecimal. An error is the writer's, which has then taken fewer than all of
-    /// its characters: the first of them. A write that a signal interrupted is tried again.
+    /// Writes the id in lower-case hexadecimal. Returns the writer's error if it fails; it has then
+    /// taken the first characters, but not all. A write that a signal interrupted is tried again.
     pub fn write_hex_to<W: io::Write>(&self, out: &mut W) -> io::Result<()>
         ensures written { OnOk result
             (Appends (W.contents out.old) (W.contents out.new)
@@ -126,14 +126,14 @@ impl<'a> oid<'a> {
         write_bytes(out, self.hex_to_buf(&mut buffer).as_bytes())
     }
 
-    /// Whether the id is its kind's null id.
+    /// Returns whether the id is its kind's null id.
     pub fn is_null(&self) -> bool
         ensures { IsTrue result ↔ (viewed_id self.now ≡ null_id (viewed_id self.now).kind) }
     {
         self.eq_oid(ObjectId::null(self.kind()).as_oid())
     }
 
-    /// Whether the id is that of the blob without content.
+    /// Returns whether the id is that of the blob without content.
     pub fn is_empty_blob(&self) -> bool
         ensures { IsTrue result
             ↔ (viewed_id self.now ≡ id_of_message (viewed_id self.now).kind empty_blob_text) }
@@ -141,7 +141,7 @@ impl<'a> oid<'a> {
         self.eq_oid(ObjectId::empty_blob(self.kind()).as_oid())
     }
 
-    /// Whether the id is that of the tree without entries.
+    /// Returns whether the id is that of the tree without entries.
     pub fn is_empty_tree(&self) -> bool
         ensures { IsTrue result
             ↔ (viewed_id self.now ≡ id_of_message (viewed_id self.now).kind empty_tree_text) }
@@ -149,28 +149,28 @@ impl<'a> oid<'a> {
         self.eq_oid(ObjectId::empty_tree(self.kind()).as_oid())
     }
 
-    /// Whether the two are one id.
+    /// Returns whether the two are one id.
     pub fn eq_oid(&self, other: oid<'_>) -> bool
         ensures { IsTrue result ↔ (viewed_id self.now ≡ viewed_id other.entry) }
     {
         self.bytes == other.bytes
     }
 
-    /// Whether the text is the id in full, in lower-case hexadecimal.
+    /// Returns whether the text is the id in full, in lower-case hexadecimal.
     pub fn eq_str(&self, text: &str) -> bool
         ensures { IsTrue result ↔ (hex_text (viewed_id self.now).digits ≡ text.now) }
     {
         self.eq_bytes(text.as_bytes())
     }
 
-    /// Whether the bytes are the id in full, in lower-case hexadecimal.
+    /// Returns whether the bytes are the id in full, in lower-case hexadecimal.
     pub fn eq_bstr(&self, text: BStr<'_>) -> bool
         ensures { IsTrue result ↔ (hex_text (viewed_id self.now).digits ≡ bstr_bytes text.entry) }
     {
         self.eq_bytes(text.as_bytes())
     }
 
-    // Whether the bytes are the id in full, in lower-case hexadecimal.
+    // Returns whether the bytes are the id in full, in lower-case hexadecimal.
     fn eq_bytes(&self, text: &[u8]) -> bool
         ensures { IsTrue result ↔ (hex_text (viewed_id self.now).digits ≡ text.now) }
     {
@@ -185,7 +185,7 @@ impl<'a> oid<'a> {
         ObjectId::from(*self)
     }
 
-    /// Whether the id is the expected one: if not, the error has both.
+    /// Compares the id with the expected one. If they differ, the error holds both.
     pub fn verify(&self, expected: oid<'_>) -> Result<(), verify::Error>
         ensures { MatchResult result (λ _. viewed_id self.now ≡ viewed_id expected.entry)
             (λ e. (viewed_id self.now ≢ viewed_id expected.entry)

@@ -15,7 +15,7 @@ pub struct HexDisplay<'a> {
 }
 
 impl HexDisplay<'_> {
-    /// Whether it prints this text.
+    /// Returns whether it prints this text.
     pub fn eq_str(&self, text: &str) -> bool
         ensures { IsTrue result ↔ (shown_hex self.now ≡ text.now) }
     {

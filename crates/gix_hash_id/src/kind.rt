@@ -173,7 +173,7 @@ impl TryFrom<u8> for Kind {
 impl FromStr for Kind {
     type Err = UnknownName;
 
-    // The kind that the text names, or an error where it names none.
+    // The kind that the text names, or an error if it names none.
     ghost from_str_gives = { λ text r. MatchResult r (λ kind. Contains (names_of kind) text)
         (λ _. (kind : Kind) → Contains (names_of kind) text → ⊥) };
 

@@ -190,8 +190,8 @@ impl ObjectId {
         self.as_oid().hex_to_buf(buf)
     }
 
-    /// Writes the id in lower-case hexadecimal. An error is the writer's, which has then taken fewer than all of
-    /// its characters: the first of them. A write that a signal interrupted is tried again.
+    /// Writes the id in lower-case hexadecimal. Returns the writer's error if it fails; it has then
+    /// taken the first characters, but not all. A write that a signal interrupted is tried again.
     pub fn write_hex_to<W: io::Write>(&self, out: &mut W) -> io::Result<()>
         ensures written { OnOk result
             (Appends (W.contents out.old) (W.contents out.new)
@@ -203,28 +203,28 @@ impl ObjectId {
         self.as_oid().write_hex_to(out)
     }
 
-    /// Whether the two are one id.
+    /// Returns whether the two are one id.
     pub fn eq_oid(&self, other: oid<'_>) -> bool
         ensures { IsTrue result ↔ (id_of self.now ≡ viewed_id other.entry) }
     {
         self.as_oid().eq_oid(other)
     }
 
-    /// Whether the text is the id in full, in lower-case hexadecimal.
+    /// Returns whether the text is the id in full, in lower-case hexadecimal.
     pub fn eq_str(&self, text: &str) -> bool
         ensures { IsTrue result ↔ (hex_text (id_of self.now).digits ≡ text.now) }
     {
         self.as_oid().eq_str(text)
     }
 
-    /// Whether the bytes are the id in full, in lower-case hexadecimal.
+    /// Returns whether the bytes are the id in full, in lower-case hexadecimal.
     pub fn eq_bstr(&self, text: BStr<'_>) -> bool
         ensures { IsTrue result ↔ (hex_text (id_of self.now).digits ≡ bstr_bytes text.entry) }
     {
         self.as_oid().eq_bstr(text)
     }
 
-    /// Whether the id is the expected one: if not, the error has both.
+    /// Compares the id with the expected one. If they differ, the error holds both.
     pub fn verify(&self, expected: oid<'_>) -> Result<(), verify::Error>
         ensures { MatchResult result (λ _. id_of self.now ≡ viewed_id expected.entry)
             (λ e. (id_of self.now ≢ viewed_id expected.entry) × (id_of e.actual ≡ id_of self.now)
@@ -263,14 +263,14 @@ impl ObjectId {
         }
     }
 
-    /// Whether the id is its kind's null id.
+    /// Returns whether the id is its kind's null id.
     pub fn is_null(&self) -> bool
         ensures { IsTrue result ↔ (id_of self.now ≡ null_id (id_of self.now).kind) }
     {
         self.as_oid().is_null()
     }
 
-    /// Whether the id is that of the blob without content.
+    /// Returns whether the id is that of the blob without content.
     pub fn is_empty_blob(&self) -> bool
         ensures { IsTrue result
             ↔ (id_of self.now ≡ id_of_message (id_of self.now).kind empty_blob_text) }
@@ -278,7 +278,7 @@ impl ObjectId {
         self.as_oid().is_empty_blob()
     }
 
-    /// Whether the id is that of the tree without entries.
+    /// Returns whether the id is that of the tree without entries.
     pub fn is_empty_tree(&self) -> bool
         ensures { IsTrue result
             ↔ (id_of self.now ≡ id_of_message (id_of self.now).kind empty_tree_text) }
@@ -287,7 +287,7 @@ impl ObjectId {
     }
 }
 
-// What stands in the places of a `SmallVec` that hold no id.
+// What fills the places of a `SmallVec` that hold no id.
 impl<A: Drop> MadeWith<A> for ObjectId {
     ghost is_made_with = { λ id. id_of id ≡ null_id kinds.Sha1 };
 
@@ -356,7 +356,7 @@ impl FromStr for ObjectId {
     }
 }
 
-// Ids are equal where their kinds and digits are.
+// Ids are equal if their kinds and digits are.
 impl PartialEq for ObjectId {
     ghost eq = { λ x y. id_eq (id_of x) (id_of y) };
 

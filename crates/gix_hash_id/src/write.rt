@@ -7,8 +7,9 @@ ghost use Rattle.gix_hash_id.specs.Writes.{AppendsFewer};
 
 use std::io;
 
-/// Writes all of the bytes. Where the writer fails it has taken the first of them, fewer than all. A write that a signal
-/// interrupted is tried again, and one that takes nothing is the error `WriteZero`.
+/// Writes all of the bytes. Returns the writer's error if it fails; it has then taken the first of
+/// them, but not all. A write that a signal interrupted is tried again, and one that takes nothing
+/// is the error `WriteZero`.
 pub fn write_bytes<W: io::Write>(out: &mut W, bytes: &[u8]) -> io::Result<()>
     ensures written { OnOk result (Appends (W.contents out.old) (W.contents out.new) bytes.now) }
     ensures stopped { OnErr result
@@ -24,7 +25,7 @@ pub fn write_bytes<W: io::Write>(out: &mut W, bytes: &[u8]) -> io::Result<()>
     Ok(())
 }
 
-// One write, which is tried again where a signal interrupted it.
+// One write, tried again if a signal interrupted it.
 fn write_some<W: io::Write>(out: &mut W, bytes: &[u8]) -> io::Result<usize>
     ensures bound { WritesAtMost result bytes.now }
     ensures bytes { WriteAppends (W.contents out.old) (W.contents out.new) result bytes.now }

@@ -11,7 +11,7 @@ use Rattle.gix_hash_id.specs.Id.{Id, id_of}
 use Rattle.gix_hash_id.specs.Order.{digits_cmp}
 use Rattle.gix_hash_prefix.specs.Beginnings.{IsBeginningOf}
 
--- the ids ascend by their digits; equal ones may stand side by side
+-- the ids ascend by their digits; equal ones may follow each other
 abbrev pub IsAscending : List ObjectId → Type 0
 IsAscending ids =
     AllPairs
@@ -45,7 +45,7 @@ pub record FallsAt (ids : List ObjectId) (prefix : Id) (first past : ℕ) : Type
 abbrev pub IsWithinTwiceDigits : ℕ → ℕ → Type 0
 IsWithinTwiceDigits count n = (k : ℕ) → n < 2 ^ k → count ≤ 2 * k
 
--- an id that compares so stands before the edge
+-- an id that compares so is before the edge
 abbrev pub comes_before : Edge → Ordering → Bool
 comes_before First order = is_gt order
 comes_before Past order = is_ge order

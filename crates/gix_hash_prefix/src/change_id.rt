@@ -144,49 +144,51 @@ impl ChangeId {
         self.0.write_hex_to(out)
     }
 
-    /// Whether the id is its kind's null id.
+    /// Returns whether the id is its kind's null id.
     pub fn is_null(&self) -> bool
         ensures { IsTrue result ↔ (self.now ≡ null_id self.now.kind) }
     {
         self.0.is_null()
     }
 
-    /// Whether the id is that of the blob without content.
+    /// Returns whether the id is that of the blob without content.
     pub fn is_empty_blob(&self) -> bool
         ensures { IsTrue result ↔ (self.now ≡ id_of_message self.now.kind empty_blob_text) }
     {
         self.0.is_empty_blob()
     }
 
-    /// Whether the id is that of the tree without entries.
+    /// Returns whether the id is that of the tree without entries.
     pub fn is_empty_tree(&self) -> bool
         ensures { IsTrue result ↔ (self.now ≡ id_of_message self.now.kind empty_tree_text) }
     {
         self.0.is_empty_tree()
     }
 
-    /// Whether the two are one id.
+    /// Returns whether the two are one id.
     pub fn eq_oid(&self, other: oid<'_>) -> bool
         ensures { IsTrue result ↔ (self.now ≡ viewed_id other.entry) }
     {
         self.0.eq_oid(other)
     }
 
-    /// Whether the text is what the change id prints as: the id in full, in reverse hexadecimal.
+    /// Returns whether the text is what the change id prints as: the id in full, in reverse
+    /// hexadecimal.
     pub fn eq_str(&self, text: &str) -> bool
         ensures { IsTrue result ↔ (reverse_hex_text self.now.digits ≡ text.now) }
     {
         self.to_reverse_hex().eq_str(text)
     }
 
-    /// Whether the bytes are what the change id prints as: the id in full, in reverse hexadecimal.
+    /// Returns whether the bytes are what the change id prints as: the id in full, in reverse
+    /// hexadecimal.
     pub fn eq_bstr(&self, text: BStr<'_>) -> bool
         ensures { IsTrue result ↔ (reverse_hex_text self.now.digits ≡ bstr_bytes text.entry) }
     {
         self.to_reverse_hex().eq_bytes(text.as_bytes())
     }
 
-    /// Whether the id is the expected one: if not, the error has both.
+    /// Compares the id with the expected one. If they differ, the error holds both.
     pub fn verify(&self, expected: oid<'_>) -> Result<(), verify::Error>
         ensures { MatchResult result (λ _. self.now ≡ viewed_id expected.entry)
             (λ e. (self.now ≢ viewed_id expected.entry) × (id_of e.actual ≡ self.now)
@@ -231,7 +233,7 @@ impl FromStr for ChangeId {
     }
 }
 
-// Change ids are equal where their kinds and digits are.
+// Change ids are equal if their kinds and digits are.
 impl PartialEq for ChangeId {
     ghost eq = { λ x y. id_eq x y };
 

@@ -16,14 +16,14 @@ pub struct ReverseHexDisplay<'a> {
 }
 
 impl ReverseHexDisplay<'_> {
-    /// Whether it prints this text.
+    /// Returns whether it prints this text.
     pub fn eq_str(&self, text: &str) -> bool
         ensures { IsTrue result ↔ (shown_reverse_hex self.now ≡ text.now) }
     {
         self.eq_bytes(text.as_bytes())
     }
 
-    // Whether it prints these bytes.
+    // Returns whether it prints these bytes.
     pub(crate) fn eq_bytes(&self, text: &[u8]) -> bool
         ensures { IsTrue result ↔ (shown_reverse_hex self.now ≡ text.now) }
     {

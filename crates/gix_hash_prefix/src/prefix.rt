@@ -66,9 +66,9 @@ pub mod from_hex {
 /// Why there is no prefix of so many digits.
 #[derive(Debug, Clone, Copy, PartialEq, Eq)]
 pub enum Error {
-    /// A prefix has at least four digits, and this many were asked for.
+    /// A prefix has at least four digits, and this many were requested.
     TooShort { hex_len: usize },
-    /// Ids of this kind have fewer digits than were asked for.
+    /// Ids of this kind have fewer digits than were requested.
     TooLong { object_kind: Kind, hex_len: usize },
 }
 
@@ -218,8 +218,9 @@ impl Prefix {
         written(&digits[..self.hex_len], buf)
     }
 
-    /// Writes the prefix in lower-case hexadecimal. An error is the writer's, which has then taken fewer than all of
-    /// its characters: the first of them. A write that a signal interrupted is tried again.
+    /// Writes the prefix in lower-case hexadecimal. Returns the writer's error if it fails; it has
+    /// then taken the first characters, but not all. A write that a signal interrupted is tried
+    /// again.
     pub fn write_hex_to<W: io::Write>(&self, out: &mut W) -> io::Result<()>
         ensures written { OnOk result
             (Appends (W.contents out.old) (W.contents out.new) (hex_text self.now.digits)) }
@@ -230,21 +231,21 @@ impl Prefix {
         write_bytes(out, &digits[..self.hex_len])
     }
 
-    /// Whether the text is the prefix in lower-case hexadecimal.
+    /// Returns whether the text is the prefix in lower-case hexadecimal.
     pub fn eq_str(&self, text: &str) -> bool
         ensures { IsTrue result ↔ (hex_text self.now.digits ≡ text.now) }
     {
         self.eq_bytes(text.as_bytes())
     }
 
-    /// Whether the bytes are the prefix in lower-case hexadecimal.
+    /// Returns whether the bytes are the prefix in lower-case hexadecimal.
     pub fn eq_bstr(&self, text: BStr<'_>) -> bool
         ensures { IsTrue result ↔ (hex_text self.now.digits ≡ bstr_bytes text.entry) }
     {
         self.eq_bytes(text.as_bytes())
     }
 
-    // Whether the bytes are the prefix in lower-case hexadecimal.
+    // Returns whether the bytes are the prefix in lower-case hexadecimal.
     fn eq_bytes(&self, text: &[u8]) -> bool
         ensures { IsTrue result ↔ (hex_text self.now.digits ≡ text.now) }
     {
@@ -368,7 +369,7 @@ impl<'a> TryFrom<&'a str> for Prefix {
     }
 }
 
-// Prefixes are equal where their kinds and digits are.
+// Prefixes are equal if their kinds and digits are.
 impl PartialEq for Prefix {
     ghost eq = { λ x y. id_eq x y };
 

@@ -17,7 +17,7 @@ use std::cmp::Ordering;
 /// The ids of a sorted list that a prefix begins, and what finding them took.
 #[derive(Debug, Clone, Copy, PartialEq, Eq)]
 pub struct Run {
-    /// The place of the first match, or where it would stand.
+    /// The place of the first match, or the place where it would be inserted.
     pub first: usize,
     /// The place after the last match: `first` if there is none.
     pub past: usize,
@@ -32,10 +32,12 @@ enum Edge {
     Past,
 }
 
-/// The run of the ids that the prefix begins, in a list of ids that ascend by their digits and have
-/// at least as many as the prefix: those with which `cmp_oid` compares it as equal. Before them stand those with which it
-/// compares it as greater, and behind them those as less. It takes no memory, and calls `cmp_oid` at most twice as often as
-/// the list's length has binary digits.
+/// Returns the run of the ids that the prefix begins. The list must ascend by the ids' digits, and
+/// each id must have at least as many digits as the prefix.
+///
+/// With the ids of the run `cmp_oid` compares the prefix as equal, with those before it as greater,
+/// and with those after it as less. The search takes no memory, and calls `cmp_oid` at most twice
+/// as often as the list's length has binary digits.
 pub fn prefix_run(ids: &[ObjectId], prefix: &Prefix) -> Run
     requires ascending { IsAscending ids.now }
     requires enough { HasEnoughDigits ids.now prefix.now }
@@ -50,8 +52,8 @@ pub fn prefix_run(ids: &[ObjectId], prefix: &Prefix) -> Run
     Run { first, past, calls }
 }
 
-/// Whether `prefix_run` may be called with these: the ids ascend by their digits, and have at least as
-/// many as the prefix.
+/// Returns whether `prefix_run` may be called with these: the ids ascend by their digits, and have
+/// at least as many as the prefix.
 pub fn can_run(ids: &[ObjectId], prefix: &Prefix) -> bool
     ensures { IsTrue result ↔ (IsAscending ids.now × HasEnoughDigits ids.now prefix.now) }
 {
@@ -67,14 +69,14 @@ pub fn can_run(ids: &[ObjectId], prefix: &Prefix) -> bool
     true
 }
 
-// Whether the first id's digits come no later than the second's.
+// Returns whether the first id's digits come no later than the second's.
 fn comes_no_later(first: &ObjectId, second: &ObjectId) -> bool
     ensures { result ≡ not (is_gt (digits_cmp (id_of first.now).digits (id_of second.now).digits)) }
 {
     !order_of_views(first.as_oid(), second.as_oid()).is_gt()
 }
 
-// The number of ids that stand before the edge.
+// The number of ids before the edge.
 fn edge_of(ids: &[ObjectId], prefix: &Prefix, edge: Edge, calls: &mut usize) -> usize
     requires ascending { IsAscending ids.now }
     requires enough { HasEnoughDigits ids.now prefix.now }
@@ -101,7 +103,7 @@ fn edge_of(ids: &[ObjectId], prefix: &Prefix, edge: Edge, calls: &mut usize) -> 
     low
 }
 
-// Whether an id that compares so stands before the edge.
+// Returns whether an id that compares so is before the edge.
 fn stands_before(edge: Edge, order: Ordering) -> bool
     ensures { result ≡ comes_before edge order }
 {

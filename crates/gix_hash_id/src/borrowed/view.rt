@@ -1,4 +1,4 @@
-//! The view itself: its definition stands apart from what the contracts say of it.
+//! The view itself, apart from what the contracts say of it.
 
 ghost use Rattle.std.specs.Prelude.{length, ◌||◌, ◌==◌, IsTrue};
 
