@@ -31,7 +31,7 @@ pub mod commit {
 
 /// The bytes of objects.
 pub mod data {
-    /// Whether an object has the expected id.
+    /// The test that an object has the expected id.
     pub mod verify {
         pub use gix_object_tree::data::verify::Error;
     }
@@ -54,17 +54,17 @@ pub mod kind {
 
 /// Looking objects up by their ids.
 pub mod find {
-    /// Why an object that must stand isn't found.
+    /// Why an object that must exist isn't found.
     pub mod existing {
         pub use gix_object_lookup::find::existing::Error;
     }
 
-    /// Why an object that must stand can't be read part by part.
+    /// Why an object that must exist can't be read part by part.
     pub mod existing_iter {
         pub use gix_object_lookup::find::existing_iter::Error;
     }
 
-    /// Why an object that must stand can't be read.
+    /// Why an object that must exist can't be read.
     pub mod existing_object {
         pub use gix_object_lookup::find::existing_object::Error;
     }

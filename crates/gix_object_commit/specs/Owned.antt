@@ -16,11 +16,11 @@ use Rattle.gix_object_commit_lines.specs.declared.header.ExtraHeader.{ExtraHeade
 abbrev pub IsOwnId : List ℕ → ObjectId → Type 0
 IsOwnId digits id = IsHexOfId digits (id_of id)
 
--- the same name, and the value whose folded text stands in the commit
+-- the same name, and the value whose folded text the commit has
 pub record IsHeaderOf (field : Field) (header : ExtraHeader) : Type 0 where
   pub name : header.name ≡ field.name
   pub value : (told : List ℕ) → field.value ≡ folded told → header.value ≡ told
-  -- no byte is lost of a value that doesn't stand so, as one in a commit that wasn't read
+  -- no byte is lost of a value that isn't folded, as in a commit that wasn't read
   pub whole : header.value ≡ unfolded field.value
 
 pub record IsCommitOf (parts : Parts) (commit : Commit) : Type 0 where
@@ -41,8 +41,8 @@ SpellsNoId digits = (id : Id) → ¬ IsHexOfId digits id
 abbrev pub SpellsIds : Parts → Type 0
 SpellsIds parts = (¬ SpellsNoId parts.tree) × (¬ Any SpellsNoId parts.parents)
 
--- the first that fails: an id's text spells none, or behind those that do an actor's tells no time; or no memory is left, behind
--- a tree whose id is told
+-- the first that fails: an id's text spells none, or they do and an actor has no time; or no memory
+-- is left, after a tree whose id is given
 abbrev pub OwningFault : Parts → Error → Type 0
 OwningFault parts FieldName = ⊥
 OwningFault parts HexDigits = SpellsNoId parts.tree ⊎ Any SpellsNoId parts.parents

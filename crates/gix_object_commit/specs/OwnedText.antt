@@ -36,7 +36,7 @@ own_parts_with headers commit = record {
 abbrev pub own_parts : Commit → Parts
 own_parts commit = own_parts_with commit.extra_headers.items commit
 
--- ---- what is refused: an actor also where its offset has no text
+-- ---- what is refused: an actor also if its offset has no text
 
 -- whole minutes, below 100 hours
 abbrev pub is_whole_offset : ℤ → Bool

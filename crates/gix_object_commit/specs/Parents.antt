@@ -10,7 +10,7 @@ use Rattle.gix_object_commit.specs.declared.commit.ids.Parents as ids
 abbrev pub digits_left : ids.Parents → List (List ℕ)
 digits_left parents = map bstr_bytes (drop parents.place parents.digits.now)
 
--- the id of the first digits that are left, and the others are left then; nothing where none are
+-- the id of the first digits that are left, and the others are left then; nothing if none are
 abbrev pub GivesId : ids.Parents → Option ObjectId → ids.Parents → Type 0
 GivesId old None new = (digits_left old ≡ []) × (digits_left new ≡ [])
 GivesId old (Some id) new =

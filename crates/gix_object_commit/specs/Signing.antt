@@ -61,13 +61,14 @@ pub record IsWithHeaders (commit : Commit) (headers : List ExtraHeader)
 abbrev pub IsAsBefore : Commit → Commit → Type 0
 IsAsBefore commit left = IsWithHeaders commit commit.extra_headers.items left
 
--- the signature stands behind the other headers, in the place of all that were there
+-- the signature comes after the other headers, in place of all signatures that were there
 abbrev pub IsSignedBy : List ℕ → Commit → Commit → Type 0
 IsSignedBy signature commit signed =
     IsWithHeaders commit
     (unsigned commit.extra_headers.items ++ signature_header commit signature ∷ []) signed
 
--- the commit is signed, or as before: where there is no signature, and where no memory is left for its header
+-- the commit is signed; or it is as before, if there is no signature or no memory is left for its
+-- header
 abbrev pub TakesSignature : Commit → Result (List ℕ) Error → Result (Unit {0}) Error → Commit
     → Type 0
 TakesSignature commit (Ok signature) (Ok _) left = IsSignedBy signature commit left

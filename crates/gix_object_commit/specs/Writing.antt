@@ -34,7 +34,7 @@ is_id_like tree digits = length digits == length tree && is_id digits
 abbrev pub is_plain : List ℕ → Bool
 is_plain part = not (holds 60 part) && (not (holds 62 part) && not (holds 10 part))
 
--- such a name and email, and a text that tells a time
+-- such a name and email, and a text that is a time
 abbrev pub is_person : Person → Bool
 is_person person = is_plain person.name && (is_plain person.email && tells_time person.time)
 
@@ -42,7 +42,7 @@ abbrev pub begins_with_space : List ℕ → Bool
 begins_with_space [] = false
 begins_with_space (byte ∷ _) = byte == 32
 
--- behind each line feed stands a space
+-- each line feed is followed by a space
 abbrev pub is_folded : List ℕ → Bool
 is_folded [] = true
 is_folded (byte ∷ rest) = (if byte == 10 then begins_with_space rest else true) && is_folded rest

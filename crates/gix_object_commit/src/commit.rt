@@ -41,7 +41,7 @@ pub struct CommitRef<'a> {
     pub author: ActorRef<'a>,
     /// Who committed it, and when.
     pub committer: ActorRef<'a>,
-    /// The name of the message's encoding, where it isn't UTF-8.
+    /// The name of the message's encoding, if it isn't UTF-8.
     pub encoding: Option<BStr<'a>>,
     /// The message.
     pub message: BStr<'a>,
@@ -64,8 +64,8 @@ impl<'a> CommitRef<'a> {
         self.committer
     }
 
-    /// When it was committed. It is `InvalidTime` where the committer's text tells no time, which it does in all that
-    /// `from_bytes` gives.
+    /// When it was committed. Returns `InvalidTime` if the committer's text is no time, which never
+    /// happens after `from_bytes`.
     pub fn time(&self) -> Result<Time, Error>
         ensures told { IfOk result (SpellsTime (bstr_bytes self.now.committer.time)) }
         ensures every { (time : Time) → SpellsTime (bstr_bytes self.now.committer.time) time

@@ -21,8 +21,8 @@ pub fn written_is_read()
         → SpellsCommit (length parts.tree) (commit_text parts) parts }
 {}
 
-/// The ids of a commit that was read are ids' digits, as `CommitRef::tree` and `CommitRef::parents` ask. Nothing is done:
-/// the contract is the law.
+/// The ids of a commit that was read are ids' digits, as `CommitRef::tree` and `CommitRef::parents`
+/// require. Nothing is done: the contract is the law.
 pub fn ids_read_are_ids(_input: &[u8], _hash_kind: Kind)
     ensures tree { (parts : Parts) → SpellsCommit (hex_len _hash_kind) _input.now parts
         → IsTrue (is_id parts.tree) }

@@ -8,7 +8,7 @@ use Rattle.gix_object_lines.specs.HexLine.{hex_line, IsHex}
 use Rattle.gix_object_lines.specs.Actor.{SpellsActor}
 use Rattle.gix_object_lines.specs.Person.{Person, actor_line}
 
--- a further header, its value as it stands in the commit
+-- a further header, its value as the commit has it
 pub record Field : Type 0 where
   pub name : List ℕ
   pub value : List ℕ
@@ -48,21 +48,21 @@ commit_text parts =
 
 -- ---- what each part may be
 
--- a value as it stands in a header: a space behind each of its line feeds
+-- a value as a header has it: with a space after each of its line feeds
 abbrev pub folded : List ℕ → List ℕ
 folded value = flat_map (λ byte. if byte == 10 then 10 ∷ 32 ∷ [] else byte ∷ []) value
 
 abbrev pub IsFolded : List ℕ → Type 0
 IsFolded text = (value : List ℕ) × (text ≡ folded value)
 
--- the text without each space behind a line feed; `fed` where one stands before the text
+-- the text without each space after a line feed; `fed` if one precedes the text
 abbrev pub unfolded_behind : Bool → List ℕ → List ℕ
 unfolded_behind fed [] = []
 unfolded_behind fed (byte ∷ rest) =
     if fed && byte == 32 then unfolded_behind false rest
     else byte ∷ unfolded_behind (byte == 10) rest
 
--- what stands in a header, without them; of a value as it stands in one, the value
+-- what a header has, without them; for a folded value, the value
 abbrev pub unfolded : List ℕ → List ℕ
 unfolded text = unfolded_behind false text
 

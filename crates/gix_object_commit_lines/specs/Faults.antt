@@ -46,7 +46,7 @@ HeaderFault input InvalidActor = ⊥
 HeaderFault input InvalidTime = ⊥
 HeaderFault input Memory = ⊥
 
--- ---- what stands behind the parts that are there
+-- ---- what follows the parts that are there
 
 pub record IsBehindTree (hex_len : ℕ) (input rest : List ℕ) : Type 0 where
   pub digits : List ℕ
@@ -107,23 +107,23 @@ pub record HasHeader (input : List ℕ) : Type 0 where
   pub some : AreHeaders input rest
   pub one : some.fields ≢ []
 
--- all before it stands
+-- all before it is read
 pub data TakesMemory (hex_len : ℕ) (input : List ℕ) : Type 0 where
   ForParents : (rest : List ℕ) → IsBehindTree hex_len input rest → HasTwoParents hex_len rest
       → TakesMemory hex_len input
   ForHeaders : (rest : List ℕ) → IsBehindEncoding hex_len input rest → HasHeader rest
       → TakesMemory hex_len input
 
--- ---- the first part that fails, behind those that stand
+-- ---- the first part that fails, after those that are read
 
--- behind some parents a line begins as one, and is none
+-- after some parents a line begins as one, and is none
 pub record ParentFault (hex_len : ℕ) (input : List ℕ) (error : Error) : Type 0 where
   pub rest : List ℕ
   pub before : AreParents hex_len input rest
   pub begins : IsBeginningOf (codes "parent ") rest
   pub fault : HexLineFault (codes "parent") hex_len rest error
 
--- behind some headers stand neither another nor the empty line
+-- after some headers comes neither another nor the empty line
 pub record HeadersFault (input : List ℕ) (error : Error) : Type 0 where
   pub rest : List ℕ
   pub before : AreHeaders input rest

@@ -10,7 +10,7 @@ use Rattle.gix_object_commit_lines.specs.declared.extra_headers.Headers.TheVaria
 use Rattle.gix_object_commit_lines.specs.declared.extra_headers.MergeTags.{MergeTags}
 use Rattle.gix_object_commit_lines.specs.declared.header.ExtraHeader.{ExtraHeader}
 
--- its value as an owned commit has it, without the spaces that stand in the commit's text
+-- its value as an owned commit has it, without the spaces of the commit's text
 abbrev pub own_header : ExtraHeader → Field
 own_header header = record { name = header.name; value = header.value }
 

@@ -1,4 +1,4 @@
--- What a part of a commit is told from.
+-- What a part of a commit is read from.
 use Rattle.std.specs.Prelude.{ℕ, List, ◌∷◌, []}
 use Rattle.gix_object_lines.specs.Bytes.{IsBeginningOf}
 

@@ -12,8 +12,9 @@ ghost use Rattle.gix_object_commit_lines.specs.Views.{field_of};
 use crate::header::{ExtraHeader, HeaderRef};
 use bstr::BStr;
 
-/// The further headers of a commit, in order. Of a `CommitRef` each value is as it stands in the commit, with a space
-/// behind each of its line feeds, and `HeaderRef::unfolded` gives it without; of a `Commit` it is without them.
+/// The further headers of a commit, in order. In a `CommitRef` each value is as in the commit, with
+/// a space after each of its line feeds, and `HeaderRef::unfolded` returns it without; in a
+/// `Commit` it is without them.
 #[derive(Debug, Clone, Copy)]
 pub struct ExtraHeaders<'h, 'a> {
     headers: Headers<'h, 'a>,
@@ -27,7 +28,7 @@ enum Headers<'h, 'a> {
 }
 
 impl<'h, 'a> Headers<'h, 'a> {
-    // The name and the value at this place. An owned value has no spaces behind its line feeds.
+    // The name and the value at this place. An owned value has no spaces after its line feeds.
     fn get(self, place: usize) -> Option<HeaderRef<'a>>
         ensures given { option_map field_of result ≡ slice_get (fields_in self.entry) place }
         ensures in_range { IfSome result (λ _. place + 1 < 2 ^ 64) }
@@ -162,7 +163,7 @@ impl<'h, 'a> Iterator for MergeTags<'h, 'a> {
     }
 }
 
-/// Whether the header has this name.
+/// Returns whether the header has this name.
 pub fn is_named(header: HeaderRef<'_>, name: &[u8]) -> bool
     ensures { result ≡ is_field_named name.now (field_of header.entry) }
 {

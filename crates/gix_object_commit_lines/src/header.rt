@@ -20,7 +20,7 @@ use std::alloc::{AllocError, Global};
 pub struct HeaderRef<'a> {
     /// Its name.
     pub name: BStr<'a>,
-    /// Its value as it stands in the commit: each line but the first behind a space.
+    /// Its value as in the commit: each line but the first after a space.
     pub value: BStr<'a>,
 }
 
@@ -29,13 +29,13 @@ pub struct HeaderRef<'a> {
 pub struct ExtraHeader {
     /// Its name.
     pub name: ByteString,
-    /// Its value, without the space that stands in the commit behind each of its line feeds.
+    /// Its value, without the space that the commit has after each of its line feeds.
     pub value: ByteString,
 }
 
 impl<'a> HeaderRef<'a> {
-    /// The value that stands in the commit, without the space behind each of its line feeds; where none stands behind one,
-    /// nothing is left out. It is an error where no memory is left.
+    /// The commit's value without the space after each of its line feeds; if no line feed has one,
+    /// nothing is left out. Returns `AllocError` if no memory is left.
     pub fn unfolded(&self, alloc: Global) -> Result<ByteString, AllocError>
         ensures whole { IfOk result (λ value. value ≡ spec.unfolded (bstr_bytes self.now.value)) }
         ensures told { IfOk result
@@ -99,7 +99,7 @@ fn read_name(input: &[u8]) -> Option<(&[u8], &[u8])>
     Some((name, rest))
 }
 
-// A value that begins the input, and what follows its line feed, the first with no space behind it.
+// A value that begins the input, and what follows its line feed, the first with no space after it.
 fn split_value(input: &[u8]) -> Option<(&[u8], &[u8])>
     ensures { MatchOption result
         ((value rest : List ℕ) → IsFolded value → IsUnspaced rest → input.now ≢ value ++ 10 ∷ rest)

@@ -11,7 +11,7 @@ pub const SIGNATURE_FIELD_NAME: &str = "gpgsig";
 /// The name of the header that holds a commit's signature, over its content with SHA-256 ids.
 pub const SIGNATURE_FIELD_NAME_SHA256: &str = "gpgsig-sha256";
 
-/// The name of the header that holds a commit's signature, where its ids are of this hash function.
+/// The name of the header that holds a commit's signature, if its ids are of this hash function.
 pub fn signature_field_name(hash_kind: Kind) -> &'static str
     ensures { result.now ≡ signature_name hash_kind }
 {

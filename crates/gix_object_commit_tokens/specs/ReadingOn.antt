@@ -1,4 +1,4 @@
--- What the parts tell that a reader gives from its place on.
+-- What the parts hold that a reader gives from its place on.
 use Rattle.std.specs.Prelude.{◌≡◌, ◌⊎◌, List, [], ◌∷◌, filter_map, ℕ, Option, None, Some, Result, Ok, Err}
 use Rattle.gix_hash_id.specs.Id.{Id}
 use Rattle.gix_hash_id.specs.declared.object_id.ObjectId.{ObjectId}
@@ -11,12 +11,12 @@ use Rattle.gix_object_commit_tokens.specs.declared.ref_iter.reading_on.ParentIds
 use Rattle.gix_object_commit_tokens.specs.declared.ref_iter.reading_on.Signatures.{Signatures}
 use Rattle.gix_object_commit_tokens.specs.Tokens.{Part, Parent, Author, Committer, Message, Place, place_of, IsNext, GivesToken}
 
--- from here the reader gives these parts, one behind the other, and then stands there
+-- from here the reader gives these parts, one after the other, and is then there
 abbrev pub Reads : Place → List Part → Place → Type 0
 Reads here [] there = here ≡ there
 Reads here (part ∷ parts) there = (next : Place) × IsNext here part next × Reads next parts there
 
--- these are the values that the parts from here to there tell
+-- these are the values that the parts from here to there hold
 abbrev pub Tells : {X : Type 0} → (Part → Option X) → Place → List X → Place → Type 0
 Tells told here values there =
     (parts : List Part) × Reads here parts there × (filter_map told parts ≡ values)
@@ -26,13 +26,14 @@ Tells told here values there =
 abbrev pub TellsFirst : {X : Type 0} → (Part → Option X) → Place → X → Type 0
 TellsFirst told here value = (there : Place) × Tells told here (value ∷ []) there
 
--- what is answered where no part follows: `FieldName` at the input's end, and else the error that the reader gives
+-- the error if no part follows: `FieldName` at the input's end, and otherwise the one that the
+-- reader gives
 abbrev pub IsStop : Place → Error → Type 0
 IsStop place error =
     ((place.input ≡ []) × (error ≡ FieldName))
     ⊎ ((after : Place) × GivesToken place (Some (Err error)) after)
 
--- no value is told from here on to where no part follows
+-- no part from here on has a value, up to where no part follows
 abbrev pub TellsNone : {X : Type 0} → (Part → Option X) → Place → Error → Type 0
 TellsNone told here error = (there : Place) × Tells told here [] there × IsStop there error
 
@@ -42,7 +43,7 @@ abbrev pub TellsNoMore : {X : Type 0} → (Part → Option X) → Place → Type
 TellsNoMore {X} told here =
     (values : List X) (there : Place) → Tells told here values there → values ≡ []
 
--- the next value, and where the reader is then; nothing where none follows, and then nothing again
+-- the next value, and where the reader is then; nothing if none follows, and then nothing again
 abbrev pub GivesTold : {X : Type 0} → (Part → Option X) → Place → Option X → Place → Type 0
 GivesTold told before None after = TellsNoMore told before × TellsNoMore told after
 GivesTold told before (Some value) after = Tells told before (value ∷ []) after
@@ -53,7 +54,7 @@ ids_place ids = place_of ids.tokens
 abbrev pub signatures_place : Signatures → Place
 signatures_place signatures = place_of signatures.tokens
 
--- ---- what a part tells
+-- ---- what a part holds
 
 abbrev pub parent_told : Part → Option Id
 parent_told (Parent id) = Some id
@@ -87,7 +88,7 @@ tree_given None = Err FieldName
 tree_given (Some (Ok token)) = tree_of token
 tree_given (Some (Err error)) = Err error
 
--- one token is read, and this is what it answers
+-- one token is read, and this is the result
 abbrev pub TakesTree : Place → Result ObjectId Error → Place → Type 0
 TakesTree before result after =
     (given : Option (Result Token Error)) × GivesToken before given after

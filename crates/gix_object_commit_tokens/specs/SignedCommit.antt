@@ -24,14 +24,15 @@ cut_of signature = record {
   behind = bstr_bytes signature.signed_data.behind;
 }
 
--- a header of the signature's name tells the signature, and the message that there is none: no header follows it
+-- a header of the signature's name holds the signature; the message says that there is none, since
+-- no header follows it
 abbrev pub signature_told : Kind → Part → Option (Option Field)
 signature_told kind (Header field) =
     if is_named (signature_name kind) field then Some (Some field) else None
 signature_told kind (Message message) = Some None
 signature_told kind _ = None
 
--- the commit is cut at the first header of the signature's name: no part before it tells one
+-- the commit is cut at the first header of the signature's name: no part before it has one
 pub record IsSigned (kind : Kind) (input : List ℕ) (cut : Cut) : Type 0 where
   pub at : Place
   pub past : Place
@@ -41,7 +42,7 @@ pub record IsSigned (kind : Kind) (input : List ℕ) (cut : Cut) : Type 0 where
   pub whole : input ≡ cut.before ++ (field_text cut.header ++ cut.behind)
   pub left : cut.behind ≡ past.input
 
--- the signature, or none where the message comes first
+-- the signature, or none if the message comes first
 abbrev pub FindsSignature : Kind → List ℕ → Option Cut → Type 0
 FindsSignature kind input None = TellsFirst (signature_told kind) (start kind input) None
 FindsSignature kind input (Some cut) = IsSigned kind input cut

@@ -1,4 +1,5 @@
--- Why no part of a commit stands next, by what may stand there (git-fast-import, "commit"; Git User Manual, "Commit Object").
+-- Why no part of a commit is next, by what may come next (git-fast-import, "commit"; Git User
+-- Manual, "Commit Object").
 use Rattle.std.specs.Prelude.{ℕ, ◌≢◌, ◌⊎◌, List, ◌∷◌, codes}
 use Rattle.gix_hash_id.specs.Kind.{hex_len}
 use Rattle.gix_hash_id.specs.declared.kind.Kind.{Kind}
@@ -21,7 +22,8 @@ abbrev pub FurtherHeaderFault : List ℕ → Error → Type 0
 FurtherHeaderFault input error =
     ((message : List ℕ) → input ≢ 10 ∷ message) × HeaderFault input error
 
--- the encoding's line begins, and has no end; or it doesn't begin, and nothing that may stand in its place does
+-- the encoding's line begins, and has no end; or it doesn't begin, and nothing comes that may
+-- replace it
 abbrev pub FirstHeaderFault : List ℕ → Error → Type 0
 FirstHeaderFault input error =
     EncodingFault input error

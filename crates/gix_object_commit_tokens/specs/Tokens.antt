@@ -1,4 +1,4 @@
--- The parts of a commit one after another, and what each is told from.
+-- The parts of a commit one after another, and what each is read from.
 use Rattle.std.specs.Prelude.{ℕ, ◌≡◌, ◌≢◌, List, [], ◌∷◌, ◌++◌, ◌⊎◌, codes, Option, None, Some, Result, Ok, Err}
 use Rattle.gix_hash_id.specs.declared.kind.Kind.{Kind}
 use Rattle.gix_hash_id.specs.Id.{Id, id_of}
@@ -38,7 +38,7 @@ part_of (token.Encoding name) = Encoding (bstr_bytes name)
 part_of (token.ExtraHeader header) = Header (field_of header)
 part_of (token.Message message) = Message (bstr_bytes message)
 
--- the id that a part tells
+-- the id that a part holds
 abbrev pub id_told : Part → Option Id
 id_told (Tree id) = Some id
 id_told (Parent id) = Some id
@@ -55,7 +55,7 @@ pub record IsIdLine (kind : Kind) (word input : List ℕ) (id : Id) (rest : List
   pub id_spelled : IsHexOfId digits id
   pub spelled : input ≡ hex_line word digits ++ rest
 
--- the part may stand there and begins the input, and the rest follows it
+-- the part may come next and begins the input, and the rest follows it
 abbrev pub IsPartAt : Kind → Stage → List ℕ → Part → List ℕ → Type 0
 IsPartAt kind stage input (Tree id) rest =
     (stage ≡ at.Tree) × IsIdLine kind (codes "tree") input id rest
@@ -85,7 +85,7 @@ stage_after (Encoding _) = at.Headers
 stage_after (Header _) = at.Headers
 stage_after (Message _) = at.Headers
 
--- where a reader stands: what may come next, and the input from there on
+-- where a reader is: what may come next, and the input from there on
 pub record Place : Type 0 where
   pub kind : Kind
   pub stage : Stage
@@ -98,19 +98,20 @@ place_of reader = record { kind = reader.hash_kind; stage = reader.stage; input 
 abbrev pub start : Kind → List ℕ → Place
 start kind input = record { kind = kind; stage = at.Tree; input = input }
 
--- the part stands next, and the reader moves behind it
+-- the part is next, and the reader moves past it
 abbrev pub IsNext : Place → Part → Place → Type 0
 IsNext before part after =
     IsPartAt before.kind before.stage before.input part after.input
     × (after.stage ≡ stage_after part) × (after.kind ≡ before.kind)
 
--- something stands next, and it is no part
+-- the input isn't empty, and no part is next
 abbrev pub LacksPart : Place → Type 0
 LacksPart place =
     (place.input ≢ [])
     × ((part : Part) (rest : List ℕ) → ¬ IsPartAt place.kind place.stage place.input part rest)
 
--- the reader gives the part that stands next, nothing where its input has ended, and else why none stands there, and then nothing
+-- the reader gives the part that is next, nothing if its input has ended, and otherwise why none is
+-- next, and then nothing
 abbrev pub GivesToken : Place → Option (Result Token Error) → Place → Type 0
 GivesToken before None after = (before.input ≡ []) × (after ≡ before)
 GivesToken before (Some (Ok token)) after = IsNext before (part_of token) after

@@ -12,7 +12,7 @@ use Rattle.gix_object_commit_tokens.specs.Tokens.{Part, Tree, Parent, Author, Co
 abbrev pub IsCommit : Kind → List ℕ → Type 0
 IsCommit kind input = (parts : Parts) × SpellsCommit (hex_len kind) input parts
 
--- ---- the tokens that tell these parts, each once and in their order
+-- ---- the tokens that hold these parts, each once and in their order
 
 abbrev pub encoding_tokens : Option (List ℕ) → List Part
 encoding_tokens None = []

@@ -13,14 +13,15 @@ use crate::CommitRefIter;
 use crate::ref_iter::Token;
 use gix_hash::Kind;
 
-/// The token reader gives its parts without an error, the message as the last, exactly where the bytes spell a commit. Nothing
-/// is done: the contract is the law.
+/// The token reader gives its parts without an error, the message as the last, exactly if the bytes
+/// spell a commit. Nothing is done: the contract is the law.
 pub fn tokens_end_with_the_message(_input: &[u8], _hash_kind: Kind)
     ensures { IsCommit _hash_kind _input.now ↔ ReadsToMessage (start _hash_kind _input.now) }
 {}
 
-/// Whether the token reader gives no error, and the message as its last token: exactly where the bytes spell a commit, and
-/// so exactly where `CommitRef::from_bytes` succeeds, want of memory aside.
+/// Returns whether the token reader gives no error, and the message as its last token: exactly if
+/// the bytes spell a commit, and so exactly if `CommitRef::from_bytes` succeeds or fails for want
+/// of memory.
 pub fn tokens_tell_a_commit(input: &[u8], hash_kind: Kind) -> bool
     ensures { IsTrue result ↔ IsCommit hash_kind input.now }
 {

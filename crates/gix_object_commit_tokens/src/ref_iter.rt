@@ -28,7 +28,7 @@ use gix_object_lines::decode::Error;
 use gix_object_lines::hex_line::{id_of_digits, read_hex_line};
 use gix_object_lines::lines::ActorRef;
 
-/// A part of a commit, in the order in which they stand there.
+/// A part of a commit. Their order here is that in a commit.
 #[derive(Debug, Clone, Copy, PartialEq, Eq)]
 pub enum Token<'a> {
     /// The id of the tree.
@@ -48,7 +48,7 @@ pub enum Token<'a> {
 }
 
 impl<'a> Token<'a> {
-    /// The id, where it is a tree's or a parent's.
+    /// The id, if it is a tree's or a parent's.
     pub fn id(&self) -> Option<oid<'_>>
         ensures { option_map viewed_id result ≡ id_told (part_of self.now) }
     {
@@ -59,7 +59,7 @@ impl<'a> Token<'a> {
         }
     }
 
-    /// The id, where it is a tree's or a parent's.
+    /// The id, if it is a tree's or a parent's.
     pub fn try_into_id(self) -> Option<ObjectId>
         ensures { option_map id_of result ≡ id_told (part_of self.entry) }
     {
@@ -71,7 +71,7 @@ impl<'a> Token<'a> {
     }
 }
 
-// What may stand next.
+// What may come next.
 #[derive(Debug, Clone, Copy, PartialEq, Eq)]
 pub(crate) enum Stage {
     Tree,
@@ -81,14 +81,15 @@ pub(crate) enum Stage {
     Headers,
 }
 
-/// A reader of a commit's parts, which takes no memory. It gives the parts in their order, then nothing; where what
-/// stands next is no part, it gives one error and then nothing. So it has read a whole commit where its last token
-/// is the message.
+/// A reader of a commit's parts, which takes no memory. It gives the parts in their order, then
+/// nothing; if what comes next is no part, it gives one error and then nothing. So it has read a
+/// whole commit if its last token is the message.
 ///
-/// The error tells what the line lacks that may stand there: it is `FieldName` where that line doesn't begin,
-/// `HexDigits` where behind `tree ` or `parent ` stand fewer digits than an id has, `InvalidActor` where the line of
-/// author or committer isn't a name, an email and a time, `InvalidTime` where it tells no time, and `LineEnd` where the
-/// line lacks its line feed. A line that begins with `parent ` or `encoding ` is read as that, where it may stand.
+/// The error says what is wrong with the line that may come next: `FieldName` if that line doesn't
+/// begin, `HexDigits` if fewer digits follow `tree ` or `parent ` than an id has, `InvalidActor` if
+/// the line of author or committer isn't a name, an email and a time, `InvalidTime` if the time is
+/// none, and `LineEnd` if the line lacks its line feed. A line that begins with `parent ` or
+/// `encoding ` is read as that if it may come next.
 #[derive(Debug, Clone, Copy)]
 pub struct CommitRefIter<'a> {
     rest: &'a [u8],
@@ -135,7 +136,7 @@ impl<'a> Iterator for CommitRefIter<'a> {
     }
 }
 
-// What may stand behind a token.
+// What may follow a token.
 fn stage_after(token: Token<'_>) -> Stage
     ensures { result ≡ after (part_of token.entry) }
 {
@@ -147,7 +148,7 @@ fn stage_after(token: Token<'_>) -> Stage
     }
 }
 
-// The token that may stand there and begins the input, and what follows it.
+// The token that may come next and begins the input, and what follows it.
 fn read_token<'a>(
     stage: Stage,
     input: &'a [u8],
@@ -210,7 +211,7 @@ fn read_committer(input: &[u8]) -> Result<(Token<'_>, &[u8]), Error>
     Ok((Token::Committer(committer), rest))
 }
 
-// An encoding, or what may stand in its place.
+// An encoding, or what may come in its place.
 fn read_first_header(input: &[u8]) -> Result<(Token<'_>, &[u8]), Error>
     ensures read { (kind : Kind)
         → IfOk result

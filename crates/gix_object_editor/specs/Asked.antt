@@ -1,4 +1,5 @@
--- Which stored trees an edit asks for: those that its path leads into and that aren't opened, one below the other.
+-- Which stored trees an edit looks up: those that its path leads into and that aren't opened, from
+-- the top down.
 use Rattle.std.specs.Prelude.{ℕ, suc, ◌≡◌, ◌<◌, ◌+◌, ◌^◌, List, [], ◌∷◌, ◌++◌, length, Option, Some, None, Result, Ok, Err, if◌then◌else◌}
 use Rattle.std.specs.List.{All}
 use Rattle.gix_hash_id.specs.Id.{Id}
@@ -52,27 +53,27 @@ found_into trees slots (Some folder) names = unopened_into trees slots folder.0 
 
 -- ---- what is found of them
 
--- a well-formed tree stands under the id
+-- a well-formed tree is stored under the id
 abbrev pub IsStoredTree : Table → Id → Type 0
 IsStoredTree table id = (content : List ℕ) × (items : List Item)
     × Stands table id kinds.Tree content × SpellsTree id.kind content items × IsWellFormed items
 
--- so many lookups were counted, as far as a count of 64 bits tells
+-- so many lookups were counted, as far as a count of 64 bits goes
 abbrev pub CountsUp : ℕ → ℕ → ℕ → Type 0
 CountsUp was now n = was + n < 2 ^ 64 → now ≡ was + n
 
--- the trees in front of the others were asked for, in order and counted, and are well-formed
+-- the trees before the others were looked up, in order and counted, and are well-formed
 pub record AsksUpTo (table : Table) (ids left : List Id) (was now : ℕ) : Type 0 where
   pub front : List Id
   pub split : front ++ left ≡ ids
   pub good : All (IsStoredTree table) front
   pub counted : CountsUp was now (length front)
 
--- all were asked for
+-- all were looked up
 abbrev pub AsksAll : Table → List Id → ℕ → ℕ → Type 0
 AsksAll table ids was now = All (IsStoredTree table) ids × CountsUp was now (length ids)
 
--- this one was asked for too, behind the ones in front of it
+-- this one was looked up too, after the ones before it
 pub record AsksFor (table : Table) (ids : List Id) (was now : ℕ) (id : Id) : Type 0 where
   pub front : List Id
   pub rest : List Id
@@ -80,14 +81,15 @@ pub record AsksFor (table : Table) (ids : List Id) (was now : ℕ) (id : Id) : T
   pub good : All (IsStoredTree table) front
   pub counted : CountsUp was now (suc (length front))
 
--- some of them were asked for, in order and counted
+-- some of them were looked up, in order and counted
 pub record AsksSome (ids : List Id) (was now : ℕ) : Type 0 where
   pub front : List Id
   pub rest : List Id
   pub split : front ++ rest ≡ ids
   pub counted : CountsUp was now (length front)
 
--- where an edit stops: at the first of the trees that isn't read or isn't well-formed, and by other causes behind them all
+-- how an edit stops: at the first of the trees that isn't read or isn't well-formed, and by other
+-- causes after them all
 abbrev pub StopsAt : Type 0 → Type 0 → Table → List Id → ℕ → ℕ → Error → Type 0
 StopsAt honest may_fail table ids was now EmptyPathComponent = now ≡ was
 StopsAt honest may_fail table ids was now (FindExistingObject error) =
@@ -100,7 +102,7 @@ StopsAt honest may_fail table ids was now (MalformedTree oid) =
 StopsAt honest may_fail table ids was now EmptyTree = now ≡ was
 StopsAt honest may_fail table ids was now Memory = AsksSome ids was now
 
--- over the stored trees all of these were asked for, or the edit stopped at one
+-- of the stored trees all of these were looked up, or the edit stopped at one
 abbrev pub Asks : {X : Type 0} → Type 0 → Type 0 → Table → (Trees → List Id) → ℕ → ℕ
     → Result X Error → Type 0
 Asks honest may_fail table ids was now (Ok x) = honest → (trees : Trees) → HasStored table trees

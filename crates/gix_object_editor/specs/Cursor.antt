@@ -1,4 +1,4 @@
--- A cursor as the path at which it stands.
+-- A cursor as the path of its folder.
 use Rattle.std.specs.Prelude.{◌≡◌, ◌≤◌, ◌+◌, ◌⊎◌, [], length, Result}
 use Rattle.std.specs.Borrow.{RestsIfErr, MutBor, Fml, RattleType}
 use Rattle.gix_object_editor.specs.declared.tree.editor.state.Cursor.{Cursor}
@@ -13,11 +13,11 @@ use Rattle.gix_object_editor.specs.Stored.{HasStored}
 use Rattle.gix_object_nodes.specs.Nodes.{slots_of, LeadsTo}
 use Rattle.gix_object_editor.specs.Editor.{files_of, LeadsInto, EditFault, IsChanged, IsAsRead, entry_over, asked_by}
 
--- the cursor stands at the opened tree at this path's end
+-- the cursor is at the opened tree at this path's end
 abbrev pub StandsAt : {S : Type 0} → Cursor S → Path → Type 0
 StandsAt cursor path = LeadsTo (slots_of cursor.editor.now.nodes.items) path cursor.at.0 []
 
--- what an editor is left as where no cursor is given, and why
+-- what an editor is left as if no cursor is returned, and why
 pub record IsLeft {S : Type 0} (honest may_fail : Type 0) (table : Table) (path : Path)
     (old left : Editor S) (error : Error) : Type 0 where
   pub files : honest → (trees : Trees) → HasStored table trees

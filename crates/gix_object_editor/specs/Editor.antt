@@ -35,12 +35,12 @@ IsOpenedAt editor path = (j : ℕ) × LeadsTo (slots_of editor.nodes.items) path
 abbrev pub IsAsRead : {S : Type 0} → Trees → Editor S → Type 0
 IsAsRead trees editor = AreAsRead trees (slots_of editor.nodes.items) (marks_of editor.nodes.items)
 
--- each tree is changed exactly where it was before
+-- each tree is changed exactly if it was before
 abbrev pub ChangesNone : {S : Type 0} → Editor S → Editor S → Type 0
 ChangesNone old new = (tree : Path) → (IsChanged new tree → IsChanged old tree)
     × (IsChanged old tree → IsChanged new tree)
 
--- the entry at a path over a table of trees, also where its tree isn't opened
+-- the entry at a path over a table of trees, also if its tree isn't opened
 abbrev pub entry_over : {S : Type 0} → Trees → Editor S → Path → Option Leaf
 entry_over trees editor = entry_from (λ leaf. None) trees (slots_of editor.nodes.items) 0
 
@@ -48,7 +48,8 @@ entry_over trees editor = entry_from (λ leaf. None) trees (slots_of editor.node
 abbrev pub entry_met : {S : Type 0} → Trees → Editor S → Path → Option Leaf
 entry_met trees editor = entry_from (λ leaf. Some leaf) trees (slots_of editor.nodes.items) 0
 
--- a folder that a cursor made stands at the path, and nothing was put into it: its entry has the null id, and no edit changed its tree
+-- at the path is a folder that a cursor made, and nothing was put into it: its entry has the null
+-- id, and no edit changed its tree
 abbrev pub IsMadeAt : {S : Type 0} → Editor S → Path → Type 0
 IsMadeAt editor path = (s : Slot) × (slot_over (slots_of editor.nodes.items) 0 path ≡ Some s)
     × IsMade (marks_of editor.nodes.items) s
@@ -59,11 +60,12 @@ abbrev pub IsTreeEntry : Option Leaf → Type 0
 IsTreeEntry None = ⊥
 IsTreeEntry (Some leaf) = leads_on leaf ≡ true
 
--- a folder stands at the path: a tree was opened there, or the entry names one
+-- a folder is at the path: a tree was opened there, or the entry names one
 abbrev pub HasFolderAt : {S : Type 0} → Trees → Editor S → Path → Type 0
 HasFolderAt trees editor path = IsOpenedAt editor path ⊎ IsTreeEntry (entry_over trees editor path)
 
--- what stands at the second path is in no way of the first: where it lies on it, or is its end, it is a folder
+-- what is at the second path isn't in the first one's way: if it lies on it, or is its end, it is a
+-- folder
 abbrev pub IsInNoWay : {S : Type 0} → Trees → Editor S → Path → Path → Type 0
 IsInNoWay trees editor path q = (rest : Path) → q ++ rest ≡ path → HasFolderAt trees editor q
 
@@ -93,21 +95,21 @@ MakesFoldersAbove trees kind path old new = (q : Path) (name : Bytes) (rest : Pa
     → q ++ name ∷ rest ≡ path → (HasFolderAt trees old q → ⊥)
     → entry_over trees new q ≡ Some (made_leaf kind)
 
--- nothing stands at the path's end, nor on the way to it where no folder stood
+-- nothing is at the path's end, nor at a path on the way to it that was no folder
 abbrev pub ClearsEntries : {S : Type 0} → Trees → Path → Editor S → Editor S → Type 0
 ClearsEntries trees path old new = (entry_over trees new path ≡ None)
     × ((q rest : Path) → q ++ rest ≡ path → (HasFolderAt trees old q → ⊥)
     → entry_over trees new q ≡ None)
 
--- each entry of the editor's opened trees has the property, also where a tree was opened for it
+-- each entry of the editor's opened trees has the property, also if a tree was opened for it
 abbrev pub EachEntryHas : {S : Type 0} → Property → Editor S → Type 0
 EachEntryHas has editor = EachHas has (slots_of editor.nodes.items)
 
--- over each table of trees that has the stored ones, where the store answers by its table
+-- over each table of trees that has the stored ones, if the store answers by its table
 abbrev pub OverStored : Type 0 → Table → (Trees → Type 0) → Type 0
 OverStored honest table P = honest → (trees : Trees) → HasStored table trees → P trees
 
--- the same where the call succeeds, and where it is refused
+-- the same if the call succeeds, and if it is refused
 abbrev pub OkOverStored : {X E : Type 0} → Type 0 → Table → Result X E → (Trees → Type 0) → Type 0
 OkOverStored honest table result P = honest
     → OnOk result ((trees : Trees) → HasStored table trees → P trees)
@@ -128,7 +130,7 @@ IsNonLeaf (MalformedTree oid) = ⊥
 IsNonLeaf EmptyTree = ⊥
 IsNonLeaf Memory = ⊥
 
--- what stands at the second path lies in the tree at the first
+-- what is at the second path lies in the tree at the first
 abbrev pub IsAbove : Path → Path → Type 0
 IsAbove tree path = (rest : Path) × (rest ≢ []) × (tree ++ rest ≡ path)
 
@@ -144,18 +146,19 @@ abbrev pub IsTreeNamed : Id → Option Leaf → Type 0
 IsTreeNamed id None = ⊥
 IsTreeNamed id (Some leaf) = (leaf.id ≡ id) × IsTrue (is_tree_value leaf.mode.value)
 
--- the path leads through the tree of this id: without that tree, its entry stands at a beginning of the path
+-- the path leads through the tree of this id: without that tree, its entry is at a beginning of the
+-- path
 abbrev pub LeadsThrough : (Trees → FileMap) → Path → Id → Type 0
 LeadsThrough files path id =
     (front : Path) × (name : Bytes) × (rest : Path) × (front ++ name ∷ rest ≡ path)
     × ((trees : Trees) → trees id ≡ None → IsTreeNamed id (files trees front))
 
--- the same, or the tree stands at the path's end
+-- the same, or the tree is at the path's end
 abbrev pub LeadsInto : (Trees → FileMap) → Path → Id → Type 0
 LeadsInto files path id = (front : Path) × (rest : Path) × (front ++ rest ≡ path)
     × ((trees : Trees) → trees id ≡ None → IsTreeNamed id (files trees front))
 
--- why an edit at a path is refused: a tree is told that the path leads through
+-- why an edit at a path is refused: an error of a tree is of one that the path leads through
 abbrev pub EditFault : Type 0 → Type 0 → Table → Path → (Id → Type 0) → Error → Type 0
 EditFault honest may_fail table path Through EmptyPathComponent = NamesAreFull path → ⊥
 EditFault honest may_fail table path Through (FindExistingObject error) = (id : Id) × Through id
@@ -176,7 +179,8 @@ GraftFault honest may_fail table path id Through error =
 abbrev pub IsFilled : {S : Type 0} → Trees → Editor S → Type 0
 IsFilled trees editor = AreFilled trees (slots_of editor.nodes.items)
 
--- a folder stands at the path: each table of trees, where no entry names a tree without files, has a file below it
+-- a folder is at the path: each table of trees in which no entry names a tree without files has a
+-- file below it
 abbrev pub IsFolder : (Trees → Type 0) → (Trees → FileMap) → Path → Type 0
 IsFolder Fit files path = (trees : Trees) → Fit trees → (name : Bytes) × (rest : Path)
     × (file : Leaf) × (files trees (path ++ name ∷ rest) ≡ Some file)

@@ -1,4 +1,4 @@
--- Properties of entries that edits keep: of their names, and of the modes and ids that stand there.
+-- Properties of entries that edits keep: of their names, modes and ids.
 use Rattle.std.specs.Prelude.{ℕ, ◌≡◌, Bool, true, false, List, Option, Some}
 use Rattle.std.specs.List.{All}
 use Rattle.gix_hash_id.specs.Id.{Id, null_id}

@@ -9,19 +9,20 @@ use Rattle.gix_object_editor.specs.Entries.{made_leaf}
 
 -- ---- the entries
 
--- the entry to which names lead from a folder that was made, where at the end of others an entry is put, in made folders
+-- the entry to which names lead from a folder that was made, if at the end of others an entry is
+-- put, in made folders
 abbrev pub laid : Trees → Leaf → Path → Path → Option Leaf
 laid trees leaf [] rest = entry_into (λ l. None) trees rest leaf
 laid trees leaf (name ∷ more) [] = Some (made_leaf leaf.id.kind)
 laid trees leaf (name ∷ more) (other ∷ rest) = if bytes_eq name other then laid trees leaf more rest
     else None
 
--- that one behind a name below which the entry is put, and elsewhere the one that was
+-- that one after a name below which the entry is put; elsewhere the one that was
 abbrev pub laid_at : Trees → Leaf → Path → Option Path → Option Leaf → Option Leaf
 laid_at trees leaf more (Some rest) old = laid trees leaf more rest
 laid_at trees leaf more None old = old
 
--- behind a name below which folders are made, the folders alone; elsewhere the entry that was
+-- after a name below which folders are made, only the folders; elsewhere the entry that was
 abbrev pub made_at : Kind → Path → Option Path → Option Leaf → Option Leaf
 made_at kind more (Some rest) old = if is_some (behind rest more) then Some (made_leaf kind)
     else None
@@ -33,8 +34,8 @@ made_at kind more None old = old
 abbrev pub IsOnly : Slots → ℕ → Bytes → Slot → Type 0
 IsOnly slots n name s = (slots n name ≡ Some s) × ((m : Bytes) → m ≢ name → slots n m ≡ None)
 
--- of nodes one behind the other, each with the slot of one name alone, this one: it is a folder that leads to the next node, or is
--- the last's
+-- of nodes in a row, each with the slot of one name alone, this one: it is a folder that leads to
+-- the next node, or is the last's
 pub record IsRung (slots : Slots) (first : ℕ) (names : Path) (last : Slot) (k : ℕ) : Type 0 where
   pub slot : Slot
   pub only : IsOnly slots (first + k) (slice_index_or names k []) slot

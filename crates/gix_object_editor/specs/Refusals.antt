@@ -15,8 +15,8 @@ use Rattle.gix_object_nodes.specs.declared.node.Slot.{Slot}
 use Rattle.gix_object_editor.specs.declared.tree.editor.error.Error.{Error}
 use Rattle.gix_object_editor.specs.declared.tree.editor.error.Error.TheVariants.{EmptyPathComponent, FindExistingObject, CannotRemoveNonLeaf, MalformedTree, EmptyTree, Memory}
 
--- the content under an id isn't read as a tree, for this cause, which the error tells with the id: where it spells one only for
--- want of memory
+-- the content under an id isn't read as a tree, for this cause, which the error has with the id: if
+-- it spells one, only for want of memory
 abbrev pub TreeIsUnread : Type 0 → Type 0 → Table → Id → existing.Error → Type 0
 TreeIsUnread honest may_fail table id (existing_case.Find error) = LookupFault may_fail error
 TreeIsUnread honest may_fail table id (existing_case.Decode oid source) =
@@ -29,7 +29,7 @@ TreeIsUnread honest may_fail table id
     (existing_case.ObjectKind oid actual expected) = HasOtherKind honest table id kinds.Tree
     (id_of oid) actual expected
 
--- a stored tree isn't well-formed, and the error tells its id
+-- a stored tree isn't well-formed, and the error has its id
 abbrev pub TreeIsMalformed : Type 0 → Table → Id → Id → Type 0
 TreeIsMalformed honest table id told =
     (told ≡ id) × ((content : List ℕ) × (items : List Item)
@@ -47,8 +47,8 @@ OpeningFault honest may_fail table id (MalformedTree oid) = TreeIsMalformed hone
 OpeningFault honest may_fail table id EmptyTree = ⊥
 OpeningFault honest may_fail table id Memory = ⊤
 
--- why a name's folder is refused as a file: its tree isn't opened, or a file stands below it, where no entry names a tree without
--- files
+-- why a name's folder is refused as a file: its tree isn't opened, or a file is below it, if no
+-- entry names a tree without files
 abbrev pub FolderFault : Type 0 → Type 0 → Table → Slots → ℕ → Bytes → Error → Type 0
 FolderFault honest may_fail table slots at name EmptyPathComponent = ⊥
 FolderFault honest may_fail table slots at name (FindExistingObject error) =

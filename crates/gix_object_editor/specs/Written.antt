@@ -1,4 +1,4 @@
--- What is handed out where the trees of an editor are written.
+-- What is handed out when the trees of an editor are written.
 use Rattle.std.specs.Prelude.{ℕ, ◌≡◌, ◌≢◌, List, [], ◌∷◌, ◌++◌, Result}
 use Rattle.std.specs.Borrow.{Bor}
 use Rattle.std.specs.Fn.{Mut}
@@ -35,7 +35,8 @@ module _ {F E : Type 0} (calls : Mut F (Bor Tree × Unit {0}) (Result ObjectId E
   Writes editor from path out id after = (handed : List HandedOut)
       × FoldsTo (HandsOut calls) out handed after × IsWritten editor from path handed id
 
-  -- why no id is answered for the tree at a path of an editor, which has this number, and what was handed out by then
+  -- why no id is returned for the tree at a path of an editor, which has this number, and what was
+  -- handed out by then
   abbrev pub WriteFault : {S : Type 0} → Editor S → ℕ → Path → F → Error E → F → Type 0
   WriteFault editor from path out error after =
       StopsWriting calls editor.nodes.items from path out error after

@@ -13,7 +13,7 @@ use Rattle.gix_object_entries.specs.ModeText.{Mode, mode_of, SpellsMode, SpellsN
 use Rattle.gix_object_entries.specs.declared.tree.entry.Entry.{Entry}
 use Rattle.gix_object_entries.specs.declared.tree.entry.EntryRef.{EntryRef}
 
--- what an entry tells
+-- what an entry holds
 pub record Item : Type 0 where
   pub mode : Mode
   pub name : List ℕ

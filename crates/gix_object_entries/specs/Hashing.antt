@@ -1,4 +1,5 @@
--- What an entry feeds a hasher: its mode's number and whether a zero stands before it, its name, and its id's bytes in one write.
+-- What an entry feeds a hasher: its mode's number and whether a zero precedes it, its name, and its
+-- id's bytes in one write.
 use Rattle.std.specs.Prelude.{◌≡◌, [], ◌∷◌, ◌++◌, IsTrue}
 use Rattle.std.proofs.Common.{ap}
 use Rattle.std.specs.Hash as fed

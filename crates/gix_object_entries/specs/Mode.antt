@@ -25,7 +25,7 @@ kind_name kinds.BlobExecutable = codes "exe"
 kind_name kinds.Link = codes "link"
 kind_name kinds.Commit = codes "commit"
 
--- a file may be run where the owner's bit for it is set
+-- a file is executable if the owner's bit for it is set
 abbrev pub file_kind : ℕ → EntryKind
 file_kind value = if value / 64 % 2 == 1 then kinds.BlobExecutable else kinds.Blob
 
@@ -33,7 +33,7 @@ file_kind value = if value / 64 % 2 == 1 then kinds.BlobExecutable else kinds.Bl
 abbrev pub is_tree_value : ℕ → Bool
 is_tree_value value = value / 4096 == 4
 
--- the kind that the number's first bits tell
+-- the kind that the number's first bits name
 abbrev pub kind_of : ℕ → EntryKind
 kind_of value =
     if is_tree_value value then kinds.Tree

@@ -4,7 +4,7 @@ use Rattle.std.specs.Fmt.{digits}
 use Rattle.std.specs.Str.Parse.{IsNumeral, digits_value}
 use Rattle.gix_object_entries.specs.declared.tree.mode.EntryMode.{EntryMode}
 
--- a mode's number, and whether a zero stands before it
+-- a mode's number, and whether a zero precedes it
 pub record Mode : Type 0 where
   pub value : ℕ
   pub padded : Bool
@@ -12,7 +12,7 @@ pub record Mode : Type 0 where
 abbrev pub mode_of : EntryMode → Mode
 mode_of mode = record { value = mode.value; padded = mode.padded }
 
--- octal digits, and a zero before them where one is told
+-- octal digits, after a zero if the mode has one
 abbrev pub mode_text : Mode → List ℕ
 mode_text mode = if mode.padded then 48 ∷ digits 8 false mode.value else digits 8 false mode.value
 
@@ -27,7 +27,7 @@ pub record SpellsMode (text : List ℕ) (mode : Mode) : Type 0 where
 abbrev pub SpellsNoMode : List ℕ → Type 0
 SpellsNoMode text = (mode : Mode) → SpellsMode text mode → ⊥
 
--- the text before the first such byte, all of it where none stands
+-- the text before the first such byte, all of it if there is none
 abbrev pub text_before : ℕ → List ℕ → List ℕ
 text_before byte [] = []
 text_before byte (x ∷ text) = if x == byte then [] else x ∷ text_before byte text

@@ -17,7 +17,7 @@ item_total =
     (on_total (λ (a : Item). a.name) nat_list_cmp_total))
     (on_total (λ (a : Item). a.id) id_total)
 
--- entries are equal where the order ties them
+-- entries are equal if the order ties them
 abbrev pub item_eq : Item → Item → Bool
 item_eq = eq_by_cmp item_cmp
 

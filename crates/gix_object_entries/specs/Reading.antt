@@ -6,7 +6,7 @@ use Rattle.gix_object_entries.specs.Entry.{item_of, SpellsEntry, SpellsNoEntry, 
 use Rattle.gix_object_entries.specs.declared.tree.entry.EntryRef.{EntryRef}
 use Rattle.gix_object_entries.specs.declared.tree.ref_iter.TreeRefIter.{TreeRefIter}
 
--- where a reader stands: the input from there on
+-- where a reader is: the input from there on
 pub record Place : Type 0 where
   pub kind : Kind
   pub input : List ℕ
@@ -28,7 +28,7 @@ Steps before (Some (Err error)) after =
     × EntryFault before.kind before.input error × (after.kind ≡ before.kind)
     × (after.input ≡ [])
 
--- the reader gives these entries one after another, and then stands there
+-- the reader gives these entries one after another, and is then there
 abbrev pub Gives : Place → List EntryRef → Place → Type 0
 Gives before [] there = there ≡ before
 Gives before (entry ∷ entries) there =

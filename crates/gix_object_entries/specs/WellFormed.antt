@@ -1,5 +1,5 @@
--- Trees that Git writes, and entries by their names (git-fsck tells emptyName, fullPathname, treeNotSorted and
--- duplicateEntries of others).
+-- Trees that Git writes, and entries by their names (git-fsck reports emptyName, fullPathname,
+-- treeNotSorted and duplicateEntries for others).
 use Rattle.std.specs.Prelude.{ℕ, ◌≡◌, ◌≢◌, Bool, List, []}
 use Rattle.std.specs.List.{All, AllPairs}
 use Rattle.std.specs.declared.cmp.Ordering.TheVariants.{Less}
@@ -22,7 +22,7 @@ ComesBefore item other = digits_cmp (item_key item) (item_key other) ≡ Less
 abbrev pub IsInOrder : List Item → Type 0
 IsInOrder items = AllPairs ComesBefore items
 
--- no name stands twice, also not as a file's and a tree's
+-- no two entries have one name, also not a file and a tree
 abbrev pub HasNamesOnce : List Item → Type 0
 HasNamesOnce items = AllPairs (λ item other. item.name ≢ other.name) items
 
@@ -31,6 +31,6 @@ pub record IsWellFormed (items : List Item) : Type 0 where
   pub ordered : IsInOrder items
   pub once : HasNamesOnce items
 
--- the entry has the name, and names a tree or none as asked
+-- the entry has the name, and names a tree or not, as wanted
 abbrev pub IsNamed : List ℕ → Bool → Item → Type 0
 IsNamed name of_tree item = (item.name ≡ name) × (is_tree item ≡ of_tree)

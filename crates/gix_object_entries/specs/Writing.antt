@@ -35,7 +35,7 @@ tree_refusal items =
 
 -- ---- what is read again
 
--- its mode and its id are told by what is written of them
+-- the bytes written for its mode and its id spell these
 pub record IsToldAgain (item : Item) : Type 0 where
   pub mode : SpellsMode (mode_text item.mode) item.mode
   pub id : IsBytesOf (raw_bytes item.id) item.id

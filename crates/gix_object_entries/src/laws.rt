@@ -31,8 +31,8 @@ pub fn written_mode_is_read_back(mode: EntryMode)
     let _text = mode.as_bytes(&mut backing);
 }
 
-/// What is written of a tree that isn't refused spells its entries, where its ids are of this hash function: it is read as that
-/// tree.
+/// What is written of a tree that isn't refused spells its entries if its ids are of this hash
+/// function: it is read as that tree.
 pub fn written_tree_is_read_back(tree: &TreeRef<'_>, _hash_kind: Kind)
     ensures { let items = map item_of tree.now.entries.items in
         tree_refusal items ≡ None → HasIds _hash_kind items
@@ -50,8 +50,8 @@ pub fn owned_written_tree_is_read_back(tree: &Tree, _hash_kind: Kind)
     entries_are_told_again(tree.entries.as_slice());
 }
 
-/// A tree that was read has ids of its hash function, and is written without a refusal: to the bytes that it was read from, where
-/// each mode stands in the digits that are written of it.
+/// A tree that was read has ids of its hash function, and is written without a refusal: to the
+/// bytes that it was read from, if each mode has the digits there that are written for it.
 pub fn read_tree_is_written(_content: &[u8], _hash_kind: Kind)
     ensures ids { (items : List Item) → SpellsTree _hash_kind _content.now items
         → HasIds _hash_kind items }
@@ -66,21 +66,23 @@ pub fn well_formed_tree_is_written()
     ensures { (items : List Item) → IsWellFormed items → tree_refusal items ≡ None }
 {}
 
-/// The entries that a content spells are those that the reader gives one after another, to the end of the content: so it gives no
-/// error exactly where `TreeRef::from_bytes` reads a tree, and then the same entries.
+/// The entries that a content spells are those that the reader gives one after another, to the end
+/// of the content: so it gives no error exactly if `TreeRef::from_bytes` reads a tree, and then the
+/// same entries.
 pub fn entries_are_read_one_by_one(_content: &[u8], _hash_kind: Kind)
     ensures { (entries : List borrowed.EntryRef)
         → SpellsTree _hash_kind _content.now (map item_of entries)
         ↔ Gives (start _hash_kind _content.now) entries (start _hash_kind []) }
 {}
 
-/// Entries are equal exactly where their modes, names and ids are.
+/// Entries are equal exactly if their modes, names and ids are.
 pub fn equal_entries_are_one(_entry: &Entry, _other: &Entry)
     ensures { IsTrue (item_eq (own_item _entry.now) (own_item _other.now))
         ↔ (own_item _entry.now ≡ own_item _other.now) }
 {}
 
-/// Equal entries feed a hasher the same bytes, also where one borrows its parts and the other owns them.
+/// Equal entries feed a hasher the same bytes, also if one borrows its parts and the other owns
+/// them.
 pub fn equal_entries_are_fed_alike(_entry: &Entry, _other: &EntryRef<'_>)
     ensures { IsTrue (item_eq (own_item _entry.now) (item_of _other.now))
         → item_input (own_item _entry.now) ≡ item_input (item_of _other.now) }

@@ -21,7 +21,7 @@ use Rattle.gix_object_lookup.specs.declared.find.existing_object.Error.TheVarian
 abbrev pub object_of : Data → Object
 object_of data_ = record { kind = data_.kind; content = data_.content.now }
 
--- the object that stands under the id tells this value
+-- the object of the id has this kind and value
 abbrev pub StandsAs : Table → Id → Kind → Value → Type 0
 StandsAs table id kind value =
     (content : List ℕ) × Stands table id kind content × Tells id.kind kind content value
@@ -36,7 +36,7 @@ commit_value commit = Commit (parts_of commit)
 abbrev pub tag_value : TagRef → Value
 tag_value tag = Tag (tag_parts_of tag)
 
--- an object of the kind stands, its content isn't read for this cause, and the error tells the id
+-- an object of the kind exists, its content isn't read for this cause, and the error has the id
 abbrev pub IsUnread : Type 0 → Table → Id → Kind → Id → decode.Error → Type 0
 IsUnread honest table id kind told cause =
     (told ≡ id)
@@ -52,7 +52,7 @@ ObjectFault honest may_fail table id kind (object_case.NotFound oid) =
 ObjectFault honest may_fail table id kind (object_case.ObjectKind oid actual expected) =
     HasOtherKind honest table id kind (id_of oid) actual expected
 
--- the reader begins the content of the object that stands under the id
+-- the reader begins the content of the object of the id
 abbrev pub ReadsStanding : {R : Type 0} → (hash.Kind → List ℕ → R → Type 0) → Table → Id → Kind
     → R → Type 0
 ReadsStanding reads table id kind reader =

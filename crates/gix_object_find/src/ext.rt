@@ -1,4 +1,4 @@
-//! Objects that must stand, of any kind and of one.
+//! Objects that must exist, of any kind and of one.
 
 ghost use Rattle.std.specs.Prelude.{◌≡◌, Some, IfOk, IfErr};
 ghost use Rattle.gix_hash_id.specs.Views.{viewed_id};
@@ -26,10 +26,10 @@ pub trait FindObjectOrHeader: Find + FindHeader {}
 
 impl<T: Find + FindHeader> FindObjectOrHeader for T {}
 
-/// Gives the kinds and sizes of objects that must stand.
+/// Returns the kinds and sizes of objects that must exist.
 pub trait HeaderExt: FindHeader {
-    /// The kind of the object of this id and the length of its content. It is `NotFound` where no object stands, and `Find` where
-    /// the lookup gave up.
+    /// The kind of the object of this id and the length of its content. Returns `NotFound` if there
+    /// is no such object, and `Find` if the lookup failed.
     fn header(&self, id: oid<'_>) -> Result<Header, existing::Error>
         ensures found { Self.is_honest self.now → IfOk result (λ header.
             header_at (Self.table self.now) (viewed_id id.entry) ≡ Some header) }
@@ -47,10 +47,11 @@ pub trait HeaderExt: FindHeader {
 
 impl<T: FindHeader> HeaderExt for T {}
 
-/// Gives objects that must stand. Each call is `NotFound` where no object stands, `Find` where the lookup gave up, and, where it
-/// asks for a kind, `ObjectKind` where the object is of another; it is `Decode` where the content isn't read.
+/// Returns objects that must exist. Each call returns `NotFound` if there is no such object, `Find`
+/// if the lookup failed, `ObjectKind` if the call wants another kind than the object has, and
+/// `Decode` if the content isn't read.
 pub trait FindExt: Find {
-    /// The object of this id, whose content stands in the buffer.
+    /// The object of this id, whose content is in the buffer.
     fn find<'a>(&self, id: oid<'_>, buffer: &'a mut Vec<u8>) -> Result<Data<'a>, existing::Error>
         ensures found { Self.is_honest self.now → IfOk result (λ found.
             Self.table self.now (viewed_id id.entry) ≡ Some (object_of found)) }
@@ -66,7 +67,7 @@ pub trait FindExt: Find {
         }
     }
 
-    /// The blob of this id, whose content stands in the buffer.
+    /// The blob of this id, whose content is in the buffer.
     fn find_blob<'a>(
         &self,
         id: oid<'_>,
@@ -81,7 +82,7 @@ pub trait FindExt: Find {
         Ok(BlobRef::from_bytes(content))
     }
 
-    /// The tree of this id, whose entries stand in the buffer.
+    /// The tree of this id, whose entries are in the buffer.
     fn find_tree<'a>(
         &self,
         alloc: Global,
@@ -103,7 +104,7 @@ pub trait FindExt: Find {
         }
     }
 
-    /// The commit of this id, whose parts stand in the buffer.
+    /// The commit of this id, whose parts are in the buffer.
     fn find_commit<'a>(
         &self,
         alloc: Global,
@@ -126,7 +127,7 @@ pub trait FindExt: Find {
         }
     }
 
-    /// The tag of this id, whose parts stand in the buffer.
+    /// The tag of this id, whose parts are in the buffer.
     fn find_tag<'a>(
         &self,
         id: oid<'_>,
@@ -147,7 +148,7 @@ pub trait FindExt: Find {
         }
     }
 
-    /// A reader of the entries of the tree of this id, which stand in the buffer.
+    /// A reader of the entries of the tree of this id, which are in the buffer.
     fn find_tree_iter<'a>(
         &self,
         id: oid<'_>,
@@ -161,7 +162,7 @@ pub trait FindExt: Find {
         entries_of(self, id, buffer)
     }
 
-    /// A reader of the parts of the commit of this id, which stand in the buffer.
+    /// A reader of the parts of the commit of this id, which are in the buffer.
     fn find_commit_iter<'a>(
         &self,
         id: oid<'_>,
@@ -177,7 +178,7 @@ pub trait FindExt: Find {
         Ok(CommitRefIter::from_bytes(content, id.kind()))
     }
 
-    /// A reader of the parts of the tag of this id, which stand in the buffer.
+    /// A reader of the parts of the tag of this id, which are in the buffer.
     fn find_tag_iter<'a>(
         &self,
         id: oid<'_>,

@@ -13,12 +13,13 @@ use gix_hash::io::{Error, Interrupt, Progress, bytes_with_hasher};
 use gix_object_lines::{Kind, encode};
 use std::io;
 
-/// The id of an object of this kind whose content is exactly the stream's next `stream_len` bytes: the digest of its header
-/// and its content, which are together at most 2^61 - 1 bytes, as FIPS 180-4 allows.
+/// The id of an object of this kind whose content is exactly the stream's next `stream_len` bytes:
+/// the digest of its header and its content, which are together at most 2^61 - 1 bytes, as FIPS
+/// 180-4 allows.
 ///
-/// It reads, tells the progress and asks the interruption as `gix_hash::bytes_with_hasher` does: after each piece of 65,535
-/// bytes, the last of which may be shorter. On a yes it answers `Interrupted`; an error of the stream, or its early end,
-/// is `Io`.
+/// It reads pieces of 65,535 bytes, the last of which may be shorter. After each it reports to the
+/// progress and polls the interruption, as `gix_hash::bytes_with_hasher` does. Returns
+/// `Interrupted` if that says yes, and `Io` if the stream fails or ends early.
 pub fn compute_stream_hash<R: io::Read, P: Progress, I: Interrupt>(
     hash_kind: gix_hash::Kind,
     object_kind: Kind,

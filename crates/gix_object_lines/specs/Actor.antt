@@ -9,17 +9,17 @@ use Rattle.gix_object_lines.specs.declared.lines.time.Time.{Time}
 -- the line is a name, an email and what follows it
 pub record IsCut (line name email rest : List ℕ) : Type 0 where
   pub spelled : line ≡ name ++ codes " <" ++ email ++ codes "> " ++ rest
-  -- the `<` before the email is the line's first, and the `>` behind it the last
+  -- the `<` before the email is the line's first, and the `>` after it the last
   pub first : Lacks 60 name
   pub last : Lacks 62 rest
-  -- no line feed stands in either
+  -- neither has a line feed
   pub name_in_line : Lacks 10 name
   pub email_in_line : Lacks 10 email
 
 abbrev pub IsUncut : List ℕ → Type 0
 IsUncut line = (name email rest : List ℕ) → ¬ IsCut line name email rest
 
--- the text tells a time
+-- the text spells a time
 abbrev pub TellsTime : List ℕ → Type 0
 TellsTime text = (time : Time) × SpellsTime text time
 
@@ -28,7 +28,7 @@ pub record SpellsActor (line name email time : List ℕ) : Type 0 where
   pub cut : IsCut line name email time
   pub time_told : TellsTime time
 
--- the line has a name and an email, but tells no time
+-- the line has a name and an email, but no time
 abbrev pub IsUntimed : List ℕ → Type 0
 IsUntimed line =
     (name : List ℕ) × (email : List ℕ) × (rest : List ℕ) × IsCut line name email rest

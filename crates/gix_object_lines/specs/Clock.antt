@@ -1,4 +1,4 @@
--- Hours and minutes, as an offset has them behind its sign.
+-- Hours and minutes, as an offset has them after its sign.
 use Rattle.std.specs.Prelude.{ℕ, ℤ, pos, ◌≡◌, ◌+◌, ◌*◌, ◌<◌, List, ◌++◌}
 use Rattle.gix_object_lines.specs.Time.{two_digits}
 

@@ -28,7 +28,7 @@ person_of actor =
 abbrev pub own_person : Actor → Person
 own_person actor = record { name = actor.name; email = actor.email; time = time_text actor.time }
 
--- the same name and email, and the time that the text tells
+-- the same name and email, and the time that the text spells
 pub record IsActorOf (person : Person) (actor : Actor) : Type 0 where
   pub name : actor.name ≡ person.name
   pub email : actor.email ≡ person.email

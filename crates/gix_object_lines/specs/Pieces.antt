@@ -1,9 +1,10 @@
--- What is written of a value in pieces, one behind the other, up to the first that the format never writes.
+-- What is written of a value in pieces, one after the other, up to the first that the format never
+-- writes.
 use Rattle.std.specs.Prelude.{ℕ, List, [], ◌∷◌, ◌++◌, flat_map, Option, None, Some, Result}
 use Rattle.gix_object_lines.specs.Writes.{Refusal, Writes}
 use Rattle.gix_object_lines.specs.declared.write.Error.{Error}
 
--- a piece's text and, where the format never writes it, why
+-- a piece's text and, if the format never writes it, why
 pub record Piece : Type 0 where
   pub text : List ℕ
   pub cause : Option Error

@@ -45,7 +45,7 @@ IsSpellableOffset offset = (unsigned_abs offset % 60 ≡ 0) × (unsigned_abs off
 abbrev pub clock_text : ℕ → List ℕ
 clock_text seconds = two_digits (seconds / 3600) ++ two_digits (seconds / 60 % 60)
 
--- the sign is `-` for what is behind only
+-- the sign is `-` for negative offsets only
 abbrev pub offset_text : ℤ → List ℕ
 offset_text (pos seconds) = 43 ∷ clock_text seconds
 offset_text (negsuc seconds) = 45 ∷ clock_text (suc seconds)

@@ -1,4 +1,5 @@
--- Whether a text tells a time, as a test. The contract of `lines::tells_time` says that the test is the grammar in `Time`.
+-- Whether a text spells a time, as a test. The contract of `lines::tells_time` says that the test
+-- is the grammar in `Time`.
 use Rattle.std.specs.Prelude.{ℕ, Bool, false, not, ◌&&◌, ◌||◌, ◌==◌, ◌+◌, ◌^◌, ◌-◌, nat_lt, List, [], ◌∷◌, length, take, drop, if◌then◌else◌}
 use Rattle.std.specs.List.{list_all}
 use Rattle.std.specs.Char.{is_ascii_digit}

@@ -24,7 +24,7 @@ abbrev pub IsRefused : Option (List ℕ) → Option (List ℕ) → List ℕ → 
 IsRefused old new text refusal cause =
     (cause_of refusal ≡ Some cause) × Appends old new (writable text refusal)
 
--- what the call's answer tells of what was written
+-- what was written, by the call's result
 abbrev pub Writes : {U : Type 0} → Option (List ℕ) → Option (List ℕ) → List ℕ → Option Refusal
     → Result U Error → Type 0
 Writes old new text refusal (Ok _) = (cause_of refusal ≡ None) × Appends old new text

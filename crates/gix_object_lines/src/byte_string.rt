@@ -71,7 +71,7 @@ impl ByteString {
         bytes
     }
 
-    /// The bytes without the line feed that ends them, where one does.
+    /// The bytes without the line feed that ends them, if one does.
     pub fn without_last_feed(self) -> ByteString
         ensures { result ≡ spec.without_last_feed self }
     {

@@ -1,11 +1,11 @@
-//! Cuts of bytes at a byte, behind a front and before a back.
+//! Cuts of bytes at a byte, after a front and before a back.
 
 ghost use Rattle.std.specs.Prelude.{ℕ, List, ◌≡◌, ◌≢◌, ◌++◌, ◌∷◌, ◌↔◌, IsTrue, MatchOption};
 ghost use Rattle.gix_object_lines.specs.Bytes.{IsBeginningOf, Lacks};
 
 use memchr::{memchr, memrchr};
 
-/// What stands before and behind the first byte of this value; `None` where none stands.
+/// The bytes before and after the first byte of this value; `None` if there is none.
 pub fn split_once(bytes: &[u8], byte: u8) -> Option<(&[u8], &[u8])>
     ensures { MatchOption result (Lacks byte bytes.now)
         (λ cut. (bytes.now ≡ cut.0.now ++ byte ∷ cut.1.now) × Lacks byte cut.0.now) }
@@ -14,7 +14,7 @@ pub fn split_once(bytes: &[u8], byte: u8) -> Option<(&[u8], &[u8])>
     Some((&bytes[..at], &bytes[at + 1..]))
 }
 
-/// What stands before and behind the last byte of this value; `None` where none stands.
+/// The bytes before and after the last byte of this value; `None` if there is none.
 pub fn rsplit_once(bytes: &[u8], byte: u8) -> Option<(&[u8], &[u8])>
     ensures { MatchOption result (Lacks byte bytes.now)
         (λ cut. (bytes.now ≡ cut.0.now ++ byte ∷ cut.1.now) × Lacks byte cut.1.now) }
@@ -23,7 +23,7 @@ pub fn rsplit_once(bytes: &[u8], byte: u8) -> Option<(&[u8], &[u8])>
     Some((&bytes[..at], &bytes[at + 1..]))
 }
 
-/// What stands behind this front; `None` where the bytes don't begin with it.
+/// The bytes after this front; `None` if they don't begin with it.
 pub fn strip_prefix<'a>(bytes: &'a [u8], front: &[u8]) -> Option<&'a [u8]>
     ensures { MatchOption result ((rest : List ℕ) → bytes.now ≢ front.now ++ rest)
         (λ rest. bytes.now ≡ front.now ++ rest.now) }
@@ -31,7 +31,7 @@ pub fn strip_prefix<'a>(bytes: &'a [u8], front: &[u8]) -> Option<&'a [u8]>
     bytes.strip_prefix(front)
 }
 
-/// What stands behind this word and a space; `None` where the bytes don't begin with them.
+/// The bytes after this word and a space; `None` if they don't begin with both.
 pub fn strip_word<'a>(bytes: &'a [u8], word: &[u8]) -> Option<&'a [u8]>
     ensures { MatchOption result ((rest : List ℕ) → bytes.now ≢ word.now ++ 32 ∷ rest)
         (λ rest. bytes.now ≡ word.now ++ 32 ∷ rest.now) }
@@ -40,7 +40,7 @@ pub fn strip_word<'a>(bytes: &'a [u8], word: &[u8]) -> Option<&'a [u8]>
     strip_prefix(rest, b" ")
 }
 
-/// What stands before this back; `None` where the bytes don't end with it.
+/// The bytes before this back; `None` if they don't end with it.
 pub fn strip_suffix<'a>(bytes: &'a [u8], back: &[u8]) -> Option<&'a [u8]>
     ensures { MatchOption result ((rest : List ℕ) → bytes.now ≢ rest ++ back.now)
         (λ rest. bytes.now ≡ rest.now ++ back.now) }
@@ -48,14 +48,14 @@ pub fn strip_suffix<'a>(bytes: &'a [u8], back: &[u8]) -> Option<&'a [u8]>
     bytes.strip_suffix(back)
 }
 
-/// Whether no byte of this value stands in the bytes.
+/// Returns whether no byte has this value.
 pub fn lacks(bytes: &[u8], byte: u8) -> bool
     ensures { IsTrue result ↔ Lacks byte bytes.now }
 {
     memchr(byte, bytes).is_none()
 }
 
-/// Whether the bytes begin with this front.
+/// Returns whether the bytes begin with this front.
 pub fn starts_with(bytes: &[u8], front: &[u8]) -> bool
     ensures { IsTrue result ↔ IsBeginningOf front.now bytes.now }
 {

@@ -4,8 +4,8 @@ ghost use Rattle.std.specs.Prelude.{◌≡◌, ◌<◌, decimal, MatchOption};
 ghost use Rattle.gix_object_lines.specs.Decimal.{IsNoUnsigned};
 ghost use Rattle.gix_object_lines.specs.Time.{two_digits};
 
-/// The number that the digits spell: without a sign or a leading zero (`0` alone is zero), and at most
-/// 18,446,744,073,709,551,615. `None` where they spell none.
+/// The number that the digits spell: without a sign or a leading zero (`0` alone is zero), and at
+/// most 18,446,744,073,709,551,615. `None` if they spell none.
 pub fn read_unsigned(text: &[u8]) -> Option<u64>
     ensures { MatchOption result (IsNoUnsigned text.now) (λ n. text.now ≡ decimal n) }
 {

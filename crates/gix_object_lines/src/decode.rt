@@ -16,13 +16,15 @@ pub enum Error {
     /// The line doesn't begin with the word that is expected there and a space.
     #[error("another field was expected")]
     FieldName,
-    /// Behind the word stand fewer bytes than the id has digits, or one of them is no hexadecimal digit.
+    /// The word is followed by fewer bytes than the id has digits, or one of them is no hexadecimal
+    /// digit.
     #[error("an id of hexadecimal digits was expected")]
     HexDigits,
-    /// No line feed stands behind the value.
+    /// The value isn't followed by a line feed.
     #[error("the end of the line was expected")]
     LineEnd,
-    /// The line isn't a name, a space, an email between `<` and `>` and a space, or a line feed stands in name or email.
+    /// The line isn't a name, a space, an email between `<` and `>` and a space, or name or email
+    /// has a line feed.
     #[error("a name, an email between angle brackets and a time were expected")]
     InvalidActor,
     /// The text, or what follows an actor's email, isn't seconds of 64 bits, a space, a sign, two digits of hours and two of
@@ -40,10 +42,10 @@ pub enum LooseHeaderDecodeError {
     /// The size isn't a decimal number without a leading zero, of at most 18,446,744,073,709,551,615.
     #[error("the object's size is no number")]
     ParseIntegerError,
-    /// No space stands behind the kind, or no zero byte behind the size.
+    /// The kind isn't followed by a space, or the size not by a zero byte.
     #[error("the header has no space or no zero byte")]
     InvalidHeader,
-    /// What stands before the first space names no kind.
+    /// What comes before the first space names no kind.
     #[error(transparent)]
     ObjectHeader(kind::Error),
 }
@@ -56,10 +58,12 @@ impl From<kind::Error> for LooseHeaderDecodeError {
     }
 }
 
-/// The kind of an object, the length of its content in bytes, and how many bytes its header takes, from bytes that
-/// begin with it: the kind's word, one space, the length in decimal without a leading zero, and a zero byte.
+/// The kind of an object, the length of its content in bytes, and how many bytes its header takes,
+/// from bytes that begin with it: the kind's word, one space, the length in decimal without a
+/// leading zero, and a zero byte.
 ///
-/// Of the parts that fail the first is told: the space, the kind, the zero byte, the number.
+/// The error names the first part that fails, in this order: the space, the kind, the zero byte,
+/// the number.
 pub fn loose_header(input: &[u8]) -> Result<(Kind, u64, usize), LooseHeaderDecodeError>
     ensures read { IfOk result (λ header. (header.2 ≡ length (header_text header.0 header.1))
         × (input.now ≡ header_text header.0 header.1 ++ drop header.2 input.now)) }

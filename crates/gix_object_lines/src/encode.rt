@@ -21,8 +21,8 @@ pub enum Error {
     Unspellable,
 }
 
-/// The header of an object of this kind whose content has this length in bytes: at most 28 bytes, which stand in the
-/// result itself.
+/// The header of an object of this kind whose content has this length in bytes: at most 28 bytes,
+/// which the result holds without memory of its own.
 pub fn loose_header(kind: Kind, size: u64) -> ArrayVec<u8, 28>
     ensures { result.items ≡ header_text kind size }
 {

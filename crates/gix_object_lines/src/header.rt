@@ -2,7 +2,7 @@
 
 use crate::kind::Kind;
 
-/// What an object's header tells.
+/// The kind and size that an object's header gives.
 #[derive(Debug, Clone, Copy, PartialEq, Eq)]
 pub struct Header {
     /// The object's kind.

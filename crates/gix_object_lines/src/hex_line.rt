@@ -17,10 +17,11 @@ use bstr::BStr;
 use gix_hash::ObjectId;
 use std::io;
 
-/// The digits of a line that begins the input, and what follows the line: the word, a space, exactly `hex_len`
-/// hexadecimal digits in any letter case, and a line feed.
+/// The digits of a line that begins the input, and what follows the line: the word, a space,
+/// exactly `hex_len` hexadecimal digits in any letter case, and a line feed.
 ///
-/// Of the parts that fail the first is told: the word with its space, the digits, the line feed.
+/// The error names the first part that fails, in this order: the word with its space, the digits,
+/// the line feed.
 pub fn read_hex_line<'a>(
     input: &'a [u8],
     word: &[u8],
@@ -45,14 +46,14 @@ pub fn read_hex_line<'a>(
     }
 }
 
-// Whether all bytes are hexadecimal digits.
+// Returns whether all bytes are hexadecimal digits.
 fn is_hexadecimal(bytes: &[u8]) -> bool
     ensures { result ≡ is_hex bytes.now }
 {
     bytes.iter().all(|byte| byte.is_ascii_hexdigit())
 }
 
-/// Whether it is the digits of an id: 40 or 64 hexadecimal digits, in any letter case.
+/// Returns whether it is the digits of an id: 40 or 64 hexadecimal digits, in any letter case.
 pub fn is_id(digits: &[u8]) -> bool
     ensures { result ≡ test.is_id digits.now }
 {
@@ -67,7 +68,7 @@ pub fn id_of_digits(digits: &[u8]) -> ObjectId
     ObjectId::from_hex(digits).unwrap()
 }
 
-/// The id that the digits spell. It is `HexDigits` where they are no id's.
+/// The id that the digits spell; `HexDigits` if they aren't an id's.
 pub fn own_id(digits: BStr<'_>) -> Result<ObjectId, Error>
     ensures own { IfOk result (λ id. IsHexOfId (bstr_bytes digits.entry) (id_of id)) }
     ensures tested { IfOk result (λ id. IsTrue (test.is_id (bstr_bytes digits.entry))) }
@@ -80,8 +81,8 @@ pub fn own_id(digits: BStr<'_>) -> Result<ObjectId, Error>
     }
 }
 
-/// Writes a line: the word, a space, the digits as they are, and a line feed. Where the writer fails it has taken a
-/// beginning of the line.
+/// Writes a line: the word, a space, the digits as they are, and a line feed. If the writer fails,
+/// it has taken a beginning of the line.
 pub fn write_hex_line<W: io::Write>(word: &[u8], digits: &[u8], out: &mut W) -> io::Result<()>
     ensures ok { OnOk result
         (Appends (W.contents out.old) (W.contents out.new) (hex_line word.now digits.now)) }

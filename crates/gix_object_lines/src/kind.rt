@@ -58,28 +58,28 @@ impl Kind {
         }
     }
 
-    /// Whether it is the kind of commits.
+    /// Returns whether it is the kind of commits.
     pub fn is_commit(&self) -> bool
         ensures { IsTrue result ↔ (self.now ≡ Commit) }
     {
         matches!(self, Kind::Commit)
     }
 
-    /// Whether it is the kind of trees.
+    /// Returns whether it is the kind of trees.
     pub fn is_tree(&self) -> bool
         ensures { IsTrue result ↔ (self.now ≡ Tree) }
     {
         matches!(self, Kind::Tree)
     }
 
-    /// Whether it is the kind of tags.
+    /// Returns whether it is the kind of tags.
     pub fn is_tag(&self) -> bool
         ensures { IsTrue result ↔ (self.now ≡ Tag) }
     {
         matches!(self, Kind::Tag)
     }
 
-    /// Whether it is the kind of blobs.
+    /// Returns whether it is the kind of blobs.
     pub fn is_blob(&self) -> bool
         ensures { IsTrue result ↔ (self.now ≡ Blob) }
     {

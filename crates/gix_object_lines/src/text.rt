@@ -9,7 +9,7 @@ use crate::decode::Error;
 use bstr::BStr;
 use std::alloc::Global;
 
-/// The text, lent, where there is one.
+/// The text, lent, if there is one.
 pub fn bstr_of(text: &Option<ByteString>) -> Option<BStr<'_>>
     ensures { option_map bstr_bytes result ≡ text.now }
 {
@@ -19,7 +19,7 @@ pub fn bstr_of(text: &Option<ByteString>) -> Option<BStr<'_>>
     }
 }
 
-/// A copy of the text. It is `Memory` where no memory is left.
+/// A copy of the text; `Memory` if no memory is left.
 pub fn own_text(alloc: Global, text: BStr<'_>) -> Result<ByteString, Error>
     ensures own { IfOk result (λ copy. copy ≡ bstr_bytes text.entry) }
     ensures refused { IfErr result (λ error. error ≡ Memory) }
@@ -30,7 +30,7 @@ pub fn own_text(alloc: Global, text: BStr<'_>) -> Result<ByteString, Error>
     }
 }
 
-/// A copy of the text, where there is one. It is `Memory` where no memory is left.
+/// A copy of the text, if there is one; `Memory` if no memory is left.
 pub fn own_text_if_any(alloc: Global, text: Option<BStr<'_>>) -> Result<Option<ByteString>, Error>
     ensures own { IfOk result (λ copy. copy ≡ option_map bstr_bytes text.entry) }
     ensures refused { IfErr result (λ error. error ≡ Memory) }

@@ -31,13 +31,13 @@ pub trait WriteTo {
     fn kind(&self) -> Kind
         ensures { result ≡ object_kind self.now };
 
-    /// The length of the content in bytes, as `write_to` writes it (for a value that it refuses: of all parts). `None`
-    /// where that is more than 18,446,744,073,709,551,615.
+    /// The length of the content in bytes, as `write_to` writes it (for a value that it refuses: of
+    /// all parts). `None` if that is more than 18,446,744,073,709,551,615.
     fn size(&self) -> Option<u64>
         ensures { MatchOption result (2 ^ 64 ≤ length (text self.now))
             (λ size. size ≡ length (text self.now)) };
 
-    /// The header of the object, and `None` where its size is.
+    /// The header of the object; `None` if `size` is.
     fn loose_header(&self) -> Option<ArrayVec<u8, 28>>
         ensures { MatchOption result (2 ^ 64 ≤ length (text self.now))
             (λ header. header.items ≡ header_text (object_kind self.now) (length (text self.now))) }

@@ -46,7 +46,7 @@ pub enum Error {
     Filename(FilenameError),
 }
 
-/// Writes the parts in order. Where the writer fails it has taken a beginning of them.
+/// Writes the parts in order. If the writer fails, it has taken a beginning of them.
 pub fn write_parts<W: io::Write>(out: &mut W, parts: &[&[u8]]) -> io::Result<()>
     ensures ok { OnOk result (Appends (W.contents out.old) (W.contents out.new)
         (flat_map (λ part. part.now) parts.now)) }
@@ -59,8 +59,8 @@ pub fn write_parts<W: io::Write>(out: &mut W, parts: &[&[u8]]) -> io::Result<()>
     Ok(())
 }
 
-/// Writes a piece of an object, given in parts, where it isn't refused. Else it is `Header` of the cause, and nothing is
-/// written.
+/// Writes a piece of an object, given in parts. If it is refused, returns `Header` of the cause and
+/// writes nothing.
 pub fn write_piece<W: io::Write>(
     refused: Option<encode::Error>,
     parts: &[&[u8]],
@@ -79,7 +79,7 @@ pub fn write_piece<W: io::Write>(
     Ok(())
 }
 
-/// This length and those of the parts; `None` where the sum is more than 18,446,744,073,709,551,615.
+/// This length and those of the parts; `None` if the sum is more than 18,446,744,073,709,551,615.
 pub fn add_lengths(before: u64, parts: &[&[u8]]) -> Option<u64>
     ensures { let text = flat_map (λ part. part.now) parts.now in
         MatchOption result (2 ^ 64 ≤ before + length text) (λ total. total ≡ before + length text) }

@@ -1,5 +1,5 @@
--- Objects that must stand, and why they aren't given: `honest` says whether a store answers by its table, `may_fail` whether its
--- lookups may fail.
+-- Objects that must exist, and why they aren't returned: `honest` says whether a store answers by
+-- its table, `may_fail` whether its lookups may fail.
 use Rattle.std.specs.Prelude.{ℕ, ◌≡◌, ◌≢◌, ⊤, List, None, Some}
 use Rattle.gix_hash_id.specs.Id.{Id, id_of}
 use Rattle.gix_object_lines.specs.declared.kind.Kind.{Kind}
@@ -14,7 +14,7 @@ use Rattle.gix_object_lookup.specs.declared.find.existing.Error.TheVariants as e
 use Rattle.gix_object_lookup.specs.declared.find.existing_iter.Error as existing_iter
 use Rattle.gix_object_lookup.specs.declared.find.existing_iter.Error.TheVariants as iter_case
 
--- an object of this kind and content stands under the id
+-- the object of the id has this kind and content
 abbrev pub Stands : Table → Id → Kind → List ℕ → Type 0
 Stands table id kind content = table id ≡ Some (record { kind = kind; content = content })
 
@@ -22,11 +22,11 @@ abbrev pub LookupFault : Type 0 → find.Error → Type 0
 LookupFault may_fail Failed = may_fail
 LookupFault may_fail Memory = ⊤
 
--- no object stands, and the error tells the id
+-- no such object exists, and the error has the id
 abbrev pub IsAbsent : Type 0 → Table → Id → Id → Type 0
 IsAbsent honest table id told = (told ≡ id) × (honest → table id ≡ None)
 
--- an object of another kind stands, and the error tells the id and both kinds
+-- the object is of another kind, and the error has the id and both kinds
 abbrev pub HasOtherKind : Type 0 → Table → Id → Kind → Id → Kind → Kind → Type 0
 HasOtherKind honest table id kind told actual expected =
     (told ≡ id) × (expected ≡ kind) × (actual ≢ kind) × (honest → kind_at table id ≡ Some actual)

@@ -45,12 +45,12 @@ NameFault tree name Memory = ⊤
 -- ---- from tree to tree: `honest` says whether a store answers by its table, `may_fail` whether
 -- its lookups may fail
 
--- the tree that the entry names: its content stands under the entry's id
+-- the tree that the entry names: its content is stored under the entry's id
 abbrev pub IsNamedBy : Type 0 → Table → Item → Place → Type 0
 IsNamedBy honest table item tree =
     honest → (tree.kind ≡ item.id.kind) × Stands table item.id kinds.Tree tree.input
 
--- the entry of the name in the tree that an entry names: none where it names no tree
+-- the entry of the name in the tree that an entry names: none if it names no tree
 abbrev pub IsBelow : Type 0 → Table → Item → List ℕ → Option Item → Type 0
 IsBelow honest table item name found = MatchBool (is_tree item)
     ((tree : Place) × IsNamedBy honest table item tree × FindsFirst tree name found)
@@ -69,11 +69,11 @@ LooksUp honest table tree [] answer = answer ≡ None
 LooksUp honest table tree (name ∷ path) answer = (found : Option Item)
     × FindsFirst tree name found × Follows honest table found path answer
 
--- the names of a path in one text: what stands between slashes, but nothing
+-- the names of a path in one text: what lies between slashes, unless it is empty
 abbrev pub names_in : List ℕ → Path
 names_in path = filter (λ name. not (length name == 0)) (slice_split (λ byte. byte == 47) path)
 
--- ---- why none is told
+-- ---- why none is returned
 
 -- the tree that an entry names isn't given, or the name isn't sought to its end there
 abbrev pub BelowFault : Type 0 → Type 0 → Table → Item → List ℕ → Error → Type 0
@@ -95,8 +95,8 @@ pub record FollowFault (honest may_fail : Type 0) (table : Table) (item : Item) 
   pub leads : Follows honest table (Some item) front (Some last)
   pub fault : BelowFault honest may_fail table last name error
 
--- the lookup of the first name ends with this error, or it finds an entry, and it is one of the
--- names behind; without names memory alone may be wanting
+-- the lookup of the first name ends with this error, or it finds an entry, and the error is one of
+-- the names after it; without names only memory may be missing
 abbrev pub PathFault : Type 0 → Type 0 → Table → Place → Path → Error → Type 0
 PathFault honest may_fail table tree [] error = error ≡ Memory
 PathFault honest may_fail table tree (name ∷ path) error = NameFault tree name error

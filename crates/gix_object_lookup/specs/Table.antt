@@ -20,7 +20,7 @@ abbrev pub content_or_none : Option Object → List ℕ
 content_or_none None = []
 content_or_none (Some object) = object.content
 
--- the content, and nothing where no object stands
+-- the content, and nothing if there is no object
 abbrev pub content_at : Table → Id → List ℕ
 content_at table id = content_or_none (table id)
 

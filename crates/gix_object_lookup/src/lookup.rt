@@ -51,12 +51,13 @@ impl From<AllocError> for Error {
     }
 }
 
-/// The entry of this path, whose names lead from the tree that is read down through the trees of the store; `None` where a name
-/// isn't there or leads to no tree, and for the path without names. Of entries of one name the first counts, and a tree is read
-/// no further than to it. The buffer holds the content of the last tree that was asked for.
+/// The entry of this path, whose names lead from the given tree down through the trees of the
+/// store; `None` if a name is missing or leads to no tree, and for the path without names. Of
+/// entries of one name the first counts, and a tree is read no further than that. The buffer then
+/// holds the content of the last tree that was looked up.
 ///
-/// It is `Find` where a tree to which the names lead isn't given, `Decode` where in one of them an entry before that of the next
-/// name can't be read, and `Memory` where no memory is left.
+/// Returns `Find` if a tree to which the names lead isn't found, `Decode` if in one of them an
+/// entry before that of the next name can't be read, and `Memory` if no memory is left.
 pub fn lookup_entry<T: FindInto>(
     tree: TreeRefIter<'_>,
     objects: &T,
@@ -78,8 +79,9 @@ pub fn lookup_entry<T: FindInto>(
     }
 }
 
-/// The entry of this path in one text, whose names stand between slashes, as `lookup_entry` gives it: empty names, as before a
-/// slash that begins the path or behind one that ends it, are passed over. The errors are those of `lookup_entry`.
+/// The entry of this path in one text, whose names are separated by slashes, as `lookup_entry`
+/// returns it. Empty names, as before a slash that begins the path or after one that ends it, are
+/// skipped. The errors are those of `lookup_entry`.
 pub fn lookup_entry_by_path<T: FindInto>(
     tree: TreeRefIter<'_>,
     objects: &T,

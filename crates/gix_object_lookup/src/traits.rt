@@ -1,4 +1,4 @@
-//! What stands under an id.
+//! Looking objects up by their ids.
 
 ghost use Rattle.std.specs.Prelude.{◌≡◌, ◌↔◌, List, is_some, IsTrue, IfOk, OnOk, IsSome, IsErrOf, Contains};
 ghost use Rattle.std.specs.Rc.{rc_value};
@@ -15,22 +15,22 @@ use std::rc::Rc;
 
 /// Objects under their ids: what all lookups speak of. A contract names this map and nothing else of who looks up.
 pub trait Lookup {
-    /// The object that stands under each id.
+    /// The object stored under each id.
     ghost table: { Self → Table };
 
     /// The ids under which an object may be found, honest or not. Under all others none is.
     ghost ids: { Self → List Id };
 
-    /// Whether answers are those of the table.
+    /// Whether results are those of the table.
     ghost is_honest: { Self → Type 0 };
 
     /// Whether a lookup may fail.
     ghost may_fail: { Self → Type 0 };
 }
 
-/// Tells which objects there are.
+/// Tests whether objects exist.
 pub trait Exists: Lookup {
-    /// Whether an object of this id stands.
+    /// Returns whether an object of this id exists.
     fn exists(&self, id: oid<'_>) -> bool
         ensures table { Self.is_honest self.now
             → result ≡ is_some (Self.table self.now (viewed_id id.entry)) }
@@ -39,9 +39,9 @@ pub trait Exists: Lookup {
 
 /// Gives the content of objects.
 pub trait FindInto: Lookup {
-    /// Puts the content of the object of this id into the buffer, in place of what it held, and answers the object's kind:
-    /// `None`, with an empty buffer, where no object stands. It is `Failed` where the lookup failed, and `Memory` where no
-    /// memory is left.
+    /// Puts the content of the object of this id into the buffer, in place of what it held, and
+    /// returns the object's kind. Returns `None`, with an empty buffer, if there is no such object;
+    /// `Failed` if the lookup failed; and `Memory` if no memory is left.
     fn find_into(&self, id: oid<'_>, buffer: &mut Vec<u8>) -> Result<Option<Kind>, Error>
         ensures kind { Self.is_honest self.now → IfOk result (λ kind.
             kind ≡ kind_at (Self.table self.now) (viewed_id id.entry)) }
@@ -55,8 +55,8 @@ pub trait FindInto: Lookup {
 
 /// Gives the kinds and sizes of objects.
 pub trait FindHeader: Lookup {
-    /// The kind of the object of this id and the length of its content; `None` where no object stands. It is `Failed` where the
-    /// lookup failed, and `Memory` where no memory is left.
+    /// The kind of the object of this id and the length of its content; `None` if there is no such
+    /// object. Returns `Failed` if the lookup failed, and `Memory` if no memory is left.
     fn try_header(&self, id: oid<'_>) -> Result<Option<Header>, Error>
         ensures header { Self.is_honest self.now → IfOk result (λ header.
             header ≡ header_at (Self.table self.now) (viewed_id id.entry)) }

@@ -7,7 +7,7 @@ pub record Block : Type 0 where
   pub message : List ℕ
   pub trailers : List ℕ
 
--- the paragraph stands before the message of the first block
+-- the paragraph comes before the message of the first block
 abbrev pub onto_message : List ℕ → List Block → List Block
 onto_message paragraph [] = record { message = paragraph; trailers = [] } ∷ []
 onto_message paragraph (block ∷ blocks) =
@@ -23,7 +23,7 @@ abbrev pub trailers_come : List (List ℕ) → Bool
 trailers_come [] = false
 trailers_come (paragraph ∷ paragraphs) = is_trailer_paragraph paragraph
 
--- a block ends behind a trailer paragraph that no other follows
+-- a block ends after a trailer paragraph that no other follows
 unfoldable pub blocks_of_paragraphs : List (List ℕ) → List Block
 blocks_of_paragraphs [] = []
 blocks_of_paragraphs (paragraph ∷ paragraphs) =

@@ -2,7 +2,7 @@
 use Rattle.std.specs.Prelude.{ℕ, ◌==◌, Bool, ◌||◌, List, [], ◌∷◌, ◌++◌, length, take, if◌then◌else◌}
 use Rattle.std.specs.Str.{bytes_eq}
 
--- the bytes stand before those of the first piece
+-- the bytes come before those of the first piece
 abbrev pub onto_first : List ℕ → List (List ℕ) → List (List ℕ)
 onto_first bytes [] = bytes ∷ []
 onto_first bytes (piece ∷ pieces) = (bytes ++ piece) ∷ pieces

@@ -8,7 +8,7 @@ abbrev pub begins_empty : List (List ℕ) → Bool
 begins_empty [] = false
 begins_empty (line ∷ lines) = is_empty_line line
 
--- a paragraph ends with the empty lines behind it
+-- a paragraph ends with the empty lines after it
 unfoldable pub paragraphs_of_lines : List (List ℕ) → List (List ℕ)
 paragraphs_of_lines [] = []
 paragraphs_of_lines (line ∷ lines) =
@@ -26,7 +26,7 @@ begins_with_trailer (line ∷ lines) = is_trailer_line line
 abbrev pub is_trailer_paragraph : List ℕ → Bool
 is_trailer_paragraph paragraph = begins_with_trailer (lines_of paragraph)
 
--- the last paragraph, where it is a trailer paragraph
+-- the last paragraph, if it is a trailer paragraph
 unfoldable pub last_trailers : List (List ℕ) → List ℕ
 last_trailers [] = []
 last_trailers (paragraph ∷ []) = if is_trailer_paragraph paragraph then paragraph else []

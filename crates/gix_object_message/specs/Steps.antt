@@ -4,7 +4,7 @@ use Rattle.std.specs.List.{concat}
 use Rattle.gix_object_message.specs.Paragraphs.{paragraphs_of, is_trailer_paragraph, trailer_part}
 use Rattle.gix_object_message.specs.Blocks.{AllOfKind, StopsKind}
 
--- the text is a paragraph, this rest behind it, and the paragraphs of the rest
+-- the text is a paragraph, then this rest, and its paragraphs are that one and the rest's
 abbrev pub IsBehindParagraph : List ℕ → List ℕ → Type 0
 IsBehindParagraph text rest =
     (paragraph : List ℕ) × (text ≡ paragraph ++ rest) × (0 < length paragraph)

@@ -20,14 +20,14 @@ title_of (byte ∷ text) =
     if begins_with short_break (byte ∷ text) || begins_with long_break (byte ∷ text) then []
     else byte ∷ title_of text
 
--- all behind the first break; without one, nothing
+-- all after the first break; without one, nothing
 unfoldable pub behind_title : List ℕ → List ℕ
 behind_title [] = []
 behind_title (byte ∷ text) =
     if begins_with short_break (byte ∷ text) then drop 2 (byte ∷ text)
     else (if begins_with long_break (byte ∷ text) then drop 4 (byte ∷ text) else behind_title text)
 
--- the text, where it isn't empty
+-- the text, if it isn't empty
 abbrev pub some_text : List ℕ → Option (List ℕ)
 some_text [] = None
 some_text (byte ∷ text) = Some (byte ∷ text)
@@ -40,7 +40,7 @@ body_of message = some_text (behind_title message)
 abbrev pub IsBreak : List ℕ → Type 0
 IsBreak bytes = (bytes ≡ short_break) ⊎ (bytes ≡ long_break)
 
--- a break stands between the two, and none begins before it
+-- a break is between the two, and none begins before it
 pub record IsFirstBreak (message title rest : List ℕ) : Type 0 where
   pub gap : List ℕ
   pub is_break : IsBreak gap

@@ -1,5 +1,5 @@
--- Trailer lines (git-interpret-trailers: a token, the separator `:` and a value; this port asks for the space behind the colon,
--- and takes no continuation line).
+-- Trailer lines (git-interpret-trailers: a token, the separator `:` and a value; this port requires
+-- the space after the colon, and takes no continuation line).
 use Rattle.std.specs.Prelude.{ℕ, ◌≡◌, ◌≢◌, ◌==◌, Bool, ◌||◌, ◌&&◌, IsTrue, List, [], ◌++◌, Option, Some, None, take, drop, codes, nat_lt, if◌then◌else◌}
 use Rattle.std.specs.List.{prefix_len, filter_map, list_all}
 use Rattle.std.specs.Char.{is_ascii_alphanumeric}
@@ -18,7 +18,7 @@ is_token_byte byte = is_ascii_alphanumeric byte || byte == 45
 abbrev pub token_len : List ℕ → ℕ
 token_len line = prefix_len is_token_byte line
 
--- a token of at least one byte, and `: ` behind it
+-- a token of at least one byte, and `: ` after it
 abbrev pub is_trailer_line : List ℕ → Bool
 is_trailer_line line =
     nat_lt 0 (token_len line) && begins_with (codes ": ") (drop (token_len line) line)

@@ -67,7 +67,7 @@ impl<'a> MessageBlock<'a> {
     ghost use Rattle.gix_object_message.specs.Blocks.{blocks_of};
     ghost use Rattle.gix_object_message.specs.BodyViews.{block_text};
 
-    // The first block, and what follows; `None` where nothing is left.
+    // The first block, and what follows; `None` if nothing is left.
     fn split(text: &'a [u8]) -> Option<(MessageBlock<'a>, &'a [u8])>
         ensures { MatchOption result (text.now ≡ [])
             (λ cut. blocks_of text.now ≡ block_text cut.0 ∷ blocks_of cut.1.now) }

@@ -28,8 +28,8 @@ impl<'a> BodyRef<'a> {
     ghost use Rattle.gix_object_message.specs.Trailer.{trailers_in};
     ghost use Rattle.gix_object_message.specs.Views.{trailers_left};
 
-    /// Any bytes are a body. Its trailer part is its last paragraph, where the first line of that is a trailer line, and
-    /// else empty.
+    /// The body that these bytes are. Its trailer part is its last paragraph if that begins with a
+    /// trailer line, and otherwise empty.
     pub fn from_bytes(body: &'a [u8]) -> BodyRef<'a>
         ensures { body_text result ≡ body.now }
     {
@@ -86,7 +86,7 @@ fn split_trailer(body: &[u8]) -> (&[u8], &[u8])
     }
 }
 
-// The last paragraph; nothing where there is none.
+// The last paragraph; empty if there is none.
 fn last_paragraph(body: &[u8]) -> &[u8]
     ensures { IsLastParagraph body.now result.now }
 {

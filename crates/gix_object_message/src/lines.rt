@@ -5,7 +5,7 @@ ghost use Rattle.gix_object_message.specs.Lines.{lines_of, is_empty_line};
 
 use memchr::memchr;
 
-/// The first line, with its line feed, and what follows; `None` where nothing is left.
+/// The first line, with its line feed, and what follows; `None` if nothing is left.
 pub(crate) fn split_line(text: &[u8]) -> Option<(&[u8], &[u8])>
     ensures { MatchOption result (text.now ≡ [])
         (λ cut. (text.now ≡ cut.0.now ++ cut.1.now) × (0 < length cut.0.now)
@@ -20,7 +20,7 @@ pub(crate) fn split_line(text: &[u8]) -> Option<(&[u8], &[u8])>
     }
 }
 
-/// Whether a line is nothing but its end, LF or CR LF.
+/// Returns whether a line is nothing but its end, LF or CR LF.
 pub(crate) fn is_empty_line(line: &[u8]) -> bool
     ensures { result ≡ is_empty_line line.now }
 {

@@ -23,9 +23,10 @@ use std::borrow::CowSlice;
 /// A message, parted at its first empty line.
 #[derive(Debug, Clone, Copy, PartialEq, Eq)]
 pub struct MessageRef<'a> {
-    /// All before the first empty line, without the line's end; all of the message where no line is empty.
+    /// All before the first empty line, without the line's end; all of the message if no line is
+    /// empty.
     pub title: BStr<'a>,
-    /// All behind that empty line, where anything is.
+    /// All after that empty line, if anything is.
     pub body: Option<BStr<'a>>,
 }
 
@@ -44,10 +45,11 @@ impl<'a> MessageRef<'a> {
         }
     }
 
-    /// The title in one line: without white space at its ends, its lines each without white space at their end, and one
-    /// space between them.
+    /// The title in one line: without white space at its ends, its lines each without white space
+    /// at their end, and one space between them.
     ///
-    /// A title of one line is borrowed. Else the bytes take memory, and it is an error where none is left.
+    /// A title of one line is borrowed. Otherwise the bytes take memory, and `AllocError` is
+    /// returned if none is left.
     pub fn summary(self, alloc: Global) -> Result<CowSlice<'a, u8>, AllocError>
         ensures line { IfOk result
             (λ summary. cow_slice_items summary ≡ summary_of (bstr_bytes self.entry.title)) }
@@ -61,7 +63,7 @@ impl<'a> MessageRef<'a> {
         }
     }
 
-    /// The body, parted before its trailers; `None` where there is none.
+    /// The body, parted before its trailers; `None` if there is none.
     pub fn body(self) -> Option<BodyRef<'a>>
         ensures { option_map body_text result ≡ option_map bstr_bytes self.entry.body }
     {
@@ -70,7 +72,7 @@ impl<'a> MessageRef<'a> {
     }
 }
 
-// The text, where it isn't empty.
+// The text, if it isn't empty.
 fn some_text(text: &[u8]) -> Option<BStr<'_>>
     ensures { option_map bstr_bytes result ≡ spec.some_text text.now }
 {

@@ -9,7 +9,7 @@ ghost use Rattle.gix_object_message.specs.Lines.{lines_of};
 use crate::lines::{is_empty_line, split_line};
 use crate::trailer::read_trailer;
 
-/// The first paragraph, with the empty lines behind it, and what follows; `None` where nothing is left.
+/// The first paragraph, with the empty lines after it, and what follows; `None` if nothing is left.
 pub(crate) fn split_paragraph(text: &[u8]) -> Option<(&[u8], &[u8])>
     ensures { MatchOption result (text.now ≡ [])
         (λ cut. (text.now ≡ cut.0.now ++ cut.1.now) × (0 < length cut.0.now)
@@ -37,7 +37,7 @@ fn behind_paragraph(text: &[u8]) -> &[u8]
     rest
 }
 
-// Whether an empty line comes first.
+// Returns whether an empty line comes first.
 fn begins_empty(text: &[u8]) -> bool
     ensures { result ≡ spec.begins_empty (lines_of text.now) }
 {
@@ -47,7 +47,7 @@ fn begins_empty(text: &[u8]) -> bool
     }
 }
 
-/// Whether the first line of a paragraph is a trailer line.
+/// Returns whether the first line of a paragraph is a trailer line.
 pub(crate) fn is_trailer_paragraph(paragraph: &[u8]) -> bool
     ensures { result ≡ is_trailer_paragraph paragraph.now }
 {

@@ -5,8 +5,8 @@ ghost use Rattle.gix_object_message.specs.Title.{title_of, behind_title, PartsMe
 
 use memchr::memmem;
 
-/// The title of a message, and what follows the empty line behind it: all before the first LF LF or CR LF CR LF, and all
-/// behind that. Without one all is title.
+/// The title of a message, and what follows the empty line after it: all before the first LF LF or
+/// CR LF CR LF, and all after that. Without such a line all is title.
 pub(crate) fn split_title(message: &[u8]) -> (&[u8], &[u8])
     ensures title { result.0.now ≡ title_of message.now }
     ensures rest { result.1.now ≡ behind_title message.now }

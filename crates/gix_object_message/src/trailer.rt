@@ -13,63 +13,63 @@ use bstr::BStr;
 /// A trailer, as its line has it.
 #[derive(Debug, Clone, Copy, PartialEq, Eq)]
 pub struct TrailerRef<'a> {
-    /// What stands before the colon: ASCII letters, digits and `-`.
+    /// The text before the colon: ASCII letters, digits and `-`.
     pub token: BStr<'a>,
-    /// What stands behind the colon and a space, without white space at its ends.
+    /// The text after the colon and a space, without white space at its ends.
     pub value: BStr<'a>,
 }
 
 impl TrailerRef<'_> {
-    /// Whether the token is `Signed-off-by`, letter case aside.
+    /// Returns whether the token is `Signed-off-by`, letter case aside.
     pub fn is_signed_off_by(self) -> bool
         ensures { result ≡ spec.is_signed_off_by (bstr_bytes self.entry.token) }
     {
         self.has_token(b"Signed-off-by")
     }
 
-    /// Whether the token is `Co-authored-by`, letter case aside.
+    /// Returns whether the token is `Co-authored-by`, letter case aside.
     pub fn is_co_authored_by(self) -> bool
         ensures { result ≡ spec.is_co_authored_by (bstr_bytes self.entry.token) }
     {
         self.has_token(b"Co-authored-by")
     }
 
-    /// Whether the token is `Assisted-by`, letter case aside.
+    /// Returns whether the token is `Assisted-by`, letter case aside.
     pub fn is_assisted_by(self) -> bool
         ensures { result ≡ spec.is_assisted_by (bstr_bytes self.entry.token) }
     {
         self.has_token(b"Assisted-by")
     }
 
-    /// Whether the token is `Acked-by`, letter case aside.
+    /// Returns whether the token is `Acked-by`, letter case aside.
     pub fn is_acked_by(self) -> bool
         ensures { result ≡ spec.is_acked_by (bstr_bytes self.entry.token) }
     {
         self.has_token(b"Acked-by")
     }
 
-    /// Whether the token is `Reviewed-by`, letter case aside.
+    /// Returns whether the token is `Reviewed-by`, letter case aside.
     pub fn is_reviewed_by(self) -> bool
         ensures { result ≡ spec.is_reviewed_by (bstr_bytes self.entry.token) }
     {
         self.has_token(b"Reviewed-by")
     }
 
-    /// Whether the token is `Tested-by`, letter case aside.
+    /// Returns whether the token is `Tested-by`, letter case aside.
     pub fn is_tested_by(self) -> bool
         ensures { result ≡ spec.is_tested_by (bstr_bytes self.entry.token) }
     {
         self.has_token(b"Tested-by")
     }
 
-    /// Whether the trailer names an author: one who signed off or a co-author.
+    /// Returns whether the trailer names an author: one who signed off or a co-author.
     pub(crate) fn is_author(self) -> bool
         ensures { result ≡ spec.is_author (bstr_bytes self.entry.token) }
     {
         self.is_signed_off_by() || self.is_co_authored_by()
     }
 
-    /// Whether the token is any of the six words, letter case aside.
+    /// Returns whether the token is any of the six words, letter case aside.
     pub fn is_attribution(self) -> bool
         ensures { result ≡ spec.is_attribution (bstr_bytes self.entry.token) }
     {
@@ -87,7 +87,7 @@ impl TrailerRef<'_> {
     }
 }
 
-/// The trailer that a line holds; `None` where it holds none.
+/// The trailer that a line holds; `None` if it holds none.
 pub(crate) fn read_trailer(line: &[u8]) -> Option<TrailerRef<'_>>
     ensures value { option_map trailer_text result ≡ trailer_of line.now }
     ensures spells { MatchOption result ((trailer : Trailer) → ¬ SpellsTrailer line.now trailer)

@@ -47,7 +47,7 @@ impl<'a> Trailers<'a> {
         self.select(Wanted::AssistedBy)
     }
 
-    /// Those that `TrailerRef::is_attribution` tells.
+    /// The trailers for which `TrailerRef::is_attribution` holds.
     pub fn attributions(self) -> SelectedTrailers<'a>
         ensures { selected_left result
             ≡ filter (λ trailer. spec.is_attribution trailer.token) (trailers_left self.entry) }

@@ -17,7 +17,7 @@ Bytes = List ℕ
 abbrev pub Path : Type 0
 Path = List Bytes
 
--- what stands at a path
+-- what is at a path
 pub record Leaf : Type 0 where
   pub mode : Mode
   pub id : Id
@@ -67,8 +67,8 @@ unless_tree (Some tree) leaf = None
 abbrev pub leads_on : Leaf → Bool
 leads_on leaf = is_tree_value leaf.mode.value && not (is_null leaf.id)
 
--- the entry to which names lead from an entry, over a table of trees. One on the way that names no tree is blocked: what is said
--- of it is the answer
+-- the entry to which names lead from an entry, over a table of trees. One on the way that names no
+-- tree is blocked: what `blocked` says of it is the result
 abbrev pub entry_into : (Leaf → Option Leaf) → Trees → Path → Leaf → Option Leaf
 entry_into blocked trees [] leaf = Some leaf
 entry_into blocked trees (name ∷ rest) leaf =
@@ -102,7 +102,7 @@ HasFile trees leaf = (rest : Path) × (file : Leaf) × (files_of_entry trees res
 
 -- ---- edits
 
--- what follows the first path in the second, where it begins it
+-- what follows the first path in the second, if it begins it
 abbrev pub behind : Path → Path → Option Path
 behind [] q = Some q
 behind (name ∷ p) [] = None
@@ -133,11 +133,11 @@ Begins front path = (rest : Path) × (front ++ rest ≡ path)
 abbrev pub SameFiles : FileMap → FileMap → Type 0
 SameFiles a b = (q : Path) → a q ≡ b q
 
--- no file stands below the path
+-- no file is below the path
 abbrev pub HasNoneBelow : Path → FileMap → Type 0
 HasNoneBelow p files = (name : Bytes) (rest : Path) → files (p ++ name ∷ rest) ≡ None
 
--- a file stands below the path
+-- a file is below the path
 abbrev pub HasSomeBelow : Path → FileMap → Type 0
 HasSomeBelow p files = (name : Bytes) × (rest : Path) × (file : Leaf)
     × (files (p ++ name ∷ rest) ≡ Some file)

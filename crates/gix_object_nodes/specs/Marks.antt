@@ -52,7 +52,7 @@ pub record AreMarkedBut (at : ℕ) (slots : Slots) (marks : Marks) (bound : ℕ)
   pub closed : (i : ℕ) (name : Bytes) (c : ℕ) → child_of (slots i name) ≡ Some c
       → (marks c).changed ≡ true → ((marks i).changed ≡ true) ⊎ (i ≡ at)
 
--- nodes are put behind the others, all changed or none, and no other mark changes
+-- nodes are appended to the others, all changed or none, and no other mark changes
 pub record AreMarksKept (state : Bool) (old new : Slots) (was now : Marks)
     (bound more : ℕ) : Type 0 where
   pub same : (i : ℕ) → i < bound → now i ≡ was i
@@ -76,7 +76,7 @@ abbrev pub IsMade : Marks → Slot → Type 0
 IsMade marks s = (c : ℕ) × (child_of (Some s) ≡ Some c) × (is_null (id_of s.oid) ≡ true)
     × ((marks c).changed ≡ false)
 
--- no more than such a folder stands there
+-- at most such a folder is there
 abbrev pub IsIdle : Marks → Option Slot → Type 0
 IsIdle marks None = ⊤
 IsIdle marks (Some s) = IsMade marks s
@@ -90,7 +90,7 @@ pub record IsMarkedFor (old new : Slots) (was now : Marks) (at bound more : ℕ)
   pub only : (way : Path) → Way new way at → (j : ℕ) → (now j).changed ≡ true
       → ((was j).changed ≡ true) ⊎ IsOnWay new way j
 
--- of nodes one behind the other, in which tree each lies
+-- of appended nodes, one in the other, in which tree each lies
 abbrev pub rung_parent : ℕ → ℕ → ℕ → ℕ
 rung_parent at first zero = at
 rung_parent at first (suc k) = first + k
@@ -116,7 +116,7 @@ abbrev pub child_if : (ℕ → Bool) → Option NodeId → Option NodeId
 child_if shows None = None
 child_if shows (Some c) = if shows c.0 then Some c else None
 
--- the slot, with the number of its opened tree where that is let through
+-- the slot, with the number of its opened tree if that is let through
 abbrev pub slot_if : (ℕ → Bool) → Slot → Slot
 slot_if shows s = record s { child = child_if shows s.child }
 
@@ -130,7 +130,8 @@ changed_in nodes c = (marks_of nodes c).changed
 abbrev pub is_due : Marks → ℕ → ℕ → Bool
 is_due marks from c = (marks c).changed || nat_le c from
 
--- the opened trees that are written from this one down, and those that it lies in; others stand as their entries
+-- the opened trees that are written from this one down, and those that it lies in; others are as
+-- their entries
 abbrev pub due : Slots → Marks → ℕ → Slots
 due slots marks from i = slots_if (is_due marks from) (slots i)
 

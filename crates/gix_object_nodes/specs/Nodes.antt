@@ -1,4 +1,4 @@
--- Opened trees as numbered nodes, and the files that they stand for.
+-- Opened trees as numbered nodes, and the files that they represent.
 use Rattle.std.specs.Prelude.{ℕ, zero, suc, ◌≡◌, ◌<◌, ◌≤◌, List, [], ◌∷◌, ◌++◌, Option, Some, None, Vec, ⊤, true, false}
 use Rattle.std.specs.Map.{lookup}
 use Rattle.std.specs.BTreeMap.{is_at}
@@ -37,7 +37,7 @@ abbrev pub child_or : {X : Type 0} → Option NodeId → (ℕ → X) → X → X
 child_or None opened closed = closed
 child_or (Some c) opened closed = opened c.0
 
--- a slot has the files of its opened tree, and those of its entry where none is opened
+-- a slot has the files of its opened tree, and those of its entry if none is opened
 abbrev pub files_of_slot : Trees → Slots → Path → Slot → Option Leaf
 files_of_slot trees slots [] s = child_or s.child (λ c. None) (files_of_entry trees [] (leaf_in s))
 files_of_slot trees slots (name ∷ rest) s =
@@ -61,7 +61,7 @@ entry_from blocked trees slots i [] = None
 entry_from blocked trees slots i (name ∷ rest) = through (slots i name)
     (slot_entry blocked trees slots rest)
 
--- each entry that isn't null has a file, where no tree was opened for it
+-- each entry that isn't null has a file, if no tree was opened for it
 abbrev pub AreFilled : Trees → Slots → Type 0
 AreFilled trees slots = (i : ℕ) (m : Bytes) (s : Slot) → slots i m ≡ Some s → s.child ≡ None
     → is_null (id_of s.oid) ≡ false → HasFile trees (leaf_in s)
@@ -70,7 +70,7 @@ abbrev pub HasFileBelow : Trees → Slots → ℕ → Type 0
 HasFileBelow trees slots i = (m : Bytes) × (rest : Path) × (file : Leaf)
     × (files_of_node trees slots i (m ∷ rest) ≡ Some file)
 
--- an unopened slot stands for an entry, or none for none
+-- an unopened slot represents an entry; no slot, none
 abbrev pub StandsFor : Option Slot → Option Item → Type 0
 StandsFor None None = ⊤
 StandsFor None (Some item) = ⊥
@@ -113,7 +113,7 @@ abbrev pub IsPutIn : Slots → Path → ℕ → Type 0
 IsPutIn slots path j = (front : Path) × (name : Bytes) × (path ≡ front ++ name ∷ [])
     × LeadsTo slots front j []
 
--- an opened tree's number, or that no file stands below the name
+-- an opened tree's number, or that no file is below the name
 abbrev pub IsFolderAt : Slots → ℕ → Bytes → Option NodeId → Type 0
 IsFolderAt slots at name (Some c) = child_of (slots at name) ≡ Some c.0
 IsFolderAt slots at name None = (trees : Trees) (m : Bytes) (rest : Path)
@@ -125,11 +125,11 @@ pub record IsUnopened (s : Slot) : Type 0 where
   pub is_tree : is_tree_value s.mode.value ≡ true
   pub isnt_null : is_null (id_of s.oid) ≡ false
 
--- no folder stands there
+-- no folder is there
 abbrev pub IsNoFolder : Option Slot → Type 0
 IsNoFolder o = (s : Slot) → o ≡ Some s → (s.child ≡ None) × (leads_on (leaf_in s) ≡ false)
 
--- this entry stands there, and no tree was opened for it
+-- this entry is there, and no tree was opened for it
 abbrev pub IsEntry : Option Slot → Leaf → Type 0
 IsEntry o leaf = (s : Slot) × (o ≡ Some s) × (leaf_in s ≡ leaf) × (s.child ≡ None)
 
@@ -152,7 +152,7 @@ AreNull slots bound = (i : ℕ) (m : Bytes) (s : Slot) (c : ℕ) → slots i m �
 
 -- ---- entries of opened trees
 
--- the slot at a path's end, where opened trees lead there
+-- the slot at a path's end, if opened trees lead there
 abbrev pub slot_over : Slots → ℕ → Path → Option Slot
 slot_over slots i [] = None
 slot_over slots i (name ∷ []) = slots i name
@@ -164,7 +164,7 @@ abbrev pub entry_in : Bytes → Option Slot → Option Item
 entry_in name None = None
 entry_in name (Some s) = Some (record { mode = mode_of s.mode; name = name; id = id_of s.oid })
 
--- the entry at a path's end, where opened trees lead there
+-- the entry at a path's end, if opened trees lead there
 abbrev pub entry_at : Slots → ℕ → Path → Option Item
 entry_at slots i [] = None
 entry_at slots i (name ∷ []) = entry_in name (slots i name)

@@ -1,4 +1,4 @@
--- What is handed out where opened trees are written.
+-- What is handed out when opened trees are written.
 use Rattle.std.specs.Prelude.{ℕ, ◌≡◌, ◌≢◌, ◌⊎◌, false, List, [], ◌∷◌, ◌++◌, map, Result, Ok, Err, Some, None, ⊤}
 use Rattle.std.specs.Borrow.{Bor}
 use Rattle.std.specs.Fn.{Mut, CalledAt}
@@ -17,7 +17,7 @@ use Rattle.gix_object_nodes.specs.Nodes.{Slots, leaf_in, files_of_node, LeadsTo}
 use Rattle.gix_object_nodes.specs.Marks.{due_in, IsChangedIn}
 use Rattle.gix_object_nodes.specs.Writing.{folder_mode}
 
--- a tree that was handed out: the folder that it is, its entries, and the id that was answered
+-- a tree that was handed out: the folder that it is, its entries, and the id that was returned
 pub record HandedOut : Type 0 where
   pub path : Path
   pub items : List Item
@@ -39,7 +39,7 @@ abbrev pub EachBehind : {X : Type 0} → (List X → X → Type 0) → List X �
 EachBehind R before [] = ⊤
 EachBehind R before (x ∷ xs) = R before x × EachBehind R (before ++ x ∷ []) xs
 
--- the entry stands so in the opened tree at the path, and no tree was opened for it
+-- the opened tree at the path has this entry, for which no tree was opened
 abbrev pub StandsUnopened : Slots → Path → Item → Type 0
 StandsUnopened slots path item = (j : ℕ) × (s : Slot) × LeadsTo slots path j []
     × (slots j item.name ≡ Some s) × (s.child ≡ None) × (leaf_in s ≡ leaf_of item)
@@ -49,11 +49,11 @@ abbrev pub NamesFolder : List HandedOut → Path → Item → Type 0
 NamesFolder before path item = (child : HandedOut) × Contains before child
     × (child.path ≡ path ++ item.name ∷ []) × (child.id ≡ item.id) × (item.mode ≡ folder_mode)
 
--- it does, or it stood so
+-- it does, or an opened tree had it so
 abbrev pub IsKnown : Slots → List HandedOut → Path → Item → Type 0
 IsKnown slots before path item = NamesFolder before path item ⊎ StandsUnopened slots path item
 
--- a tree that is handed out behind these
+-- a tree that is handed out after these
 pub record IsHandedOut (slots : Slots) (before : List HandedOut) (tree : HandedOut) : Type 0 where
   -- it was opened
   pub opened : (j : ℕ) × LeadsTo slots tree.path j []
@@ -64,11 +64,11 @@ pub record IsHandedOut (slots : Slots) (before : List HandedOut) (tree : HandedO
   pub stand : All (λ item. (j : ℕ) × (s : Slot) × LeadsTo slots tree.path j []
       × (slots j item.name ≡ Some s)) tree.items
   pub no_null : All (λ item. is_null item.id ≡ false) tree.items
-  -- an entry that names the empty tree stood so
+  -- an entry that names the empty tree was in the opened tree
   pub no_empty : (trees : Trees) → HasHandedOut before trees
       → All (λ item. trees item.id ≡ Some [] → StandsUnopened slots tree.path item) tree.items
   pub well_formed : All (λ item. IsFilename item.name) tree.items → IsWellFormed tree.items
-  -- no file stands at or below a name that has no entry, unless the null id was answered for a tree
+  -- no file is at or below a name that has no entry, unless the null id was returned for a tree
   pub complete : All (λ earlier. is_null earlier.id ≡ false) before → (name : Bytes) (rest : Path)
       → named name tree.items ≡ None
       → (trees : Trees) → files_of_node trees slots 0 (tree.path ++ name ∷ rest) ≡ None
@@ -84,7 +84,7 @@ pub record IsDueAt (nodes : List Node) (path : Path) (tree : HandedOut) : Type 0
 -- ---- calls
 
 module _ {F E : Type 0} (calls : Mut F (Bor Tree × Unit {0}) (Result ObjectId E)) where
-  -- a call hands out this tree, and answers its id
+  -- a call hands out this tree, and returns its id
   abbrev pub HandsOut : F → HandedOut → F → Type 0
   HandsOut before tree after = (shown : Tree) × (oid : ObjectId)
       × CalledAt calls before shown (Ok oid) after
@@ -97,7 +97,7 @@ module _ {F E : Type 0} (calls : Mut F (Bor Tree × Unit {0}) (Result ObjectId E
     pub in_order : EachBehind (IsHandedOut (due_in nodes from)) [] handed
     pub due : All (IsDueAt nodes path) handed
 
-  -- one more is handed out behind them, and the call answers this error
+  -- one more is handed out after them, and the call returns this error
   pub record FailsBehind (nodes : List Node) (from : ℕ) (path : Path) (handed : List HandedOut)
       (before : F) (error : E) (after : F) : Type 0 where
     pub shown : Tree
@@ -108,7 +108,7 @@ module _ {F E : Type 0} (calls : Mut F (Bor Tree × Unit {0}) (Result ObjectId E
     pub due : (id : Id) → IsDueAt nodes path
         (record { path = at; items = map own_item shown.entries.items; id = id })
 
-  -- why no id is answered, and what was handed out by then
+  -- why no id is returned, and what was handed out by then
   abbrev pub StopsWriting : List Node → ℕ → Path → F → Error E → F → Type 0
   StopsWriting nodes from path out (Out error) after =
       (handed : List HandedOut) × (before : F) × HandsOutSome nodes from path out handed before

@@ -6,7 +6,7 @@ ghost use Rattle.gix_object_nodes.specs.Marks.{child_if, changed_in};
 
 use crate::node::{Node, NodeId, Slot};
 
-/// The opened tree of a slot, where an edit changed it.
+/// The opened tree of a slot, if an edit changed it.
 pub fn changed_child(nodes: &[Node], slot: &Slot) -> Option<NodeId>
     requires { (c : ℕ) → child_of (Some slot.now) ≡ Some c → c < length nodes.now }
     ensures { result ≡ child_if (changed_in nodes.now) slot.now.child }
@@ -21,7 +21,7 @@ pub fn changed_child(nodes: &[Node], slot: &Slot) -> Option<NodeId>
     }
 }
 
-/// Whether an edit changed an opened tree, or one that lies in it.
+/// Returns whether an edit changed an opened tree, or one that lies in it.
 pub fn is_changed(nodes: &[Node], at: NodeId) -> bool
     requires { at.0 < length nodes.now }
     ensures { result ≡ changed_in nodes.now at.0 }

@@ -14,7 +14,7 @@ use std::collections::BTreeMap;
 #[derive(Debug, Clone, Copy, PartialEq, Eq)]
 pub struct NodeId(pub usize);
 
-/// An entry of an opened tree, and the number of the tree that it names, where that is opened.
+/// An entry of an opened tree, and the number of the tree that it names, if that is opened.
 #[derive(Debug, Clone, Copy)]
 pub struct Slot {
     pub mode: EntryMode,
@@ -61,7 +61,8 @@ impl Node {
         self.slots.get(name).copied()
     }
 
-    /// Puts an entry in, and answers the one that stood there.
+    /// Puts an entry in, and returns the one that it replaces. It is `AllocError` if no memory is
+    /// left; the entry is then as before.
     pub fn put(
         &mut self,
         alloc: Global,

@@ -17,7 +17,8 @@ abbrev pub told : Result Answer run.RunError → Result Answer verify.Error
 told (Err cause) = Err (error_of cause)
 told (Ok answer) = Ok answer
 
--- the request is run once, and its answer is the result; or its words had no memory, and nothing is run
+-- the request is run once, and its answer is the result; or no memory is left for its words, and
+-- nothing is run
 pub data Asks {R : Type 0} (answers : R → Request → Result Answer run.RunError → R → Type 0)
     (before : R) (request : Request) (result : Result Answer verify.Error)
     (after : R) : Type 0 where

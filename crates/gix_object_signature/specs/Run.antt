@@ -1,4 +1,4 @@
--- What a program is asked for.
+-- The request to run a program.
 use denote.Ref.{Bor}
 use Rattle.std.specs.Prelude.{ℕ, ◌≡◌, List, map}
 use Rattle.std.specs.Fn.{Called, Mut}

@@ -1,5 +1,6 @@
--- The time of signing, as ssh-keygen is told it (gpg-interface.c: `parse_payload_metadata`; ssh-keygen(1): `-Overify-time`,
--- `YYYYMMDDHHMM[SS]`, in coordinated universal time where a `Z` ends it).
+-- The time of signing, as ssh-keygen takes it (gpg-interface.c: `parse_payload_metadata`;
+-- ssh-keygen(1): `-Overify-time`, `YYYYMMDDHHMM[SS]`, in coordinated universal time if a `Z` ends
+-- it).
 use Rattle.std.specs.Prelude.{ℕ, ℤ, pos, ◌≡◌, ◌+◌, ◌*◌, ◌/◌, ◌%◌, ◌<◌, ◌<ℤ◌, ◌+ℤ◌, ◌*ℤ◌, ◌==◌, not, nat_eq, List, ◌++◌, codes, drop, find, length, take, is_some, Option, None, Some, if◌then◌else◌}
 use Rattle.std.specs.List.{prefix_len, slice_split, starts_with}
 use Rattle.jiff_core.specs.Calendar.{IsCivilDate, days_from_civil}
@@ -15,7 +16,7 @@ header_lines content =
     take (prefix_len (λ line. not (length line == 0)) (slice_split (λ byte. byte == 10) content))
     (slice_split (λ byte. byte == 10) content)
 
--- what stands behind the word of a commit's committer or a tag's tagger
+-- what follows the word of a commit's committer or a tag's tagger
 unfoldable pub signer_of : List ℕ → Option (List ℕ)
 signer_of line =
     if starts_with nat_eq line (codes "committer ") then Some (drop 10 line)
@@ -25,7 +26,7 @@ signer_of line =
 abbrev pub signer_line : List ℕ → Option (List ℕ)
 signer_line content = find (λ line. is_some (signer_of line)) (header_lines content)
 
--- the line tells a person and a time of so many seconds
+-- the line names a person and a time of so many seconds
 pub record TellsSeconds (line : List ℕ) (seconds : ℤ) : Type 0 where
   pub signer : List ℕ
   pub signed : signer_of line ≡ Some signer
@@ -64,12 +65,13 @@ pub record IsStamp (text : List ℕ) (seconds : ℤ) : Type 0 where
       (two_digits day
       ++ (two_digits hour ++ (two_digits minute ++ (two_digits second ++ codes "Z"))))))
 
--- a second behind 1970-01-01T00:00:00 and before the year 10000; ssh-keygen takes no other
+-- a second after 1970-01-01T00:00:00 and before the year 10000; ssh-keygen takes no other
 pub record IsStampable (seconds : ℤ) : Type 0 where
   pub late : pos 0 <ℤ seconds
   pub early : seconds <ℤ pos 253_402_300_800
 
--- the words that tell the time, or none: for no such line, and for zero seconds, which are no time to Git
+-- the words that give the time, or none: for no such line, and for zero seconds, which are no time
+-- to Git
 pub data TimeWord (content : List ℕ) (word : Option (List ℕ)) : Type 0 where
   NoLine : signer_line content ≡ None → word ≡ None → TimeWord content word
   NoSeconds : (line : List ℕ) → signer_line content ≡ Some line → TellsSeconds line (pos 0)
@@ -79,6 +81,6 @@ pub data TimeWord (content : List ℕ) (word : Option (List ℕ)) : Type 0 where
       → (text : List ℕ) → IsStamp text seconds → word ≡ Some (codes "-Overify-time=" ++ text)
       → TimeWord content word
 
--- the line is there and tells no time, or none that ssh-keygen takes
+-- the line is there, but gives no time, or none that ssh-keygen takes
 abbrev pub TellsNoTime : List ℕ → Type 0
 TellsNoTime content = (word : Option (List ℕ)) → ¬ TimeWord content word

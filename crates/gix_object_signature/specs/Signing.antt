@@ -1,4 +1,5 @@
--- What Git asks a program that signs, and what its answer means (gpg-interface.c: `sign_buffer_gpg`, `sign_buffer_ssh`).
+-- The request to a program that signs, as Git makes it, and what its answer means (gpg-interface.c:
+-- `sign_buffer_gpg`, `sign_buffer_ssh`).
 use Rattle.std.specs.Prelude.{ℕ, Bool, not, ◌&&◌, ◌==◌, ◌≡◌, ◌⊎◌, nat_eq, List, [], ◌∷◌, ◌++◌, codes, drop, IsOk, Option, None, Some, Result, Ok, Err, if◌then◌else◌, MatchOption}
 use Rattle.std.specs.List.{list_any, slice_split, starts_with}
 use Rattle.std.specs.Str.{bytes_eq}
@@ -18,7 +19,8 @@ use Rattle.gix_object_signature.specs.declared.sign.Options.{Options}
 
 -- ---- keys
 
--- the public key itself, where that is told and no file: behind `key::`, or all where it begins `ssh-`
+-- the public key itself, if it is given in place of a file: all after `key::`, or the whole if it
+-- begins `ssh-`
 abbrev pub literal_key : List ℕ → Option (List ℕ)
 literal_key key =
     if starts_with nat_eq key (codes "key::") then Some (drop 5 key)
@@ -80,7 +82,7 @@ abbrev pub reading_error : decode.Error → Error
 reading_error reading.Memory = Memory
 reading_error fault = Decode fault
 
--- a line of the status tells that a signature was made (GnuPG, doc/DETAILS)
+-- a line of the status reports that a signature was made (GnuPG, doc/DETAILS)
 abbrev pub is_confirmed : List ℕ → Bool
 is_confirmed text =
     list_any (λ line. starts_with nat_eq line (codes "[GNUPG:] SIG_CREATED "))

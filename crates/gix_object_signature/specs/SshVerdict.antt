@@ -1,5 +1,6 @@
--- What ssh-keygen's output tells of a signature, as Git reads it (gpg-interface.c: `parse_ssh_output`), once the lines are
--- without white space at their ends, and the blank ones before the first other are gone (strbuf.c: `strbuf_stripspace`).
+-- What ssh-keygen's output says about a signature, as Git reads it (gpg-interface.c:
+-- `parse_ssh_output`), once the lines are without white space at their ends, and the blank ones
+-- before the first other are gone (strbuf.c: `strbuf_stripspace`).
 use Rattle.std.specs.Prelude.{ℕ, Bool, false, not, ◌||◌, ◌-◌, ◌==◌, nat_eq, List, [], ◌∷◌, codes, drop, find, length, map, take, unwrap_or, Option, None, Some, if◌then◌else◌}
 use Rattle.std.specs.List.{slice_split, starts_with, suffix_len}
 use Rattle.std.specs.Char.{is_ascii_whitespace}
@@ -21,39 +22,39 @@ first_line text =
     find (λ line. not (length line == 0))
     (map without_space_behind (slice_split (λ byte. byte == 10) text))
 
--- where each line is blank, it is empty
+-- if each line is blank, it is empty
 abbrev pub verdict_line : List ℕ → List ℕ
 verdict_line text = unwrap_or (first_line text) []
 
 -- ---- parts of it, none of which is empty
 
--- what stands behind the part, where the text begins with it
+-- what follows the part, if the text begins with it
 unfoldable pub behind : List ℕ → List ℕ → Option (List ℕ)
 behind part text = if starts_with nat_eq text part then Some (drop (length part) text) else None
 
--- what stands behind the last place where the part stands in the text
+-- what follows the last occurrence of the part in the text
 abbrev pub behind_last : List ℕ → List ℕ → Option (List ℕ)
 behind_last part [] = None
 behind_last part (byte ∷ rest) = option_or (behind_last part rest) (behind part (byte ∷ rest))
 
--- whether the part stands anywhere in the text
+-- whether the text contains the part
 abbrev pub holds : List ℕ → List ℕ → Bool
 holds part [] = false
 holds part (byte ∷ rest) = starts_with nat_eq (byte ∷ rest) part || holds part rest
 
--- ---- what it tells
+-- ---- what it says
 
--- what stands behind the signer's name, where one is named
+-- what follows the signer's name, if one is named
 unfoldable pub behind_signer : List ℕ → Option (List ℕ)
 behind_signer line =
     option_and_then (behind_last (codes " with "))
     (behind (codes "Good \"git\" signature for ") line)
 
--- what stands in its place, where none is
+-- the same, if no signer is named
 unfoldable pub behind_no_signer : List ℕ → Option (List ℕ)
 behind_no_signer line = behind (codes "Good \"git\" signature with ") line
 
--- a signature is good only where its key is named
+-- a signature is good only if its key is named
 unfoldable pub status_by : List ℕ → Status
 status_by told = if holds (codes "key ") told then Good else Bad
 
@@ -62,7 +63,7 @@ status_among (Some told) other = status_by told
 status_among None (Some told) = status_by told
 status_among None None = Bad
 
--- a known signer is trusted fully, whatever is told of the key
+-- a known signer is trusted fully, whatever is said of the key
 abbrev pub trust_among : Option (List ℕ) → Option (List ℕ) → TrustLevel
 trust_among (Some told) other = Fully
 trust_among None (Some told) = Undefined

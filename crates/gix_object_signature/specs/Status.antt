@@ -1,5 +1,5 @@
--- What a program tells of a signature in lines of status (GnuPG, doc/DETAILS, "Format of the --status-fd output"), as Git reads
--- them (gpg-interface.c: `parse_gpg_output`).
+-- What a program reports about a signature in lines of status (GnuPG, doc/DETAILS, "Format of the
+-- --status-fd output"), as Git reads them (gpg-interface.c: `parse_gpg_output`).
 use Rattle.std.specs.Prelude.{ℕ, Bool, false, ◌==◌, nat_eq, List, [], ◌∷◌, codes, drop, fold, is_none, Option, None, Some, if◌then◌else◌}
 use Rattle.std.specs.List.{before_first, filter_map, list_any, slice_split, starts_with}
 use Rattle.std.specs.Option.{option_and_then, option_map_or}
@@ -12,7 +12,7 @@ use Rattle.gix_object_signature.specs.declared.verify.trust.TrustLevel.TheVarian
 abbrev pub lines_of : List ℕ → List (List ℕ)
 lines_of text = slice_split (λ byte. byte == 10) text
 
--- what the line tells of the signature, if it is a line that tells it
+-- the line's verdict on the signature, if it has one
 unfoldable pub verdict_of : List ℕ → Option Status
 verdict_of line =
     if starts_with nat_eq line (codes "[GNUPG:] GOODSIG ") then Some Good
@@ -62,6 +62,6 @@ status_of text =
     if list_any is_strange (lines_of text) then Error
     else told_by (filter_map verdict_of (lines_of text))
 
--- the last level that is told
+-- the last level that is named
 abbrev pub trust_of : List ℕ → TrustLevel
 trust_of text = fold (λ before level. level) Undefined (filter_map level_of (lines_of text))

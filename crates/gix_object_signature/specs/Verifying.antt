@@ -1,4 +1,5 @@
--- What Git asks a program that verifies, and what its answer means (gpg-interface.c: `check_signature`, `verify_gpg_signed_buffer`).
+-- The request to a program that verifies, as Git makes it, and what its answer means
+-- (gpg-interface.c: `check_signature`, `verify_gpg_signed_buffer`).
 use Rattle.std.specs.Prelude.{ℕ, true, ◌≡◌, ◌≢◌, ◌≤◌, List, [], ◌∷◌, codes, Result, Ok, Err}
 use Rattle.bstr.specs.BStr.{bstr_bytes}
 use Rattle.gix_object_signature.specs.Armor.{BeginsArmor, BeginsNoArmor}
@@ -26,7 +27,7 @@ format_of (OpenPgp program minimum) = format.OpenPgp
 format_of (X509 program minimum) = format.X509
 format_of (Ssh program allowed revoked minimum) = format.Ssh
 
--- what the programs of OpenPGP and X.509 are told alike
+-- the words that the programs of OpenPGP and X.509 share
 abbrev pub verifying_words : List ℕ → List Argument
 verifying_words signature =
     Plain (codes "--status-fd=1") ∷ Plain (codes "--verify") ∷ File signature ∷ Plain (codes "-")

@@ -1,5 +1,5 @@
--- What Git asks ssh-keygen when it verifies, one request after another, and what the last answer means (gpg-interface.c:
--- `verify_ssh_signed_buffer`, `parse_ssh_output`).
+-- The requests to ssh-keygen that verify a signature, one after another, as Git makes them, and
+-- what the last answer means (gpg-interface.c: `verify_ssh_signed_buffer`, `parse_ssh_output`).
 use Rattle.std.specs.Prelude.{ℕ, ⊤, Bool, true, false, not, ◌&&◌, ◌==◌, ◌≡◌, nat_eq, List, [], ◌∷◌, ◌++◌, codes, filter, length, IsTrue, IsFalse, Option, None, Some, Result, Ok, Err}
 use Rattle.std.specs.List.{slice_split, starts_with}
 use Rattle.std.specs.Str.{bytes_eq}
@@ -99,7 +99,7 @@ principals text =
 abbrev pub agrees : Answer → Bool
 agrees answer = answer.succeeded && starts_with nat_eq answer.output (codes "Good")
 
--- a signature of no principal is never valid, whatever is told of it
+-- a signature of no principal is never valid, whatever is reported
 abbrev pub outcome_of : TrustLevel → Bool → Result Answer verify.Error → Result Outcome verify.Error
 outcome_of minimum known (Err error) = Err error
 outcome_of minimum known (Ok answer) =
@@ -116,12 +116,13 @@ outcome_of minimum known (Ok answer) =
 
 -- ---- one request after another
 
--- nothing is asked behind it
+-- no request follows it
 abbrev pub Ends : Result Answer verify.Error → Type 0
 Ends (Err error) = ⊤
 Ends (Ok answer) = IsTrue (agrees answer)
 
--- each name is asked for in turn, up to the first that it is or an error; else the last answer counts
+-- each name is tried in turn, up to the first that signed or an error; otherwise the last answer
+-- counts
 pub data Tries {R : Type 0} (answers : R → Request → Result Answer run.RunError → R → Type 0)
     (ask : List ℕ → Request) : R → List (List ℕ) → Answer → Result Answer verify.Error → R
     → Type 0 where
@@ -136,7 +137,8 @@ pub data Tries {R : Type 0} (answers : R → Request → Result Answer run.RunEr
       → Tries answers ask between more answer result after
       → Tries answers ask before (name ∷ more) last result after
 
--- each of the principals that an answer tells is asked for in turn; or their names had no memory, and nothing is run
+-- each of the principals that an answer names is tried in turn; or no memory is left for their
+-- names, and nothing is run
 pub data TriesFound {R : Type 0} (answers : R → Request → Result Answer run.RunError → R → Type 0)
     (question : Question) (content : List ℕ) (before : R) (found : Answer)
     (result : Result Answer verify.Error) (after : R) : Type 0 where
@@ -146,7 +148,7 @@ pub data TriesFound {R : Type 0} (answers : R → Request → Result Answer run.
       (principals found.output) found result after
       → TriesFound answers question content before found result after
 
--- the principals are asked for first; where none is found, whether it is a signature at all
+-- the principals are looked up first; if none is found, the signature is checked without one
 pub data Asked {R : Type 0} (answers : R → Request → Result Answer run.RunError → R → Type 0)
     (before : R) (question : Question) (content : List ℕ) (minimum : TrustLevel)
     (result : Result Outcome verify.Error) (after : R) : Type 0 where
@@ -169,7 +171,7 @@ pub data Asked {R : Type 0} (answers : R → Request → Result Answer run.RunEr
       (principals found.output) found last after → result ≡ outcome_of minimum true last
       → Asked answers before question content minimum result after
 
--- a content that tells no time runs nothing
+-- a content whose time can't be given runs nothing
 pub data VerifiesSsh {R : Type 0}
     (answers : R → Request → Result Answer run.RunError → R → Type 0) (before : R)
     (program allowed : BStr) (revoked : Option BStr) (minimum : TrustLevel)

@@ -1,4 +1,4 @@
-//! The formats of signatures, told by the armor that begins one.
+//! The formats of signatures, recognised by the armor that begins one.
 
 ghost use Rattle.std.specs.Prelude.{MatchOption};
 ghost use Rattle.gix_object_signature.specs.Armor.{BeginsArmor, BeginsNoArmor};
@@ -18,7 +18,7 @@ pub enum Format {
 }
 
 impl Format {
-    /// The format whose armor begins the signature; `None` where none does.
+    /// The format whose armor begins the signature; `None` if none does.
     pub fn from_signature(signature: &[u8]) -> Option<Format>
         ensures { MatchOption result (BeginsNoArmor signature.now) (BeginsArmor signature.now) }
     {
@@ -36,7 +36,7 @@ impl Format {
     }
 }
 
-/// A signature, and the format that its armor tells.
+/// A signature, and the format of its armor.
 #[derive(Debug, Clone, Copy, PartialEq, Eq)]
 pub struct SignatureRef<'a> {
     /// The signature, from its armor on.

@@ -1,8 +1,9 @@
 //! Programs that sign and verify, as a runner starts them.
 //!
-//! A runner is a closure, which may be called again and again: it is handed the words of a command line and the bytes of a
-//! standard input, runs the program that the first word names until it ends, and answers what the program did, or why there is
-//! no answer. One may start a process for each call, or answer from a table.
+//! A runner is a closure, which may be called again and again. It gets the words of a command line
+//! and the bytes of a standard input, runs the program that the first word names until it ends, and
+//! returns what the program did, or why there is no answer. One may start a process for each call,
+//! or reply from a table.
 
 ghost use Rattle.gix_object_signature.specs.Run.{Answers, request_of};
 
@@ -17,8 +18,8 @@ pub enum Word<'a> {
     Text(BStr<'a>),
     /// The path of a temporary file that holds these bytes.
     FileWith(BStr<'a>),
-    /// The path of a temporary file that holds these bytes. The program writes into a file beside it, whose name has `.sig`
-    /// behind this one's.
+    /// The path of a temporary file that holds these bytes. The program writes into the file whose
+    /// name is this one's with `.sig` at its end.
     FileToSign(BStr<'a>),
 }
 
@@ -27,8 +28,8 @@ pub enum Word<'a> {
 pub struct Answer {
     /// Whether its status was 0 in the end.
     pub succeeded: bool,
-    /// What it wrote to its standard output. Where one of its words is a file to sign: what the file beside that holds, and
-    /// nothing where there is none.
+    /// What it wrote to its standard output. If one of its words is a file to sign: what the `.sig`
+    /// file holds, and nothing if there is none.
     pub output: ByteString,
     /// What it wrote to its standard error.
     pub errors: ByteString,

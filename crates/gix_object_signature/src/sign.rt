@@ -15,15 +15,16 @@ use gix_object_lines::{ByteString, decode, write};
 use std::alloc::{AllocError, Global};
 use thiserror::Error;
 
-/// What Git's configuration tells of signing.
+/// What Git's configuration says about signing.
 #[derive(Debug, Clone, Copy, PartialEq, Eq)]
 pub struct Options<'a> {
     /// The format of the signature (`gpg.format`).
     pub format: Format,
     /// The program that signs (`gpg.program`, `gpg.x509.program`, `gpg.ssh.program`).
     pub program: BStr<'a>,
-    /// The key that signs (`user.signingKey`): for OpenPGP and X.509 a user's id or a key's, where Git takes the committer
-    /// if none is told; for the secure shell the path of a file, or the public key itself, as `is_literal_ssh_key` tells.
+    /// The key that signs (`user.signingKey`): for OpenPGP and X.509 the id of a user or a key (Git
+    /// takes the committer if there is none); for SSH the path of a file, or the public key itself
+    /// if `is_literal_ssh_key` finds one.
     pub signing_key: Option<BStr<'a>>,
 }
 
@@ -36,7 +37,7 @@ pub enum Error {
     /// The object to sign can't be written.
     #[error(transparent)]
     Encode(write::Error),
-    /// No key is told.
+    /// No key is given.
     #[error("no key to sign with is told")]
     MissingSigningKey,
     /// A temporary file wasn't written, or not read again.
@@ -51,7 +52,7 @@ pub enum Error {
     /// The program's status wasn't 0.
     #[error("the program that signs failed")]
     Failed,
-    /// The program didn't tell that it made a signature.
+    /// The program didn't report that it made a signature.
     #[error("the program didn't confirm the signature")]
     MissingSignatureConfirmation,
     /// The program of the secure shell wrote no signature.
@@ -94,7 +95,8 @@ impl From<AllocError> for Error {
     }
 }
 
-/// The public key that is told in the place of a file: what stands behind `key::`, or the whole where it begins `ssh-`.
+/// The public key that is given in place of a file: all after `key::`, or the whole if it begins
+/// `ssh-`.
 pub fn is_literal_ssh_key(key: &[u8]) -> Option<&[u8]>
     ensures { option_map (λ literal. literal.now) result ≡ literal_key key.now }
 {
@@ -107,12 +109,13 @@ pub fn is_literal_ssh_key(key: &[u8]) -> Option<&[u8]>
     }
 }
 
-/// The signature of the content, as a program makes it that the runner runs once.
+/// Returns the signature of the content, made by a program that the runner runs once.
 ///
-/// It is `MissingSigningKey` where no key is told, and nothing is run then; what the runner refuses where it does;
-/// `Failed` where the program failed; `MissingSignatureConfirmation` where it is one of OpenPGP or X.509 and no line of its
-/// errors begins with `[GNUPG:] SIG_CREATED `; `MissingSshSignature` where the secure shell's wrote no signature; and
-/// `Memory` where the signature's copy has none. A carriage return before a line feed is dropped from the signature.
+/// Returns `MissingSigningKey` if no key is given, and then runs nothing; what the runner refuses
+/// if it does; `Failed` if the program failed; `MissingSignatureConfirmation` if it is one of
+/// OpenPGP or X.509 and no line of its errors begins with `[GNUPG:] SIG_CREATED `;
+/// `MissingSshSignature` if that of SSH wrote no signature; and `Memory` if no memory is left for
+/// the signature's copy. A carriage return before a line feed is dropped from the signature.
 pub fn sign<F: FnMut(&[Word<'_>], &[u8]) -> Result<Answer, RunError>>(
     alloc: Global,
     content: &[u8],
@@ -237,7 +240,7 @@ fn run_ssh<'a, F: FnMut(&[Word<'_>], &[u8]) -> Result<Answer, RunError>>(
     }
 }
 
-// The run of a key that is told itself.
+// The run for a key that is given itself.
 fn run_with_literal<'a, F: FnMut(&[Word<'_>], &[u8]) -> Result<Answer, RunError>>(
     content: &'a [u8],
     program: BStr<'a>,
@@ -264,7 +267,7 @@ fn run_with_literal<'a, F: FnMut(&[Word<'_>], &[u8]) -> Result<Answer, RunError>
     run(&words, b"", runner)
 }
 
-// The run of a key whose file is told.
+// The run for a key whose file is given.
 fn run_with_file<'a, F: FnMut(&[Word<'_>], &[u8]) -> Result<Answer, RunError>>(
     content: &'a [u8],
     program: BStr<'a>,
@@ -290,7 +293,7 @@ fn run_with_file<'a, F: FnMut(&[Word<'_>], &[u8]) -> Result<Answer, RunError>>(
     run(&words, b"", runner)
 }
 
-// Whether a line of the status tells that a signature was made.
+// Returns whether a line of the status reports that a signature was made.
 fn tells_signature(status: &[u8]) -> bool
     ensures { result ≡ is_confirmed status.now }
 {

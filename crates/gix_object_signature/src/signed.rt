@@ -12,7 +12,7 @@ use std::alloc::{AllocError, Global};
 pub struct SignedData<'a> {
     /// The object's bytes before the signature.
     pub before: BStr<'a>,
-    /// The object's bytes behind the signature; none where it ends the object.
+    /// The object's bytes after the signature; none if it ends the object.
     pub behind: BStr<'a>,
 }
 

@@ -20,7 +20,7 @@ use crate::{Format, SignedData};
 use bstr::BStr;
 use std::alloc::{AllocError, Global};
 
-/// What Git's configuration tells of verifying.
+/// What Git's configuration says about verifying.
 #[derive(Debug, Clone, Copy, PartialEq, Eq)]
 pub enum Options<'a> {
     /// Of a signature of OpenPGP.
@@ -41,10 +41,10 @@ pub enum Options<'a> {
     Ssh {
         /// The program that verifies (`gpg.ssh.program`).
         program: BStr<'a>,
-        /// The path of the file that tells whose keys are whose (`gpg.ssh.allowedSignersFile`).
+        /// The path of the file that says whose keys are whose (`gpg.ssh.allowedSignersFile`).
         allowed_signers: BStr<'a>,
-        /// The path of the file of keys that are revoked (`gpg.ssh.revocationFile`), where there is one; Git takes none where
-        /// no file stands there, which the caller looks after.
+        /// The path of the file of keys that are revoked (`gpg.ssh.revocationFile`), if there is
+        /// one. Git passes none if the file is missing; here the caller tests that.
         revoked_keys: Option<BStr<'a>>,
         /// The level at which its key must be trusted at least (`gpg.minTrustLevel`): `Fully` is that of a principal's key.
         minimum_trust: TrustLevel,
@@ -62,7 +62,7 @@ impl<'a> Options<'a> {
         }
     }
 
-    // What the program of these options tells.
+    // What the program of these options reports.
     fn ask<'b, F: FnMut(&[Word<'_>], &[u8]) -> Result<Answer, RunError>>(
         &self,
         alloc: Global,
@@ -101,14 +101,15 @@ impl<'a> Options<'a> {
     }
 }
 
-/// What a program tells of a signature.
+/// What a program reports about a signature.
 #[derive(Debug, Clone, Copy, PartialEq, Eq)]
 pub enum Status {
     /// It is good (`GOODSIG`).
     Good,
     /// It is of other bytes (`BADSIG`).
     Bad,
-    /// It wasn't verified (`ERRSIG`), or what was told is of several signatures or of a trust that has no such level.
+    /// It wasn't verified (`ERRSIG`), or the report has several signatures or a trust that has no
+    /// such level.
     Error,
     /// It is good and has expired (`EXPSIG`).
     Expired,
@@ -116,28 +117,30 @@ pub enum Status {
     ExpiredKey,
     /// It is good, and its key was revoked (`REVKEYSIG`).
     RevokedKey,
-    /// Nothing was told.
+    /// Nothing was reported.
     Unknown,
 }
 
 /// What came of verifying.
 #[derive(Debug, Drop, PartialEq, Eq)]
 pub struct Outcome {
-    /// What was told of the signature.
+    /// What was reported about the signature.
     pub status: Status,
-    /// How far its key is trusted, as the last line tells that names a level.
+    /// How far its key is trusted: the level of the last line that names one.
     pub trust: TrustLevel,
     /// How far it must be trusted.
     pub minimum_trust: TrustLevel,
-    /// Whether someone is known to have made it: false only for a key of the secure shell that is none of the allowed signers'.
+    /// Whether someone is known to have made it: false only for an SSH key that is none of the
+    /// allowed signers'.
     pub has_signer: bool,
-    /// The program's whole answer, the last of several: its output is the status, its errors are for people.
+    /// The program's whole answer, the last of several: its output is the status, its errors are
+    /// for people.
     pub answer: Answer,
 }
 
 impl Outcome {
-    /// Whether the signature holds, by Git's rule: the program's status is 0, the signature is good and someone's, and its key
-    /// is trusted as far as it must be.
+    /// Returns whether the signature holds, by Git's rule: the program's status is 0, the signature
+    /// is good and someone's, and its key is trusted as far as it must be.
     pub fn is_valid(&self) -> bool
         ensures { IsTrue result ↔ IsValid self.now }
     {
@@ -166,7 +169,7 @@ pub enum Error {
     /// The program's input wasn't written, or what it wrote wasn't read.
     #[error("the program that verifies didn't communicate")]
     Communicate,
-    /// The object tells a time of signing that the secure shell's program doesn't take.
+    /// The object has a time of signing that the SSH program doesn't take.
     #[error("the time of signing can't be told")]
     CommitTime,
     /// No memory is left.
@@ -196,18 +199,20 @@ impl From<AllocError> for Error {
 }
 
 impl<'a> SignedData<'a> {
-    /// What a program tells of this signature of the bytes: the runner runs it once, or, for the secure shell, as often as Git
-    /// does.
+    /// Returns what a program reports about this signature of the bytes. The runner runs it once,
+    /// or, for SSH, as often as Git does.
     ///
-    /// It is `UnsupportedFormat` where no known armor begins the signature, `FormatMismatch` where the options are of another
-    /// format, `CommitTime` where the secure shell's program can't be told the time of signing, and nothing is run then; what
-    /// the runner refuses where it does; and `Memory` where a copy of the bytes, or of what is asked, has none. A signature
-    /// that doesn't hold is no error: `Outcome::is_valid` tells it.
+    /// Returns `UnsupportedFormat` if no known armor begins the signature, `FormatMismatch` if the
+    /// options are of another format, and `CommitTime` if the SSH program doesn't take the time of
+    /// signing; nothing is run then. Returns what the runner refuses if it does, and `Memory` if no
+    /// memory is left for a copy of the bytes or for the words of a request. A signature that
+    /// doesn't hold is no error: `Outcome::is_valid` is then false.
     ///
-    /// The secure shell's program is asked for the principals that may have made the signature, and then whether it is one's,
-    /// each in turn until one's it is; where there are none, whether it is a signature of the bytes at all. Each time it is
-    /// told the time of signing, that of the committer or tagger in the bytes' own header lines; where no line tells one, or
-    /// it is zero seconds, no time is. Git tells it as local time, here it is coordinated universal time with a `Z` behind.
+    /// The SSH program first looks up the principals that may have made the signature, and then
+    /// tries each in turn until one did; if there are none, it checks whether this is a signature
+    /// of the bytes at all. Each time it gets the time of signing, that of the committer or tagger
+    /// in the bytes' own header lines, or no time if no line has one or it is zero seconds. Git
+    /// gives local time; here it is coordinated universal time with a `Z` at the end.
     pub fn verify<F: FnMut(&[Word<'_>], &[u8]) -> Result<Answer, RunError>>(
         &self,
         alloc: Global,

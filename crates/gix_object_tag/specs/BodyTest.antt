@@ -1,5 +1,5 @@
--- Whether a message and its signature are told again as they are written, as a test. `laws::body_test_is_the_rule` says that
--- the test is `Format`'s `IsWholeBody`.
+-- Whether a message and its signature are read back as they are written, as a test.
+-- `laws::body_test_is_the_rule` says that the test is `Format`'s `IsWholeBody`.
 use Rattle.std.specs.Prelude.{ℕ, Bool, false, not, ◌&&◌, ◌||◌, ◌==◌, List, [], ◌∷◌, codes, Option, None, Some}
 use Rattle.gix_object_lines.specs.NameTest.{begins}
 
@@ -11,7 +11,7 @@ begins_armor text =
     || (begins (codes "-----BEGIN SIGNED MESSAGE-----") text
     || begins (codes "-----BEGIN SSH SIGNATURE-----") text))
 
--- an armor begins a line behind the first
+-- an armor begins a line after the first
 abbrev pub has_later_armor : List ℕ → Bool
 has_later_armor [] = false
 has_later_armor (byte ∷ rest) = (byte == 10 && begins_armor rest) || has_later_armor rest

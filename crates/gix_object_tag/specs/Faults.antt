@@ -47,11 +47,11 @@ TaggerFault input InvalidTime =
     (text after : List ℕ) × IsLine (codes "tagger ") input text after × IsUntimed text
 TaggerFault input Memory = ⊥
 
--- something stands there, and no line feed begins it
+-- the input isn't empty, and no line feed begins it
 abbrev pub RestFault : List ℕ → Error → Type 0
 RestFault input error = (error ≡ FieldName) × (input ≢ []) × ((body : List ℕ) → input ≢ 10 ∷ body)
 
--- the first part that fails, behind those that stand
+-- the first part that fails, after those that are read
 pub data TagFault (kind : hash.Kind) (input : List ℕ) (error : Error) : Type 0 where
   InTarget : HexLineFault (codes "object") (hex_len kind) input error → TagFault kind input error
   InKind : (digits after : List ℕ) → SpellsTarget kind input digits after → KindFault after error

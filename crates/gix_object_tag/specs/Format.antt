@@ -1,4 +1,4 @@
--- Values that a written tag tells again.
+-- Values that are read back as they are written.
 use Rattle.std.specs.Prelude.{ℕ, List, [], ⊤, Option, None, Some}
 use Rattle.gix_hash_id.specs.Kind.{hex_len}
 use Rattle.gix_hash_id.specs.declared.kind.Kind as hash

@@ -16,7 +16,7 @@ IsOwnTagger None (Some actor) = ⊥
 IsOwnTagger (Some tagger) None = ⊥
 IsOwnTagger (Some tagger) (Some actor) = IsActorOf tagger actor
 
--- the id that the digits spell, and each part as it is told
+-- the id that the digits spell, and each part as the tag has it
 pub record IsTagOf (parts : Parts) (tag : Tag) : Type 0 where
   pub target : IsHexOfId parts.target (id_of tag.target)
   pub target_kind : tag.target_kind ≡ parts.target_kind
@@ -28,7 +28,8 @@ pub record IsTagOf (parts : Parts) (tag : Tag) : Type 0 where
 abbrev pub SpellsId : List ℕ → Type 0
 SpellsId digits = (id : Id) × IsHexOfId digits id
 
--- the first that fails: the digits are no id's, or behind an id's the text tells no time; or no memory is left, where neither does
+-- the first that fails: the digits are no id's, or they are and the text is no time; or no memory
+-- is left, if neither fails
 abbrev pub OwningFault : List ℕ → Option Person → Error → Type 0
 OwningFault target tagger HexDigits = ¬ SpellsId target
 OwningFault target tagger InvalidTime = SpellsId target × ¬ TellsWhen tagger

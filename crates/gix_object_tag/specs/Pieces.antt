@@ -11,7 +11,7 @@ abbrev pub all_text : List Piece → List ℕ
 all_text [] = []
 all_text (piece ∷ pieces) = piece.text ++ all_text pieces
 
--- a refusal behind some text
+-- a refusal after some text
 abbrev pub behind : List ℕ → Option Refusal → Option Refusal
 behind text None = None
 behind text (Some refusal) =

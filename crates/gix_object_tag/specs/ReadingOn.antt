@@ -1,4 +1,4 @@
--- What the parts tell that a reader gives from its place on.
+-- What the parts hold that a reader gives from its place on.
 use Rattle.std.specs.Prelude.{◌≡◌, ◌⊎◌, List, [], ◌∷◌, filter_map, Option, None, Some, Result, Ok, Err}
 use Rattle.gix_hash_id.specs.declared.object_id.ObjectId.{ObjectId}
 use Rattle.gix_object_lines.specs.declared.decode.Error.{Error}
@@ -9,12 +9,12 @@ use Rattle.gix_object_tag.specs.declared.tag.ref_iter.Stage.TheVariants as at
 use Rattle.gix_object_tag.specs.declared.tag.ref_iter.Token.{Token}
 use Rattle.gix_object_tag.specs.declared.tag.ref_iter.Token.TheVariants as token
 
--- from here the reader gives these parts, one behind the other, and then stands there
+-- from here the reader gives these parts, one after the other, and is then there
 abbrev pub Reads : Place → List Part → Place → Type 0
 Reads here [] there = here ≡ there
 Reads here (part ∷ parts) there = (next : Place) × IsNext here part next × Reads next parts there
 
--- these are the values that the parts from here to there tell
+-- these are the values that the parts from here to there hold
 abbrev pub Tells : {X : Type 0} → (Part → Option X) → Place → List X → Place → Type 0
 Tells told here values there =
     (parts : List Part) × Reads here parts there × (filter_map told parts ≡ values)
@@ -24,17 +24,18 @@ Tells told here values there =
 abbrev pub TellsFirst : {X : Type 0} → (Part → Option X) → Place → X → Type 0
 TellsFirst told here value = (there : Place) × Tells told here (value ∷ []) there
 
--- what is answered where no part follows: `FieldName` at the input's end, and else the error that the reader gives
+-- the error if no part follows: `FieldName` at the input's end, and otherwise the one that the
+-- reader gives
 abbrev pub IsStop : Place → Error → Type 0
 IsStop place error =
     ((place.input ≡ []) × (error ≡ FieldName))
     ⊎ ((after : Place) × GivesToken place (Some (Err error)) after)
 
--- no value is told from here on to where no part follows
+-- no part from here on has a value, up to where no part follows
 abbrev pub TellsNone : {X : Type 0} → (Part → Option X) → Place → Error → Type 0
 TellsNone told here error = (there : Place) × Tells told here [] there × IsStop there error
 
--- ---- the tagger: a tag that ends behind its name has none
+-- ---- the tagger: a tag that ends after its name has none
 
 abbrev pub tagger_told : Part → Option (Option Person)
 tagger_told (Tagger tagger) = Some tagger
@@ -44,13 +45,14 @@ tagger_told _ = None
 abbrev pub IsBehindName : Place → Type 0
 IsBehindName place = (place.stage ≡ at.Tagger) × (place.input ≡ [])
 
--- the first tagger from here on is this one; or none is told up to the name, with which the input ends
+-- the first tagger from here on is this one; or there is none up to the name, with which the input
+-- ends
 abbrev pub TellsTagger : Place → Option Person → Type 0
 TellsTagger here tagger =
     TellsFirst tagger_told here tagger
     ⊎ ((there : Place) × Tells tagger_told here [] there × IsBehindName there × (tagger ≡ None))
 
--- none is told up to where no part follows, and that isn't behind the name
+-- there is none up to where no part follows, and that isn't after the name
 abbrev pub TellsNoTagger : Place → Error → Type 0
 TellsNoTagger here error =
     (there : Place) × Tells tagger_told here [] there × IsStop there error × ¬ IsBehindName there
@@ -66,7 +68,7 @@ target_given None = Err FieldName
 target_given (Some (Ok token)) = target_of token
 target_given (Some (Err error)) = Err error
 
--- one token is read, and this is what it answers
+-- one token is read, and this is the result
 abbrev pub TakesTarget : Place → Result ObjectId Error → Type 0
 TakesTarget here result =
     (given : Option (Result Token Error)) × (after : Place) × GivesToken here given after

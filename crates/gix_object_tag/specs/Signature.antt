@@ -8,7 +8,7 @@ use Rattle.gix_object_signature.specs.declared.format.Format.{Format}
 use Rattle.gix_object_signature.specs.declared.format.SignatureRef.{SignatureRef}
 use Rattle.gix_object_signature.specs.declared.signed.SignedData.{SignedData}
 
--- behind the front a line begins, and an armor begins that line
+-- after the front a line begins, and an armor begins that line
 pub record IsArmored (text front signature : List ℕ) : Type 0 where
   pub spelled : text ≡ front ++ signature
   pub line_begins : (front ≡ []) ⊎ EndsWith (10 ∷ []) front
@@ -23,7 +23,7 @@ pub record IsSigned (text front signature : List ℕ) : Type 0 where
 abbrev pub IsUnsigned : List ℕ → Type 0
 IsUnsigned text = (front signature : List ℕ) → ¬ IsArmored text front signature
 
--- ---- a tag's signature, where it has one
+-- ---- a tag's signature, if it has one
 
 -- no armor begins it
 abbrev pub IsBare : Option (List ℕ) → Type 0

@@ -1,5 +1,5 @@
--- What signing makes of a tag: the signature stands behind the text that it signs (git, builtin/tag.c: `build_tag_object` makes
--- the text, and `do_sign` puts the signature behind it).
+-- What signing makes of a tag: the signature follows the text that it signs (git, builtin/tag.c:
+-- `build_tag_object` makes the text, and `do_sign` appends the signature).
 use Rattle.std.specs.Prelude.{ℕ, ◌≡◌, List, ◌++◌, Option, None, Some, Result, Ok, Err}
 use Rattle.bstr.specs.BStr.{bstr_bytes}
 use Rattle.gix_object_lines.specs.Bytes.{without_last_feed}
@@ -43,7 +43,7 @@ write_fault tag = cause_of (line_refusal (own_parts tag) (is_bad_actor tag.tagge
 
 -- ---- signing
 
--- the tag with the signature that was answered
+-- the tag with the signature that was returned
 abbrev pub signed_with : Tag → Result (List ℕ) Error → Result Tag Error
 signed_with tag (Ok signature) = Ok (with_signature signature tag)
 signed_with tag (Err error) = Err error
@@ -76,7 +76,7 @@ pub data SignsParts {R : Type 0} (answers : R → Request → Result Answer run.
 
 -- ---- reading a signed tag
 
--- this signature is told, and this text is what it signs
+-- this signature is found, and this text is what it signs
 abbrev pub TellsSigned : List ℕ → List ℕ → Option (SignatureRef × SignedData) → Type 0
 TellsSigned text signature None = ⊥
 TellsSigned text signature (Some (found, signed)) =

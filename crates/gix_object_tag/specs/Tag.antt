@@ -11,7 +11,7 @@ use Rattle.gix_object_lines.specs.declared.kind.Kind.{Kind}
 use Rattle.gix_object_lines.specs.Person.{Person}
 use Rattle.gix_object_tag.specs.Signature.{IsSigned, IsUnsigned}
 
--- what a tag tells
+-- what a tag holds
 pub record Parts : Type 0 where
   -- the hexadecimal digits of the tagged object's id, and its kind
   pub target : List ℕ
@@ -69,7 +69,7 @@ pub data SpellsRest (input message : List ℕ) (signature : Option (List ℕ)) :
 
 -- ---- the whole
 
--- the bytes are a tag that tells these parts
+-- the bytes are a tag with these parts
 pub record SpellsTag (kind : hash.Kind) (input : List ℕ) (parts : Parts) : Type 0 where
   pub after_target : List ℕ
   pub after_kind : List ℕ

@@ -54,7 +54,7 @@ abbrev pub is_marked_tagger : Option Person → Bool
 is_marked_tagger None = false
 is_marked_tagger (Some tagger) = is_marked tagger.name || is_marked tagger.email
 
--- such a name or email, or a text that tells no time
+-- such a name or email, or a text that is no time
 abbrev pub is_bad_tagger : Option Person → Bool
 is_bad_tagger None = false
 is_bad_tagger (Some tagger) = is_marked_tagger (Some tagger) || not (tells_time tagger.time)

@@ -1,4 +1,4 @@
--- Why no part of a tag stands next, by what may stand there (git-mktag).
+-- Why no part of a tag is next, by what may come next (git-mktag).
 use Rattle.std.specs.Prelude.{ℕ, List, codes}
 use Rattle.gix_hash_id.specs.Kind.{hex_len}
 use Rattle.gix_hash_id.specs.declared.kind.Kind as hash

@@ -1,4 +1,4 @@
--- The parts of a tag one after another, and what each is told from.
+-- The parts of a tag one after another, and what each is read from.
 use Rattle.std.specs.Prelude.{ℕ, ◌≡◌, ◌≢◌, List, [], ◌∷◌, Option, None, Some, Result, Ok, Err}
 use Rattle.bstr.specs.BStr.{bstr_bytes}
 use Rattle.gix_hash_id.specs.Id.{Id, id_of}
@@ -31,7 +31,7 @@ part_of (token.Name name) = Name (bstr_bytes name)
 part_of (token.Tagger tagger) = Tagger (tagger_of tagger)
 part_of (token.Body message signature) = Body (bstr_bytes message) (text_of signature)
 
--- the id that a part tells
+-- the id that a part holds
 abbrev pub id_told : Part → Option Id
 id_told (Target id) = Some id
 id_told (TargetKind _) = None
@@ -45,7 +45,7 @@ pub record IsIdLine (kind : hash.Kind) (input : List ℕ) (id : Id) (rest : List
   pub spelled : SpellsTarget kind input digits rest
   pub id_spelled : IsHexOfId digits id
 
--- the part may stand there and begins the input, and the rest follows it
+-- the part may come next and begins the input, and the rest follows it
 abbrev pub IsPartAt : hash.Kind → Stage → List ℕ → Part → List ℕ → Type 0
 IsPartAt kind stage input (Target id) rest = (stage ≡ at.Target) × IsIdLine kind input id rest
 IsPartAt kind stage input (TargetKind target) rest =
@@ -64,7 +64,7 @@ stage_after (Name _) = at.Tagger
 stage_after (Tagger _) = at.Body
 stage_after (Body _ _) = at.Body
 
--- where a reader stands: what may come next, and the input from there on
+-- where a reader is: what may come next, and the input from there on
 pub record Place : Type 0 where
   pub kind : hash.Kind
   pub stage : Stage
@@ -77,13 +77,13 @@ place_of reader = record { kind = reader.hash_kind; stage = reader.stage; input 
 abbrev pub start : hash.Kind → List ℕ → Place
 start kind input = record { kind = kind; stage = at.Target; input = input }
 
--- something stands next, the part does, and the reader moves behind it
+-- the input isn't empty, the part is next, and the reader moves past it
 abbrev pub IsNext : Place → Part → Place → Type 0
 IsNext before part after =
     (before.input ≢ []) × IsPartAt before.kind before.stage before.input part after.input
     × (after.stage ≡ stage_after part) × (after.kind ≡ before.kind)
 
--- something stands next, and it is no part
+-- the input isn't empty, and no part is next
 abbrev pub LacksPart : Place → Type 0
 LacksPart place =
     (place.input ≢ [])
@@ -93,7 +93,8 @@ LacksPart place =
 abbrev pub IsAtEnd : Place → Place → Type 0
 IsAtEnd before after = (after.input ≡ []) × (after.stage ≡ at.Body) × (after.kind ≡ before.kind)
 
--- the reader gives the part that stands next, nothing where its input has ended, and else why none stands there, and then nothing
+-- the reader gives the part that is next, nothing if its input has ended, and otherwise why none is
+-- next, and then nothing
 abbrev pub GivesToken : Place → Option (Result Token Error) → Place → Type 0
 GivesToken before None after = (before.input ≡ []) × (after ≡ before)
 GivesToken before (Some (Ok token)) after = IsNext before (part_of token) after

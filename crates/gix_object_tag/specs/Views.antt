@@ -1,4 +1,4 @@
--- What the values of the crate tell.
+-- What the values of the crate hold.
 use Rattle.std.specs.Prelude.{ℕ, List, Option, None, Some}
 use Rattle.std.specs.Option.{option_map}
 use Rattle.bstr.specs.BStr.{bstr_bytes}

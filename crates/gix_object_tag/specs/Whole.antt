@@ -1,4 +1,4 @@
--- Bytes that are a tag, and the parts that tell one.
+-- Bytes that are a tag, and the tokens that make one.
 use Rattle.std.specs.Prelude.{ℕ, Bool, true, false, ◌≡◌, List, [], ◌∷◌, Option, None, IsTrue}
 use Rattle.std.specs.List.{list_any}
 use Rattle.gix_hash_id.specs.Id.{Id}
@@ -19,15 +19,15 @@ tells_name (Name name) = true
 tells_name (Tagger tagger) = false
 tells_name (Body message signature) = false
 
--- ---- the tokens that tell these parts, each once and in their order
+-- ---- the tokens that hold these parts, each once and in their order
 
--- the body, whose token isn't given where nothing is left for it
+-- the body, whose token isn't given if nothing is left for it
 pub data TellsBody (message : List ℕ) (signature : Option (List ℕ))
     (tokens : List Part) : Type 0 where
   NoBody : message ≡ [] → signature ≡ None → tokens ≡ [] → TellsBody message signature tokens
   ABody : tokens ≡ Body message signature ∷ [] → TellsBody message signature tokens
 
--- the tagger, and the body; neither token is given where nothing is left behind the name
+-- the tagger, and the body; neither token is given if nothing is left after the name
 pub data TellsLast (tagger : Option Person) (message : List ℕ) (signature : Option (List ℕ))
     (tokens : List Part) : Type 0 where
   NoTagger : tagger ≡ None → message ≡ [] → signature ≡ None → tokens ≡ []

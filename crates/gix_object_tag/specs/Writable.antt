@@ -4,6 +4,6 @@ use Rattle.gix_object_tag.specs.NameTest.{name_fault}
 use Rattle.gix_object_tag.specs.Tag.{Parts}
 use Rattle.gix_object_tag.specs.TagText.{is_marked_tagger}
 
--- the name is one that Git makes, and no `<`, `>` or line feed stands in the tagger's name and email
+-- the name is one that Git makes, and the tagger's name and email have no `<`, `>` or line feed
 abbrev pub IsWritable : Parts → Type 0
 IsWritable parts = (name_fault parts.name ≡ None) × (is_marked_tagger parts.tagger ≡ false)

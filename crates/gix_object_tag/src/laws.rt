@@ -47,15 +47,17 @@ pub fn written_is_read(_hash_kind: gix_hash::Kind)
         → length parts.target ≡ hex_len _hash_kind → SpellsTag _hash_kind (tag_text parts) parts }
 {}
 
-/// The target of a tag that was read is an id's digits, as `TagRef::target` asks. Nothing is done: the contract is the law.
+/// The target of a tag that was read is an id's digits, as `TagRef::target` requires. Nothing is
+/// done: the contract is the law.
 pub fn ids_read_are_ids(_input: &[u8], _hash_kind: gix_hash::Kind)
     ensures { (parts : Parts) → SpellsTag _hash_kind _input.now parts
         → IsTrue (is_id parts.target) }
 {}
 
-/// A tag that was read is written without a refusal, unless its name is none that Git makes, or its tagger's name or email
-/// holds `<` or `>`. What is written are the bytes that it was read from, unless its message is empty: such a tag may end
-/// behind its lines, or have a line feed more before its signature. Nothing is done: the contract is the law.
+/// A tag that was read is written without a refusal, unless its name is none that Git makes, or its
+/// tagger's name or email holds `<` or `>`. What is written are the bytes that it was read from,
+/// unless its message is empty: such a tag may end after its lines, or have a line feed more before
+/// its signature. Nothing is done: the contract is the law.
 pub fn read_is_written(_input: &[u8], _hash_kind: gix_hash::Kind)
     ensures accepted { (parts : Parts) → SpellsTag _hash_kind _input.now parts → IsWritable parts
         → tag_refusal parts (is_bad_tagger parts.tagger) ≡ None }
@@ -63,15 +65,17 @@ pub fn read_is_written(_input: &[u8], _hash_kind: gix_hash::Kind)
         → tag_text parts ≡ _input.now }
 {}
 
-/// A tag that was read is in the format: its target is an id's digits, its tagger tells a time, and its message holds no armor
-/// or its signature has its only armor at its start. Nothing is done: the contract is the law.
+/// A tag that was read is in the format: its target is an id's digits, its tagger has a time, and
+/// its message holds no armor or its signature has its only armor at its start. Nothing is done:
+/// the contract is the law.
 pub fn read_is_in_format(_input: &[u8], _hash_kind: gix_hash::Kind)
     ensures { (parts : Parts) → SpellsTag _hash_kind _input.now parts
         → IsInFormat _hash_kind parts }
 {}
 
-/// Whether the token reader gives its tokens to the end of the bytes without an error, and the name among them: exactly where
-/// the bytes spell a tag, and so exactly where `TagRef::from_bytes` succeeds.
+/// Returns whether the token reader gives its tokens to the end of the bytes without an error, and
+/// the name among them: exactly if the bytes spell a tag, and so exactly if `TagRef::from_bytes`
+/// succeeds.
 pub fn tokens_tell_a_tag(input: &[u8], hash_kind: gix_hash::Kind) -> bool
     ensures reader { IsTag hash_kind input.now ↔ ReadsWithName (start hash_kind input.now) }
     ensures answer { IsTrue result ↔ IsTag hash_kind input.now }
@@ -87,8 +91,8 @@ pub fn tokens_tell_a_tag(input: &[u8], hash_kind: gix_hash::Kind) -> bool
     named
 }
 
-/// The tokens of a tag are its parts, each once and in their order. That of the body isn't given where the bytes end behind the
-/// lines, nor that of the tagger where they end behind the name.
+/// The tokens of a tag are its parts, each once and in their order. That of the body isn't given if
+/// the bytes end after the lines, nor that of the tagger if they end after the name.
 pub fn tokens_are_the_parts(input: &[u8], hash_kind: gix_hash::Kind)
     ensures { (parts : Parts) (tokens : List Part) (there : Place)
         → SpellsTag hash_kind input.now parts

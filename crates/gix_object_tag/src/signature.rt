@@ -8,7 +8,8 @@ ghost use Rattle.gix_object_tag.specs.Signature.{IsSigned, IsUnsigned};
 use gix_object_signature::Format;
 use memchr::memrchr;
 
-/// Cuts a text where its signature begins: at the last armor at a line's start. `None` where it has none.
+/// Cuts a text where its signature begins: at the last armor at a line's start. `None` if it has
+/// none.
 pub(crate) fn split_signature(text: &[u8]) -> Option<(&[u8], &[u8])>
     ensures { MatchOption result (IsUnsigned text.now)
         (λ cut. IsSigned text.now cut.0.now cut.1.now) }

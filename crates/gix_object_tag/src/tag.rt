@@ -37,21 +37,23 @@ pub struct TagRef<'a> {
     pub target_kind: Kind,
     /// The tag's name, as `v1.0`.
     pub name: BStr<'a>,
-    /// Who made the tag, and when; old tags don't tell.
+    /// Who made the tag, and when; old tags don't say.
     pub tagger: Option<ActorRef<'a>>,
     /// The message, without the line feed before a signature.
     pub message: BStr<'a>,
-    /// The signature of all that stands before it, from its armor on.
+    /// The signature of all that precedes it, from its armor on.
     pub pgp_signature: Option<BStr<'a>>,
 }
 
 impl<'a> TagRef<'a> {
-    /// The tag that the bytes spell, in a repository of this kind of ids. It borrows, and takes no memory.
+    /// The tag that the bytes spell, in a repository of this kind of ids. It borrows, and takes no
+    /// memory.
     ///
-    /// Of the parts that fail the first is told. It is `HexDigits` where behind `object ` stand fewer digits than an id has;
-    /// `InvalidActor` where a tagger's line isn't a name, an email and a time, and `InvalidTime` where it tells no time;
-    /// `LineEnd` where a line lacks its line feed; and `FieldName` where another line stands in the place of one, the kind is
-    /// unknown, the name is empty, or neither a tagger's line nor an empty line follows the name.
+    /// The error is that of the first part that fails: `HexDigits` if fewer digits follow `object `
+    /// than an id has; `InvalidActor` if a tagger's line isn't a name, an email and a time, and
+    /// `InvalidTime` if the time is none; `LineEnd` if a line lacks its line feed; and `FieldName`
+    /// if another line is in the place of one, the kind is unknown, the name is empty, or neither a
+    /// tagger's line nor an empty line follows the name.
     pub fn from_bytes(input: &'a [u8], hash_kind: gix_hash::Kind) -> Result<TagRef<'a>, Error>
         ensures read { IfOk result (λ tag. SpellsTag hash_kind input.now (parts_of tag)) }
         ensures every { (parts : Parts) → SpellsTag hash_kind input.now parts
@@ -88,7 +90,7 @@ impl<'a> TagRef<'a> {
         self.tagger
     }
 
-    /// The tag's signature with the format of its armor; `None` where no armor begins it.
+    /// The tag's signature with the format of its armor; `None` if no armor begins it.
     pub fn signature(&self) -> Option<SignatureRef<'a>>
         ensures { MatchOption result (IsBare (text_of self.now.pgp_signature))
             (IsSignatureOf (text_of self.now.pgp_signature)) }

@@ -1,4 +1,4 @@
-//! Bytes that are written one behind the other.
+//! Bytes that are written one after the other.
 
 ghost use Rattle.std.specs.Prelude.{None, flat_map};
 ghost use Rattle.gix_object_lines.specs.Writes.{Writes};
@@ -8,7 +8,7 @@ use gix_object_lines::encode;
 use gix_object_lines::write::{Error, write_parts};
 use std::io;
 
-/// Writes the parts in order. Where the writer fails it has taken a beginning of them.
+/// Writes the parts in order. If the writer fails, it has taken a beginning of them.
 pub(crate) fn write_all<W: io::Write>(parts: &[&[u8]], out: &mut W) -> Result<(), Error>
     ensures { Writes (W.contents out.old) (W.contents out.new)
         (flat_map (λ part. part.now) parts.now) None result }
@@ -19,7 +19,8 @@ pub(crate) fn write_all<W: io::Write>(parts: &[&[u8]], out: &mut W) -> Result<()
     Ok(())
 }
 
-/// Writes the parts in order where they have a written form. Else it is `Header(Unspellable)`, and nothing is written.
+/// Writes the parts in order if they have a written form. Otherwise returns `Header(Unspellable)`
+/// and writes nothing.
 pub(crate) fn write_spellable<W: io::Write>(
     fine: bool,
     parts: &[&[u8]],

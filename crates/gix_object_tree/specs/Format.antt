@@ -1,5 +1,5 @@
--- Objects that are read again as they were written, and written again as they were read (git-cat-file gives back what
--- git-hash-object stored).
+-- Objects that are read again as they were written, and written again as they were read
+-- (git-cat-file prints what git-hash-object stored).
 use Rattle.std.specs.Prelude.{ℕ, ◌≡◌, ◌≢◌, ⊤, false, None, List, [], length, IfSome, All, map}
 use Rattle.gix_hash_id.specs.Id.{id_of}
 use Rattle.gix_hash_id.specs.Kind.{hex_len}
@@ -40,8 +40,9 @@ IsWritable (Tree items) = ⊤
 IsWritable (Commit parts) = writable.IsWritable parts
 IsWritable (Tag parts) = (name_fault parts.name ≡ None) × (is_marked_tagger parts.tagger ≡ false)
 
--- the content is what is written of the value: a tree's mode may stand there with more zeros; an empty message of a tag may be left
--- out with its empty line, or stand before a signature with or without a line feed
+-- the content is what is written of the value. But a tree's mode may have more zeros there; and a
+-- tag's empty message may be left out with its empty line, or precede a signature with or without a
+-- line feed
 abbrev pub IsSpelledAsWritten : hash.Kind → List ℕ → Value → Type 0
 IsSpelledAsWritten ids content (Blob bytes) = ⊤
 IsSpelledAsWritten ids content (Tree items) = tree.SpellsAsWritten ids content items
@@ -50,7 +51,7 @@ IsSpelledAsWritten ids content (Tag parts) = parts.message ≢ []
 
 -- ---- what an object that owns its parts keeps of their texts
 
--- the time that the text tells is written as this text
+-- the time that the text spells is written as this text
 abbrev pub IsTimeText : List ℕ → Type 0
 IsTimeText text = (time : Time) × SpellsTime text time × (text ≡ time_text time)
 
@@ -64,7 +65,7 @@ pub record HasOwnTagTexts (parts : tag_parts.Parts) : Type 0 where
   pub target : IsLowerCase parts.target
   pub tagger : IfSome parts.tagger (λ tagger. IsTimeText tagger.time)
 
--- ids stand in lower case, and times as they are written
+-- ids are in lower case, and times as they are written
 abbrev pub IsKeptWhole : Value → Type 0
 IsKeptWhole (Blob bytes) = ⊤
 IsKeptWhole (Tree items) = ⊤

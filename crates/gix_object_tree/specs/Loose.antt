@@ -1,5 +1,5 @@
--- Loose objects: a header and the content behind it, as many bytes as the header tells (Git User Manual, "Object storage
--- format"; git-fsck refuses fewer bytes than that, and more).
+-- Loose objects: a header and the content after it, as many bytes as the header says (Git User
+-- Manual, "Object storage format"; git-fsck refuses fewer bytes than that, and more).
 use Rattle.std.specs.Prelude.{ℕ, ◌≡◌, ◌≢◌, ◌<◌, ◌^◌, List, ◌++◌, length, None, Some}
 use Rattle.gix_hash_id.specs.declared.kind.Kind as hash
 use Rattle.gix_object_lines.specs.Header.{header_text, HeaderFault}
@@ -14,14 +14,14 @@ use Rattle.gix_object_tree.specs.declared.object.LooseDecodeError.TheVariants.{I
 abbrev pub loose_text : Kind → List ℕ → List ℕ
 loose_text kind content = header_text kind (length content) ++ content
 
--- the bytes are a loose object that tells this value
+-- the bytes are a loose object with this value
 pub record IsLoose (ids : hash.Kind) (input : List ℕ) (value : Value) : Type 0 where
   pub kind : Kind
   pub content : List ℕ
   pub spelled : input ≡ loose_text kind content
   pub told : Tells ids kind content value
 
--- the header tells another length than what stands behind it has, and one that a header can tell
+-- the header says another length than what follows it has, and one that a header can say
 pub record HasOtherLength (input : List ℕ) : Type 0 where
   pub kind : Kind
   pub size : ℕ

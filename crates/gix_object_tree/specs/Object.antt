@@ -1,4 +1,4 @@
--- What objects tell, and how they tell it: by the grammars of their kinds.
+-- What objects hold, and how it is spelled: by the grammars of their kinds.
 use Rattle.std.specs.Prelude.{ℕ, ◌≡◌, List, Option, None}
 use Rattle.gix_hash_id.specs.Kind.{hex_len}
 use Rattle.gix_hash_id.specs.declared.kind.Kind as hash
@@ -17,7 +17,7 @@ use Rattle.gix_object_tag.specs.Tag as tag
 use Rattle.gix_object_tag.specs.Tag.{SpellsTag}
 use Rattle.gix_object_tag.specs.TagText.{tag_text, tag_refusal, is_bad_tagger}
 
--- what an object tells: a file's bytes, the entries of a tree, or the parts of a commit or a tag
+-- what an object holds: a file's bytes, the entries of a tree, or the parts of a commit or a tag
 pub data Value : Type 0 where
   Blob : List ℕ → Value
   Tree : List Item → Value
@@ -37,12 +37,13 @@ SpellsValue ids content (Tree items) = SpellsTree ids content items
 SpellsValue ids content (Commit parts) = SpellsCommit (hex_len ids) content parts
 SpellsValue ids content (Tag parts) = SpellsTag ids content parts
 
--- an object of this kind and content tells the value
+-- an object of this kind and content holds the value
 pub record Tells (ids : hash.Kind) (kind : Kind) (content : List ℕ) (value : Value) : Type 0 where
   pub of_kind : kind ≡ kind_of value
   pub spelled : SpellsValue ids content value
 
--- why content of a kind isn't read: a blob's always is; the others tell their first part that fails
+-- why content of a kind isn't read: a blob's always is; of the others, the first part that fails is
+-- named
 abbrev pub ContentFault : hash.Kind → Kind → List ℕ → Error → Type 0
 ContentFault ids kinds.Tree content error = TreeFault ids content error
 ContentFault ids kinds.Blob content error = ⊥

@@ -23,7 +23,7 @@ own_value (object.Tree tree) = Tree (map own_item tree.entries.items)
 own_value (object.Commit commit) = Commit (own_parts commit)
 own_value (object.Tag tag) = Tag (own_tag_parts tag)
 
--- what of it is refused: an actor also where its offset has no text
+-- what of it is refused: an actor also if its offset has no text
 abbrev pub own_value_refusal : Object → Option Refusal
 own_value_refusal (object.Blob blob) = None
 own_value_refusal (object.Tree tree) = tree_refusal (map own_item tree.entries.items)

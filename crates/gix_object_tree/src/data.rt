@@ -65,7 +65,7 @@ impl<'a> Data<'a> {
         ObjectRef::from_bytes(alloc, self.kind, self.content, self.object_hash)
     }
 
-    /// A reader of the tree's entries; `None` where the object is of another kind.
+    /// A reader of the tree's entries; `None` if the object is of another kind.
     pub fn try_into_tree_iter(self) -> Option<TreeRefIter<'a>>
         ensures { MatchOption result (self.entry.kind ≢ kinds.Tree)
             (λ reader. (self.entry.kind ≡ kinds.Tree)
@@ -77,7 +77,7 @@ impl<'a> Data<'a> {
         }
     }
 
-    /// A reader of the commit's parts; `None` where the object is of another kind.
+    /// A reader of the commit's parts; `None` if the object is of another kind.
     pub fn try_into_commit_iter(self) -> Option<CommitRefIter<'a>>
         ensures { MatchOption result (self.entry.kind ≢ kinds.Commit)
             (λ reader. (self.entry.kind ≡ kinds.Commit)
@@ -89,7 +89,7 @@ impl<'a> Data<'a> {
         }
     }
 
-    /// A reader of the tag's parts; `None` where the object is of another kind.
+    /// A reader of the tag's parts; `None` if the object is of another kind.
     pub fn try_into_tag_iter(self) -> Option<TagRefIter<'a>>
         ensures { MatchOption result (self.entry.kind ≢ kinds.Tag)
             (λ reader. (self.entry.kind ≡ kinds.Tag)
@@ -101,8 +101,8 @@ impl<'a> Data<'a> {
         }
     }
 
-    /// The object's id: the digest of its header and content. It is `Verify`, with both ids, where that isn't the expected
-    /// one.
+    /// The object's id: the digest of its header and content. Returns `Verify`, with both ids, if
+    /// that isn't the expected one.
     pub fn verify_checksum(&self, expected: oid<'_>) -> Result<ObjectId, verify::Error>
         ensures { let id =
             id_of_message self.now.object_hash (loose_text self.now.kind self.now.content.now) in

@@ -37,8 +37,8 @@ pub enum LooseDecodeError {
     /// No header begins the bytes.
     #[error("the bytes don't begin with an object's header")]
     InvalidHeader(LooseHeaderDecodeError),
-    /// What stands behind the header isn't the object's content: it is shorter or longer than the header tells (`None`), or
-    /// isn't read as content of the kind.
+    /// What follows the header isn't the object's content: it is shorter or longer than the header
+    /// says (`None`), or isn't read as content of the kind.
     #[error("what stands behind the header isn't the object's content")]
     InvalidContent(Option<Error>),
     /// No memory is left.
@@ -59,7 +59,7 @@ impl<'a> ObjectRef<'a> {
         }
     }
 
-    /// The blob; `None` where the object is of another kind.
+    /// The blob; `None` if the object is of another kind.
     pub fn as_blob(&self) -> Option<&BlobRef<'a>>
         ensures { MatchOption result (kind_of (value_of self.now) ≢ kinds.Blob)
             (λ blob. self.now ≡ object.Blob blob.now) }
@@ -70,7 +70,7 @@ impl<'a> ObjectRef<'a> {
         }
     }
 
-    /// The tree; `None` where the object is of another kind.
+    /// The tree; `None` if the object is of another kind.
     pub fn as_tree(&self) -> Option<&TreeRef<'a>>
         ensures { MatchOption result (kind_of (value_of self.now) ≢ kinds.Tree)
             (λ tree. self.now ≡ object.Tree tree.now) }
@@ -81,7 +81,7 @@ impl<'a> ObjectRef<'a> {
         }
     }
 
-    /// The commit; `None` where the object is of another kind.
+    /// The commit; `None` if the object is of another kind.
     pub fn as_commit(&self) -> Option<&CommitRef<'a>>
         ensures { MatchOption result (kind_of (value_of self.now) ≢ kinds.Commit)
             (λ commit. self.now ≡ object.Commit commit.now) }
@@ -92,7 +92,7 @@ impl<'a> ObjectRef<'a> {
         }
     }
 
-    /// The tag; `None` where the object is of another kind.
+    /// The tag; `None` if the object is of another kind.
     pub fn as_tag(&self) -> Option<&TagRef<'a>>
         ensures { MatchOption result (kind_of (value_of self.now) ≢ kinds.Tag)
             (λ tag. self.now ≡ object.Tag tag.now) }
@@ -103,7 +103,7 @@ impl<'a> ObjectRef<'a> {
         }
     }
 
-    /// The blob itself; `None` where the object is of another kind.
+    /// The blob itself; `None` if the object is of another kind.
     pub fn into_blob(self) -> Option<BlobRef<'a>>
         ensures { MatchOption result (kind_of (value_of self.entry) ≢ kinds.Blob)
             (λ blob. self.entry ≡ object.Blob blob) }
@@ -111,7 +111,7 @@ impl<'a> ObjectRef<'a> {
         BlobRef::try_from(self).ok()
     }
 
-    /// The tree itself; `None` where the object is of another kind.
+    /// The tree itself; `None` if the object is of another kind.
     pub fn into_tree(self) -> Option<TreeRef<'a>>
         ensures { MatchOption result (kind_of (value_of self.entry) ≢ kinds.Tree)
             (λ tree. self.entry ≡ object.Tree tree) }
@@ -119,7 +119,7 @@ impl<'a> ObjectRef<'a> {
         TreeRef::try_from(self).ok()
     }
 
-    /// The commit itself; `None` where the object is of another kind.
+    /// The commit itself; `None` if the object is of another kind.
     pub fn into_commit(self) -> Option<CommitRef<'a>>
         ensures { MatchOption result (kind_of (value_of self.entry) ≢ kinds.Commit)
             (λ commit. self.entry ≡ object.Commit commit) }
@@ -127,7 +127,7 @@ impl<'a> ObjectRef<'a> {
         CommitRef::try_from(self).ok()
     }
 
-    /// The tag itself; `None` where the object is of another kind.
+    /// The tag itself; `None` if the object is of another kind.
     pub fn into_tag(self) -> Option<TagRef<'a>>
         ensures { MatchOption result (kind_of (value_of self.entry) ≢ kinds.Tag)
             (λ tag. self.entry ≡ object.Tag tag) }

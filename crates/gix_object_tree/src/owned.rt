@@ -47,7 +47,7 @@ impl Object {
         }
     }
 
-    /// The blob; `None` where the object is of another kind.
+    /// The blob; `None` if the object is of another kind.
     pub fn as_blob(&self) -> Option<&Blob>
         ensures { MatchOption result (kind_of (own_value self.now) ≢ kinds.Blob)
             (λ blob. self.now ≡ object.Blob blob.now) }
@@ -58,7 +58,7 @@ impl Object {
         }
     }
 
-    /// The tree; `None` where the object is of another kind.
+    /// The tree; `None` if the object is of another kind.
     pub fn as_tree(&self) -> Option<&Tree>
         ensures { MatchOption result (kind_of (own_value self.now) ≢ kinds.Tree)
             (λ tree. self.now ≡ object.Tree tree.now) }
@@ -69,7 +69,7 @@ impl Object {
         }
     }
 
-    /// The commit; `None` where the object is of another kind.
+    /// The commit; `None` if the object is of another kind.
     pub fn as_commit(&self) -> Option<&Commit>
         ensures { MatchOption result (kind_of (own_value self.now) ≢ kinds.Commit)
             (λ commit. self.now ≡ object.Commit commit.now) }
@@ -80,7 +80,7 @@ impl Object {
         }
     }
 
-    /// The tag; `None` where the object is of another kind.
+    /// The tag; `None` if the object is of another kind.
     pub fn as_tag(&self) -> Option<&Tag>
         ensures { MatchOption result (kind_of (own_value self.now) ≢ kinds.Tag)
             (λ tag. self.now ≡ object.Tag tag.now) }
@@ -91,7 +91,7 @@ impl Object {
         }
     }
 
-    /// The blob itself, or the object where it is of another kind.
+    /// The blob itself, or the object if it is of another kind.
     pub fn try_into_blob(self) -> Result<Blob, Object>
         ensures { MatchResult result (λ blob. self ≡ object.Blob blob)
             (λ back. (back ≡ self) × (kind_of (own_value self) ≢ kinds.Blob)) }
@@ -99,7 +99,7 @@ impl Object {
         Blob::try_from(self)
     }
 
-    /// The blob, borrowed; `None` where the object is of another kind.
+    /// The blob, borrowed; `None` if the object is of another kind.
     pub fn try_into_blob_ref(&self) -> Option<BlobRef<'_>>
         ensures { MatchOption result (kind_of (own_value self.now) ≢ kinds.Blob)
             (λ blob. value.Blob blob.content.now ≡ own_value self.now) }
@@ -107,7 +107,7 @@ impl Object {
         Some(self.as_blob()?.to_ref())
     }
 
-    /// The tree itself, or the object where it is of another kind.
+    /// The tree itself, or the object if it is of another kind.
     pub fn try_into_tree(self) -> Result<Tree, Object>
         ensures { MatchResult result (λ tree. self ≡ object.Tree tree)
             (λ back. (back ≡ self) × (kind_of (own_value self) ≢ kinds.Tree)) }
@@ -115,7 +115,7 @@ impl Object {
         Tree::try_from(self)
     }
 
-    /// The commit itself, or the object where it is of another kind.
+    /// The commit itself, or the object if it is of another kind.
     pub fn try_into_commit(self) -> Result<Commit, Object>
         ensures { MatchResult result (λ commit. self ≡ object.Commit commit)
             (λ back. (back ≡ self) × (kind_of (own_value self) ≢ kinds.Commit)) }
@@ -123,7 +123,7 @@ impl Object {
         Commit::try_from(self)
     }
 
-    /// The tag itself, or the object where it is of another kind.
+    /// The tag itself, or the object if it is of another kind.
     pub fn try_into_tag(self) -> Result<Tag, Object>
         ensures { MatchResult result (λ tag. self ≡ object.Tag tag)
             (λ back. (back ≡ self) × (kind_of (own_value self) ≢ kinds.Tag)) }
@@ -173,8 +173,9 @@ impl<'a> ObjectRef<'a> {
         self.to_owned(alloc)
     }
 
-    /// An object with copies of the parts. It is `HexDigits` where a commit's or tag's id is no id's digits, and `InvalidTime`
-    /// where an actor tells no time, neither of which an object that was read is; and `Memory` where no memory is left.
+    /// An object with copies of the parts. Returns `HexDigits` if a commit's or tag's id is no id's
+    /// digits, and `InvalidTime` if an actor has no time; neither happens for an object that was
+    /// read. Returns `Memory` if no memory is left.
     pub fn to_owned(&self, alloc: Global) -> Result<Object, Error>
         ensures own { IfOk result (IsOwned (value_of self.now)) }
         ensures refused { IfErr result (OwningFault (value_of self.now)) }

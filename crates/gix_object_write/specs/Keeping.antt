@@ -8,12 +8,12 @@ use Rattle.gix_object_lines.specs.declared.write.Error.TheVariants.{Writer, Head
 use Rattle.gix_object_write.specs.declared.write.Error.{Error}
 use Rattle.gix_object_write.specs.declared.write.Error.TheVariants.{Failed, Read, Memory}
 
--- the object stands under the id, and under each other id what stood there
+-- the object is stored under the id, and every other id has what it had
 pub record Puts (old new : Table) (id : Id) (object : Object) : Type 0 where
   pub stands : new id ≡ Some object
   pub others : (other : Id) → other ≢ id → new other ≡ old other
 
--- under each id stands what stood there
+-- each id has what it had
 abbrev pub IsAsBefore : Table → Table → Type 0
 IsAsBefore old new = (id : Id) → new id ≡ old id
 
@@ -32,7 +32,7 @@ told_as (Header error) = Read
 told_as (TagName error) = Read
 told_as (Filename error) = Read
 
--- the object is kept under the id, which is told; or it isn't
+-- the object is stored under the id, which is returned; or it isn't
 abbrev pub Keeps : Type 0 → Type 0 → Type 0 → Table → Table → Id → Object → Result ObjectId Error
     → Type 0
 Keeps unread honest may_refuse old new id object (Ok told) =

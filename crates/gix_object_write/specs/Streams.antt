@@ -1,4 +1,4 @@
--- Objects whose content is read from a stream: `left` are its bytes, where they are known.
+-- Objects whose content is read from a stream: `left` are its bytes, if they are known.
 use Rattle.std.specs.Prelude.{ℕ, ◌≡◌, ◌≤◌, List, length, Option, Result, Err}
 use Rattle.std.specs.Io.KnownBytes.{Consumes}
 use Rattle.gix_hash_id.specs.Id.{Id}

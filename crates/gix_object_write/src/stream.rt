@@ -10,11 +10,11 @@ use crate::write::Error;
 use std::alloc::Global;
 use std::io;
 
-// The most bytes that are asked for at once.
+// The most bytes that one read may return.
 const PIECE_LEN: u64 = 4_096;
 
-/// The stream's next bytes, as many as this. It is `Read` where the stream fails or ends before, and `Memory` where no memory is
-/// left for what it has given.
+/// The stream's next bytes, as many as this. Returns `Read` if the stream fails or ends before, and
+/// `Memory` if no memory is left for what it gave.
 pub(crate) fn read_content<R: io::Read>(
     alloc: Global,
     from: &mut R,
@@ -57,7 +57,7 @@ fn read_piece<'p, R: io::Read>(
     }
 }
 
-// One read, which is tried again where a signal interrupted it.
+// One read, tried again if a signal interrupted it.
 fn read_some<R: io::Read>(from: &mut R, buffer: &mut [u8]) -> io::Result<usize>
     ensures bound { ReadsAtMost result buffer.new }
     ensures bytes { ReadConsumes (R.remaining from.old) (R.remaining from.new) result buffer.new }

@@ -21,23 +21,24 @@ use gix_object_lookup::find::Never;
 use std::alloc::Global;
 use std::io;
 
-/// Keeps objects under their ids. After each call that answers an id the object stands under it, and under each other id what
-/// stood there; what stands after an error is told by `specs/Keeping.antt`.
+/// Stores objects under their ids. After each call that returns an id, that id has the object, and
+/// every other id what it had; `specs/Keeping.antt` says what there is after an error.
 ///
 /// A store writes two calls by hand, `object_hash` and `write_buf_with_known_id`.
 pub trait Write: Lookup {
     /// The hash function of the objects' ids.
     ghost ids_kind: { Self → hash.Kind };
 
-    /// Whether keeping an object may fail.
+    /// Whether storing an object may fail.
     ghost may_refuse: { Self → Type 0 };
 
     /// The hash function of the objects' ids.
     fn object_hash(&self) -> gix_hash::Kind
         ensures { result ≡ Self.ids_kind self.now };
 
-    /// Keeps the object of this kind and content under an id that the caller knows to be its own, which isn't tested, and answers
-    /// that id. It is `Failed` where the store failed, which may hold the object then, and `Memory` where no memory is left.
+    /// Stores the object of this kind and content under an id that the caller knows to be its own,
+    /// which isn't tested, and returns that id. Returns `Failed` if the store failed, which may
+    /// then have the object, and `Memory` if no memory is left.
     fn write_buf_with_known_id(
         &mut self,
         object: Kind,
@@ -50,7 +51,8 @@ pub trait Write: Lookup {
         ensures honest { Self.is_honest self.old → Self.is_honest self.new }
         ensures ids { Self.ids_kind self.new ≡ Self.ids_kind self.old };
 
-    /// Keeps the object of this kind and content, and answers its id. The errors are those of `write_buf_with_known_id`.
+    /// Stores the object of this kind and content, and returns its id. The errors are those of
+    /// `write_buf_with_known_id`.
     fn write_buf(&mut self, object: Kind, from: &[u8]) -> Result<ObjectId, Error>
         ensures kept { Keeps ⊥ (Self.is_honest self.old) (Self.may_refuse self.old)
             (Self.table self.old) (Self.table self.new)
@@ -63,8 +65,8 @@ pub trait Write: Lookup {
         self.write_buf_with_known_id(object, from, id)
     }
 
-    /// Keeps the object, and answers its id. It is `Read` where `write_to` refuses the value; else the errors are those of
-    /// `write_buf`.
+    /// Stores the object, and returns its id. Returns `Read` if `write_to` refuses the value; the
+    /// other errors are those of `write_buf`.
     fn write<T: WriteTo>(&mut self, alloc: Global, object: &T) -> Result<ObjectId, Error>
         ensures kept { Keeps (IsSome (cause_of (T.refusal object.now))) (Self.is_honest self.old)
             (Self.may_refuse self.old) (Self.table self.old) (Self.table self.new)
@@ -81,8 +83,9 @@ pub trait Write: Lookup {
         }
     }
 
-    /// Keeps the object of this kind whose content is exactly the stream's next `size` bytes, and answers its id. It is `Read` where
-    /// the stream fails or ends before; else the errors are those of `write_buf`.
+    /// Stores the object of this kind whose content is exactly the stream's next `size` bytes, and
+    /// returns its id. Returns `Read` if the stream fails or ends before; the other errors are
+    /// those of `write_buf`.
     fn write_stream<R: io::Read>(
         &mut self,
         alloc: Global,

@@ -24,15 +24,16 @@ use smallvec::SmallVec;
 use std::alloc::Global;
 
 impl<'a> CommitRef<'a> {
-    /// The commit that the bytes spell, its ids in the digits of this hash function: a line for the tree, any number of
-    /// lines for parents, lines for author and committer, perhaps one for the encoding, any number of further headers, an
-    /// empty line, and the message up to the end.
+    /// The commit that the bytes spell, its ids in the digits of this hash function: a line for the
+    /// tree, any number of lines for parents, lines for author and committer, perhaps one for the
+    /// encoding, any number of further headers, an empty line, and the message up to the end.
     ///
-    /// Of the parts that fail the first is told. It is `FieldName` where another line stands in the place of the tree's, the
-    /// author's or the committer's, or neither a header's name nor an empty line follows; `HexDigits` where behind `tree ` or
-    /// `parent ` stand fewer digits than an id has; `InvalidActor` where the line of author or committer isn't a name, an email
-    /// and a time, and `InvalidTime` where it tells no time; and `LineEnd` where a line lacks its line feed. It is `Memory`
-    /// where no memory is left for a second parent or a later one, or for a further header.
+    /// The error is that of the first part that fails: `FieldName` if another line is in the place
+    /// of the tree's, the author's or the committer's, or neither a header's name nor an empty line
+    /// follows; `HexDigits` if fewer digits follow `tree ` or `parent ` than an id has;
+    /// `InvalidActor` if the line of author or committer isn't a name, an email and a time, and
+    /// `InvalidTime` if the time is none; and `LineEnd` if a line lacks its line feed. Returns
+    /// `Memory` if no memory is left for a second parent or a later one, or for a further header.
     pub fn from_bytes(
         alloc: Global,
         input: &'a [u8],

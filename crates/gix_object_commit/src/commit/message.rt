@@ -28,8 +28,8 @@ impl<'a> CommitRef<'a> {
         MessageRef::from_bytes(self.message.as_bytes())
     }
 
-    /// The message's title in one line, as `MessageRef::summary` gives it: a title of one line is borrowed, and else the
-    /// bytes take memory, and it is an error where none is left.
+    /// The message's title in one line, as `MessageRef::summary` returns it. A title of one line is
+    /// borrowed. Otherwise the bytes take memory, and `AllocError` is returned if none is left.
     pub fn message_summary(&self) -> Result<CowSlice<'a, u8>, AllocError>
         ensures line { IfOk result
             (λ summary. cow_slice_items summary
@@ -41,7 +41,7 @@ impl<'a> CommitRef<'a> {
         self.message().summary(alloc)
     }
 
-    /// The trailers of the message's body, in order; none where the message has no body.
+    /// The trailers of the message's body, in order; none if the message has no body.
     pub fn message_trailers(&self) -> Trailers<'a>
         ensures { trailers_left result ≡ trailers_of (bstr_bytes self.now.message) }
     {
@@ -85,7 +85,7 @@ impl<'a> CommitRef<'a> {
         self.message_trailers().authors()
     }
 
-    /// The trailers that `TrailerRef::is_attribution` tells.
+    /// The trailers for which `TrailerRef::is_attribution` holds.
     pub fn attribution_trailers(&self) -> SelectedTrailers<'a>
         ensures { selected_left result
             ≡ filter (λ trailer. is_attribution trailer.token)

@@ -33,7 +33,7 @@ pub struct Commit {
     pub author: Actor,
     /// Who committed it, and when.
     pub committer: Actor,
-    /// The name of the message's encoding, where it isn't UTF-8.
+    /// The name of the message's encoding, if it isn't UTF-8.
     pub encoding: Option<ByteString>,
     /// The message.
     pub message: ByteString,
@@ -42,7 +42,7 @@ pub struct Commit {
 }
 
 impl Commit {
-    /// The further headers, each value without the spaces that stand in the commit.
+    /// The further headers, each value without the spaces of the commit's text.
     pub fn extra_headers(&self) -> ExtraHeaders<'_, '_>
         ensures { headers_of result ≡ map own_header self.now.extra_headers.items }
     {
@@ -59,9 +59,9 @@ impl<'a> CommitRef<'a> {
         self.to_owned()
     }
 
-    /// A commit with copies of the parts. It is `HexDigits` where the tree or a parent is no id's digits, and else
-    /// `InvalidTime` where an actor tells no time, neither of which a commit that was read is; and `Memory` where no memory
-    /// is left, which a tree that is no id's digits never comes to.
+    /// A commit with copies of the parts. Returns `HexDigits` if the tree or a parent is no id's
+    /// digits, and otherwise `InvalidTime` if an actor has no time; neither happens for a commit
+    /// that was read. Returns `Memory` if no memory is left, unless the tree is no id's digits.
     pub fn to_owned(&self) -> Result<Commit, Error>
         ensures own { IfOk result (IsCommitOf (parts_of self.now)) }
         ensures refused { IfErr result (OwningFault (parts_of self.now)) }

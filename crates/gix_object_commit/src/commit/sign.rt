@@ -20,18 +20,20 @@ use gix_object_signature::sign::{Error, Options, sign};
 use std::alloc::{AllocError, Global};
 
 impl Commit {
-    /// Signs the commit: what `write_to` writes of it without the headers of signatures, `gpgsig` and `gpgsig-sha256`, is signed
-    /// as `gix_object_signature::sign::sign` does. The signature then stands in the last of the further headers, named by
-    /// `signature_field_name` for the tree's id, and each signature that stood there before is gone.
+    /// Signs the commit: what `write_to` writes of it without the headers of signatures, `gpgsig`
+    /// and `gpgsig-sha256`, is signed as `gix_object_signature::sign::sign` does. The signature is
+    /// then the last of the further headers, named by `signature_field_name` for the tree's id, and
+    /// all earlier signatures are gone.
     ///
-    /// The header's value is the signature without the line feed that ends it, so that `write_to` writes the bytes that Git
-    /// does. Two signatures that no signer makes are taken otherwise: the line of one that ends without a line feed is ended by
-    /// the header's, where Git loses the empty line before the message; and an empty one gives an empty value, where Git
-    /// leaves the commit unsigned, so that who looks for the signature finds one that no program verifies.
+    /// The header's value is the signature without the line feed that ends it, so that `write_to`
+    /// writes the bytes that Git does. Two signatures that no signer makes are treated differently.
+    /// One that ends without a line feed is ended by the header's, while Git loses the empty line
+    /// before the message. An empty one gives an empty value, while Git leaves the commit unsigned;
+    /// so a reader finds a signature that no program verifies.
     ///
-    /// It is `Encode` where the commit without signatures can't be written, and nothing is run then; else the error of
-    /// `gix_object_signature::sign::sign`; and `Memory` where no memory is left, which may come after the program has run.
-    /// The commit is as it was after each error.
+    /// Returns `Encode` if the commit without signatures can't be written, and then runs nothing;
+    /// otherwise the error of `gix_object_signature::sign::sign`; and `Memory` if no memory is
+    /// left, which may happen after the program has run. After an error the commit is as it was.
     pub fn sign<F: FnMut(&[Word<'_>], &[u8]) -> Result<Answer, RunError>>(
         &mut self,
         options: &Options<'_>,
@@ -53,8 +55,8 @@ impl Commit {
 impl<'a> CommitRef<'a> {
     /// The commit with copies of its parts, signed as `Commit::sign` does.
     ///
-    /// It is `Decode` where `into_owned` refuses the commit, and nothing is run then; else the error of `Commit::sign`; and
-    /// `Memory` where no memory is left.
+    /// Returns `Decode` if `into_owned` refuses the commit, and then runs nothing; otherwise the
+    /// error of `Commit::sign`; and `Memory` if no memory is left.
     pub fn sign<F: FnMut(&[Word<'_>], &[u8]) -> Result<Answer, RunError>>(
         self,
         options: &Options<'_>,
@@ -123,8 +125,8 @@ fn signature_header(
     Ok(ExtraHeader { name, value })
 }
 
-// Puts the header behind the others but signatures, which go. The room for it is made first, so that nothing is lost for want
-// of memory.
+// Appends the header to the others except signatures, which go. The room for it is made first, so
+// that nothing is lost for want of memory.
 fn put_signature(commit: &mut Commit, header: ExtraHeader) -> Result<(), AllocError>
     ensures put { OnOk result
         (IsWithHeaders commit.old

@@ -16,21 +16,22 @@ use gix_object_lines::encode::Error;
 use gix_object_lines::hex_line::is_id;
 use gix_object_lines::lines::{Actor, ActorRef, tells_time};
 
-/// No refusal where the part is fine.
+/// No refusal if the part is fine.
 pub(crate) fn unless(fine: bool) -> Option<Error>
     ensures { result ≡ unspellable_unless fine }
 {
     if fine { None } else { Some(Error::Unspellable) }
 }
 
-/// Whether it is the digits of an id that has as many as the tree's.
+/// Returns whether it is the digits of an id that has as many as the tree's.
 pub(crate) fn is_id_like(tree: &[u8], digits: &[u8]) -> bool
     ensures { result ≡ is_hex_id_like tree.now digits.now }
 {
     digits.len() == tree.len() && is_id(digits)
 }
 
-/// Whether an actor's name and email hold no `<`, `>` or line feed, and its text of a time tells one.
+/// Returns whether an actor's name and email hold no `<`, `>` or line feed, and its text of a time
+/// is one.
 pub(crate) fn is_person(actor: &ActorRef<'_>) -> bool
     ensures { result ≡ is_spellable_person (person_of actor.now) }
 {
@@ -51,8 +52,8 @@ fn holds(bytes: &[u8], byte: u8) -> bool
     !lacks(bytes, byte)
 }
 
-/// Whether an actor that is owned may be written: its name and email hold no `<`, `>` or line feed, and its offset is
-/// whole minutes below 100 hours.
+/// Returns whether an actor that is owned may be written: its name and email hold no `<`, `>` or
+/// line feed, and its offset is whole minutes below 100 hours.
 pub(crate) fn is_own_person(actor: &Actor) -> bool
     ensures { result ≡ is_spellable_own_person actor.now }
 {
@@ -68,21 +69,21 @@ fn is_whole_offset(offset: i32) -> bool
     amount % 60 == 0 && amount < 360_000
 }
 
-/// Whether a header's name is one word, and its value stands as headers hold it.
+/// Returns whether a header's name is one word, and its value is folded as in a header.
 pub(crate) fn is_field(header: &HeaderRef<'_>) -> bool
     ensures { result ≡ is_spellable_field (field_of header.now) }
 {
     is_name(header.name.as_bytes()) && is_folded(header.value.as_bytes())
 }
 
-/// Whether a header may have this name: it is one word.
+/// Returns whether a header may have this name: it is one word.
 pub(crate) fn is_name(name: &[u8]) -> bool
     ensures { result ≡ is_word name.now }
 {
     !name.is_empty() && !holds(name, b' ') && !holds(name, b'\n')
 }
 
-// Whether a space stands behind each line feed.
+// Returns whether each line feed is followed by a space.
 fn is_folded(text: &[u8]) -> bool
     ensures { result ≡ is_folded_text text.now }
 {
@@ -96,7 +97,8 @@ fn is_folded(text: &[u8]) -> bool
     true
 }
 
-/// Why an encoding isn't written: it is empty or holds a line feed, or none is told and the first header has its name.
+/// Why an encoding isn't written: it is empty or holds a line feed, or there is none and the first
+/// header has its name.
 pub(crate) fn encoding_cause(encoding: Option<BStr<'_>>, is_first_header: bool) -> Option<Error>
     ensures { (headers : List Field) → is_first_header ≡ is_named_first headers
         → result ≡ cause_of_encoding (option_map bstr_bytes encoding.entry) headers }
@@ -113,7 +115,7 @@ pub(crate) fn encoding_cause(encoding: Option<BStr<'_>>, is_first_header: bool) 
     None
 }
 
-/// Whether the first header is named as the encoding's line is.
+/// Returns whether the first header is named as the encoding's line is.
 pub(crate) fn is_encoding_first(headers: &[HeaderRef<'_>]) -> bool
     ensures { result ≡ is_named_first (map field_of headers.now) }
 {

@@ -14,7 +14,8 @@ use crate::commit::{Commit, ExtraHeader, SIGNATURE_FIELD_NAME, SIGNATURE_FIELD_N
 use gix_object_lines::write::Error;
 use std::io;
 
-/// Whether the header holds a signature of the commit, over its content with ids of either hash function.
+/// Returns whether the header holds a signature of the commit, over its content with ids of either
+/// hash function.
 pub(crate) fn is_signature(header: &ExtraHeader) -> bool
     ensures { result ≡ spec.is_signature header.now }
 {
@@ -33,7 +34,7 @@ pub(crate) fn write_unsigned<W: io::Write>(commit: &Commit, out: &mut W) -> Resu
     write_message(commit.message.as_bstr(), out)
 }
 
-// Whether the first header but signatures is named as the line for the encoding is.
+// Returns whether the first header but signatures is named as the line for the encoding is.
 fn is_encoding_first_unsigned(headers: &[ExtraHeader]) -> bool
     ensures { result ≡ is_encoding_first (map own_field (unsigned headers.now)) }
 {

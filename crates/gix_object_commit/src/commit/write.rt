@@ -81,7 +81,7 @@ pub(crate) fn write_tree<W: io::Write>(tree: &[u8], out: &mut W) -> Result<(), E
     write_piece(unless(is_id(tree)), &[b"tree ", tree, b"\n"], out)
 }
 
-// A parent's line, where the id is in as many digits as the tree's.
+// A parent's line, if the id is in as many digits as the tree's.
 pub(crate) fn write_parent<W: io::Write>(
     tree: &[u8],
     parent: &BStr<'_>,

@@ -121,7 +121,7 @@ fn is_own_encoding_first(headers: &[ExtraHeader]) -> bool
     }
 }
 
-/// Whether the header is named as the line for the encoding is.
+/// Returns whether the header is named as the line for the encoding is.
 pub(crate) fn is_named_encoding(header: &ExtraHeader) -> bool
     ensures { result ≡ is_named (codes "encoding") (own_field header.now) }
 {
@@ -150,7 +150,7 @@ pub(crate) fn write_own_header<W: io::Write>(header: &ExtraHeader, out: &mut W) 
     write_piece(None, &[b"\n"], out)
 }
 
-// A header's value as it stands in a commit: a space behind each of its line feeds.
+// A header's value as in a commit: with a space after each of its line feeds.
 fn write_folded<W: io::Write>(value: &[u8], out: &mut W) -> Result<(), Error>
     ensures { WritesPieces (W.contents out.old) (W.contents out.new)
         (text_piece (folded value.now) ∷ []) result }
@@ -241,7 +241,7 @@ fn add_own_header(before: u64, header: &ExtraHeader) -> Option<u64>
     total.checked_add(count_feeds(value) as u64)
 }
 
-// How many line feeds stand in a value: as many bytes it gains where it is folded.
+// How many line feeds a value has: as many bytes it gains when it is folded.
 fn count_feeds(value: &[u8]) -> usize
     ensures { result ≡ count_by (λ byte. byte == 10) value.now }
 {

@@ -21,8 +21,8 @@ pub fn signed_over_the_same_text()
         → unsigned_text signed ≡ unsigned_text commit }
 {}
 
-/// What `write_to` writes of a commit that was signed is the text that was signed, with the header of the signature put in
-/// behind the other headers. Nothing is done: the contract is the law.
+/// What `write_to` writes of a commit that was signed is the text that was signed, with the header
+/// of the signature put in after the other headers. Nothing is done: the contract is the law.
 pub fn signature_is_put_into_the_signed_text()
     ensures { (commit signed : Commit) (signature : List ℕ) → IsSignedBy signature commit signed
         → (front : List ℕ)

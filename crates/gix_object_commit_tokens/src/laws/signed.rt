@@ -8,10 +8,10 @@ ghost use Rattle.gix_object_commit_tokens.specs.SignedCommit.{Cut, FindsSignatur
 
 use gix_hash::Kind;
 
-/// The signature of a commit that is read whole is its first header of the name that `signature_field_name` gives, and what
-/// it signs is the text of the commit's parts without that header; there is none where no header has the name. So
-/// `CommitRefIter::signature` and the headers of `CommitRef` tell the same signature. Nothing is done: the contract is the
-/// law.
+/// The signature of a commit that is read whole is its first header of the name that
+/// `signature_field_name` gives, and what it signs is the text of the commit's parts without that
+/// header; there is none if no header has the name. So `CommitRefIter::signature` and the headers
+/// of `CommitRef` give the same signature. Nothing is done: the contract is the law.
 pub fn signature_is_the_first_header(_input: &[u8], _hash_kind: Kind)
     ensures signed { (parts : Parts) (first more : List Field) (header : Field)
         → SpellsCommit (hex_len _hash_kind) _input.now parts

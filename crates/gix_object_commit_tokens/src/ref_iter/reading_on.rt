@@ -1,4 +1,4 @@
-//! What the tokens to come tell.
+//! What the tokens to come hold.
 
 ghost use Rattle.std.specs.Prelude.{ℕ, List, ◌≡◌, IfOk, IfErr, IsOkAnd, length};
 ghost use Rattle.std.specs.Iterator.{at_most};
@@ -16,8 +16,8 @@ use gix_object_lines::decode::Error;
 use gix_object_lines::lines::ActorRef;
 
 impl<'a> CommitRefIter<'a> {
-    /// The tree's id, from the token that comes next, which is taken. It is `FieldName` where another token comes next or
-    /// none does, and else that token's error.
+    /// The tree's id, from the token that comes next, which is taken. Returns `FieldName` if
+    /// another token comes next or none does, and otherwise that token's error.
     pub fn tree_id(&mut self) -> Result<ObjectId, Error>
         ensures { TakesTree (place_of self.old) result (place_of self.new) }
     {
@@ -27,8 +27,8 @@ impl<'a> CommitRefIter<'a> {
         }
     }
 
-    /// Who made the change, and when, from the tokens to come. It is `FieldName` where the input ends before, and else the
-    /// error of the first token that has one.
+    /// Who made the change, and when, from the tokens to come. Returns `FieldName` if the input
+    /// ends before, and otherwise the error of the first token that has one.
     pub fn author(self) -> Result<ActorRef<'a>, Error>
         ensures read { IfOk result
             (λ author. TellsFirst author_told (place_of self.entry) (person_of author)) }
@@ -45,8 +45,8 @@ impl<'a> CommitRefIter<'a> {
         Err(Error::FieldName)
     }
 
-    /// Who committed it, and when, from the tokens to come. It is `FieldName` where the input ends before, and else the
-    /// error of the first token that has one.
+    /// Who committed it, and when, from the tokens to come. Returns `FieldName` if the input ends
+    /// before, and otherwise the error of the first token that has one.
     pub fn committer(self) -> Result<ActorRef<'a>, Error>
         ensures read { IfOk result
             (λ committer. TellsFirst committer_told (place_of self.entry) (person_of committer)) }
@@ -63,8 +63,8 @@ impl<'a> CommitRefIter<'a> {
         Err(Error::FieldName)
     }
 
-    /// The message, from the tokens to come. It is `FieldName` where the input ends before, and else the error of the
-    /// first token that has one.
+    /// The message, from the tokens to come. Returns `FieldName` if the input ends before, and
+    /// otherwise the error of the first token that has one.
     pub fn message(self) -> Result<BStr<'a>, Error>
         ensures read { IfOk result
             (λ message. TellsFirst message_told (place_of self.entry) (bstr_bytes message)) }
@@ -96,7 +96,8 @@ impl<'a> CommitRefIter<'a> {
     }
 }
 
-/// The ids of a commit's parents, in their order. They end where no parent may follow, and at an error, which isn't told.
+/// The ids of a commit's parents, in their order. They end before the first token that is no
+/// parent, and at an error, which isn't reported.
 #[derive(Debug, Clone, Copy)]
 pub struct ParentIds<'a> {
     tokens: CommitRefIter<'a>,
@@ -121,8 +122,8 @@ impl<'a> Iterator for ParentIds<'a> {
     }
 }
 
-/// The author and the committer of a commit, in this order. They end behind the committer, and at an error, which isn't
-/// told.
+/// The author and the committer of a commit, in this order. They end after the committer, and at an
+/// error, which isn't reported.
 #[derive(Debug, Clone, Copy)]
 pub struct Signatures<'a> {
     tokens: CommitRefIter<'a>,

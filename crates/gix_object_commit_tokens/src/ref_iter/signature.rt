@@ -25,12 +25,13 @@ pub struct CommitSignature<'a> {
 }
 
 impl<'a> CommitRefIter<'a> {
-    /// The signature of this commit, whose ids are of this hash function, and what it signs: the first header that
-    /// `signature_field_name` names, and the commit's bytes without it. What stands behind that header isn't read; further
-    /// headers of signatures stay in what is signed, where Git's own reader leaves out each of them.
+    /// The signature of this commit, whose ids are of this hash function, and what it signs: the
+    /// first header that `signature_field_name` names, and the commit's bytes without it. What
+    /// follows that header isn't read; further headers of signatures stay in what is signed, unlike
+    /// in Git, which leaves out each of them.
     ///
-    /// It is `None` where the message comes and no such header before it; `FieldName` where the input ends before either, and
-    /// else the error of the first token that has one. No memory is taken.
+    /// Returns `None` if the message comes before any such header; `FieldName` if the input ends
+    /// before either, and otherwise the error of the first token that has one. No memory is taken.
     pub fn signature(input: &'a [u8], hash_kind: Kind) -> Result<Option<CommitSignature<'a>>, Error>
         ensures read { IfOk result
             (λ found. FindsSignature hash_kind input.now (option_map cut_of found)) }

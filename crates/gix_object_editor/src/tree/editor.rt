@@ -98,16 +98,17 @@ impl<S: FindInto> Editor<S> {
         &mut self.store
     }
 
-    /// How many trees were asked of the store since the root was set.
+    /// How many trees were looked up in the store since the root was set.
     pub fn lookups(&self) -> u64
         ensures { result ≡ self.now.lookups }
     {
         self.lookups
     }
 
-    /// The entry at the path, as far as edits opened trees: `None` where none stands there, or where a tree above it isn't opened.
-    /// Where a file stands it is that file, and an entry whose id isn't null is there, as a file or with a tree that was opened for
-    /// it. The id of a tree is the one that it had before edits below it, the null id where it was made for them.
+    /// The entry at the path, as far as edits opened trees; `None` if there is none, or a tree
+    /// above it isn't opened. If the path has a file, the result is that file. An entry whose id
+    /// isn't null exists, as a file or with a tree that was opened for it. The id of a tree is the
+    /// one that it had before edits below it, or the null id if it was made for them.
     pub fn get<'a>(&'a self, path: &[&'a [u8]]) -> Option<EntryRef<'a>>
         ensures answer { option_map item_of result ≡ entry_at (slots_of self.now.nodes.items) 0
             (names_of path.now) }
@@ -124,10 +125,11 @@ impl<S: FindInto> Editor<S> {
         entry_from(self.nodes.as_slice(), NodeId(0), path)
     }
 
-    /// Takes out what stands at or below the path, if anything does.
+    /// Removes what is at or below the path, if anything.
     ///
-    /// It is `EmptyPathComponent` where the path has no name or an empty one, `FindExistingObject` where a tree on the path can't
-    /// be read, `MalformedTree` where one isn't well-formed, and `Memory` where no memory is left. The files are unchanged then.
+    /// Returns `EmptyPathComponent` if the path has no name or an empty one, `FindExistingObject`
+    /// if a tree on the path can't be read, `MalformedTree` if one isn't well-formed, and `Memory`
+    /// if no memory is left. The files are then unchanged.
     pub fn remove(&mut self, alloc: Global, path: &[&[u8]]) -> Result<(), Error>
         ensures removed { OkOverStored (S.is_honest self.old.store) (S.table self.old.store) result
             (λ trees. SameFiles (files_of trees self.new)
@@ -171,10 +173,10 @@ impl<S: FindInto> Editor<S> {
         self.remove_from(alloc, NodeId(0), path)
     }
 
-    /// Takes out the file at the path, if one stands there.
+    /// Removes the file at the path, if there is one.
     ///
-    /// It is refused as `remove` is, of the trees on the path and of a folder at its end, and `CannotRemoveNonLeaf` with the last
-    /// name where a file stands below the path.
+    /// Refused as `remove` is, for the trees on the path and for a folder at its end. Returns
+    /// `CannotRemoveNonLeaf` with the last name if a file is below the path.
     pub fn remove_leaf(&mut self, alloc: Global, path: &[&[u8]]) -> Result<(), Error>
         ensures removed { OkOverStored (S.is_honest self.old.store) (S.table self.old.store) result
             (λ trees. SameFiles (files_of trees self.new)
@@ -223,10 +225,11 @@ impl<S: FindInto> Editor<S> {
         self.remove_leaf_from(alloc, NodeId(0), path)
     }
 
-    /// Puts an entry of this kind and id at the path, in folders that are made for it: a file, or a tree with its files. All that
-    /// stands at or below the path goes, and each file above it. With the null id an entry has no file: it only takes out.
+    /// Puts an entry of this kind and id at the path, in folders that are made for it: a file, or a
+    /// tree with its files. All that is at or below the path goes, and each file above it. An entry
+    /// with the null id has no file: it only removes.
     ///
-    /// It is refused as `remove` is.
+    /// Refused as `remove` is.
     pub fn upsert(
         &mut self,
         alloc: Global,
@@ -291,12 +294,14 @@ impl<S: FindInto> Editor<S> {
         self.upsert_from(alloc, NodeId(0), path, kind, id)
     }
 
-    /// Grafts what is stored under this id: a file of this kind at the path, or the folder with the files that the tree has, in
-    /// folders that are made for it. All that stands at or below the path goes, and each file above it, and no other tree is asked
-    /// for than by an upsert: none at or below the id. With the null id it only takes out, as an upsert does.
+    /// Grafts what is stored under this id: a file of this kind at the path, or the folder with the
+    /// files that the tree has, in folders that are made for it. All that is at or below the path
+    /// goes, and each file above it. It looks up the same trees as an upsert: none at or below the
+    /// id. With the null id it only removes, as an upsert does.
     ///
-    /// It is refused as `upsert` is, and `EmptyTree` where the id is the empty tree's, whatever the kind: no file lies in that tree,
-    /// and nothing else is stored under its id. Of the two causes that are told before a tree is asked for, the path's comes first.
+    /// Refused as `upsert` is. Returns `EmptyTree` if the id is the empty tree's, whatever the
+    /// kind: no file lies in that tree, and nothing else is stored under its id. Of the two causes
+    /// that are found before a tree is looked up, the path's comes first.
     pub fn graft(
         &mut self,
         alloc: Global,

@@ -10,8 +10,9 @@ use gix_hash::{Kind, oid};
 use gix_object_lines::cut::split_once;
 use gix_object_lines::decode::Error;
 
-/// The entry that begins the input, and what follows it. It is `FieldName` where no mode and space begin it, `LineEnd` where no
-/// zero byte ends the name, and `HexDigits` where fewer bytes follow than an id has.
+/// The entry that begins the input, and what follows it. Returns `FieldName` if no mode and space
+/// begin it, `LineEnd` if no zero byte ends the name, and `HexDigits` if fewer bytes follow than an
+/// id has.
 pub(crate) fn read_entry(input: &[u8], hash_kind: Kind) -> Result<(EntryRef<'_>, &[u8]), Error>
     ensures read { IfOk result
         (λ read. SpellsEntry hash_kind input.now (item_of read.0) read.1.now) }

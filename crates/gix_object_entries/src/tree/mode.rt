@@ -1,4 +1,4 @@
-//! Modes of entries: numbers, of which the first bits tell the kind of what is named.
+//! Modes of entries: numbers whose first bits say what kind of thing is named.
 
 ghost use Rattle.std.specs.Prelude.{◌≡◌, ◌↔◌, not, ◌/◌, ◌⊎◌, false, IsTrue, MatchResult};
 ghost use Rattle.bstr.specs.BStr.{bstr_bytes};
@@ -23,7 +23,8 @@ pub enum EntryKind {
     Commit,
 }
 
-/// The mode of an entry: a number of 16 bits, and whether a zero stands before it, as some programs write a tree's.
+/// The mode of an entry: a number of 16 bits, and whether a zero precedes it, as some programs
+/// write a tree's.
 #[derive(Debug, Clone, Copy, PartialEq, Eq, PartialOrd, Ord, Hash)]
 pub struct EntryMode {
     pub(crate) value: u16,
@@ -67,7 +68,8 @@ impl EntryMode {
         self.value
     }
 
-    /// What an entry of this mode names. A file may be run where its owner may run it; a number of no other kind is a commit's.
+    /// What an entry of this mode names. A file is executable if its owner may run it; a number of
+    /// no other kind is a commit's.
     pub const fn kind(&self) -> EntryKind
         ensures { result ≡ kind_of self.now.value }
     {
@@ -85,49 +87,49 @@ impl EntryMode {
         }
     }
 
-    /// Whether it is a tree's.
+    /// Returns whether it is a tree's.
     pub const fn is_tree(&self) -> bool
         ensures { result ≡ is_tree_value self.now.value }
     {
         self.value / 0o010000 == 0o04
     }
 
-    /// Whether it is a commit's.
+    /// Returns whether it is a commit's.
     pub const fn is_commit(&self) -> bool
         ensures { IsTrue result ↔ (kind_of self.now.value ≡ kinds.Commit) }
     {
         matches!(self.kind(), EntryKind::Commit)
     }
 
-    /// Whether it is a symbolic link's.
+    /// Returns whether it is a symbolic link's.
     pub const fn is_link(&self) -> bool
         ensures { IsTrue result ↔ (kind_of self.now.value ≡ kinds.Link) }
     {
         matches!(self.kind(), EntryKind::Link)
     }
 
-    /// Whether it is not a tree's.
+    /// Returns whether it is not a tree's.
     pub const fn is_no_tree(&self) -> bool
         ensures { result ≡ not (is_tree_value self.now.value) }
     {
         !self.is_tree()
     }
 
-    /// Whether it is a file's, which may be run or not.
+    /// Returns whether it is a file's, which may be run or not.
     pub const fn is_blob(&self) -> bool
         ensures { IsTrue result ↔ (self.now.value / 4096 ≡ 8) }
     {
         self.value / 0o010000 == 0o10
     }
 
-    /// Whether it is that of a file that may be run.
+    /// Returns whether it is that of a file that may be run.
     pub const fn is_executable(&self) -> bool
         ensures { IsTrue result ↔ (kind_of self.now.value ≡ kinds.BlobExecutable) }
     {
         matches!(self.kind(), EntryKind::BlobExecutable)
     }
 
-    /// Whether it is a file's or a symbolic link's.
+    /// Returns whether it is a file's or a symbolic link's.
     pub const fn is_blob_or_symlink(&self) -> bool
         ensures { IsTrue result
             ↔ ((self.now.value / 4096 ≡ 8) ⊎ (kind_of self.now.value ≡ kinds.Link)) }
@@ -168,7 +170,8 @@ impl From<EntryMode> for EntryKind {
     }
 }
 
-// The mode of this number: a tree's, or one of those from the files' on. Another number is handed back.
+// The mode of this number: a tree's, or one of those from the files' on. Any other number is the
+// error.
 impl TryFrom<u32> for EntryMode {
     type Error = u32;
 

@@ -14,8 +14,8 @@ use std::convert::TryFrom;
 use std::fmt;
 
 impl EntryMode {
-    /// The mode that the bytes before the first space spell, or all bytes where no space stands: at most seven octal digits of a
-    /// number of 16 bits. `None` where they spell none.
+    /// The mode that the bytes before the first space spell, or all bytes if there is none: at most
+    /// seven octal digits of a number of 16 bits. `None` if they spell none.
     pub fn from_bytes(bytes: &[u8]) -> Option<EntryMode>
         ensures { MatchOption result (SpellsNoMode (text_before 32 bytes.now))
             (λ mode. SpellsMode (text_before 32 bytes.now) (mode_of mode)) }
@@ -39,7 +39,7 @@ impl EntryMode {
     }
 }
 
-// The bytes that spell no mode are handed back.
+// Bytes that spell no mode are the error.
 impl<'a> TryFrom<&'a [u8]> for EntryMode {
     type Error = &'a [u8];
 
@@ -110,7 +110,7 @@ fn octal_digit(byte: u8) -> Option<u32>
     }
 }
 
-// Writes the number's octal digits at the end of the bytes, and answers where they begin.
+// Writes the number's octal digits at the end of the bytes, and returns where they begin.
 fn write_octal(number: u16, bytes: &mut [u8; 6]) -> usize
     ensures within { result ≤ 6 }
     ensures digits { drop result bytes.new ≡ digits 8 false number }

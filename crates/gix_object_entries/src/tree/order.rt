@@ -52,7 +52,7 @@ impl PartialOrd for EntryRef<'_> {
     }
 }
 
-// Equal where neither comes first, and so where mode, name and id are the same.
+// Equal if neither comes first, and so if mode, name and id are the same.
 impl PartialEq for EntryRef<'_> {
     ghost eq = { λ a b. item_eq (item_of a) (item_of b) };
 

@@ -14,8 +14,8 @@ use bstr::BStr;
 use std::cmp::Ordering;
 
 impl<'a> TreeRef<'a> {
-    /// The entry of this name, a tree's where `is_dir` is set and else another one: found by binary search, so that an entry of
-    /// a tree that is not in Git's order may be missed.
+    /// The entry of this name: a tree if `is_dir` is set, and otherwise another one. It is found by
+    /// binary search, so that an entry of a tree that is not in Git's order may be missed.
     pub fn bisect_entry(&self, name: BStr<'_>, is_dir: bool) -> Option<EntryRef<'a>>
         ensures found { IfSome result
             (λ entry. Contains (map item_of self.now.entries.items) (item_of entry)
@@ -30,7 +30,7 @@ impl<'a> TreeRef<'a> {
     }
 }
 
-// Where the entry of this name stands, a tree's or another one.
+// The place of the entry of this name, a tree's or another one.
 pub(crate) fn bisect<T: AsEntry>(entries: &[T], name: &[u8], is_tree: bool) -> Option<usize>
     ensures within { IfSome result (λ at. at < length entries.now) }
     ensures found { IfSome result
@@ -45,7 +45,7 @@ pub(crate) fn bisect<T: AsEntry>(entries: &[T], name: &[u8], is_tree: bool) -> O
     None
 }
 
-// Where an entry of the key stands that a name has.
+// The place of an entry with the key of this name.
 fn search<T: AsEntry>(entries: &[T], name: &[u8], is_tree: bool) -> Option<usize>
     ensures within { IfSome result (λ at. at < length entries.now) }
     ensures found { IfSome result

@@ -10,7 +10,8 @@ use crate::tree::search::bisect;
 use crate::tree::{EntryRef, Tree, TreeRef, name_order};
 
 impl<'a> TreeRef<'a> {
-    /// Whether no name is empty or holds `/` or a zero byte, the entries are in Git's order, and no name stands twice.
+    /// Returns whether no name is empty or holds `/` or a zero byte, the entries are in Git's
+    /// order, and no two have one name.
     pub fn is_well_formed(&self) -> bool
         ensures { IsTrue result ↔ IsWellFormed (map item_of self.now.entries.items) }
     {
@@ -19,7 +20,8 @@ impl<'a> TreeRef<'a> {
 }
 
 impl Tree {
-    /// Whether no name is empty or holds `/` or a zero byte, the entries are in Git's order, and no name stands twice.
+    /// Returns whether no name is empty or holds `/` or a zero byte, the entries are in Git's
+    /// order, and no two have one name.
     pub fn is_well_formed(&self) -> bool
         ensures { IsTrue result ↔ IsWellFormed (map own_item self.now.entries.items) }
     {

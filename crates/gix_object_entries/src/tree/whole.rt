@@ -19,9 +19,10 @@ pub struct TreeRef<'a> {
 }
 
 impl<'a> TreeRef<'a> {
-    /// The tree that the content spells, its ids of this hash function. Of the entries that fail the first is told: `FieldName`
-    /// where no mode begins it, `LineEnd` where no zero byte ends its name, `HexDigits` where its id is cut off. It is `Memory`
-    /// where no memory is left. The order of the entries isn't tested.
+    /// The tree that the content spells, its ids of this hash function. The error is that of the
+    /// first entry that fails: `FieldName` if no mode begins it, `LineEnd` if no zero byte ends its
+    /// name, `HexDigits` if its id is cut off. Returns `Memory` if no memory is left. The order of
+    /// the entries isn't tested.
     pub fn from_bytes(
         alloc: Global,
         content: &'a [u8],

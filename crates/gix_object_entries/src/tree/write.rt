@@ -13,7 +13,8 @@ use gix_object_lines::write::{Error, FilenameError, write_parts};
 use gix_object_lines::{Kind, WriteTo};
 use std::io;
 
-// The entries are written in the order in which they stand. It is `NullbyteInFilename` where a name holds a zero byte.
+// The entries are written in their own order. It is `NullbyteInFilename` if a name holds a zero
+// byte.
 impl<'a> WriteTo for TreeRef<'a> {
     ghost text = { λ tree. tree_text (map item_of tree.entries.items) };
 
@@ -66,7 +67,7 @@ fn write_entries<T: AsEntry, W: io::Write>(entries: &[T], out: &mut W) -> Result
     Ok(())
 }
 
-// Writes the entry; nothing of it where its name holds a zero byte.
+// Writes the entry, or nothing if its name holds a zero byte.
 fn write_entry<W: io::Write>(entry: EntryRef<'_>, out: &mut W) -> Result<(), Error>
     ensures { Writes (W.contents out.old) (W.contents out.new)
         (tree_text (item_of entry.entry ∷ [])) (tree_refusal (item_of entry.entry ∷ [])) result }
@@ -84,7 +85,7 @@ fn write_entry<W: io::Write>(entry: EntryRef<'_>, out: &mut W) -> Result<(), Err
     }
 }
 
-// How many bytes the entries take; `None` where that is more than 64 bits hold.
+// How many bytes the entries take; `None` if that is more than 64 bits hold.
 fn length_of<T: AsEntry>(entries: &[T]) -> Option<u64>
     ensures { MatchOption result (2 ^ 64 ≤ length (tree_text (map T.item entries.now)))
         (λ total. total ≡ length (tree_text (map T.item entries.now))) }

@@ -33,17 +33,17 @@ pub struct ActorRef<'a> {
 /// A person and a time.
 #[derive(Debug, Drop, PartialEq, Eq)]
 pub struct Actor {
-    /// What stands before the email; it may be empty.
+    /// The text before the email; it may be empty.
     pub name: ByteString,
-    /// What stands between `<` and `>`; it may be empty.
+    /// The text between `<` and `>`; it may be empty.
     pub email: ByteString,
     /// When it was done.
     pub time: Time,
 }
 
 impl<'a> ActorRef<'a> {
-    /// The actor with copies of name and email. It is `InvalidTime` where the text tells no time, which it does in all
-    /// that `read_actor` gives, and else `Memory` where no memory is left.
+    /// The actor with copies of name and email. Returns `InvalidTime` if the text is no time, which
+    /// never happens after `read_actor`, and otherwise `Memory` if no memory is left.
     pub fn to_owned(self, alloc: Global) -> Result<Actor, decode::Error>
         ensures name { IfOk result (λ actor. actor.name ≡ bstr_bytes self.entry.name) }
         ensures email { IfOk result (λ actor. actor.email ≡ bstr_bytes self.entry.email) }
@@ -79,11 +79,12 @@ impl Actor {
     }
 }
 
-/// The name, the email and the text of the time that a line holds: `Name <email> time`. The email is all between the line's
-/// first `<` and its last `>`, one space stands before the one and one behind the other, and neither name nor email holds
-/// a line feed; either may be empty.
+/// The name, the email and the text of the time of a line `Name <email> time`. The email is all
+/// between the line's first `<` and its last `>`, with one space before the one and one after the
+/// other. Neither name nor email has a line feed; either may be empty.
 ///
-/// It is `InvalidActor` where the line isn't cut so, and `InvalidTime` where what follows tells no time.
+/// Returns `InvalidActor` if the line has no such parts, and `InvalidTime` if what follows them is
+/// no time.
 pub fn read_actor(line: &[u8]) -> Result<ActorRef<'_>, decode::Error>
     ensures read { IfOk result
         (λ actor. SpellsActor line.now (bstr_bytes actor.name) (bstr_bytes actor.email)
@@ -105,7 +106,7 @@ pub fn read_actor(line: &[u8]) -> Result<ActorRef<'_>, decode::Error>
     Ok(actor)
 }
 
-// Cuts a line at its marks; `None` where they aren't all there, or a line feed stands before the last.
+// Cuts a line at its marks; `None` if one is missing, or a line feed comes before the last.
 fn cut(line: &[u8]) -> Option<ActorRef<'_>>
     ensures { MatchOption result (IsUncut line.now)
         (λ actor. IsCut line.now (bstr_bytes actor.name) (bstr_bytes actor.email)
@@ -144,10 +145,12 @@ pub fn write_actor<W: io::Write>(actor: &Actor, out: &mut W) -> Result<(), Error
     )
 }
 
-/// Appends an actor's line, without a line feed: the name, a space, the email between `<` and `>`, a space and the time.
+/// Appends an actor's line, without a line feed: the name, a space, the email between `<` and `>`,
+/// a space and the time.
 ///
-/// It is `Header(Unspellable)`, and nothing is written, where name or email holds `<`, `>` or a line feed, or the offset
-/// isn't whole minutes below 100 hours. A writer that fails has taken a beginning of the line.
+/// Returns `Header(Unspellable)`, and writes nothing, if name or email has `<`, `>` or a line feed,
+/// or the offset isn't whole minutes below 100 hours. A writer that fails has taken a beginning of
+/// the line.
 pub fn write_actor_parts<W: io::Write>(
     name: &[u8],
     email: &[u8],
@@ -177,7 +180,7 @@ pub fn write_actor_parts<W: io::Write>(
     Ok(())
 }
 
-// Whether a name or an email may be written: it holds no `<`, `>` or line feed.
+// Returns whether a name or an email may be written: it holds no `<`, `>` or line feed.
 fn is_plain(part: &[u8]) -> bool
     ensures { IsTrue result ↔ IsPlain part.now }
 {

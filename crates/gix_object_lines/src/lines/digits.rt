@@ -11,7 +11,7 @@ const SECONDS_PER_MINUTE: u32 = 60;
 
 const SECONDS_PER_HOUR: u32 = 3_600;
 
-/// Digits, perhaps behind a `-`, as a number of 64 bits.
+/// Digits, perhaps after a `-`, as a number of 64 bits.
 pub(crate) fn read_seconds(text: &[u8]) -> Option<i64>
     ensures { MatchOption result
         ((seconds : ℤ) → FitsSigned w64 seconds → ¬ SpellsSeconds text.now seconds)
@@ -63,7 +63,8 @@ fn read_two_digits(tens: u8, ones: u8) -> Option<u8>
     }
 }
 
-/// The sign, hours and minutes of an offset in seconds; `None` where it isn't whole minutes below 100 hours.
+/// The sign, hours and minutes of an offset in seconds; `None` if it isn't whole minutes below 100
+/// hours.
 pub(crate) fn spell_offset(offset: i32) -> Option<[u8; 5]>
     ensures { MatchOption result (¬ IsSpellableOffset offset)
         (λ text. (text ≡ offset_text offset) × IsSpellableOffset offset) }

@@ -6,8 +6,8 @@ ghost use Rattle.gix_object_lines.specs.NameTest as test;
 
 use crate::lines::name::is_partial_name;
 
-/// Whether the bytes are a full name of a reference: a partial name of two components or more, as `refs/heads/main`, or
-/// one of capital letters and `_` alone, as `HEAD`.
+/// Returns whether the bytes are a full name of a reference: a partial name of two components or
+/// more, as `refs/heads/main`, or one of capital letters and `_` alone, as `HEAD`.
 pub fn is_full_name(name: &[u8]) -> bool
     ensures ruled { IsTrue result ↔ IsFullName name.now }
     ensures tested { result ≡ test.is_full_name name.now }
@@ -22,7 +22,8 @@ fn has_slash(name: &[u8]) -> bool
     name.contains(&b'/')
 }
 
-/// Whether the bytes are capital letters and `_` alone, as those of `HEAD` and `FETCH_HEAD` are.
+/// Returns whether the bytes are capital letters and `_` alone, as those of `HEAD` and `FETCH_HEAD`
+/// are.
 pub fn is_capitals(name: &[u8]) -> bool
     ensures ruled { IsTrue result ↔ All IsCapital name.now }
     ensures tested { result ≡ test.is_capitals name.now }

@@ -7,10 +7,12 @@ ghost use Rattle.gix_object_lines.specs.NameTest as test;
 
 use memchr::memmem;
 
-/// Whether the bytes are a name of a reference, whole or a part that is completed by rules, as `main` is.
+/// Returns whether the bytes are a name of a reference, whole or a part that is completed by rules,
+/// as `main` is.
 ///
-/// Its components are parted by single slashes; none begins with `.` or ends with `.lock`. It isn't empty nor `@`, doesn't
-/// end with `.`, and holds no `..`, no `@{`, no byte below 32, no byte 127, no space and none of `~ ^ : ? * [ \`.
+/// Its components are parted by single slashes; none begins with `.` or ends with `.lock`. It isn't
+/// empty nor `@`, doesn't end with `.`, and holds no `..`, no `@{`, no byte below 32, no byte 127,
+/// no space and none of `~ ^ : ? * [ \`.
 pub fn is_partial_name(name: &[u8]) -> bool
     ensures ruled { IsTrue result ↔ IsPartialName name.now }
     ensures tested { result ≡ test.is_partial_name name.now }
@@ -69,7 +71,8 @@ fn ends_with(name: &[u8], back: &[u8]) -> bool
     name.ends_with(back)
 }
 
-// Whether some component but the first begins with a dot, or one but the last ends with `.lock`.
+// Returns whether some component but the first begins with a dot, or one but the last ends with
+// `.lock`.
 fn holds_barred_edge(name: &[u8]) -> bool
     ensures { IsTrue result ↔ (Holds (codes "/.") name.now ⊎ Holds (codes ".lock/") name.now) }
 {

@@ -16,7 +16,7 @@ use crate::write::{Error, write_parts};
 use crate::{decode, encode};
 use std::io;
 
-/// A moment, and the clock that told it.
+/// A moment, and the offset of the clock that showed it.
 #[derive(Debug, Clone, Copy, PartialEq, Eq, PartialOrd, Ord, Hash)]
 pub struct Time {
     /// The seconds since 1970-01-01 in coordinated universal time; negative before.
@@ -25,11 +25,11 @@ pub struct Time {
     pub offset: i32,
 }
 
-/// The time that a text spells: seconds in decimal, perhaps behind a `-`, one space, and the offset as a sign, two digits
-/// of hours and two of minutes.
+/// The time that a text spells: seconds in decimal, perhaps after a `-`, one space, and the offset
+/// as a sign, two digits of hours and two of minutes.
 ///
-/// Leading zeros and `-0000` are read, and minutes of 60 and above: `+0060` is 3,600 seconds. Any other text, also one of
-/// seconds beyond 64 bits, is `InvalidTime`.
+/// Leading zeros and `-0000` are read, and minutes of 60 and above: `+0060` is 3,600 seconds. Any
+/// other text, also one of seconds beyond 64 bits, is `InvalidTime`.
 pub fn read_time(text: &[u8]) -> Result<Time, decode::Error>
     ensures read { IfOk result (SpellsTime text.now) }
     ensures every { (time : Time) → SpellsTime text.now time → result ≡ Ok time }
@@ -38,7 +38,7 @@ pub fn read_time(text: &[u8]) -> Result<Time, decode::Error>
     parse(text).ok_or(decode::Error::InvalidTime)
 }
 
-/// Whether the text tells a time, as `read_time` reads it.
+/// Returns whether `read_time` reads the text as a time.
 pub fn tells_time(text: &[u8]) -> bool
     ensures test { result ≡ test.tells_time text.now }
     ensures grammar { IsTrue result ↔ TellsTime text.now }
@@ -56,10 +56,11 @@ fn parse(text: &[u8]) -> Option<Time>
     Some(Time { seconds, offset })
 }
 
-/// Appends the time's text: seconds without leading zeros, a space, and the offset with minutes below 60, and `+` where it is zero.
+/// Appends the time's text: seconds without leading zeros, a space, and the offset with minutes
+/// below 60, and with `+` if it is zero.
 ///
-/// An offset that isn't whole minutes below 100 hours is `Header(Unspellable)`, and nothing is written. A writer that fails
-/// has taken a beginning of the text.
+/// Returns `Header(Unspellable)`, and writes nothing, if the offset isn't whole minutes below 100
+/// hours. A writer that fails has taken a beginning of the text.
 pub fn write_time<W: io::Write>(time: Time, out: &mut W) -> Result<(), Error>
     ensures written { WritesLine (IsSpellableOffset time.offset) (W.contents out.old)
         (W.contents out.new) (time_text time) result }

@@ -1,4 +1,4 @@
-//! Why an object that must stand isn't found.
+//! Why an object that must exist isn't found.
 
 ghost use Rattle.std.specs.Prelude.{◌≡◌};
 ghost use Rattle.gix_object_lookup.specs.declared.find.existing.Error.TheVariants.{Find};
@@ -6,13 +6,13 @@ ghost use Rattle.gix_object_lookup.specs.declared.find.existing.Error.TheVariant
 use crate::find;
 use gix_hash::ObjectId;
 
-/// Why an object that must stand isn't found.
+/// Why an object that must exist isn't found.
 #[derive(Debug, Clone, Copy, PartialEq, Eq, thiserror::Error)]
 pub enum Error {
     /// The lookup gave up.
     #[error(transparent)]
     Find(find::Error),
-    /// No object stands under the id.
+    /// No object of this id exists.
     #[error("no object {oid} stands")]
     NotFound {
         /// The id.

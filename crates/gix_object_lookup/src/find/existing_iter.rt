@@ -1,4 +1,4 @@
-//! Why an object that must stand can't be read part by part.
+//! Why an object that must exist can't be read part by part.
 
 ghost use Rattle.std.specs.Prelude.{◌≡◌};
 ghost use Rattle.gix_object_lookup.specs.declared.find.existing_iter.Error.TheVariants.{Find};
@@ -7,13 +7,13 @@ use crate::find;
 use gix_hash::ObjectId;
 use gix_object_lines::Kind;
 
-/// Why an object that must stand can't be read part by part.
+/// Why an object that must exist can't be read part by part.
 #[derive(Debug, Clone, Copy, PartialEq, Eq, thiserror::Error)]
 pub enum Error {
     /// The lookup gave up.
     #[error(transparent)]
     Find(find::Error),
-    /// No object stands under the id.
+    /// No object of this id exists.
     #[error("no object {oid} stands")]
     NotFound {
         /// The id.
@@ -26,7 +26,7 @@ pub enum Error {
         oid: ObjectId,
         /// The object's kind.
         actual: Kind,
-        /// The kind that was asked for.
+        /// The kind that was wanted.
         expected: Kind,
     },
 }

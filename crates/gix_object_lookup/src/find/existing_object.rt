@@ -1,4 +1,4 @@
-//! Why an object that must stand can't be read.
+//! Why an object that must exist can't be read.
 
 ghost use Rattle.std.specs.Prelude.{◌≡◌};
 ghost use Rattle.gix_object_lookup.specs.declared.find.existing_object.Error.TheVariants.{Find};
@@ -8,7 +8,7 @@ use crate::find::{self, existing_iter};
 use gix_hash::ObjectId;
 use gix_object_lines::{Kind, decode};
 
-/// Why an object that must stand can't be read.
+/// Why an object that must exist can't be read.
 #[derive(Debug, Clone, Copy, PartialEq, Eq, thiserror::Error)]
 pub enum Error {
     /// The lookup gave up.
@@ -22,7 +22,7 @@ pub enum Error {
         /// Why the content isn't read.
         source: decode::Error,
     },
-    /// No object stands under the id.
+    /// No object of this id exists.
     #[error("no object {oid} stands")]
     NotFound {
         /// The id.
@@ -35,7 +35,7 @@ pub enum Error {
         oid: ObjectId,
         /// The object's kind.
         actual: Kind,
-        /// The kind that was asked for.
+        /// The kind that was wanted.
         expected: Kind,
     },
 }

@@ -17,8 +17,8 @@ use gix_hash::ObjectId;
 use gix_object_entries::Tree;
 use std::alloc::Global;
 
-/// Hands out the changed trees below an opened one that have entries, each behind those that lie in it, and answers their ids by
-/// their numbers.
+/// Hands out the changed trees below an opened one that have entries, each after those that lie in
+/// it, and returns their ids by their numbers.
 pub fn write_below<E, F: FnMut(&Tree) -> Result<ObjectId, E>>(
     nodes: &[Node],
     from: NodeId,

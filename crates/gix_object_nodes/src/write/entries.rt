@@ -65,7 +65,8 @@ fn entry_of(
     }))
 }
 
-// What a slot's entry names: a folder that edits changed has the id of its tree. `None` where that has no entries.
+// What a slot's entry names: a folder that edits changed has the id of its tree. `None` if that has
+// no entries.
 fn object_of(slot: &Slot, nodes: &[Node], ids: &[Option<ObjectId>]) -> Option<(EntryMode, ObjectId)>
     requires opened { (c : ℕ) → child_of (Some slot.now) ≡ Some c → c < length nodes.now }
     requires within { (c : ℕ) → child_of (Some slot.now) ≡ Some c → c < length ids.now }

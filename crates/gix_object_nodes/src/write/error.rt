@@ -8,7 +8,7 @@ use std::alloc::AllocError;
 /// Why the trees of an editor aren't written.
 #[derive(Debug, Drop)]
 pub enum Error<E> {
-    /// The error that was answered for a tree that was handed out.
+    /// The error that was returned for a tree that was handed out.
     Out(E),
     /// No memory is left.
     Memory,

@@ -9,7 +9,7 @@ use crate::run::{Answer, RunError, Word, run};
 use crate::verify::{Error, Outcome, TrustLevel, lines};
 use bstr::BStr;
 
-/// What GnuPG's program for OpenPGP tells of the signature of this content.
+/// What GnuPG's program for OpenPGP reports about the signature of this content.
 pub(crate) fn ask_gpg<'a, F: FnMut(&[Word<'_>], &[u8]) -> Result<Answer, RunError>>(
     program: BStr<'a>,
     minimum_trust: TrustLevel,
@@ -34,7 +34,7 @@ pub(crate) fn ask_gpg<'a, F: FnMut(&[Word<'_>], &[u8]) -> Result<Answer, RunErro
     read_answer(minimum_trust, run(&words, content, runner))
 }
 
-/// What its program for X.509 tells.
+/// What its program for X.509 reports.
 pub(crate) fn ask_gpgsm<'a, F: FnMut(&[Word<'_>], &[u8]) -> Result<Answer, RunError>>(
     program: BStr<'a>,
     minimum_trust: TrustLevel,

@@ -1,4 +1,4 @@
-//! What a program tells in lines of status.
+//! What a program reports in lines of status.
 
 ghost use Rattle.std.specs.Prelude.{◌≡◌, None, Some, Option, fold, option_map};
 ghost use Rattle.std.specs.List.{filter_map, list_any};
@@ -8,7 +8,7 @@ ghost use Rattle.gix_object_signature.specs.declared.verify.Status.TheVariants.{
 
 use crate::verify::{Status, TrustLevel};
 
-/// What the lines tell of the signature.
+/// What the lines report about the signature.
 pub(crate) fn status_of(text: &[u8]) -> Status
     ensures { result ≡ spec.status_of text.now }
 {
@@ -18,7 +18,7 @@ pub(crate) fn status_of(text: &[u8]) -> Status
     only_verdict(text).unwrap_or(Status::Unknown)
 }
 
-/// The last level of trust that the lines tell.
+/// The last level of trust that the lines name.
 pub(crate) fn trust_of(text: &[u8]) -> TrustLevel
     ensures { result ≡ spec.trust_of text.now }
 {
@@ -34,7 +34,7 @@ fn tells_strange_trust(text: &[u8]) -> bool
         .any(|line| is_strange(line))
 }
 
-// The verdict of the lines; `Error` where they have several.
+// The verdict of the lines; `Error` if they have several.
 fn only_verdict(text: &[u8]) -> Option<Status>
     ensures { result
         ≡ fold (λ seen verdict. Some (or_error seen verdict)) None
@@ -45,7 +45,7 @@ fn only_verdict(text: &[u8]) -> Option<Status>
         .fold(None, |seen, verdict| Some(or_error(seen, verdict)))
 }
 
-// A verdict behind another is an error.
+// A second verdict is an error.
 fn or_error(seen: Option<Status>, verdict: Status) -> Status
     ensures { result ≡ or_error seen verdict }
 {

@@ -1,4 +1,4 @@
-//! The time of signing, as the secure shell's program is told it.
+//! The time of signing, as the SSH program takes it.
 
 ghost use Rattle.std.specs.Prelude.{ℤ, List, ℕ, ◌≡◌, ◌↔◌, ◌++◌, ◌<◌, IsTrue, codes, IfOk, IfErr, MatchOption, option_map};
 ghost use Rattle.gix_object_signature.specs.SignedTime as spec;
@@ -13,8 +13,9 @@ use jiff_core::civil::DateTime;
 // The last second of the year 9999.
 const LAST: i64 = 253_402_300_799;
 
-/// The word that tells the time of signing, of the committer or tagger in the header's lines; none where no line tells one, or
-/// it is zero seconds. It is `CommitTime` where the line tells no time, or one before 1970 or behind 9999.
+/// The word for the time of signing, of the committer or tagger in the header's lines; none if
+/// there is no such line, or its time is zero seconds. Returns `CommitTime` if the line has no
+/// time, or one before 1970 or after 9999.
 pub(crate) fn time_word(content: &[u8]) -> Result<Option<[u8; 29]>, Error>
     ensures told { IfOk result (λ word. TimeWord content.now word) }
     ensures refused { IfErr result (λ error. (error ≡ CommitTime) × TellsNoTime content.now) }
@@ -44,7 +45,7 @@ fn signer_line(content: &[u8]) -> Option<&[u8]>
         .find(|line| signer_of(line).is_some())
 }
 
-// What stands behind the word of such a line.
+// What follows the word of such a line.
 #[tactic(auto, unfolding(crate::specs::SignedTime::signer_of))]
 fn signer_of(line: &[u8]) -> Option<&[u8]>
     ensures { option_map (λ signer. signer.now) result ≡ spec.signer_of line.now }

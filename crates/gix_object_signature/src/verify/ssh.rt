@@ -16,12 +16,12 @@ use crate::verify::{Error, Outcome, TrustLevel};
 use bstr::BStr;
 use std::alloc::{AllocError, Global};
 
-/// What Git's configuration tells of it.
+/// What Git's configuration says about it.
 #[derive(Clone, Copy)]
 pub(crate) struct Signers<'a> {
     /// The program.
     pub program: BStr<'a>,
-    /// The path of the file that tells whose keys are whose.
+    /// The path of the file that says whose keys are whose.
     pub allowed: BStr<'a>,
     /// The path of the file of keys that are revoked.
     pub revoked: Option<BStr<'a>>,
@@ -37,7 +37,7 @@ struct Keygen<'a> {
     time: Option<BStr<'a>>,
 }
 
-/// What comes of verifying the signature of this content, as `SignedData::verify` tells it.
+/// The result of verifying the signature of this content, as `SignedData::verify` returns it.
 pub(crate) fn verify<'a, F: FnMut(&[Word<'_>], &[u8]) -> Result<Answer, RunError>>(
     alloc: Global,
     signers: Signers<'a>,
@@ -89,7 +89,7 @@ impl<'a> Keygen<'a> {
         Ok(outcome(minimum_trust, true, answer))
     }
 
-    // Asks for each of the principals that this answer tells.
+    // Tries each of the principals that this answer names.
     fn try_found<F: FnMut(&[Word<'_>], &[u8]) -> Result<Answer, RunError>>(
         &self,
         alloc: Global,
@@ -107,7 +107,7 @@ impl<'a> Keygen<'a> {
         self.try_each(alloc, names.as_slice(), found, content, runner)
     }
 
-    // Asks for each name up to the first that made the signature; else the last answer counts.
+    // Tries each name up to the first that made the signature; otherwise the last answer counts.
     fn try_each<F: FnMut(&[Word<'_>], &[u8]) -> Result<Answer, RunError>>(
         &self,
         alloc: Global,

@@ -1,4 +1,4 @@
-//! What ssh-keygen's output tells of a signature, after `parse_ssh_output` in git's gpg-interface.c.
+//! Verdicts in ssh-keygen's output, after `parse_ssh_output` in git's gpg-interface.c.
 
 ghost use Rattle.std.specs.Prelude.{◌≡◌, option_map};
 ghost use Rattle.gix_object_signature.specs.SshVerdict as spec;
@@ -12,7 +12,7 @@ pub(crate) struct Verdict {
     pub trust: TrustLevel,
 }
 
-/// What this output tells: its first line that isn't blank alone counts.
+/// What this output says: its first line that isn't blank alone counts.
 pub(crate) fn verdict_of(output: &[u8]) -> Verdict
     ensures status { result.status ≡ spec.status_of output.now }
     ensures trust { result.trust ≡ spec.trust_of output.now }
@@ -36,7 +36,7 @@ pub(crate) fn verdict_of(output: &[u8]) -> Verdict
     }
 }
 
-// Where each line is blank, it is empty.
+// If each line is blank, it is empty.
 fn verdict_line(output: &[u8]) -> &[u8]
     ensures { result.now ≡ spec.verdict_line output.now }
 {
@@ -63,7 +63,7 @@ fn without_space_behind(line: &[u8]) -> &[u8]
     line.trim_ascii_end()
 }
 
-// What stands behind the signer's name, where one is named.
+// What follows the signer's name, if one is named.
 #[tactic(auto, unfolding(crate::specs::SshVerdict::behind_signer))]
 fn behind_signer(line: &[u8]) -> Option<&[u8]>
     ensures { option_map (λ told. told.now) result ≡ spec.behind_signer line.now }
@@ -72,7 +72,7 @@ fn behind_signer(line: &[u8]) -> Option<&[u8]>
     behind_last(b" with ", signer)
 }
 
-// What stands in its place, where none is.
+// The same, if no signer is named.
 #[tactic(auto, unfolding(crate::specs::SshVerdict::behind_no_signer))]
 fn behind_no_signer(line: &[u8]) -> Option<&[u8]>
     ensures { option_map (λ told. told.now) result ≡ spec.behind_no_signer line.now }
@@ -80,7 +80,7 @@ fn behind_no_signer(line: &[u8]) -> Option<&[u8]>
     behind(b"Good \"git\" signature with ", line)
 }
 
-// A signature is good only where its key is named.
+// A signature is good only if its key is named.
 #[tactic(auto, unfolding(crate::specs::SshVerdict::status_by))]
 fn status_by(told: &[u8]) -> Status
     ensures { result ≡ spec.status_by told.now }
@@ -92,7 +92,7 @@ fn status_by(told: &[u8]) -> Status
     }
 }
 
-// What stands behind the part, where the text begins with it.
+// What follows the part, if the text begins with it.
 #[tactic(auto, unfolding(crate::specs::SshVerdict::behind))]
 fn behind<'a>(part: &[u8], text: &'a [u8]) -> Option<&'a [u8]>
     ensures { option_map (λ told. told.now) result ≡ spec.behind part.now text.now }
@@ -104,7 +104,7 @@ fn behind<'a>(part: &[u8], text: &'a [u8]) -> Option<&'a [u8]>
     }
 }
 
-// What stands behind the last place where the part stands in the text.
+// What follows the last occurrence of the part in the text.
 fn behind_last<'a>(part: &[u8], text: &'a [u8]) -> Option<&'a [u8]>
     ensures { option_map (λ told. told.now) result ≡ spec.behind_last part.now text.now }
 {
@@ -117,7 +117,7 @@ fn behind_last<'a>(part: &[u8], text: &'a [u8]) -> Option<&'a [u8]>
     last
 }
 
-// Whether the part stands anywhere in the text.
+// Returns whether the text contains the part.
 fn holds(part: &[u8], text: &[u8]) -> bool
     ensures { result ≡ spec.holds part.now text.now }
 {

@@ -7,7 +7,7 @@ ghost use Rattle.gix_object_signature.specs.Verifying.{rank_of};
 /// How far a key's owner is trusted, from least to most.
 #[derive(Debug, Clone, Copy, PartialEq, Eq, PartialOrd, Ord)]
 pub enum TrustLevel {
-    /// It isn't told.
+    /// No level is named.
     Undefined,
     /// Not at all.
     Never,
@@ -20,7 +20,8 @@ pub enum TrustLevel {
 }
 
 impl TrustLevel {
-    /// The level that the word names, in any letter case, as `gpg.minTrustLevel` is read; `None` where it names none.
+    /// The level that the word names, in any letter case, as `gpg.minTrustLevel` is read; `None` if
+    /// it names none.
     pub fn from_bytes(value: &[u8]) -> Option<TrustLevel>
         ensures { MatchOption result (NamesNoLevel value.now) (NamesLevel value.now) }
     {

@@ -10,8 +10,9 @@ use crate::TagRefIter;
 use gix_object_lines::decode::Error;
 use gix_object_signature::{SignatureRef, SignedData};
 
-/// What is read of a signed tag as it is written: its signature, and as its signed data exactly the text that was signed.
-/// The tag is one that can be written; its tagger tells a time, and its signature has its only armor at its start.
+/// What is read of a signed tag as it is written: its signature, and as its signed data exactly the
+/// text that was signed. The tag is one that can be written; its tagger has a time, and its
+/// signature has its only armor at its start.
 pub fn what_is_read_is_what_was_signed<'a>(
     written: &'a [u8],
     hash_kind: gix_hash::Kind,

@@ -27,16 +27,16 @@ pub struct Tag {
     pub target_kind: Kind,
     /// The tag's name, as `v1.0`.
     pub name: ByteString,
-    /// Who made the tag, and when; old tags don't tell.
+    /// Who made the tag, and when; old tags don't say.
     pub tagger: Option<Actor>,
     /// The message, without the line feed before a signature.
     pub message: ByteString,
-    /// The signature of all that stands before it, from its armor on.
+    /// The signature of all that precedes it, from its armor on.
     pub pgp_signature: Option<ByteString>,
 }
 
 impl Tag {
-    /// The tag's signature with the format of its armor; `None` where no armor begins it.
+    /// The tag's signature with the format of its armor; `None` if no armor begins it.
     pub fn signature(&self) -> Option<SignatureRef<'_>>
         ensures { MatchOption result (IsBare self.now.pgp_signature)
             (IsSignatureOf self.now.pgp_signature) }
@@ -48,8 +48,9 @@ impl Tag {
 }
 
 impl<'a> TagRef<'a> {
-    /// The tag with copies of its parts. It is `HexDigits` where the target is no id's digits, and else `InvalidTime` where the
-    /// tagger tells no time, neither of which a tag that was read is; and else `Memory` where no memory is left.
+    /// The tag with copies of its parts. Returns `HexDigits` if the target is no id's digits, and
+    /// otherwise `InvalidTime` if the tagger has no time; neither happens for a tag that was read.
+    /// Returns `Memory` if no memory is left.
     pub fn into_owned(self, alloc: Global) -> Result<Tag, Error>
         ensures own { IfOk result (IsTagOf (parts_of self.entry)) }
         ensures refused { IfErr result

@@ -31,7 +31,7 @@ pub enum Token<'a> {
     TargetKind(Kind),
     /// The tag's name.
     Name(BStr<'a>),
-    /// Who made the tag, and when; `None` where the tag doesn't tell.
+    /// Who made the tag, and when; `None` if the tag doesn't say.
     Tagger(Option<ActorRef<'a>>),
     /// What ends the tag.
     Body {
@@ -43,7 +43,7 @@ pub enum Token<'a> {
 }
 
 impl<'a> Token<'a> {
-    /// The id, where it is the target's.
+    /// The id, if it is the target's.
     pub fn id(&self) -> Option<ObjectId>
         ensures { option_map id_of result ≡ id_told (part_of self.now) }
     {
@@ -54,7 +54,7 @@ impl<'a> Token<'a> {
         }
     }
 
-    /// The id, where it is the target's.
+    /// The id, if it is the target's.
     pub fn into_id(self) -> Option<ObjectId>
         ensures { option_map id_of result ≡ id_told (part_of self.entry) }
     {
@@ -62,7 +62,7 @@ impl<'a> Token<'a> {
     }
 }
 
-// What may stand next.
+// What may come next.
 #[derive(Debug, Clone, Copy, PartialEq, Eq)]
 pub(crate) enum Stage {
     Target,
@@ -74,8 +74,8 @@ pub(crate) enum Stage {
 
 /// The tokens of a tag, in their order, read one by one from its bytes.
 ///
-/// Each begins where the one before ended, and borrows from the bytes. Where the bytes end, the tokens do, also in the midst
-/// of a tag; after an error nothing more is given. It takes no memory.
+/// Each begins where the one before ended, and borrows from the bytes. The tokens end when the
+/// bytes do, also in the middle of a tag; after an error nothing more is given. It takes no memory.
 #[derive(Debug, Clone, Copy, Drop)]
 pub struct TagRefIter<'a> {
     rest: &'a [u8],
@@ -123,7 +123,7 @@ impl<'a> Iterator for TagRefIter<'a> {
     }
 }
 
-// What may stand behind a token.
+// What may follow a token.
 fn stage_after(token: Token<'_>) -> Stage
     ensures { result ≡ after (part_of token.entry) }
 {
@@ -135,7 +135,7 @@ fn stage_after(token: Token<'_>) -> Stage
     }
 }
 
-// The token that may stand there and begins the input, and what follows it.
+// The token that may come next and begins the input, and what follows it.
 fn read_token<'a>(
     stage: Stage,
     input: &'a [u8],

@@ -16,16 +16,19 @@ use gix_object_signature::sign::{Error, Options, sign};
 use std::alloc::{AllocError, Global};
 
 impl Tag {
-    /// Signs the tag: its text is signed as `gix_object_signature::sign::sign` does, and `pgp_signature` is the signature
-    /// then. A signature that stood there before is replaced, and is no part of what is signed.
+    /// Signs the tag: its text is signed as `gix_object_signature::sign::sign` does, and
+    /// `pgp_signature` is then the signature. It replaces an earlier signature, which is no part of
+    /// what is signed.
     ///
-    /// The text is all that `write_to` writes of the signed tag before the signature, so with the line feed that parts the
-    /// message from it. A tag without a signature mostly has a message that ends with a line feed: that one parts the two
-    /// then, and is told in the message no more. So the text that Git makes of a tag is signed as it stands where its message
-    /// ends with a line feed behind at least one byte.
+    /// The text is all that `write_to` writes of the signed tag before the signature, including the
+    /// line feed between the message and the signature. A tag without a signature mostly has a
+    /// message that ends with a line feed: that one then separates the two, and is no longer part
+    /// of the message. So the text that Git makes of a tag is signed unchanged if its message ends
+    /// with a line feed after at least one byte.
     ///
-    /// It is `Encode` where a line before the message can't be written, and nothing is run then; else the error of
-    /// `gix_object_signature::sign::sign`; and `Memory` where no memory is left. The tag is as it was after each error.
+    /// Returns `Encode` if a line before the message can't be written, and then runs nothing;
+    /// otherwise the error of `gix_object_signature::sign::sign`; and `Memory` if no memory is
+    /// left. After an error the tag is as it was.
     pub fn sign<F: FnMut(&[Word<'_>], &[u8]) -> Result<Answer, RunError>>(
         &mut self,
         options: &Options<'_>,
@@ -47,8 +50,8 @@ impl Tag {
 impl<'a> TagRef<'a> {
     /// The tag with copies of its parts, signed as `Tag::sign` does.
     ///
-    /// It is `Decode` where `into_owned` refuses the tag, and nothing is run then; else the error of `Tag::sign`; and `Memory`
-    /// where no memory is left.
+    /// Returns `Decode` if `into_owned` refuses the tag, and then runs nothing; otherwise the error
+    /// of `Tag::sign`; and `Memory` if no memory is left.
     pub fn sign<F: FnMut(&[Word<'_>], &[u8]) -> Result<Answer, RunError>>(
         self,
         alloc: Global,
@@ -66,7 +69,7 @@ impl<'a> TagRef<'a> {
     }
 }
 
-// The message as it stands before a signature.
+// The message as it is before a signature.
 fn message_to_sign(tag: &Tag) -> Result<ByteString, AllocError>
     ensures { IfOk result (λ message. message ≡ parted tag.now.pgp_signature tag.now.message) }
 {
@@ -77,7 +80,7 @@ fn message_to_sign(tag: &Tag) -> Result<ByteString, AllocError>
     }
 }
 
-// The signature of the tag whose message stands so before it.
+// The signature of the tag with this message before it.
 fn signature_over<F: FnMut(&[Word<'_>], &[u8]) -> Result<Answer, RunError>>(
     tag: &Tag,
     message: BStr<'_>,

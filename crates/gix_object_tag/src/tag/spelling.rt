@@ -36,7 +36,7 @@ fn begins_with_dash(name: &[u8]) -> bool
     name.starts_with(b"-")
 }
 
-/// Whether a `<`, a `>` or a line feed stands in a name or an email.
+/// Returns whether a name or an email has a `<`, a `>` or a line feed.
 pub(crate) fn is_marked(part: &[u8]) -> bool
     ensures { result ≡ is_marked part.now }
 {
@@ -44,7 +44,8 @@ pub(crate) fn is_marked(part: &[u8]) -> bool
         .any(|byte| *byte == b'<' || *byte == b'>' || *byte == b'\n')
 }
 
-/// Whether an actor has a line: no `<`, `>` or line feed in its name and email, and whole minutes below 100 hours.
+/// Returns whether an actor has a line: no `<`, `>` or line feed in its name and email, and whole
+/// minutes below 100 hours.
 pub(crate) fn is_spellable(actor: &Actor) -> bool
     ensures no { IsFalse result → is_bad_actor (Some actor.now) ≡ true }
     ensures yes { IsTrue result
@@ -67,8 +68,9 @@ fn is_bad_offset(offset: i32) -> bool
     amount % 60 != 0 || amount >= 360_000
 }
 
-/// Whether a message and its signature are told again as they are written: no line of a message without a signature begins with
-/// an armor; a signature begins with one, and no later line of it does.
+/// Returns whether a message and its signature are read back as they are written: no line of a
+/// message without a signature begins with an armor; a signature begins with one, and no later line
+/// of it does.
 pub(crate) fn is_whole_body(message: BStr<'_>, signature: Option<BStr<'_>>) -> bool
     ensures { result ≡ test.is_whole_body (bstr_bytes message.entry) (text_of signature.entry) }
 {
@@ -78,7 +80,7 @@ pub(crate) fn is_whole_body(message: BStr<'_>, signature: Option<BStr<'_>>) -> b
     }
 }
 
-// Whether an armor begins the text, and no later line of it.
+// Returns whether an armor begins the text, and no later line of it.
 fn has_one_armor(text: &[u8]) -> bool
     ensures { IsTrue result ↔ IsSigned text.now [] text.now }
 {
@@ -88,7 +90,7 @@ fn has_one_armor(text: &[u8]) -> bool
     }
 }
 
-// Whether no line of the text begins with an armor.
+// Returns whether no line of the text begins with an armor.
 fn has_no_armor(text: &[u8]) -> bool
     ensures { IsTrue result ↔ IsUnsigned text.now }
 {

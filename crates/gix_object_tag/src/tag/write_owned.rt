@@ -29,7 +29,8 @@ use gix_object_lines::{ByteString, Kind, WriteTo, encode};
 use std::io;
 
 impl Tag {
-    // Writes the tag with this message and signature in the place of its own, which are refused where they aren't whole.
+    // Writes the tag with this message and signature in the place of its own, which are refused if
+    // they aren't whole.
     pub(crate) fn write_with<W: io::Write>(
         &self,
         message: BStr<'_>,

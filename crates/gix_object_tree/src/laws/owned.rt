@@ -14,8 +14,8 @@ use gix_object_commit::laws::owned::owned_written_is_read;
 use gix_object_entries::laws::owned_written_tree_is_read_back;
 use gix_object_tag::laws::owned as tags;
 
-/// What is written of an object that owns its parts and isn't refused, behind its header, is a loose object that tells its
-/// value, where its ids are of this hash function.
+/// What is written of an object that owns its parts and isn't refused, after its header, is a loose
+/// object with its value, if its ids are of this hash function.
 pub fn owned_written_object_is_read_back(object: &Object, _hash_kind: gix_hash::Kind)
     ensures { let value =
         own_value object.now
@@ -30,8 +30,8 @@ pub fn owned_written_object_is_read_back(object: &Object, _hash_kind: gix_hash::
     }
 }
 
-/// An object that was read, and then owned, keeps its value where its ids stand in lower case, and its times as they are
-/// written.
+/// An object that was read, and then owned, keeps its value if its ids are in lower case, and its
+/// times as they are written.
 pub fn owned_object_keeps_its_value(_bytes: &[u8], _hash_kind: gix_hash::Kind)
     ensures { (value : Value) (object : owned.Object) → IsLoose _hash_kind _bytes.now value
         → IsOwned value object → IsKeptWhole value

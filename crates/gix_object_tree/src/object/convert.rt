@@ -45,7 +45,7 @@ impl<'a> From<TagRef<'a>> for ObjectRef<'a> {
     }
 }
 
-// An object of another kind is handed back.
+// An object of another kind is returned as the error.
 impl<'a> TryFrom<ObjectRef<'a>> for BlobRef<'a> {
     type Error = ObjectRef<'a>;
 
@@ -61,7 +61,7 @@ impl<'a> TryFrom<ObjectRef<'a>> for BlobRef<'a> {
     }
 }
 
-// An object of another kind is handed back.
+// An object of another kind is returned as the error.
 impl<'a> TryFrom<ObjectRef<'a>> for TreeRef<'a> {
     type Error = ObjectRef<'a>;
 
@@ -77,7 +77,7 @@ impl<'a> TryFrom<ObjectRef<'a>> for TreeRef<'a> {
     }
 }
 
-// An object of another kind is handed back.
+// An object of another kind is returned as the error.
 impl<'a> TryFrom<ObjectRef<'a>> for CommitRef<'a> {
     type Error = ObjectRef<'a>;
 
@@ -93,7 +93,7 @@ impl<'a> TryFrom<ObjectRef<'a>> for CommitRef<'a> {
     }
 }
 
-// An object of another kind is handed back.
+// An object of another kind is returned as the error.
 impl<'a> TryFrom<ObjectRef<'a>> for TagRef<'a> {
     type Error = ObjectRef<'a>;
 

@@ -19,12 +19,13 @@ use gix_object_tag::TagRef;
 use std::alloc::Global;
 
 impl<'a> ObjectRef<'a> {
-    /// The object that the bytes are: a header, and then as many bytes of content as it tells, its ids of this hash
-    /// function.
+    /// The object that the bytes are: a header, and then as many bytes of content as it says, its
+    /// ids of this hash function.
     ///
-    /// It is `InvalidHeader` where no header begins the bytes. It is `InvalidContent(None)` where fewer bytes stand behind the
-    /// header than it tells, or more, neither of which git-fsck lets pass; and `InvalidContent` with an error of `from_bytes`
-    /// where the content isn't read. It is `OutOfMemory` where no memory is left for a tree's entries or a commit's parts.
+    /// Returns `InvalidHeader` if no header begins the bytes; `InvalidContent(None)` if fewer or
+    /// more bytes follow the header than it says, neither of which git-fsck lets pass;
+    /// `InvalidContent` with an error of `from_bytes` if the content isn't read; and `OutOfMemory`
+    /// if no memory is left for a tree's entries or a commit's parts.
     pub fn from_loose(
         alloc: Global,
         bytes: &'a [u8],
@@ -71,7 +72,7 @@ impl<'a> ObjectRef<'a> {
     }
 }
 
-// The kind that a loose object's header tells, and its content.
+// The kind that a loose object's header names, and its content.
 fn split_loose(bytes: &[u8]) -> Result<(Kind, &[u8]), LooseDecodeError>
     ensures read { IfOk result (λ object. bytes.now ≡ loose_text object.0 object.1.now) }
     ensures every { (kind : Kind) (content : List ℕ) → bytes.now ≡ loose_text kind content

@@ -45,7 +45,7 @@ impl From<Tag> for Object {
     }
 }
 
-// An object of another kind is handed back.
+// An object of another kind is returned as the error.
 impl TryFrom<Object> for Blob {
     type Error = Object;
 
@@ -61,7 +61,7 @@ impl TryFrom<Object> for Blob {
     }
 }
 
-// An object of another kind is handed back.
+// An object of another kind is returned as the error.
 impl TryFrom<Object> for Tree {
     type Error = Object;
 
@@ -77,7 +77,7 @@ impl TryFrom<Object> for Tree {
     }
 }
 
-// An object of another kind is handed back.
+// An object of another kind is returned as the error.
 impl TryFrom<Object> for Commit {
     type Error = Object;
 
@@ -93,7 +93,7 @@ impl TryFrom<Object> for Commit {
     }
 }
 
-// An object of another kind is handed back.
+// An object of another kind is returned as the error.
 impl TryFrom<Object> for Tag {
     type Error = Object;
 

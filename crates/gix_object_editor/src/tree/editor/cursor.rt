@@ -38,10 +38,12 @@ impl<S: FindInto> Editor<S> {
         }
     }
 
-    /// A cursor at the folder of this path. Where none stands, it is made without entries, and each file at a beginning of the path
-    /// goes. A folder that is made has the null id of this hash function, until it is written.
+    /// A cursor at the folder of this path. If there is none, it is made without entries, and each
+    /// file at a beginning of the path goes. A folder that is made has the null id of this hash
+    /// function until it is written.
     ///
-    /// It is refused as `remove` is, of the trees on the path and of the one at its end. The files are unchanged then.
+    /// Refused as `remove` is, for the trees on the path and for the one at its end. The files are
+    /// then unchanged.
     pub fn cursor_at(
         &mut self,
         alloc: Global,
@@ -95,7 +97,7 @@ impl<S: FindInto> Editor<S> {
 }
 
 impl<'c, S: FindInto> Cursor<'c, S> {
-    /// The entry at the path below the cursor, as `Editor::get` answers it.
+    /// The entry at the path below the cursor, as `Editor::get` returns it.
     pub fn get<'a>(&'a self, path: &[&'a [u8]]) -> Option<EntryRef<'a>>
         ensures entry { (base : Path) → StandsAt self.now base → path.now ≢ []
             → option_map item_of result ≡ entry_at (slots_of self.now.editor.now.nodes.items) 0
@@ -118,7 +120,7 @@ impl<'c, S: FindInto> Cursor<'c, S> {
         entry_from(self.editor.nodes.as_slice(), self.at, path)
     }
 
-    /// Takes out what stands at or below the path, which begins at the cursor, as `Editor::remove` does.
+    /// Removes what is at or below the path, which begins at the cursor, as `Editor::remove` does.
     pub fn remove(&mut self, alloc: Global, path: &[&[u8]]) -> Result<(), Error>
         ensures removed { (base : Path) → StandsAt self.old base
             → OkOverStored (S.is_honest self.old.editor.now.store)
@@ -459,8 +461,8 @@ impl<'c, S: FindInto> Cursor<'c, S> {
         self.upsert(alloc, path, kind, id)
     }
 
-    /// Hands out the trees from the cursor's folder down as `Editor::write` does from the root, that folder's last, and answers its
-    /// id.
+    /// Hands out the trees from the cursor's folder down as `Editor::write` does from the root,
+    /// that folder's last, and returns its id.
     pub fn write<E, F: FnMut(&Tree) -> Result<ObjectId, E>>(
         &self,
         alloc: Global,

@@ -23,7 +23,7 @@ use gix_object_nodes::node::{NodeId, Slot, slot_at};
 use std::alloc::Global;
 
 impl<S: FindInto> Editor<S> {
-    /// Takes out what stands at or below the path, which begins at an opened tree.
+    /// Removes what is at or below the path, which begins at an opened tree.
     pub(crate) fn remove_from(
         &mut self,
         alloc: Global,
@@ -94,7 +94,7 @@ impl<S: FindInto> Editor<S> {
         Ok(())
     }
 
-    /// The same, but refused where a file stands below the path.
+    /// The same, but refused if a file is below the path.
     pub(crate) fn remove_leaf_from(
         &mut self,
         alloc: Global,
@@ -283,7 +283,8 @@ impl<S: FindInto> Editor<S> {
         Ok(())
     }
 
-    /// The folder at the path, opened, which begins at the root: where none stands, it is made, and each file on the path goes.
+    /// The folder at the path, opened, which begins at the root. If there is none, it is made, and
+    /// each file on the path goes.
     pub(crate) fn folder_at(
         &mut self,
         alloc: Global,

@@ -8,8 +8,8 @@ use bstr::BStr;
 use gix_object_entries::tree::EntryRef;
 use gix_object_nodes::node::{Node, NodeId, Slot, slot_at};
 
-/// The entry at the end of a path that begins at an opened tree. `None` where none stands there, or where a tree above it isn't
-/// opened.
+/// The entry at the end of a path that begins at an opened tree; `None` if there is none, or a tree
+/// above it isn't opened.
 pub(crate) fn entry_from<'a>(
     nodes: &'a [Node],
     from: NodeId,
@@ -32,7 +32,8 @@ pub(crate) fn entry_from<'a>(
     entry_of(&nodes[at.0], path[depth])
 }
 
-/// Whether this is the entry of a lone name in an opened tree already, and no tree was opened for it.
+/// Returns whether this is the entry of a lone name in an opened tree already, and no tree was
+/// opened for it.
 pub(crate) fn stands_already(nodes: &[Node], at: NodeId, names: &[&[u8]], slot: Slot) -> bool
     requires within { at.0 < length nodes.now }
     requires named { 0 < length names.now }
@@ -52,7 +53,7 @@ pub(crate) fn stands_already(nodes: &[Node], at: NodeId, names: &[&[u8]], slot: 
     }
 }
 
-// Whether two slots are the same entry, and no tree was opened for the first.
+// Returns whether two slots are the same entry, and no tree was opened for the first.
 fn is_entry(there: Slot, slot: Slot) -> bool
     ensures so { IsTrue result → (leaf_in there ≡ leaf_in slot) × (there.child ≡ None) }
     ensures otherwise { IsFalse result → leaf_in there ≡ leaf_in slot → there.child ≡ None → ⊥ }

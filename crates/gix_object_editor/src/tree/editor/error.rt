@@ -17,7 +17,7 @@ pub enum Error {
     /// A tree on the path couldn't be read.
     #[error(transparent)]
     FindExistingObject(existing_object::Error),
-    /// A folder stands where a file is to be removed.
+    /// The path of a file to remove has a folder.
     #[error("a folder can't be removed as a file")]
     CannotRemoveNonLeaf {
         /// The folder's name.

@@ -16,7 +16,7 @@ use gix_object_lookup::FindInto;
 use gix_object_nodes::node::{Node, NodeId};
 use std::alloc::Global;
 
-/// Refuses a name's folder, where a file stands below it. Its tree is opened.
+/// Refuses a name's folder if a file is below it. Its tree is opened.
 pub(crate) fn refuse_folder<S: FindInto>(
     store: &S,
     nodes: &mut Vec<Node>,
@@ -56,7 +56,8 @@ pub(crate) fn refuse_folder<S: FindInto>(
     Ok(())
 }
 
-// Whether a file stands below an opened tree. An entry that isn't null has one, unless a tree was opened for it.
+// Returns whether a file is below an opened tree. An entry that isn't null has one, unless a tree
+// was opened for it.
 fn has_file(nodes: &[Node], at: NodeId) -> bool
     requires forest { IsForest (slots_of nodes.now) (length nodes.now) }
     requires within { at.0 < length nodes.now }

@@ -18,7 +18,7 @@ use gix_object_lookup::FindInto;
 use gix_object_nodes::node::{Node, NodeId, Slot, put_at, slot_at};
 use std::alloc::{AllocError, Global};
 
-/// Puts a tree behind the others, and its number into the slot of a name.
+/// Appends a tree to the others, and puts its number into the slot of a name.
 pub(crate) fn attach(
     nodes: &mut Vec<Node>,
     alloc: Global,
@@ -63,7 +63,7 @@ pub(crate) fn attach(
     }
 }
 
-/// The folder of a name, opened. `None` where no folder stands there.
+/// The folder of a name, opened; `None` if the name has none.
 pub(crate) fn open<S: FindInto>(
     store: &S,
     nodes: &mut Vec<Node>,
@@ -199,7 +199,7 @@ pub(crate) fn walk<S: FindInto>(
     Ok((at, depth))
 }
 
-/// The folder at the end of the names that a walk left, opened. `None` where none stands there.
+/// The folder at the end of the names that a walk left, opened; `None` if there is none.
 pub(crate) fn folder_below<S: FindInto>(
     store: &S,
     nodes: &mut Vec<Node>,

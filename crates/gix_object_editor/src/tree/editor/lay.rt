@@ -16,8 +16,9 @@ use gix_object_entries::tree::{EntryKind, EntryMode};
 use gix_object_nodes::node::{Node, NodeId, Slot, put_at, take_at};
 use std::alloc::{AllocError, Global};
 
-/// Puts an entry at the end of the names below an opened tree, in folders that are made for it, and answers the tree in which it
-/// stands. What stood at the first name is cut off. The folders are marked so. Without memory nothing changes.
+/// Puts an entry at the end of the names below an opened tree, in folders that are made for it, and
+/// returns the tree that it is in. What was at the first name is cut off. The folders are marked
+/// so. Without memory nothing changes.
 pub(crate) fn lay_entry(
     nodes: &mut Vec<Node>,
     alloc: Global,
@@ -84,8 +85,9 @@ pub(crate) fn lay_entry(
     }
 }
 
-/// Makes folders at the names below an opened tree, the last without entries, and answers the last. What stood at the first name
-/// is cut off. The folders are marked so. Without memory nothing changes.
+/// Makes folders at the names below an opened tree, the last without entries, and returns the last.
+/// What was at the first name is cut off. The folders are marked so. Without memory nothing
+/// changes.
 pub(crate) fn make_folders(
     nodes: &mut Vec<Node>,
     alloc: Global,
@@ -132,7 +134,8 @@ pub(crate) fn make_folders(
         → AreOnPath (slots_of nodes.new.items) (onto way (map (λ n. n.now) names.now) ++ [] ∷ [])
         (length nodes.old.items) (length nodes.new.items)) }
 {
-    // An entry in the last folder, which is taken out again: then nothing is left to fail where the folders stand.
+    // An entry in the last folder, which is removed again: once the folders are there, nothing can
+    // fail.
     let no_name: &[u8] = &[];
     let mut path = names.to_vec(alloc)?;
     path.push(no_name)?;
@@ -214,8 +217,8 @@ fn hang(
     Ok(end)
 }
 
-// Puts trees behind the others, each with the slot of one name, which leads to the next tree. The last has the slot that is
-// handed in. The first is to lie in this tree.
+// Appends trees to the others, each with the slot of one name, which leads to the next tree. The
+// last has the given slot. The first is to lie in this tree.
 fn push_ladder(
     nodes: &mut Vec<Node>,
     alloc: Global,

@@ -8,7 +8,8 @@ ghost use Rattle.gix_object_nodes.specs.Marks.{marks_of, mark_below, AreMarked, 
 use gix_object_nodes::changed::is_changed;
 use gix_object_nodes::node::{Node, NodeId, Slot, slot_at, take_at};
 
-/// Takes the entry of a name out of an opened tree, which is marked as changed, if more than a made folder stands there.
+/// Removes the entry of a name from an opened tree, which is marked as changed, if more than a made
+/// folder is there.
 pub(crate) fn cut(nodes: &mut [Node], at: NodeId, name: &[u8])
     requires within { at.0 < length nodes.old }
     requires forest { IsForest (slots_of nodes.old) (length nodes.old) }
@@ -26,7 +27,7 @@ pub(crate) fn cut(nodes: &mut [Node], at: NodeId, name: &[u8])
     mark_where(nodes, at, more);
 }
 
-// Whether more stands there than a folder that was made and into which nothing was put.
+// Returns whether more is there than a folder that was made and into which nothing was put.
 fn is_more(nodes: &[Node], slot: Option<Slot>) -> bool
     requires { (c : ℕ) → child_of slot ≡ Some c → c < length nodes.now }
     ensures so { IsTrue result → IsIdle (marks_of nodes.now) slot → ⊥ }
@@ -59,7 +60,7 @@ pub(crate) fn mark_changed(nodes: &mut [Node], at: NodeId)
     mark_at(nodes, above);
 }
 
-/// The same where it is said so; else no mark changes.
+/// The same if `changed`; otherwise no mark changes.
 pub(crate) fn mark_where(nodes: &mut [Node], at: NodeId, changed: bool)
     requires within { at.0 < length nodes.old }
     requires forest { IsForest (slots_of nodes.old) (length nodes.old) }

@@ -1,4 +1,4 @@
-//! What an editor and its cursor keep: their definitions stand apart from what the contracts say of them.
+//! The fields of an editor and its cursor, apart from what the contracts say of them.
 
 ghost use Rattle.std.specs.Prelude.{◌<◌, length};
 ghost use Rattle.gix_object_nodes.specs.Nodes.{slots_of, IsForest};

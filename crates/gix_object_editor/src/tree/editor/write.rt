@@ -15,13 +15,14 @@ use gix_object_nodes::write::{tree_of, write_below};
 use std::alloc::Global;
 
 impl<S> Editor<S> {
-    /// Hands out the trees that edits changed since the root was set, also where they were handed out before, and answers the root's
-    /// id.
+    /// Hands out the trees that edits changed since the root was set, also if they were handed out
+    /// before, and returns the root's id.
     ///
-    /// Each is handed out once, behind the trees that lie in it, and named by the id that `out` answered for it. The root comes
-    /// last. A folder whose tree has no entries is left out, and so is an entry with the null id.
+    /// Each is handed out once, after the trees that lie in it, and named by the id that `out`
+    /// returned for it. The root comes last. A folder whose tree has no entries is left out, and so
+    /// is an entry with the null id.
     ///
-    /// It is `Out` where `out` answers an error, and `Memory` where no memory is left.
+    /// Returns `Out` if `out` returns an error, and `Memory` if no memory is left.
     pub fn write<E, F: FnMut(&Tree) -> Result<ObjectId, E>>(
         &self,
         alloc: Global,
@@ -37,7 +38,7 @@ impl<S> Editor<S> {
         self.write_from(alloc, NodeId(0), out)
     }
 
-    /// Hands out the trees that edits changed below this one, and this, and answers its id.
+    /// Hands out the trees that edits changed below this one, and this, and returns its id.
     pub(crate) fn write_from<E, F: FnMut(&Tree) -> Result<ObjectId, E>>(
         &self,
         alloc: Global,

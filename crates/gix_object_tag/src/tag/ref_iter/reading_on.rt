@@ -1,4 +1,4 @@
-//! What the tokens to come tell.
+//! What the tokens to come hold.
 
 ghost use Rattle.std.specs.Prelude.{IfOk, IfErr};
 ghost use Rattle.gix_object_tag.specs.ReadingOn.{TakesTarget, TellsTagger, TellsNoTagger};
@@ -11,8 +11,8 @@ use gix_object_lines::decode::Error;
 use gix_object_lines::lines::ActorRef;
 
 impl<'a> TagRefIter<'a> {
-    /// The target's id, from the token that comes next. It is `FieldName` where another token comes next or none does, and
-    /// else that token's error.
+    /// The target's id, from the token that comes next. Returns `FieldName` if another token comes
+    /// next or none does, and otherwise that token's error.
     pub fn target_id(self) -> Result<ObjectId, Error>
         ensures { TakesTarget (place_of self.entry) result }
     {
@@ -23,9 +23,9 @@ impl<'a> TagRefIter<'a> {
         }
     }
 
-    /// Who made the tag, and when, from the tokens to come; `None` where the tag doesn't tell, or ends behind its name. It is
-    /// `FieldName` where the input ends before its name or the tagger's token has been given, and else the error of the first
-    /// token that has one.
+    /// Who made the tag, and when, from the tokens to come; `None` if the tag doesn't say, or ends
+    /// after its name. Returns `FieldName` if the input ends before its name or the tagger's token
+    /// has been given, and otherwise the error of the first token that has one.
     pub fn tagger(self) -> Result<Option<ActorRef<'a>>, Error>
         ensures read { IfOk result
             (λ tagger. TellsTagger (place_of self.entry) (tagger_of tagger)) }

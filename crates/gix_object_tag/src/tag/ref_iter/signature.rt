@@ -12,8 +12,8 @@ use gix_object_lines::decode::Error;
 use gix_object_signature::{SignatureRef, SignedData};
 
 impl<'a> TagRefIter<'a> {
-    /// The signature of the tag that the bytes spell, and the bytes that it signs: all before it. `None` where the tag has
-    /// none. An error is the one of `TagRef::from_bytes`.
+    /// The signature of the tag that the bytes spell, and the bytes that it signs: all before it.
+    /// `None` if the tag has none. The errors are those of `TagRef::from_bytes`.
     pub fn signature(
         input: &'a [u8],
         hash_kind: gix_hash::Kind,
