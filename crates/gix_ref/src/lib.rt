@@ -18,7 +18,7 @@ pub mod compose {
 
 /// Following references to objects.
 pub mod peel {
-    /// Why no object stands behind names and tags.
+    /// Why names and tags lead to no object.
     pub mod to_id {
         pub use gix_ref_store::store::file::peel::Error;
     }
@@ -35,7 +35,7 @@ pub mod file {
     pub mod find {
         pub use gix_ref_store::store::file::find::Error;
 
-        /// Lookups of references that must stand.
+        /// Lookups of references that must exist.
         pub mod existing {
             pub use gix_ref_store::store::file::find::ExistingError as Error;
         }
@@ -107,7 +107,7 @@ pub mod packed {
 
     /// Lookups.
     pub mod find {
-        /// Lookups of records that must stand.
+        /// Lookups of records that must exist.
         pub mod existing {
             pub use gix_ref_format::packed::FindError as Error;
         }
@@ -154,7 +154,7 @@ pub mod log {
 
 /// Stores.
 pub mod store {
-    /// What a store is told of its repository.
+    /// What a store must know of its repository.
     pub mod init {
         pub use gix_ref_store::Options;
     }

@@ -1,4 +1,4 @@
--- What edits ask of references, and what they make them point to (git-update-ref).
+-- What edits expect of references, and what they make them point to (git-update-ref).
 use Rattle.std.specs.Prelude.{◌≡◌, false, [], Option, Some, None}
 use Rattle.gix_ref_name.specs.Targets.{Points, target_view}
 use Rattle.gix_ref_edit.specs.declared.change.Change.{Change}

@@ -11,14 +11,14 @@ use Rattle.gix_ref_edit.specs.declared.names.TwiceError.TheVariants.{Name, Memor
 abbrev pub names_of : List RefEdit → List (List ℕ)
 names_of edits = map (λ edit. edit.name) edits
 
--- the name stands in the list twice, or more often
+-- the name is in the list twice, or more often
 abbrev pub StandsTwice : List (List ℕ) → List ℕ → Type 0
 StandsTwice names name = 2 ≤ count_by (λ other. bytes_eq other name) names
 
 abbrev pub AllOnce : List (List ℕ) → Type 0
 AllOnce names = (name : List ℕ) → ¬ StandsTwice names name
 
--- of the names that stand twice it is the least by its bytes
+-- of the names that are there twice it is the least by its bytes
 pub record IsLeastTwice (names : List (List ℕ)) (name : List ℕ) : Type 0 where
   pub twice : StandsTwice names name
   pub least : (other : List ℕ) → StandsTwice names other → slice_cmp nat_cmp other name ≢ Less
@@ -34,7 +34,7 @@ pub record IsArranged (names arranged : List (List ℕ)) : Type 0 where
   pub same : IsPermutation names arranged
   pub ascending : IsSorted (slice_cmp nat_cmp) arranged
 
--- the first name that stands before itself
+-- the first name that is followed by itself
 abbrev pub first_twice : List (List ℕ) → Option (List ℕ)
 first_twice [] = None
 first_twice (name ∷ []) = None

@@ -6,7 +6,7 @@ use Rattle.gix_ref_edit.specs.declared.change.RefEdit.{RefEdit}
 use Rattle.gix_ref_edit.specs.declared.ext.PreProcessError.{PreProcessError}
 use Rattle.gix_ref_edit.specs.declared.ext.PreProcessError.TheVariants.{Split, Twice}
 
--- the edits are as before where they aren't split, and else split
+-- the edits are as before if they aren't split, and otherwise split
 abbrev pub PreFault : Type 0 → Type 0 → Targets → List RefEdit → List RefEdit → PreProcessError
     → Type 0
 PreFault honest may_fail read before after (Split error) =

@@ -14,7 +14,7 @@ use Rattle.gix_ref_edit.specs.declared.splits.FindTargetError.TheVariants.{Faile
 use Rattle.gix_ref_edit.specs.declared.splits.SplitError.{SplitError}
 use Rattle.gix_ref_edit.specs.declared.splits.SplitError.TheVariants.{Find, Cycle, Memory}
 
--- what each name points to: none where no reference stands
+-- what each name points to: none if there is no reference
 abbrev pub Targets : Type 0
 Targets = List ℕ → Option Points
 
@@ -25,14 +25,14 @@ hop_to edit None = None
 hop_to edit (Some (ToObject id)) = None
 hop_to edit (Some (ToName name)) = Some (record edit { name = name })
 
--- the same edit of the reference that this one's leads to, where it asks for that and is symbolic
+-- the same edit of the reference that this one's leads to, if it wants that and is symbolic
 abbrev pub hop : Targets → RefEdit → Option RefEdit
 hop read edit = if edit.deref then hop_to edit (read edit.name) else None
 
 abbrev pub leads_on : Targets → RefEdit → Bool
 leads_on read edit = is_some (hop read edit)
 
--- the log's part of a change: an update asks nothing any more, a deletion what it asked
+-- the log's part of a change: an update expects nothing any more, a deletion what it expected
 abbrev pub log_part : Change → Change
 log_part (Update log expected new) = Update (record log { mode = Only }) Any new
 log_part (Delete expected log) = Delete expected Only
@@ -50,12 +50,13 @@ settled read edit = settled_as (leads_on read edit) edit
 abbrev pub hops : Targets → List RefEdit → List RefEdit
 hops read edits = filter_map (hop read) edits
 
--- the edits that these lead to, and on over so many rounds, each round's behind those of the one before
+-- the edits that these lead to, and on over so many rounds, each round's after those of the one
+-- before
 abbrev pub further : Targets → ℕ → List RefEdit → List RefEdit
 further read zero edits = []
 further read (suc rounds) edits = hops read edits ++ further read rounds (hops read edits)
 
--- the edits that these lead to behind so many rounds
+-- the edits that these lead to after so many rounds
 abbrev pub behind : Targets → ℕ → List RefEdit → List RefEdit
 behind read zero edits = hops read edits
 behind read (suc rounds) edits = behind read rounds (hops read edits)
@@ -70,8 +71,9 @@ marked place [] = []
 marked place (true ∷ marks) = place ∷ marked (place + 1) marks
 marked place (false ∷ marks) = marked (place + 1) marks
 
--- Each edit has lost what leads on, behind them stand those that they lead to, none of which leads on behind the fourth round,
--- and these are the places of all that were split, so that the first leads to the first that was added, and so on.
+-- Each edit has lost what leads on. After them come those that they lead to, none of which leads on
+-- after the fourth round. These are the places of all that were split, so that the first leads to
+-- the first that was added, and so on.
 pub record Splits (read : Targets) (before after : List RefEdit) (places : List ℕ) : Type 0 where
   pub edits : after ≡ map (settled read) (with_hops read before)
   pub ends : behind read 4 before ≡ []
@@ -95,7 +97,8 @@ HopFault may_fail Find = may_fail
 HopFault may_fail Cycle = ⊥
 HopFault may_fail Memory = ⊤
 
--- why edits aren't split: `honest` says whether names are told as they are, `may_fail` whether a reading may fail
+-- why edits aren't split: `honest` says whether names are read as they are, `may_fail` whether a
+-- reading may fail
 abbrev pub SplitFault : Type 0 → Type 0 → Targets → ℕ → List RefEdit → SplitError → Type 0
 SplitFault honest may_fail read rounds edits Find = may_fail
 SplitFault honest may_fail read rounds edits Cycle = honest → behind read rounds edits ≢ []

@@ -1,4 +1,4 @@
-//! Edits, and what is asked of a reference before it is changed.
+//! Edits, and what is expected of a reference before it is changed.
 
 ghost use Rattle.std.specs.Prelude.{◌≡◌, option_map};
 ghost use Rattle.gix_ref_name.specs.Targets.{target_ref_view};
@@ -7,23 +7,23 @@ ghost use Rattle.gix_ref_edit.specs.Edits.{new_target, expected_target};
 use crate::log::{LogChange, RefLog};
 use gix_ref_name::{FullName, Target, TargetRef};
 
-/// What is asked of a reference before it is changed.
+/// What is expected of a reference before it is changed.
 #[derive(Debug, Drop, PartialEq, Eq, PartialOrd, Ord, Hash)]
 pub enum PreviousValue {
-    /// Nothing: it may stand or not.
+    /// Nothing: it may exist or not.
     Any,
-    /// That it stands.
+    /// That it exists.
     MustExist,
-    /// That it doesn't stand.
+    /// That it doesn't exist.
     MustNotExist,
-    /// That it stands and points to this.
+    /// That it exists and points to this.
     MustExistAndMatch(Target),
-    /// That it points to this, where it stands.
+    /// That it points to this, if it exists.
     ExistingMustMatch(Target),
 }
 
 impl PreviousValue {
-    // What the reference must point to; `None` where nothing is said of that.
+    // What the reference must point to; `None` if nothing is said of that.
     fn target(&self) -> Option<TargetRef<'_>>
         ensures { option_map target_ref_view result ≡ expected_target self.now }
     {
@@ -44,14 +44,14 @@ pub enum Change {
     Update {
         /// What is written to its log.
         log: LogChange,
-        /// What is asked of it before.
+        /// What is expected of it before.
         expected: PreviousValue,
         /// What it points to afterwards.
         new: Target,
     },
     /// It is removed.
     Delete {
-        /// What is asked of it before.
+        /// What is expected of it before.
         expected: PreviousValue,
         /// Whether it is removed with its log, or its log alone.
         log: RefLog,
@@ -61,7 +61,7 @@ pub enum Change {
 impl Change {
     ghost use Rattle.gix_ref_edit.specs.Edits.{expected_of};
 
-    /// What the reference points to afterwards; `None` where it is removed.
+    /// What the reference points to afterwards; `None` if it is removed.
     pub fn new_value(&self) -> Option<TargetRef<'_>>
         ensures { option_map target_ref_view result ≡ new_target self.now }
     {
@@ -71,7 +71,7 @@ impl Change {
         }
     }
 
-    /// What the reference must point to before; `None` where nothing is said of that.
+    /// What the reference must point to before; `None` if nothing is said of that.
     pub fn previous_value(&self) -> Option<TargetRef<'_>>
         ensures { option_map target_ref_view result ≡ expected_target (expected_of self.now) }
     {

@@ -20,7 +20,7 @@ impl LogChange {
 }
 
 impl PreviousValue {
-    /// The same that is asked.
+    /// A copy of what is expected.
     pub fn try_clone(&self) -> Result<PreviousValue, AllocError>
         ensures { IfOk result (λ copy. copy ≡ self.now) }
     {

@@ -51,13 +51,15 @@ pub trait RefEditsExt {
         ensures once { OnOk result (names.AllOnce (names.names_of (edits self.now))) }
         ensures twice { IfErr result (names.TwiceFault (names.names_of (edits self.now))) };
 
-    /// Splits the edits that say `deref` and whose names are symbolic: what is left of each concerns the log alone, and behind all
-    /// edits stands the same edit of the reference that it leads to, which is split in turn. The log's part of an update asks
-    /// nothing any more. In the end no edit says `deref`. The result has the places of those that were split: the first that was
-    /// added is of the first of them, and so on.
+    /// Splits the edits that say `deref` and whose names are symbolic: what is left of each
+    /// concerns the log alone, and after all edits comes the same edit of the reference that it
+    /// leads to, which is split in turn. The log's part of an update expects nothing any more. In
+    /// the end no edit says `deref`. The result has the places of those that were split: the first
+    /// that was added is of the first of them, and so on.
     ///
-    /// It is `Cycle` where the fourth reference behind a name is symbolic too, `Find` where it isn't told what a name points to,
-    /// and `Memory` where no memory is left; then all edits are as before.
+    /// Returns `Cycle` if the fourth reference after a name is symbolic too, `Find` if what a name
+    /// points to can't be read, and `Memory` if no memory is left. After an error all edits are as
+    /// before.
     fn extend_with_splits_of_symbolic_refs<F: FindTarget>(
         &mut self,
         alloc: Global,
@@ -69,8 +71,9 @@ pub trait RefEditsExt {
         ensures failed { IfErr result (splits.SplitFault (F.is_honest finder.now)
             (F.may_fail finder.now) (F.targets finder.now) 4 (edits self.old)) };
 
-    /// Splits the edits of symbolic references, and then tests that each name has one edit. Where one has several the edits are
-    /// split. The result is that of the splits.
+    /// Splits the edits of symbolic references, and then tests that each name has one edit. If one
+    /// has several, the edits stay split. The result and the errors of the splits are those of
+    /// `extend_with_splits_of_symbolic_refs`.
     fn pre_process<F: FindTarget>(
         &mut self,
         alloc: Global,

@@ -1,4 +1,4 @@
-//! Edits of references, as a transaction is asked for them, after the crate `gix-ref` 0.67.
+//! Edits of references, as a transaction takes them, after the crate `gix-ref` 0.67.
 #![tactic(auto)]
 
 mod change;

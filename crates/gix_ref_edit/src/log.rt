@@ -20,7 +20,7 @@ pub enum RefLog {
 pub struct LogChange {
     /// Whether the reference is written too.
     pub mode: RefLog,
-    /// Whether a log is made where the store would make none.
+    /// Whether a log is made if the store would make none.
     pub force_create_reflog: bool,
     /// Why the update is made.
     pub message: ByteString,

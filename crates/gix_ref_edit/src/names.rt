@@ -29,7 +29,7 @@ impl From<AllocError> for TwiceError {
     }
 }
 
-// Tests that no name stands twice; the error has the least that does.
+// Tests that no name is there twice; the error has the least that is.
 pub(crate) fn assure_once(alloc: Global, edits: &[RefEdit]) -> Result<(), TwiceError>
     ensures once { OnOk result (spec.AllOnce (spec.names_of edits.now)) }
     ensures twice { IfErr result (spec.TwiceFault (spec.names_of edits.now)) }
@@ -65,7 +65,7 @@ fn names_of(alloc: Global, edits: &[RefEdit]) -> Result<Vec<&[u8]>, AllocError>
     Ok(names)
 }
 
-// The first name that stands before itself.
+// The first name that is followed by itself.
 fn first_twice<'a>(names: &[&'a [u8]]) -> Option<&'a [u8]>
     ensures { option_copied result ≡ spec.first_twice (map (λ name. name.now) names.now) }
 {

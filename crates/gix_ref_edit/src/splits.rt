@@ -17,7 +17,7 @@ use thiserror::Error;
 // How many rounds of edits are added: those that the last of them lead to are too far.
 pub(crate) const MAX_ROUNDS: usize = 4;
 
-/// Why it isn't told what a name points to.
+/// Why it isn't known what a name points to.
 #[derive(Debug, Clone, Copy, PartialEq, Eq, Error)]
 pub enum FindTargetError {
     /// A reading failed.
@@ -36,19 +36,19 @@ impl From<AllocError> for FindTargetError {
     }
 }
 
-/// Tells what names point to.
+/// Looks up what names point to.
 pub trait FindTarget {
-    /// What each name points to: none where no reference stands, or none that can be read.
+    /// What each name points to: none if there is no reference, or none that can be read.
     ghost targets: { Self → List ℕ → Option Points };
 
-    /// Whether answers are those.
+    /// Whether the results are those.
     ghost is_honest: { Self → Type 0 };
 
     /// Whether a reading may fail.
     ghost may_fail: { Self → Type 0 };
 
-    /// What the name points to; `None` where no reference stands, or none that can be read. It is `Failed` where a reading failed,
-    /// and `Memory` where no memory is left.
+    /// What the name points to; `None` if there is no reference, or none that can be read. Returns
+    /// `Failed` if a reading failed, and `Memory` if no memory is left.
     fn find_target(
         &self,
         alloc: Global,
@@ -62,10 +62,10 @@ pub trait FindTarget {
 /// Why edits aren't split.
 #[derive(Debug, Clone, Copy, PartialEq, Eq, Error)]
 pub enum SplitError {
-    /// It isn't told what a name points to.
+    /// What a name points to can't be read.
     #[error("what a name points to can't be read")]
     Find,
-    /// Symbolic references lead on behind the fourth reference, as they do in a ring.
+    /// Symbolic references lead on after the fourth reference, as they do in a ring.
     #[error("symbolic references lead too far, or in a ring")]
     Cycle,
     /// No memory is left.
@@ -100,7 +100,8 @@ impl<T: Drop> From<AllocFailed<T>> for SplitError {
     }
 }
 
-// The same change of the reference that an edit's leads to; `None` where it leads to none, or asks for none.
+// The same change of the reference that an edit's leads to; `None` if it leads to none, or wants
+// none.
 fn hop<F: FindTarget>(
     alloc: Global,
     finder: &F,
@@ -131,7 +132,7 @@ fn renamed(edit: &RefEdit, name: FullName) -> Result<RefEdit, AllocError>
     })
 }
 
-// Adds the edit that this one leads to, where it leads to one, and whether it does.
+// Adds the edit that this one leads to, if it leads to one, and returns whether it does.
 fn add_hop<F: FindTarget>(
     alloc: Global,
     finder: &F,

@@ -4,19 +4,19 @@ use Rattle.std.specs.declared.alloc.Global.{Global}
 use Rattle.std.specs.declared.ops.Bound.{Bound}
 use Rattle.std.specs.declared.ops.Bound.TheVariants.{Included, Excluded, Unbounded}
 
--- where what stands below a folder begins: at `folder/`
+-- where the paths below a folder begin: at `folder/`
 abbrev pub IsStart : List ℕ → Bound (Vec ℕ Global) → Type 0
 IsStart [] Unbounded = ⊤
 IsStart (byte ∷ folder) (Included first) = first.items ≡ (byte ∷ folder) ++ 47 ∷ []
 IsStart _ _ = ⊥
 
--- and where it ends: before `folder0`, since `0` is the byte behind `/`
+-- and where they end: before `folder0`, since `0` is the byte after `/`
 abbrev pub IsEnd : List ℕ → Bound (Vec ℕ Global) → Type 0
 IsEnd [] Unbounded = ⊤
 IsEnd (byte ∷ folder) (Excluded next) = next.items ≡ (byte ∷ folder) ++ 48 ∷ []
 IsEnd _ _ = ⊥
 
--- behind a path, and perhaps behind all of a folder that it stands in and that lies deeper than this one
+-- after a path, or after all of a folder that the path lies in and that is deeper than this one
 abbrev pub IsBehind : List ℕ → List ℕ → Bound (Vec ℕ Global) → Type 0
 IsBehind folder path (Excluded last) = last.items ≡ path
 IsBehind folder path (Included next) =

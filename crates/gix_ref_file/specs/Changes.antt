@@ -24,16 +24,16 @@ paths_of (to_remove_file path) = path ∷ []
 paths_of (to_make_folder path) = path ∷ []
 paths_of (to_remove_folder path) = path ∷ []
 
--- whether a file stands at a path
+-- whether a file is at a path
 abbrev pub is_file_at : Tree → List ℕ → Bool
 is_file_at tree path = is_some (bytes_of (node_at tree path))
 
--- whether a file may stand at a path: it is one, in a folder, and no folder stands there
+-- whether a path may hold a file: it is a path, in a folder, and no folder itself
 abbrev pub may_hold_file : Tree → List ℕ → Bool
 may_hold_file tree path =
     is_path path && is_folder (node_at tree (parent path)) && not (is_folder (node_at tree path))
 
--- no path stands right in this one
+-- this path has no child
 abbrev pub is_empty_at : Tree → List ℕ → Bool
 is_empty_at tree place = not (list_any (λ path. same_path (parent path) place) (keys tree))
 

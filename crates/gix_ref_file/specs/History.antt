@@ -1,4 +1,4 @@
--- The trees that stood, one after another, and how calls add to them.
+-- The trees there were, one after another, and how calls add to them.
 use Rattle.std.specs.Prelude.{◌≡◌, ◌⊎◌, ℕ, ◌+◌, ◌-◌, ◌≤◌, ◌^◌, min, Bool, false, List, [], ◌∷◌, ◌++◌, length, take, drop, Result, OnOk, IsErrOf, IsTrue}
 use Rattle.std.specs.List.{AllByRecursion}
 use Rattle.gix_ref_file.specs.declared.files.FileError.{FileError}
@@ -6,20 +6,20 @@ use Rattle.gix_ref_file.specs.declared.files.FileError.TheVariants.{Failed}
 use Rattle.gix_ref_file.specs.Tree.{Tree}
 use Rattle.gix_ref_file.specs.Changes.{Change, allows, after, MayLeave}
 
--- the tree that stands now, and those that stood before it, the oldest first
+-- the current tree, and the earlier ones, the oldest first
 pub record History : Type 0 where
   pub past : List Tree
   pub tree : Tree
 
--- the trees that stood, the oldest first
+-- all trees there were, the oldest first
 abbrev pub trees : History → List Tree
 trees history = history.past ++ history.tree ∷ []
 
--- a moment is the number of trees that stood before it
+-- a moment is the number of earlier trees
 abbrev pub moment : History → ℕ
 moment history = length history.past
 
--- the trees that stood from one moment to another
+-- the trees from one moment to another
 abbrev pub stood_between : History → ℕ → ℕ → List Tree
 stood_between history from to = drop from (take (to + 1) (trees history))
 
@@ -29,7 +29,8 @@ pub record Adds (P : Tree → Type 0) (old new : History) : Type 0 where
   pub added : trees new ≡ trees old ++ during
   pub all : AllByRecursion P during
 
--- what a call does that is to make this change: at Ok it is made, and at each moment what the change may leave stands
+-- what a call does that is to make this change: at Ok it is made, and each tree on the way is one
+-- that the change may leave
 pub record Makes {T : Type 0} (change : Change) (old new : History)
     (result : Result T FileError) : Type 0 where
   pub allowed : OnOk result (IsTrue (allows old.tree change))
@@ -40,7 +41,7 @@ pub record Makes {T : Type 0} (change : Change) (old new : History)
 abbrev pub HasRisen : ℕ → ℕ → Type 0
 HasRisen before now = min (before + 1) (2 ^ 64 - 1) ≤ now
 
--- `Failed` is told only if a failure was counted, or the tree doesn't allow the change
+-- `Failed` is returned only if a failure was counted, or the tree doesn't allow the change
 abbrev pub HasCause : {T : Type 0} → Bool → ℕ → ℕ → Result T FileError → Type 0
 HasCause allowed before now result = IsErrOf result Failed → HasRisen before now ⊎ (allowed ≡ false)
 

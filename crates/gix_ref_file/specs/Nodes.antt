@@ -1,4 +1,4 @@
--- What the entries of a map stand for.
+-- What the entries of a map represent.
 use Rattle.std.specs.Prelude.{◌≡◌, ℕ, T, List, [], ◌∷◌, Option, Some, None, Vec, refl}
 use Rattle.std.specs.Coded.{Coded, code_by, coded_ℕ, coded_list, coded_option}
 use Rattle.std.specs.FinMap as finite
@@ -8,17 +8,17 @@ use Rattle.gix_ref_file.specs.Tree.{Tree, Node, file, folder, path_cmp}
 use Rattle.gix_ref_file.specs.declared.nodes.Entry.{Entry}
 use Rattle.gix_ref_file.specs.declared.nodes.Entry.TheVariants.{File, Folder}
 
--- what an entry stands for
+-- what an entry represents
 abbrev pub node_of : Entry → Node
 node_of (File bytes) = file bytes.items
 node_of Folder = folder
 
--- paths and what stands there
+-- paths and what is there
 abbrev pub nodes_of : List (Vec ℕ Global × Entry) → List (List ℕ × Node)
 nodes_of [] = []
 nodes_of (e ∷ es) = (e.0.items, node_of e.1) ∷ nodes_of es
 
--- the tree that entries in order stand for
+-- the tree that entries in order represent
 abbrev pub tree_of : List (Vec ℕ Global × Entry) → Tree
 tree_of es = from_sorted (nodes_of es)
 

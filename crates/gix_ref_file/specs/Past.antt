@@ -1,4 +1,4 @@
--- The trees that stood before, told by undoing the changes.
+-- The earlier trees, found by undoing the changes.
 use Rattle.std.specs.Prelude.{List, [], ◌∷◌, take, option_map}
 use Rattle.std.specs.FinMap.{empty, insert, get}
 use Rattle.gix_ref_file.specs.Tree.{Tree, file, bytes_at}
@@ -26,10 +26,10 @@ abbrev pub trees_before : List Undo → Tree → List Tree
 trees_before [] tree = []
 trees_before (undo ∷ undos) tree = undone_all (undo ∷ undos) tree ∷ trees_before undos tree
 
--- the trees that stood in files in memory
+-- the trees that files in memory have had
 abbrev pub history_of : MemoryFiles → History
 history_of files = record { past = trees_before files.past.items files.nodes; tree = files.nodes }
 
--- nothing stands, and nothing stood
+-- nothing is there, and nothing was
 abbrev pub start : History
 start = record { past = []; tree = empty }

@@ -1,4 +1,4 @@
--- A tree of files, and what its readings answer.
+-- A tree of files, and what its readings return.
 use Rattle.std.specs.Prelude.{◌≡◌, ⊤, ℕ, Bool, true, false, not, ◌&&◌, ◌==◌, nat_le, nat_lt, List, [], ◌∷◌, ◌++◌, length, take, drop, unwrap_or, Option, Some, None, filter_map, if◌then◌else◌, IsSome, IsTrue}
 use Rattle.std.specs.List.{AllByRecursion, list_all, list_any, slice_split, before_last, after_last}
 use Rattle.std.specs.Ordering.{nat_cmp, eq_by_cmp}
@@ -23,7 +23,7 @@ path_cmp = slice_cmp nat_cmp
 abbrev pub same_path : List ℕ → List ℕ → Bool
 same_path = eq_by_cmp path_cmp
 
--- what stands at each path, but for the root, a folder that always stands
+-- what is at each path, except the root, which is always a folder
 abbrev pub Tree : Type 0
 Tree = FinMap path_cmp Node
 
@@ -45,16 +45,16 @@ max_path = 4096
 abbrev pub is_path : List ℕ → Bool
 is_path path = nat_le (length path) max_path && list_all is_component (slice_split is_slash path)
 
--- the folder that a path stands in
+-- the folder that a path is in
 abbrev pub parent : List ℕ → List ℕ
 parent path = before_last is_slash path
 
--- the path of what stands at a path below a folder; the root's path is empty
+-- the path, from the root, of a path in a folder; the root's path is empty
 abbrev pub under : List ℕ → List ℕ → List ℕ
 under [] path = path
 under (byte ∷ place) path = (byte ∷ place) ++ 47 ∷ path
 
--- what stands at a path; the root's path is empty, and a folder stands there
+-- what is at a path; the root's path is empty, and is a folder
 abbrev pub node_at : Tree → List ℕ → Option Node
 node_at tree [] = Some folder
 node_at tree (byte ∷ path) = get tree (byte ∷ path)
@@ -65,38 +65,38 @@ bytes_of (Some (file bytes)) = Some bytes
 bytes_of (Some folder) = None
 bytes_of None = None
 
--- the bytes at a path, none where no file stands
+-- the bytes at a path, none if it has no file
 abbrev pub bytes_at : Tree → List ℕ → List ℕ
 bytes_at tree path = unwrap_or (bytes_of (node_at tree path)) []
 
--- whether a folder stands
+-- whether there is a folder
 abbrev pub is_folder : Option Node → Bool
 is_folder (Some (file bytes)) = false
 is_folder (Some folder) = true
 is_folder None = false
 
--- what `kind_of` answers
+-- what `kind_of` returns
 abbrev pub place_of : Option Node → Place
 place_of (Some (file bytes)) = File (length bytes)
 place_of (Some folder) = Folder
 place_of None = Absent
 
--- the last part of a path, where it stands right in this folder
+-- the last part of a path, if it is a child of this folder
 abbrev pub name_in : List ℕ → List ℕ → Option (List ℕ)
 name_in place path = if same_path (parent path) place then Some (after_last is_slash path) else None
 
--- the names in a folder, in order, none where no folder stands
+-- the names in a folder, in order, none if there is no folder
 abbrev pub names_at : Tree → List ℕ → List (List ℕ)
 names_at tree place =
     if is_folder (node_at tree place) then filter_map (name_in place) (keys tree) else []
 
--- each path, or name, comes before those behind it
+-- each path, or name, comes before those after it
 abbrev pub IsAscending : List (List ℕ) → Type 0
 IsAscending [] = ⊤
 IsAscending (path ∷ paths) =
     AllByRecursion (λ later. path_cmp path later ≡ Less) paths × IsAscending paths
 
--- what stands from a place on, at most so many bytes
+-- the bytes from a place on, at most so many
 abbrev pub part : List ℕ → ℕ → ℕ → List ℕ
 part bytes at most = take most (drop at bytes)
 
@@ -104,7 +104,7 @@ part bytes at most = take most (drop at bytes)
 abbrev pub overwritten : List ℕ → List ℕ → List ℕ
 overwritten buffer bytes = bytes ++ drop (length bytes) buffer
 
--- each path that stands is one, in a folder
+-- each path of the tree is one, in a folder
 abbrev pub IsRooted : Tree → Type 0
 IsRooted tree =
     (path : List ℕ) → IsSome (get tree path)

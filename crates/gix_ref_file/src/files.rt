@@ -1,4 +1,4 @@
-//! The trait of all files: readings of the tree that stands, changes of it, and what a stop may leave.
+//! The trait of all files: readings of the current tree, changes of it, and what a stop may leave.
 ghost use Rattle.std.specs.Prelude.{◌≡◌, ◌≤◌, ◌+◌, ◌++◌, ℕ, length, map, take, option_map, unwrap_or, is_none, IfOk, IfSome, OnOk, OnErr, IsErrOf};
 ghost use Rattle.gix_ref_file.specs.declared.files.FileError.TheVariants.{Failed, Memory};
 ghost use Rattle.gix_ref_file.specs.Tree.{node_at, place_of, bytes_of, bytes_at, part, overwritten, names_at, IsRooted};
@@ -32,30 +32,31 @@ impl<T: Drop> From<AllocFailed<T>> for FileError {
     }
 }
 
-/// What stands at a path.
+/// What is at a path.
 #[derive(Clone, Copy, Debug, PartialEq, Eq)]
 pub enum Place {
     /// Nothing.
     Absent,
     /// A file of so many bytes.
     File(u64),
-    /// A folder. The root, whose path is empty, always stands.
+    /// A folder. The root, whose path is empty, is always one.
     Folder,
 }
 
-/// A tree of files and folders, named by paths: bytes, with `/` between the components. At most 4,096 bytes make a path, and
-/// no component is empty, `.`, `..` or has a zero byte.
+/// A tree of files and folders, named by paths: bytes, with `/` between the components. A path has
+/// at most 4,096 bytes, and no component is empty, `.`, `..` or has a zero byte.
 ///
-/// A file may stand at a path in a folder that stands, where no folder stands itself. A change that the tree doesn't allow answers
-/// `Failed` and changes nothing. A change that is stopped or fails leaves all as before or as after it, and of what it was to
-/// write any beginning. Each call answers `Memory` where memory was refused, and may answer `Failed` where what keeps the files
-/// failed: a change is then counted in `failures`, and a reading does so only where `reading_may_fail`. A change that returns
-/// `Memory` has counted nothing.
+/// A file may be made at a path in a folder, unless a folder is at that path. A change that the
+/// tree doesn't allow returns `Failed` and changes nothing. A change that is stopped or fails
+/// leaves all as before or as after it, and of what it was to write any beginning. Each call
+/// returns `Memory` if memory was refused, and may return `Failed` if the storage failed: a change
+/// then counts it in `failures`, and a reading does so only if `reading_may_fail`. A change that
+/// returns `Memory` has counted nothing.
 pub trait Files {
-    /// The tree that stands now, and those that stood before it.
+    /// The current tree, and the earlier ones.
     ghost history: { Self → History };
 
-    /// Whether readings tell the tree that stands, and nothing but these calls changes it.
+    /// Whether readings report the current tree, and nothing but these calls changes it.
     ghost is_honest: { Self → Type 0 };
 
     /// How many changes failed that the tree allowed, up to the last `u64`.
@@ -64,17 +65,17 @@ pub trait Files {
     /// Whether a reading may fail.
     ghost reading_may_fail: { Type 0 };
 
-    /// Whether a change that answers an error has changed nothing.
+    /// Whether a change that returns an error has changed nothing.
     ghost is_atomic: { Type 0 };
 
-    /// Answers what stands at a path, and a file's length in bytes.
+    /// Returns what is at a path, and a file's length in bytes.
     fn kind_of(&self, path: &[u8]) -> Result<Place, FileError>
         ensures place { is_honest self.now
             → IfOk result (λ place. place ≡ place_of (node_at (history self.now).tree path.now)) }
         ensures failed { IsErrOf result Failed → reading_may_fail };
 
-    /// Appends a file's bytes to `out` and answers how many they are, or `None` where no file stands. After an error `out` is
-    /// as it was.
+    /// Appends a file's bytes to `out` and returns how many they are, or `None` if there is no
+    /// file. After an error `out` is as it was.
     fn read(&self, path: &[u8], out: &mut Vec<u8>) -> Result<Option<usize>, FileError>
         ensures count { is_honest self.now
             → IfOk result (λ count.
@@ -88,8 +89,8 @@ pub trait Files {
         ensures err { OnErr result (out.new.items ≡ out.old.items) }
         ensures failed { IsErrOf result Failed → reading_may_fail };
 
-    /// Puts what stands in a file from byte `at` on into the beginning of `buffer`, as much as fits, and answers how many bytes
-    /// that is, or `None` where no file stands.
+    /// Copies a file's bytes from byte `at` on into the beginning of `buffer`, as many as fit, and
+    /// returns how many they are, or `None` if there is no file.
     fn read_at(&self, path: &[u8], at: u64, buffer: &mut [u8]) -> Result<Option<usize>, FileError>
         ensures count { is_honest self.now
             → IfOk result (λ count.
@@ -103,7 +104,8 @@ pub trait Files {
         ensures len { length buffer.new ≡ length buffer.old }
         ensures failed { IsErrOf result Failed → reading_may_fail };
 
-    /// Answers the names of the files and folders that stand right in a folder, ascending by bytes, none where no folder stands.
+    /// Returns the names of the files and folders that are children of a folder, ascending by
+    /// bytes; none if there is no folder.
     fn list(&self, alloc: Global, folder: &[u8]) -> Result<Vec<Vec<u8>>, FileError>
         ensures names { is_honest self.now
             → IfOk result (λ names. map (λ name. name.items) names.items
@@ -126,7 +128,8 @@ pub trait Files {
         ensures memory { IsErrOf result Memory → failures self.new ≡ failures self.old }
         ensures atomic { is_atomic → OnErr result (history self.new ≡ history self.old) };
 
-    /// Makes a file of these bytes, in the place of a file that stands there. `Failed` where no file may stand.
+    /// Makes a file of these bytes, replacing a file that is there. Returns `Failed` if the path
+    /// may hold no file.
     fn write(&mut self, alloc: Global, path: &[u8], bytes: &[u8]) -> Result<(), FileError>
         ensures honest { is_honest self.old → is_honest self.new }
         ensures change { is_honest self.old
@@ -139,7 +142,8 @@ pub trait Files {
         ensures memory { IsErrOf result Memory → failures self.new ≡ failures self.old }
         ensures atomic { is_atomic → OnErr result (history self.new ≡ history self.old) };
 
-    /// Puts these bytes behind those of a file, or makes a file of them. `Failed` where no file may stand.
+    /// Appends these bytes to a file, or makes a file of them. Returns `Failed` if the path may
+    /// hold no file.
     fn append(&mut self, alloc: Global, path: &[u8], bytes: &[u8]) -> Result<(), FileError>
         ensures honest { is_honest self.old → is_honest self.new }
         ensures change { is_honest self.old
@@ -152,8 +156,8 @@ pub trait Files {
         ensures memory { IsErrOf result Memory → failures self.new ≡ failures self.old }
         ensures atomic { is_atomic → OnErr result (history self.new ≡ history self.old) };
 
-    /// Gives a file another path, in the place of a file that stands there. `Failed` where no file stands at `from` or none may at
-    /// `to`.
+    /// Gives a file another path, replacing a file that is there. Returns `Failed` if there is no
+    /// file at `from` or `to` may hold none.
     fn rename(&mut self, alloc: Global, from: &[u8], to: &[u8]) -> Result<(), FileError>
         ensures honest { is_honest self.old → is_honest self.new }
         ensures change { is_honest self.old
@@ -166,7 +170,7 @@ pub trait Files {
         ensures memory { IsErrOf result Memory → failures self.new ≡ failures self.old }
         ensures atomic { is_atomic → OnErr result (history self.new ≡ history self.old) };
 
-    /// Removes a file. `Failed` where none stands.
+    /// Removes a file. Returns `Failed` if there is none.
     fn remove_file(&mut self, alloc: Global, path: &[u8]) -> Result<(), FileError>
         ensures honest { is_honest self.old → is_honest self.new }
         ensures change { is_honest self.old
@@ -179,7 +183,7 @@ pub trait Files {
         ensures memory { IsErrOf result Memory → failures self.new ≡ failures self.old }
         ensures atomic { is_atomic → OnErr result (history self.new ≡ history self.old) };
 
-    /// Makes a folder. `Failed` where something stands, or no file might.
+    /// Makes a folder. Returns `Failed` if something is at the path, or the path may hold no file.
     fn make_folder(&mut self, alloc: Global, path: &[u8]) -> Result<(), FileError>
         ensures honest { is_honest self.old → is_honest self.new }
         ensures change { is_honest self.old
@@ -192,7 +196,8 @@ pub trait Files {
         ensures memory { IsErrOf result Memory → failures self.new ≡ failures self.old }
         ensures atomic { is_atomic → OnErr result (history self.new ≡ history self.old) };
 
-    /// Removes a folder. `Failed` where none stands, at the root, and where something stands in it.
+    /// Removes a folder. Returns `Failed` if there is none, for the root, and if the folder isn't
+    /// empty.
     fn remove_empty_folder(&mut self, alloc: Global, path: &[u8]) -> Result<(), FileError>
         ensures honest { is_honest self.old → is_honest self.new }
         ensures change { is_honest self.old
@@ -205,6 +210,6 @@ pub trait Files {
         ensures memory { IsErrOf result Memory → failures self.new ≡ failures self.old }
         ensures atomic { is_atomic → OnErr result (history self.new ≡ history self.old) };
 
-    /// So each path that stands can be reached by listings from the root.
+    /// So every path can be reached by listings from the root.
     ghost rooted: { (files : Self) → is_honest files → IsRooted (history files).tree };
 }

@@ -5,25 +5,25 @@ ghost use Rattle.gix_ref_file.specs.Tree.{Tree, same_path, node_at, bytes_at, na
 ghost use Rattle.gix_ref_file.specs.Changes.{Change, to_write, to_append, to_rename, allows, after, paths_of};
 ghost use Rattle.gix_ref_file.specs.History.{History, trees, moment, stood_between};
 
-/// The names in a folder ascend by their bytes, so each stands once.
+/// The names in a folder ascend by their bytes, so each is there once.
 pub fn names_ascend()
     ensures { (tree : Tree) (folder : List ℕ) → IsRooted tree → IsAscending (names_at tree folder) }
 {}
 
-/// What stands has a path of at most 4,096 bytes.
+/// Every path of a tree has at most 4,096 bytes.
 pub fn paths_are_short()
     ensures { (tree : Tree) (path : List ℕ) → IsRooted tree → IsSome (node_at tree path)
         → length path ≤ max_path }
 {}
 
-/// A change leaves what stands at paths that it doesn't name.
+/// A change leaves all as it is at paths that it doesn't name.
 pub fn other_paths_stay()
     ensures { (change : Change) (tree : Tree) (path : List ℕ)
         → IsFalse (list_any (same_path path) (paths_of change))
         → node_at (after change tree) path ≡ node_at tree path }
 {}
 
-/// What was written, appended or renamed is read, and nothing stands at a file's old path.
+/// What was written, appended or renamed is read, and nothing is left at a file's old path.
 pub fn changes_are_read()
     ensures written { (tree : Tree) (path bytes : List ℕ)
         → IsTrue (allows tree (to_write path bytes))
@@ -37,14 +37,14 @@ pub fn changes_are_read()
         → IsFalse (same_path from to) → node_at (after (to_rename from to) tree) from ≡ None }
 {}
 
-/// The trees that stood between two moments are the same ones after later changes.
+/// The trees between two moments are the same ones after later changes.
 pub fn past_stays()
     ensures { (old new : History) (during : List Tree) (from to : ℕ)
         → trees new ≡ trees old ++ during → to ≤ moment old
         → stood_between new from to ≡ stood_between old from to }
 {}
 
-/// While trees are added, the tree before them and they stood, and no others.
+/// While trees are added, there are the tree before them and they, and no others.
 pub fn added_trees_stood()
     ensures { (old new : History) (during : List Tree) → trees new ≡ trees old ++ during
         → stood_between new (moment old) (moment new) ≡ old.tree ∷ during }

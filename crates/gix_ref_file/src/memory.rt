@@ -11,11 +11,12 @@ use record::Undo;
 use std::alloc::{AllocError, Global};
 use std::cmp::Ordering;
 
-/// A tree of files in memory, and a record of its changes that tells the tree before each.
+/// A tree of files in memory, and a record of its changes that restores the tree before each.
 ///
-/// A change answers `Failed` only where the tree doesn't allow it, and `Memory` only where memory was refused. Both leave the
-/// tree and the record as they were, since all room is made before anything changes. A reading never answers `Failed`. The record
-/// costs a change its path and what it replaced, moved and not copied.
+/// A change returns `Failed` only if the tree doesn't allow it, and `Memory` only if memory was
+/// refused. Both leave the tree and the record as they were, since all room is made before anything
+/// changes. A reading never returns `Failed`. For each change the record takes its path and what it
+/// replaced, moved and not copied.
 #[derive(Debug, Drop)]
 pub struct MemoryFiles {
     nodes: Nodes,
@@ -26,7 +27,7 @@ impl MemoryFiles {
     ghost use Rattle.gix_ref_file.specs.Tree.{IsRooted};
     ghost use Rattle.gix_ref_file.specs.Past.{history_of, start};
 
-    /// A tree in which nothing stands but the root, and a record of no changes.
+    /// A tree with nothing but the root, and a record of no changes.
     pub fn new(alloc: Global) -> Self
         ensures history { history_of result ≡ start }
         ensures honest { IsRooted (history_of result).tree }

@@ -1,4 +1,4 @@
-//! A map from paths to what stands there.
+//! A map from paths to files and folders.
 ghost use Rattle.std.specs.Prelude.{◌≡◌, ◌++◌, [], length, map as list_map, filter_map, option_map, unwrap_or, Some, is_none, is_some, IsSome, IsTrue, IsFalse, IfOk, OnOk, OnErr, IfSome, IfNone};
 ghost use Rattle.std.specs.List.{list_any};
 ghost use Rattle.std.specs.FinMap as map;
@@ -26,7 +26,7 @@ impl Entry {
         matches!(self, Entry::File(_))
     }
 
-    /// Puts bytes behind those of a file, and answers how many stood there.
+    /// Appends bytes to a file, and returns how many it had.
     pub fn append(&mut self, bytes: &[u8]) -> Result<usize, AllocError>
         requires { IsSome (bytes_of (Some (node_of self.old))) }
         ensures before { IfOk result (λ len.
@@ -44,7 +44,7 @@ impl Entry {
     }
 }
 
-/// Whether what stood at a path is a folder.
+/// Returns whether there was a folder.
 pub fn is_folder(before: &Option<Entry>) -> bool
     ensures { result ≡ is_folder (option_map node_of before.now) }
 {
@@ -99,7 +99,7 @@ impl Nodes {
         self.entries.get_mut(path)
     }
 
-    /// Puts an entry in, and answers the one that stood there.
+    /// Puts an entry in, and returns the one that it replaces.
     pub fn insert(&mut self, path: Vec<u8>, entry: Entry) -> Result<Option<Entry>, AllocError>
         ensures before { IfOk result (λ before. option_map node_of before
             ≡ map.get self.old path.items) }
@@ -109,7 +109,7 @@ impl Nodes {
         Ok(self.entries.insert(path, entry)?)
     }
 
-    /// Puts a file in where no folder stands, and answers what stood there.
+    /// Puts a file in unless a folder is there, and returns what was there.
     pub fn insert_file(
         &mut self,
         alloc: Global,
@@ -131,7 +131,7 @@ impl Nodes {
         Ok(before)
     }
 
-    /// Takes out what stands at a path, and answers it with its path.
+    /// Removes what is at a path, and returns it with its path.
     pub fn remove(&mut self, path: &[u8]) -> Option<(Vec<u8>, Entry)>
         ensures path { IfSome result (λ taken. taken.0.items ≡ path.now) }
         ensures before { option_map (λ taken. node_of taken.1) result
@@ -141,7 +141,7 @@ impl Nodes {
         self.entries.remove_entry(path)
     }
 
-    /// Puts an entry in the place of the one that stands there, and answers that one.
+    /// Replaces an entry, and returns the old one; without one nothing changes.
     pub fn replace(&mut self, path: &[u8], entry: Entry) -> Option<Entry>
         ensures before { option_map node_of result ≡ map.get self.old path.now }
         ensures replaced { IsSome (map.get self.old path.now)
@@ -152,7 +152,8 @@ impl Nodes {
         Some(mem::replace(slot, entry))
     }
 
-    /// Moves what stands at one path to another where no folder stands, and answers the old path and what stood at the new one.
+    /// Moves an entry from one path to another unless a folder is there, and returns the old path
+    /// and the entry that was at the new one. Returns `None` if a folder is there.
     pub fn rename(
         &mut self,
         alloc: Global,
@@ -170,7 +171,7 @@ impl Nodes {
         ensures stays { IfOk result (λ moved. IfNone moved (self.new ≡ self.old)) }
         ensures err { OnErr result (self.new ≡ self.old) }
     {
-        // With this place made nothing fails any more. A folder that stands there stays one.
+        // With this place made nothing can fail any more. A folder that is there stays one.
         let before = self.insert(to.to_vec(alloc)?, Entry::Folder)?;
         if is_folder(&before) {
             return Ok(None);
@@ -182,7 +183,7 @@ impl Nodes {
         Ok(Some((old_path, before)))
     }
 
-    /// Whether something stands right in a folder.
+    /// Returns whether a folder has a child.
     pub fn has_children(&self, alloc: Global, folder: &[u8]) -> Result<bool, AllocError>
         ensures { IfOk result (λ found.
             found ≡ list_any (λ path. same_path (parent path) folder.now) (map.keys self.now)) }
@@ -195,7 +196,8 @@ impl Nodes {
         )
     }
 
-    /// The names right in a folder, ascending. What stands deeper is passed over, a subfolder at a time.
+    /// The names of a folder's children, ascending. What is deeper is skipped, a subfolder at a
+    /// time.
     pub fn names(&self, alloc: Global, folder: &[u8]) -> Result<Vec<Vec<u8>>, AllocError>
         ensures { IfOk result (λ names. list_map (λ name. name.items) names.items
             ≡ filter_map (name_in folder.now) (map.keys self.now)) }

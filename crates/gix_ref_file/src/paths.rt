@@ -8,7 +8,7 @@ use std::alloc::{AllocError, Global};
 /// The most bytes that a path has.
 pub const MAX_PATH: usize = 4096;
 
-/// Whether these bytes are a path: at most 4,096, components with slashes between.
+/// Returns whether these bytes are a path: at most 4,096, components with slashes between.
 pub fn is_path(path: &[u8]) -> bool
     ensures { result ≡ is_path path.now }
 {
@@ -18,14 +18,15 @@ pub fn is_path(path: &[u8]) -> bool
             .all(|part| is_component(part))
 }
 
-/// Whether these bytes are a component of a path: at least one, not `.` or `..`, and no zero byte among them.
+/// Returns whether these bytes are a component of a path: at least one, not `.` or `..`, and no
+/// zero byte among them.
 pub fn is_component(part: &[u8]) -> bool
     ensures { result ≡ is_component part.now }
 {
     !part.is_empty() && part != b".".as_slice() && part != b"..".as_slice() && !part.contains(&0)
 }
 
-/// Whether the path is longer than the folder's, and no longer than a path may be.
+/// Returns whether the path is longer than the folder's, and no longer than a path may be.
 pub fn is_deeper(path: &[u8], folder: &[u8]) -> bool
     ensures { result
         ≡ (nat_lt (length folder.now) (length path.now) && nat_le (length path.now) max_path) }
@@ -33,7 +34,7 @@ pub fn is_deeper(path: &[u8], folder: &[u8]) -> bool
     folder.len() < path.len() && path.len() <= MAX_PATH
 }
 
-/// The path of what stands at this path in a folder.
+/// The path, from the root, of this path in a folder.
 pub fn joined(alloc: Global, folder: &[u8], path: &[u8]) -> Result<Vec<u8>, AllocError>
     ensures { IfOk result (λ joined. joined.items ≡ under folder.now path.now) }
 {
@@ -57,7 +58,7 @@ fn last_part_start(path: &[u8]) -> usize
     start
 }
 
-/// The folder that a path stands in.
+/// The folder that a path is in.
 pub fn parent(path: &[u8]) -> &[u8]
     ensures { result.now ≡ parent path.now }
 {

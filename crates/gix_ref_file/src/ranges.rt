@@ -5,7 +5,8 @@ ghost use Rattle.gix_ref_file.specs.Below.{IsStart, IsEnd, IsBehind};
 use std::alloc::{AllocError, Global};
 use std::ops::Bound;
 
-/// Where all that stands below a folder lies: from `folder/` on, before `folder0`, since `0` is the byte behind `/`.
+/// The range of all paths below a folder: from `folder/` on, before `folder0`, since `0` is the
+/// byte after `/`.
 pub fn below(alloc: Global, folder: &[u8]) -> Result<(Bound<Vec<u8>>, Bound<Vec<u8>>), AllocError>
     ensures { IfOk result (λ range. IsStart folder.now range.0 × IsEnd folder.now range.1) }
 {
@@ -26,7 +27,7 @@ fn with_byte(alloc: Global, path: &[u8], byte: u8) -> Result<Vec<u8>, AllocError
     Ok(longer)
 }
 
-/// Behind a path below a folder, and behind all that stands in its subfolder if it stands in one.
+/// After a path below a folder, and after all of its subfolder if it is in one.
 pub fn behind(alloc: Global, folder: &[u8], path: &[u8]) -> Result<Bound<Vec<u8>>, AllocError>
     ensures { IfOk result (λ next. IsBehind folder.now path.now next) }
 {
@@ -36,7 +37,7 @@ pub fn behind(alloc: Global, folder: &[u8], path: &[u8]) -> Result<Bound<Vec<u8>
     }
 }
 
-// Where the first slash stands from a place on.
+// Where the first slash is from a place on.
 fn slash_from(path: &[u8], from: usize) -> Option<usize>
     ensures { IfSome result (λ at. (from ≤ at) × (at < length path.now)
         × (slice_index path.now at ≡ 47)) }

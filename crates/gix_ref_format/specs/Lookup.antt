@@ -11,19 +11,20 @@ is_own name =
     is_capitals name || begins (codes "refs/bisect/") name
     || begins (codes "refs/rewritten/") name || begins (codes "refs/worktree/") name
 
--- what stands behind the first slash
+-- what follows the first slash
 abbrev pub behind_slash : List ℕ → Option (List ℕ)
 behind_slash [] = None
 behind_slash (byte ∷ rest) = if byte == 47 then Some rest else behind_slash rest
 
--- what stands behind the front of a worktree: `main-worktree/`, or `worktrees/<worktree>/`
+-- what follows the front of a worktree: `main-worktree/`, or `worktrees/<worktree>/`
 abbrev pub in_worktree : List ℕ → Option (List ℕ)
 in_worktree name =
     if begins (codes "main-worktree/") name then Some (drop 14 name)
     else if begins (codes "worktrees/") name then behind_slash (drop 10 name)
     else None
 
--- the name by which a record may stand for it, given what stands behind a worktree's front: own names have none
+-- the name by which a record may be found for it, given what follows a worktree's front: own names
+-- have none
 abbrev pub key_by : List ℕ → Option (List ℕ) → Option (List ℕ)
 key_by name None = if is_own name then None else Some name
 key_by name (Some rest) =
@@ -60,7 +61,7 @@ tag_names word = placed (codes "refs/tags/") word [] ∷ branch_names word
 abbrev pub word_names : List ℕ → List (List ℕ)
 word_names word = placed (codes "refs/") word [] ∷ tag_names word
 
--- the names that a word may stand for, in the order in which they are tried
+-- the names that a word may mean, in the order in which they are tried
 abbrev pub lookup_names : List ℕ → List (List ℕ)
 lookup_names word = if is_complete word then word ∷ [] else word_names word
 

@@ -35,7 +35,7 @@ ends_word (byte ∷ rest) = is_space byte
 abbrev pub is_symbolic : List ℕ → Bool
 is_symbolic text = begins (codes "ref: ") text
 
--- what stands for a name in a symbolic text
+-- the part of a symbolic text that is to be a name
 abbrev pub referent : List ℕ → List ℕ
 referent text = without_last 13 (without_last 10 (without_spaces (drop 5 text)))
 
@@ -45,14 +45,14 @@ leading_id kind text =
     if ends_word (drop (hex_len kind) text) then id_from_hex kind (take (hex_len kind) text)
     else None
 
--- the target that a text tells
+-- the target that a text names
 abbrev pub loose_target : Kind → List ℕ → Option Points
 loose_target kind text =
     if is_symbolic text
     then (if is_full_name (referent text) then Some (ToName (referent text)) else None)
     else option_map ToObject (leading_id kind text)
 
--- why a text tells none
+-- why a text names none
 abbrev pub LooseFault : Kind → List ℕ → Error → Type 0
 LooseFault kind text Parse = IsFalse (is_symbolic text) × (leading_id kind text ≡ None)
 LooseFault kind text RefnameValidation =

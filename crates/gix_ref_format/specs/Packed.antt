@@ -29,7 +29,7 @@ peeled_by words =
 abbrev pub header_by : List (List ℕ) → Header
 header_by words = record { peeled = peeled_by words; sorted = is_among words (codes "sorted") }
 
--- words behind `# pack-refs with:`, parted by spaces
+-- words after `# pack-refs with:`, separated by spaces
 abbrev pub header_of : List ℕ → Option Header
 header_of text =
     if begins (codes "# pack-refs with:") text
@@ -74,7 +74,7 @@ pub data Item : Type 0 where
   Bad : ℕ → List ℕ → Item
   BadHeader : List ℕ → Item
 
--- the peeled id in the line behind a record
+-- the peeled id in the line after a record
 abbrev pub peel_behind : Kind → Option Record → List (List ℕ) → Option Id
 peel_behind kind None rest = None
 peel_behind kind (Some r) [] = None
@@ -106,7 +106,7 @@ items_behind_header kind [] = None
 items_behind_header kind (first ∷ rest) =
     option_map (λ _. items kind 2 false rest) (header_line first)
 
--- what a file gives; none where its header is none
+-- what a file gives; none if its header is none
 abbrev pub packed_items : Kind → List ℕ → Option (List Item)
 packed_items kind text =
     if is_headed text then items_behind_header kind (lines text)
@@ -145,7 +145,7 @@ IsHeaderFault text (faults.Header line) =
     × (header_line (bstr_bytes line) ≡ None)
 IsHeaderFault text (faults.Reference line number) = ⊥
 
--- the peeled id in the first of the lines, and what the lines behind a record give
+-- the peeled id in the first of the lines, and what the lines after a record give
 abbrev pub HasPeel : Kind → ℕ → List (List ℕ) → Option Id → List Item → Type 0
 HasPeel kind number [] peel left = (peel ≡ None) × (left ≡ [])
 HasPeel kind number (line ∷ rest) peel left =

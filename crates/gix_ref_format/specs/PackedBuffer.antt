@@ -40,7 +40,7 @@ first_bad (Good r ∷ rest) = first_bad rest
 first_bad (Bad number line ∷ rest) = Some number
 first_bad (BadHeader line ∷ rest) = Some 1
 
--- the records of the file, and for each name the record that stands first for it in the file
+-- the records of the file, and for each name the record that the file has first for it
 pub record Holds (records kept : List Record) : Type 0 where
   pub same : IsPermutation records kept
   pub first : (name : List ℕ) → hit kept name ≡ hit records name
@@ -70,14 +70,14 @@ ItemFault item HeaderParsing = ⊥
 ItemFault item Io = ⊥
 ItemFault item Memory = Unit {0}
 
--- what is kept of a file; of none where none stands
+-- what is kept of a file; nothing if there is none
 abbrev pub KeepsFile : Kind → Option (List ℕ) → Option (List Record) → Type 0
 KeepsFile kind None None = Unit {0}
 KeepsFile kind (Some text) (Some kept) = Keeps kind text kept
 KeepsFile kind None (Some kept) = ⊥
 KeepsFile kind (Some text) None = ⊥
 
--- why a file isn't opened: a reading failed, or the text of the one that stands is at fault
+-- why a file isn't opened: a reading failed, or its text is at fault
 abbrev pub FileFault : Kind → Option (List ℕ) → Error → Type 0
 FileFault kind file Io = Unit {0}
 FileFault kind file Memory = Unit {0}

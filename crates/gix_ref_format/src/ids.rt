@@ -7,7 +7,7 @@ ghost use Rattle.gix_ref_format.specs.Ids.{id_from_hex};
 
 use gix_hash::{Kind, ObjectId};
 
-/// The id of this kind that hex digits of either letter case spell; `None` where they spell none.
+/// The id of this kind that hex digits of either letter case spell; `None` if they spell none.
 pub fn parse_hex(kind: Kind, digits: &[u8]) -> Option<ObjectId>
     ensures { option_map id_of result ≡ id_from_hex kind digits.now }
 {

@@ -19,7 +19,7 @@ pub(crate) fn split_line(text: &[u8]) -> (&[u8], &[u8])
     }
 }
 
-/// The text without this byte at its end, where it ends so.
+/// The text without this byte at its end, if it ends so.
 pub(crate) fn strip_last(text: &[u8], byte: u8) -> &[u8]
     ensures { result.now ≡ without_last byte text.now }
 {
@@ -30,7 +30,7 @@ pub(crate) fn strip_last(text: &[u8], byte: u8) -> &[u8]
     }
 }
 
-/// The text of a line without its end, a line feed or CR LF; `None` where no line feed ends it.
+/// The text of a line without its end, a line feed or CR LF; `None` if no line feed ends it.
 pub(crate) fn text_of_line(line: &[u8]) -> Option<&[u8]>
     ensures { option_map (λ text. text.now) result ≡ cut_line line.now }
 {

@@ -7,7 +7,8 @@ ghost use Rattle.gix_ref_format.specs.Lookup.{packed_key, in_worktree, key_by};
 use gix_object_lines::cut::split_once;
 use gix_object_lines::lines::is_capitals;
 
-/// Whether no rule completes the name: it begins `refs/` or with a worktree's front, or is of capital letters and `_` alone.
+/// Returns whether no rule completes the name: it begins `refs/` or with a worktree's front, or is
+/// of capital letters and `_` alone.
 pub fn is_complete(word: &[u8]) -> bool
     ensures { result ≡ spec.is_complete word.now }
 {
@@ -17,7 +18,7 @@ pub fn is_complete(word: &[u8]) -> bool
         || is_capitals(word)
 }
 
-/// Whether each worktree has its own reference of this name.
+/// Returns whether each worktree has its own reference of this name.
 pub fn is_own(name: &[u8]) -> bool
     ensures { result ≡ spec.is_own name.now }
 {
@@ -27,7 +28,7 @@ pub fn is_own(name: &[u8]) -> bool
         || name.starts_with(b"refs/worktree/")
 }
 
-/// The name by which a record may stand for a full name; `None` where each worktree has its own.
+/// The name by which a record may be found for a full name; `None` if each worktree has its own.
 pub fn key_of(name: &[u8]) -> Option<&[u8]>
     ensures { option_map (λ key. key.now) result ≡ packed_key name.now }
 {
@@ -38,7 +39,7 @@ pub fn key_of(name: &[u8]) -> Option<&[u8]>
     }
 }
 
-// The same for a name that stands behind a worktree's front.
+// The same for a name after a worktree's front.
 fn key_in_worktree<'a>(name: &'a [u8], rest: &'a [u8]) -> Option<&'a [u8]>
     ensures { option_map (λ key. key.now) result ≡ key_by name.now (Some rest.now) }
 {
@@ -51,7 +52,7 @@ fn key_in_worktree<'a>(name: &'a [u8], rest: &'a [u8]) -> Option<&'a [u8]>
     }
 }
 
-// What stands behind the front of a worktree.
+// What follows the front of a worktree.
 fn rest_in_worktree(name: &[u8]) -> Option<&[u8]>
     ensures { option_map (λ rest. rest.now) result ≡ in_worktree name.now }
 {
@@ -64,7 +65,7 @@ fn rest_in_worktree(name: &[u8]) -> Option<&[u8]>
     None
 }
 
-/// What stands behind the first slash; `None` where there is none.
+/// What follows the first slash; `None` if there is none.
 pub fn behind_slash(text: &[u8]) -> Option<&[u8]>
     ensures { option_map (λ rest. rest.now) result ≡ spec.behind_slash text.now }
 {

@@ -17,7 +17,7 @@ use gix_ref_name::{FullName, FullNameRef, Target, TargetRef};
 use std::alloc::{AllocError, Global};
 use thiserror::Error;
 
-/// Why a text tells no target.
+/// Why a text names no target.
 #[derive(Debug, Clone, Copy, PartialEq, Eq, Error)]
 pub enum Error {
     /// It begins with neither `ref: ` nor an id of the repository's kind.
@@ -34,17 +34,18 @@ pub enum Error {
 /// A reference in a file of its own.
 #[derive(Debug, Drop, PartialEq, Eq)]
 pub struct Reference {
-    /// The name, which tells the file's place.
+    /// The name, which determines the file's place.
     pub name: FullName,
     /// What it points to.
     pub target: Target,
 }
 
 impl Reference {
-    /// The reference of this name whose file has these bytes. Digits of an id may be of either letter case, further spaces
-    /// may stand before a name, and nothing or CR LF in place of the line feed at the end; behind an id white space may
-    /// part anything from it. `Parse` where the text begins with neither `ref: ` nor an id, `RefnameValidation` where
-    /// what follows `ref: ` is no full name.
+    /// The reference of this name whose file has these bytes. Digits of an id may be of either
+    /// letter case. A name may have further spaces before it, and end with CR LF or nothing in
+    /// place of the line feed. An id may be followed by white space and anything after it. Returns
+    /// `Parse` if the text begins with neither `ref: ` nor an id, `RefnameValidation` if what
+    /// follows `ref: ` is no full name.
     pub fn try_from_path(
         alloc: Global,
         name: FullName,
@@ -59,7 +60,7 @@ impl Reference {
         Ok(Reference { name, target })
     }
 
-    /// Whether it points to an object or to another reference.
+    /// Returns whether it points to an object or to another reference.
     pub fn kind(&self) -> gix_ref_name::Kind
         ensures { result ≡ kind_of (target_view self.now.target) }
     {
@@ -67,7 +68,8 @@ impl Reference {
     }
 }
 
-/// The target that the text of a loose file tells, of ids of this kind; else the reasons of `Reference::try_from_path`.
+/// The target that the text of a loose file names, of ids of this kind. The errors are those of
+/// `Reference::try_from_path`.
 pub fn decode(alloc: Global, text: &[u8], kind: Kind) -> Result<Target, Error>
     ensures { MatchResult result (λ t. loose_target kind text.now ≡ Some (target_view t))
         (LooseFault kind text.now) }
@@ -95,7 +97,7 @@ fn owned(alloc: Global, name: FullNameRef<'_>) -> Result<Target, Error>
     }
 }
 
-// What stands for a name behind `ref: `.
+// What is to be a name after `ref: `.
 fn name_in(text: &[u8]) -> &[u8]
     requires { IsTrue (is_symbolic text.now) }
     ensures { result.now ≡ referent text.now }

@@ -17,7 +17,7 @@ pub use crate::packed::records::Records;
 use gix_hash::ObjectId;
 use gix_ref_name::FullNameRef;
 
-/// How far the records tell peeled ids.
+/// How far the records have peeled ids.
 #[derive(Debug, Clone, Copy, PartialEq, Eq)]
 pub enum Peeled {
     /// The header says nothing of it.
@@ -31,7 +31,7 @@ pub enum Peeled {
 /// What the first line says of the records.
 #[derive(Debug, Clone, Copy, PartialEq, Eq)]
 pub struct Header {
-    /// How far they tell peeled ids.
+    /// How far they have peeled ids.
     pub peeled: Peeled,
     /// Whether they ascend by their names.
     pub sorted: bool,
@@ -55,7 +55,7 @@ pub struct Reference<'a> {
     pub name: FullNameRef<'a>,
     /// The id that it points to.
     pub target: ObjectId,
-    /// The id of the object that a tag points to in the end, where the record tells it.
+    /// The id of the object that a tag points to in the end, if the record has it.
     pub object: Option<ObjectId>,
 }
 
@@ -67,7 +67,8 @@ impl Reference<'_> {
         self.target
     }
 
-    /// The object that it points to in the end: the peeled id where the record tells one, else the target.
+    /// The object that it points to in the end: the peeled id if the record has one, and otherwise
+    /// the target.
     pub fn object(&self) -> ObjectId
         ensures { result ≡ unwrap_or self.now.object self.now.target }
     {

@@ -8,7 +8,7 @@ use Rattle.gix_ref_fuse.specs.declared.fuse.Turn.TheVariants.{Whole, Part, Nothi
 use Rattle.gix_ref_file.specs.Changes.{Change, allows, after, cut}
 use Rattle.gix_ref_file.specs.History.{History, HasRisen}
 
--- the files behind a fuse
+-- the files that a fuse wraps
 abbrev pub inner : {F : Type 0} → Fuse F → F
 inner fuse = fuse.files
 
@@ -51,13 +51,13 @@ turn_at plan call =
     else if call == plan.chosen then part_of plan.kept
     else if plan.stops then Nothing else Whole
 
--- a reading answers as the files do, or fails
+-- a reading returns what the files do, or fails
 abbrev pub Reads : {T : Type 0} → Type 0 → Turn → Result T FileError → Type 0
 Reads MayFail Whole result = IsErrOf result Failed → MayFail
 Reads MayFail (Part n) result = IsErrOf result Failed
 Reads MayFail Nothing result = IsErrOf result Failed
 
--- n bytes of a change are made, where the files allow it and don't fail
+-- n bytes of a change are made, if the files allow it and don't fail
 abbrev pub IsKept : ℕ → Change → History → History → ℕ → ℕ → Type 0
 IsKept n change old new before now =
     (new.tree ≡ after (cut n change) old.tree) ⊎ (allows old.tree change ≡ false) ⊎ HasRisen before now

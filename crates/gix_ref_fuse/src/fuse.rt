@@ -85,7 +85,7 @@ impl<F: Files> Fuse<F> {
         self.calls.saturating_add(self.readings.get())
     }
 
-    /// Gives back the files as the calls left them.
+    /// Returns the files as the calls left them.
     pub fn into_inner(self) -> F
         ensures { result ≡ inner self }
     {

@@ -25,9 +25,9 @@ abbrev pub Fits : ℕ → List ℕ → List (List ℕ) → Type 0
 Fits room line [] = length line ≤ room
 Fits room line (next ∷ rest) = length line < room
 
--- The next of the lines that are left comes, where it fits: as what it tells, or as an error with its number from the end
--- where it tells nothing. One that doesn't fit, a failed or short reading and refused memory come as an error, and nothing
--- after it.
+-- The next of the lines that are left comes, if it fits: as what it says, or as an error with its
+-- number from the end if it says nothing. One that doesn't fit, a failed or short reading and
+-- refused memory come as an error, and nothing after it.
 abbrev pub GivesBack : ℕ → Type 0 → Type 0 → ℕ → List (List ℕ) → Option (Result Line Error)
     → List (List ℕ) → Type 0
 GivesBack room may_fail gives_all number left None after = (left ≡ []) × (after ≡ [])
@@ -60,7 +60,7 @@ EndsWalk (Some (Err Memory)) = ⊤
 abbrev pub IsNearer : ℕ → Bool → ℕ → Type 0
 IsNearer end is_done after = MatchBool is_done ⊤ (after < end)
 
--- where a reader of a log from its end stands
+-- where a reader of a log from its end is
 pub record Stand : Type 0 where
   pub is_done : Bool
   pub end : ℕ
@@ -72,8 +72,8 @@ pub record Stand : Type 0 where
 abbrev pub StandsAt : List ℕ → Stand → List (List ℕ) → Type 0
 StandsAt log stand left = IsAt log stand.is_done stand.end stand.held stand.buffer left
 
--- What a call of `next` gives. Over readings that tell the log's bytes the next of the lines that are left comes, and the
--- reader stands behind it.
+-- What a call of `next` gives. Over readings that give the log's bytes the next of the lines that
+-- are left comes, and the reader is then after it.
 pub record GivesNext (honest : Type 0) (log : List ℕ) (may_fail gives_all : Type 0)
     (before : Stand) (item : Option (Result Line Error)) (after : Stand) : Type 0 where
   pub told : honest → (left : List (List ℕ)) → StandsAt log before left
@@ -81,6 +81,6 @@ pub record GivesNext (honest : Type 0) (log : List ℕ) (may_fail gives_all : Ty
       × GivesBack (length before.buffer) may_fail gives_all after.given left item rest
   pub room : length after.buffer ≡ length before.buffer
   pub counted : after.given ≡ (if before.is_done then before.given else one_more before.given)
-  -- whatever the readings tell
+  -- whatever the readings give
   pub nothing : item ≡ None → before.is_done ≡ true
   pub ended : EndsWalk item → after.is_done ≡ true

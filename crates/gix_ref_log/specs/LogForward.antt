@@ -25,12 +25,12 @@ lines_left reader = lines_of_rest (option_map (λ text. text.now) reader.rest)
 abbrev pub lines_of : Forward → Lines
 lines_of reader = record { left = lines_left reader; given = reader.given }
 
--- what the line tells, or an error with its number where it tells nothing
+-- what the line says, or an error with its number if it says nothing
 abbrev pub TellsLine : ℕ → List ℕ → Result LineRef Error → Type 0
 TellsLine number line (Ok read) = SpellsLine line (parts_of read)
 TellsLine number line (Err error) = IsNoLine line × (error.line ≡ FromStart number)
 
--- the next line comes, and nothing where none is left
+-- the next line comes, and nothing if none is left
 abbrev pub GivesLine : Lines → Option (Result LineRef Error) → Lines → Type 0
 GivesLine before None after = (before.left ≡ []) × (after ≡ before)
 GivesLine before (Some item) after = (line : List ℕ) × (before.left ≡ line ∷ after.left)

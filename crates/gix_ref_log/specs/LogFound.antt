@@ -2,7 +2,8 @@
 use Rattle.std.specs.Prelude.{ℕ, ◌≡◌, ◌⊎◌, Bool, true, List, [], ◌∷◌, ◌++◌, length}
 use Rattle.gix_object_lines.specs.Bytes.{Lacks}
 
--- so many bytes stand before it: the last of them is a line feed, or none stand there and the bytes are all
+-- so many bytes are before it: the last of them is a line feed, or there are none and the bytes are
+-- all
 pub record IsLineStart (bytes : List ℕ) (is_all : Bool) (start : ℕ) : Type 0 where
   pub front : List ℕ
   pub line : List ℕ

@@ -27,7 +27,7 @@ written_parts line = record {
   message = line.message;
 }
 
--- the line that is written, without the line feed behind it
+-- the line that is written, without the line feed after it
 abbrev pub written_text : Line → List ℕ
 written_text line =
     line_text (hex_text (id_of line.previous_oid).digits) (hex_text (id_of line.new_oid).digits)
@@ -49,7 +49,7 @@ WritesLogLine old new line (Err Unspellable) =
     (¬ IsSpellable line.signature.name line.signature.email line.signature.time)
     × Lacks 10 line.message × Keeps old new
 
--- the ids that the digits spell, the time that the text tells, and each other part as it is told
+-- the ids that the digits spell, the time that the text spells, and each other part as it is
 pub record IsLineOf (parts : LineParts) (line : Line) : Type 0 where
   pub before : IsHexOfId parts.before (id_of line.previous_oid)
   pub after : IsHexOfId parts.after (id_of line.new_oid)
@@ -58,7 +58,7 @@ pub record IsLineOf (parts : LineParts) (line : Line) : Type 0 where
   pub time : SpellsTime parts.time line.signature.time
   pub message : line.message ≡ parts.message
 
--- a copy of the line that the text spells, and none where it spells none
+-- a copy of the line that the text spells, and none if it spells none
 abbrev pub IsCopied : List ℕ → Option Line → Type 0
 IsCopied text None = IsNoLine text
 IsCopied text (Some line) = (parts : LineParts) × SpellsLine text parts × IsLineOf parts line
@@ -67,7 +67,7 @@ IsCopied text (Some line) = (parts : LineParts) × SpellsLine text parts × IsLi
 abbrev pub AreIds : LineParts → Type 0
 AreIds parts = IsTrue (is_id parts.before) × IsTrue (is_id parts.after)
 
--- the first that fails: one of the ids is no id's digits, the text tells no time, or no memory is left
+-- the first that fails: one of the ids is no id's digits, the text is no time, or no memory is left
 abbrev pub OwningFault : LineParts → DecodeError → Type 0
 OwningFault parts decode.HexDigits = ¬ AreIds parts
 OwningFault parts decode.InvalidTime = AreIds parts × ¬ TellsTime parts.time

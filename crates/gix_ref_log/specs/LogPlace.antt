@@ -7,8 +7,8 @@ pub record IsWindow (log : List ℕ) (end held : ℕ) (buffer : List ℕ) : Type
   pub inside : end ≤ length log
   pub bytes : take held buffer ≡ drop (end - held) (take end log)
 
--- Behind `start` stands the last line of the log's bytes before `end`: it has no line feed, and one stands before it or it
--- is the log's first.
+-- From `start` on lies the last line of the log's bytes before `end`: it has no line feed, and one
+-- is before it or it is the log's first.
 pub record IsLastLine (log : List ℕ) (end held start : ℕ) (buffer : List ℕ) : Type 0 where
   pub window : IsWindow log end held buffer
   pub front : List ℕ
@@ -18,7 +18,8 @@ pub record IsLastLine (log : List ℕ) (end held start : ℕ) (buffer : List ℕ
   pub unbroken : Lacks 10 line
   pub begins : ((before : List ℕ) × (front ≡ before ++ 10 ∷ [])) ⊎ ((front ≡ []) × (held ≡ end))
 
--- no line feed stands in the last bytes before `end` that the buffer has room for, and more stand before them
+-- the last bytes before `end` that the buffer has room for have no line feed, and there are more
+-- before them
 pub record IsTooLong (log : List ℕ) (end room : ℕ) : Type 0 where
   pub inside : end ≤ length log
   pub more : room < end

@@ -1,4 +1,4 @@
--- Where the lines of a log from its end stand.
+-- Where the lines of a log are from its end.
 use Rattle.gix_ref_log.specs.LogBackward.{Stand}
 use Rattle.gix_ref_log.specs.declared.iter.backward.Reverse.{Reverse}
 

@@ -1,4 +1,4 @@
--- What the values of a log's lines tell.
+-- What the values of a log's lines hold.
 use Rattle.bstr.specs.BStr.{bstr_bytes}
 use Rattle.gix_ref_log.specs.LogLine.{LineParts}
 use Rattle.gix_ref_log.specs.declared.line.LineRef.{LineRef}

@@ -24,10 +24,11 @@ pub use crate::iter::reader::{FileAt, ReadAt};
 use crate::line::decode::without_feed;
 use std::alloc::Global;
 
-/// Reads a log from its beginning. Each of its lines comes as what it tells, or, where it is no line of a log, as one error
-/// with its number, after which the next line comes.
+/// Reads a log from its beginning. Each of its lines comes as what it says; if it is no line of a
+/// log, it comes as one error with its number, and then the next line comes.
 ///
-/// Lines end with a line feed, which the last may lack; a carriage return before it is a byte of the message.
+/// Lines end with a line feed, which the last may lack; a carriage return before it is a byte of
+/// the message.
 pub fn forward(lines: &[u8]) -> Forward<'_>
     ensures lines { (lines_of result).left ≡ split_lines lines.now }
     ensures given { (lines_of result).given ≡ 0 }
@@ -40,13 +41,16 @@ pub fn forward(lines: &[u8]) -> Forward<'_>
     Forward { rest, given: 0 }
 }
 
-/// Reads a log from its end, through a buffer of any size above zero. Each of its lines comes as what it tells, or, where
-/// it is no line of a log, as one error with its number from the end, after which the line before it comes.
+/// Reads a log from its end, through a buffer of any size above zero. Each of its lines comes as
+/// what it says; if it is no line of a log, it comes as one error with its number from the end, and
+/// then the line before it comes.
 ///
-/// A line fits where the buffer has room for it and one line feed, the log's first line where it has room for it alone. A
-/// line that doesn't fit comes as one error, and nothing after it; so does a reading that fails, or refused memory.
-/// Here an empty buffer is `NoBuffer`, a reading that fails its own error, and one that gives fewer bytes than the log has there
-/// `Short`: what the buffer held before is never given as a line.
+/// A line fits if the buffer has room for it and one line feed, the log's first line if it has room
+/// for it alone. A line that doesn't fit comes as one error, and nothing after it; so does a
+/// reading that fails, or refused memory.
+///
+/// Here an empty buffer is `NoBuffer`, a reading that fails its own error, and one that gives fewer
+/// bytes than the log has there `Short`: what the buffer held before is never given as a line.
 pub fn reverse<R: ReadAt + Drop>(
     alloc: Global,
     log: R,

@@ -10,8 +10,8 @@ use crate::Line;
 use gix_hash::laws::printed_id_reads_back;
 use gix_object_lines::lines::Time;
 
-/// What is written of a line spells it, where neither the name nor the email holds a tab; so `LineRef::from_bytes` reads
-/// the same parts from it, with or without its line feed.
+/// What is written of a line spells it, if neither the name nor the email holds a tab; so
+/// `LineRef::from_bytes` reads the same parts from it, with or without its line feed.
 pub fn written_line_is_read_back(line: &Line)
     ensures { IsWritable line.now → Lacks 9 line.now.signature.name
         → Lacks 9 line.now.signature.email

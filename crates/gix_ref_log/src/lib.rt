@@ -1,4 +1,4 @@
-//! Logs of references, whose lines tell one update each: lines, and walks over them from either end, after the crate `gix-ref` 0.67.
+//! Logs of references, and walks over their lines from either end, after the crate `gix-ref` 0.67.
 #![tactic(auto)]
 
 pub mod iter;

@@ -15,10 +15,10 @@ use gix_hash::ObjectId;
 use gix_object_lines::ByteString;
 use gix_object_lines::lines::{Actor, ActorRef};
 
-/// An update of a reference, as a line of its log tells it.
+/// An update of a reference, as a line of its log records it.
 #[derive(Debug, Drop, PartialEq, Eq)]
 pub struct Line {
-    /// The id that the reference held before, and the null id where it was made.
+    /// The id that the reference held before, and the null id if it was made.
     pub previous_oid: ObjectId,
     /// The id that it held afterwards.
     pub new_oid: ObjectId,
@@ -37,7 +37,7 @@ pub struct LineRef<'a> {
     pub new_oid: BStr<'a>,
     /// Who made the update, and when.
     pub signature: ActorRef<'a>,
-    /// Why: all behind the first tab, and nothing where the line has none.
+    /// Why: all after the first tab, and nothing if the line has none.
     pub message: BStr<'a>,
 }
 

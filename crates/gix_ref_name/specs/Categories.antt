@@ -7,11 +7,11 @@ use Rattle.gix_ref_name.specs.Fronts.{with_front, without_front}
 use Rattle.gix_ref_name.specs.declared.category.Category.{Category}
 use Rattle.gix_ref_name.specs.declared.category.Category.TheVariants.{Tag, LocalBranch, RemoteBranch, Note, PseudoRef, MainPseudoRef, MainRef, LinkedPseudoRef, LinkedRef, Bisect, Rewritten, WorktreePrivate}
 
--- the name stands below `refs/`, in the folder of this word, and the short name keeps the word
+-- the name is below `refs/`, in the folder of this word, and the short name keeps the word
 abbrev pub IsBelow : List ℕ → List ℕ → List ℕ → Type 0
 IsBelow word name short = (name ≡ codes "refs/" ++ short) × IsBeginningOf word short
 
--- a name that another worktree's front stands before: the front, and what stands behind it
+-- a name after another worktree's front: the front, and what follows it
 abbrev pub IsOfWorktree : List ℕ → List ℕ → List ℕ → Type 0
 IsOfWorktree worktree name short =
     (name ≡ codes "worktrees/" ++ (worktree ++ 47 ∷ short)) × Lacks 47 worktree
@@ -38,7 +38,7 @@ Tells name (LinkedRef worktree) short =
 abbrev pub HasNoCategory : List ℕ → Type 0
 HasNoCategory name = (category : Category) (short : List ℕ) → ¬ Tells name category short
 
--- the short name that some category tells, or the whole name where none does
+-- the short name of some category, or the whole name if none has it
 abbrev pub IsShortName : List ℕ → List ℕ → Type 0
 IsShortName name short =
     ((category : Category) × Tells name category short) ⊎ (HasNoCategory name × (name ≡ short))
@@ -58,7 +58,7 @@ prefix_text MainRef = codes "main-worktree/refs/"
 prefix_text (LinkedPseudoRef worktree) = codes "worktrees/"
 prefix_text (LinkedRef worktree) = codes "worktrees/"
 
--- what stands between the prefix and the short name
+-- what comes between the prefix and the short name
 abbrev pub middle_text : Category → List ℕ
 middle_text Tag = []
 middle_text LocalBranch = []

@@ -3,7 +3,7 @@ use Rattle.std.specs.Prelude.{ℕ, ◌≡◌, ◌⊎◌, List, ◌∷◌, ◌++�
 use Rattle.gix_object_lines.specs.Bytes.{Lacks}
 use Rattle.gix_object_lines.specs.NameTest.{begins}
 
--- what stands behind the front, where it begins the text
+-- what follows the front, if it begins the text
 abbrev pub without_front : List ℕ → List ℕ → List ℕ
 without_front front text = if begins front text then drop (length front) text else text
 

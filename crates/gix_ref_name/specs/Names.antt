@@ -15,11 +15,11 @@ name_of name = bstr_bytes name.bytes
 abbrev pub part_of : PartialNameRef → List ℕ
 part_of name = bstr_bytes name.bytes
 
--- what `{}` prints of a name: its characters, with U+FFFD where its bytes are none
+-- what `{}` prints of a name: its characters, with U+FFFD for bytes that are none
 abbrev pub printed : List ℕ → List ℕ
 printed name = encode_utf8_all (lossy_chars name)
 
--- The text makes a name where it passes the test, and is `Invalid` exactly where it doesn't.
+-- The text makes a name if it passes the test, and is `Invalid` exactly if it doesn't.
 abbrev pub Makes : (List ℕ → Bool) → List ℕ → Result (List ℕ) Error → Type 0
 Makes test text (Ok name) = (name ≡ text) × IsTrue (test text)
 Makes test text (Err Invalid) = IsFalse (test text)

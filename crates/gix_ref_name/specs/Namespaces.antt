@@ -4,7 +4,7 @@ use Rattle.std.specs.List.{flat_map, slice_split}
 use Rattle.gix_object_lines.specs.NameTest.{is_full_name}
 use Rattle.gix_ref_name.specs.Fronts.{without_front}
 
--- what a component of the namespace stands for
+-- what a component of the namespace adds to the front
 abbrev pub level : List ℕ → List ℕ
 level component = codes "refs/namespaces/" ++ component ++ codes "/"
 
@@ -12,7 +12,7 @@ level component = codes "refs/namespaces/" ++ component ++ codes "/"
 abbrev pub expanded : List ℕ → List ℕ
 expanded name = flat_map level (slice_split (λ byte. byte == 47) name)
 
--- the name without the namespace, where that is a full name
+-- the name without the namespace, if that is a full name
 abbrev pub outside_of : List ℕ → List ℕ → List ℕ
 outside_of namespace name =
     let rest = without_front namespace name in if is_full_name rest then rest else name

@@ -19,16 +19,16 @@ pub enum Category<'a> {
     Note,
     /// Capital letters and `_` alone, as `HEAD`.
     PseudoRef,
-    /// Such a name behind `main-worktree/`.
+    /// Such a name after `main-worktree/`.
     MainPseudoRef,
-    /// A name below `refs/` behind `main-worktree/`.
+    /// A name below `refs/` after `main-worktree/`.
     MainRef,
-    /// Capital letters and `_` alone behind `worktrees/` and the name of a worktree.
+    /// Capital letters and `_` alone after `worktrees/` and the name of a worktree.
     LinkedPseudoRef {
         /// The name of the worktree.
         name: BStr<'a>,
     },
-    /// A name below `refs/` behind `worktrees/` and the name of a worktree.
+    /// A name below `refs/` after `worktrees/` and the name of a worktree.
     LinkedRef {
         /// The name of the worktree.
         name: BStr<'a>,

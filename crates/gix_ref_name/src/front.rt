@@ -7,7 +7,7 @@ use gix_object_lines::ByteString;
 use gix_object_lines::cut::{starts_with, strip_prefix};
 use std::alloc::{AllocError, Global};
 
-/// What stands behind the front, and the whole where it doesn't begin the bytes.
+/// What follows the front, and the whole if the bytes don't begin with it.
 pub(crate) fn without_front<'a>(bytes: &'a [u8], front: &[u8]) -> &'a [u8]
     ensures { result.now ≡ spec.without_front front.now bytes.now }
 {

@@ -1,4 +1,4 @@
-//! Namespaces: what stands before the names of a part of a repository.
+//! Namespaces: what precedes the names of a part of a repository.
 
 ghost use Rattle.std.specs.Prelude.{◌≡◌, ◌++◌, ℕ, List, IfOk, OnOk};
 ghost use Rattle.bstr.specs.BStr.{bstr_bytes};
@@ -56,7 +56,7 @@ impl Namespace {
         bytes
     }
 
-    /// The front with a prefix of names behind it.
+    /// The front with a prefix of names after it.
     pub fn into_namespaced_prefix(self, prefix: &[u8]) -> Result<ByteString, AllocError>
         ensures { IfOk result (λ text. text ≡ self ++ prefix.now) }
     {

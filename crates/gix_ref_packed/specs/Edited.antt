@@ -11,7 +11,7 @@ use Rattle.gix_ref_format.specs.PackedBuffer.{hit}
 use Rattle.gix_ref_packed.specs.declared.edit.Edit.{Edit}
 use Rattle.gix_ref_packed.specs.declared.edit.Edit.TheVariants.{Write, Remove}
 
--- what is to stand for a name: none where its record is removed
+-- what a name is to have: none if its record is removed
 pub record Line : Type 0 where
   pub name : List ℕ
   pub says : Option Record
@@ -27,7 +27,7 @@ lines_of edits = map line_of edits
 abbrev pub line_at : List Line → List ℕ → Option Line
 line_at lines name = find (λ line. bytes_eq line.name name) lines
 
--- what the line says, where there is one, else the record as before
+-- what the line says, if there is one, and otherwise the record as before
 abbrev pub under : Option Line → Option Record → Option Record
 under None before = before
 under (Some line) before = line.says
@@ -42,7 +42,8 @@ abbrev pub Ascend : List Record → Type 0
 Ascend [] = Unit {0}
 Ascend (r ∷ rest) = ComesBefore r.name rest × Ascend rest
 
--- The names ascend, and for each name stands what the first line of it says, else the record that stood first for it.
+-- The names ascend, and each name has what the first line of it says, and otherwise its first
+-- record.
 pub record IsEdited (before : List Record) (lines : List Line) (after : List Record) : Type 0 where
   pub ascend : Ascend after
   pub each : (name : List ℕ) → hit after name ≡ under (line_at lines name) (hit before name)
@@ -64,7 +65,7 @@ standing last (line ∷ rest) =
     if is_same last line.name then standing last rest
     else option_to_list line.says ++ standing (Some line.name) rest
 
--- no name comes before the one that stands before it
+-- no name comes before the one that precedes it
 abbrev pub NoneFalls : List ℕ → List Line → Type 0
 NoneFalls name [] = Unit {0}
 NoneFalls name (line ∷ rest) =

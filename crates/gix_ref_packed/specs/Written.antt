@@ -1,5 +1,5 @@
--- The text of `packed-refs` (git-pack-refs(1); gitrepository-layout, "packed-refs"): a header, then for each record `<hex> <name>`,
--- and behind it `^<hex>` where the record tells a peeled id.
+-- The text of `packed-refs` (git-pack-refs(1); gitrepository-layout, "packed-refs"): a header, then
+-- for each record `<hex> <name>`, and after it `^<hex>` if the record has a peeled id.
 use Rattle.std.specs.Prelude.{ℕ, ◌≡◌, List, [], ◌∷◌, ◌++◌, length, codes, IsTrue, IfSome, Option, None, Some}
 use Rattle.gix_hash_id.specs.Id.{Id}
 use Rattle.gix_hash_id.specs.Kind.{hex_len}
@@ -12,7 +12,7 @@ use Rattle.gix_ref_format.specs.Packed.{Record}
 abbrev pub header_text : List ℕ
 header_text = codes "# pack-refs with: peeled fully-peeled sorted " ++ 10 ∷ []
 
--- `^<hex>`, where a peeled id is told
+-- `^<hex>`, if there is a peeled id
 abbrev pub peel_text : Option Id → List ℕ
 peel_text None = []
 peel_text (Some id) = 94 ∷ (hex_text id.digits ++ 10 ∷ [])
@@ -34,7 +34,7 @@ pub record IsIdOf (kind : Kind) (id : Id) : Type 0 where
   pub digits : length id.digits ≡ hex_len kind
   pub spelled : IsHexOf (hex_text id.digits) id.digits
 
--- a record that can stand in a file of this hash function
+-- a record that may be in a file of this hash function
 pub record IsRecordOf (kind : Kind) (r : Record) : Type 0 where
   pub name : IsTrue (is_full_name r.name)
   pub target : IsIdOf kind r.target

@@ -9,9 +9,9 @@ use gix_ref_name::FullNameRef;
 /// What becomes of a name's record.
 #[derive(Debug, Clone, Copy, PartialEq, Eq)]
 pub enum Edit<'a> {
-    /// This record stands for its name, in place of any that stood.
+    /// The name gets this record, in place of any that it has.
     Write(Reference<'a>),
-    /// None stands for the name.
+    /// The name gets no record.
     Remove(FullNameRef<'a>),
 }
 

@@ -17,7 +17,7 @@ pub fn written_records_are_read(records: &[Reference<'_>], kind: Kind)
     records_can_stand(records, kind);
 }
 
-/// Records whose ids are all of this kind can stand in a file of it.
+/// Records whose ids are all of this kind may be in a file of it.
 pub fn records_can_stand(records: &[Reference<'_>], kind: Kind)
     ensures { AllHaveKind kind (map record_of records.now)
         → AreRecordsOf kind (map record_of records.now) }

@@ -12,8 +12,9 @@ use gix_ref_format::packed::{Records, Reference};
 use gix_ref_name::FullNameRef;
 use std::alloc::{AllocError, Global};
 
-/// The records that stand once the edits are made, ascending by name: those that are written, and of the others the first of each name
-/// that no edit has. Of several edits of a name the first counts. It takes as many comparisons as a sort of all these.
+/// The records after the edits, ascending by name: those that are written, and of the others the
+/// first of each name that no edit has. Of several edits of a name the first counts. It takes as
+/// many comparisons as a sort of all these.
 pub fn edited<'a>(
     alloc: Global,
     records: Records<'a>,
@@ -29,7 +30,8 @@ pub fn edited<'a>(
     standing(alloc, lines.as_slice())
 }
 
-/// The records that stand once the edits are made where none stood, ascending by name. Of several edits of a name the first counts.
+/// The records after the edits if there were none before, ascending by name. Of several edits of a
+/// name the first counts.
 pub fn written<'a>(alloc: Global, edits: &[Edit<'a>]) -> Result<Vec<Reference<'a>>, AllocError>
     ensures { IfOk result (λ after.
         spec.IsEdited [] (spec.lines_of edits.now) (map record_of after.items)) }
@@ -40,7 +42,7 @@ pub fn written<'a>(alloc: Global, edits: &[Edit<'a>]) -> Result<Vec<Reference<'a
     standing(alloc, lines.as_slice())
 }
 
-// Adds that each of the records stands.
+// Adds each of the records.
 fn add_records<'a>(records: Records<'a>, lines: &mut Vec<Edit<'a>>) -> Result<(), AllocError>
     ensures { OnOk result (spec.lines_of lines.new.items
         ≡ spec.lines_of lines.old.items ++ map spec.own_line (records_left records.entry)) }
@@ -85,7 +87,7 @@ fn standing<'a>(alloc: Global, lines: &[Edit<'a>]) -> Result<Vec<Reference<'a>>,
     Ok(records)
 }
 
-// Whether the last name is this one.
+// Returns whether the last name is this one.
 fn is_same(last: Option<FullNameRef<'_>>, name: FullNameRef<'_>) -> bool
     ensures { result ≡ spec.is_same (option_map name_of last.entry) (name_of name.entry) }
 {
@@ -95,7 +97,7 @@ fn is_same(last: Option<FullNameRef<'_>>, name: FullNameRef<'_>) -> bool
     }
 }
 
-// Adds the line's record, where it has one.
+// Adds the line's record, if it has one.
 fn add_record<'a>(line: &Edit<'a>, records: &mut Vec<Reference<'a>>) -> Result<(), AllocError>
     ensures { OnOk result (map record_of records.new.items
         ≡ map record_of records.old.items ++ option_to_list (spec.line_of line.now).says) }

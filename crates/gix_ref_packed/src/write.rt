@@ -22,14 +22,15 @@ pub fn packed_text(alloc: Global, records: &[Reference<'_>]) -> Result<Vec<u8>, 
     Ok(text)
 }
 
-/// Appends the first line, which says that the records ascend and tell all peeled ids.
+/// Appends the first line, which says that the records ascend and have all peeled ids.
 pub fn write_header(out: &mut Vec<u8>) -> Result<(), AllocError>
     ensures { OnOk result (out.new.items ≡ out.old.items ++ spec.header_text) }
 {
     out.extend_from_slice(b"# pack-refs with: peeled fully-peeled sorted \n")
 }
 
-/// Appends the line of a record, and behind it that of its peeled id, where it tells one. Digits are of lower case.
+/// Appends the line of a record, and after it that of its peeled id, if it has one. Digits are of
+/// lower case.
 pub fn write_record(record: Reference<'_>, out: &mut Vec<u8>) -> Result<(), AllocError>
     ensures { OnOk result
         (out.new.items ≡ out.old.items ++ spec.record_text (record_of record.entry)) }
@@ -41,7 +42,7 @@ pub fn write_record(record: Reference<'_>, out: &mut Vec<u8>) -> Result<(), Allo
     write_peeled(record.object, out)
 }
 
-// Appends the line of a peeled id, where one is told.
+// Appends the line of a peeled id, if there is one.
 fn write_peeled(peeled: Option<ObjectId>, out: &mut Vec<u8>) -> Result<(), AllocError>
     ensures { OnOk result
         (out.new.items ≡ out.old.items ++ spec.peel_text (option_map id_of peeled)) }

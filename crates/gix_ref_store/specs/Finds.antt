@@ -1,4 +1,4 @@
--- What lookups answer.
+-- What lookups return.
 use Rattle.std.specs.Prelude.{ℕ, ◌≡◌, List, [], ◌∷◌, Option, Some, None, option_map, Result, Ok, Err, MatchResult}
 use Rattle.std.specs.Borrow.{Bor}
 use Rattle.gix_hash_id.specs.Id.{id_of}
@@ -32,7 +32,7 @@ met_of r = record { name = r.name; ref_state = state_of r }
 abbrev pub loose_met : Loose → Met
 loose_met r = record { name = r.name; ref_state = Stands (target_view r.target) None }
 
--- the records of a buffer, and none where there is no buffer
+-- the records of a buffer, and none if there is no buffer
 abbrev pub records_in : Option (Bor Buffer) → List Record
 records_in None = []
 records_in (Some buffer) = kept buffer.now
@@ -67,21 +67,21 @@ OpenedFault b tree met (PackedOpen error) = FileFault b.kind (packed_text_in b t
 OpenedFault b tree met ReadFileContents = Unit {0}
 OpenedFault b tree met Memory = Unit {0}
 
--- what a lookup answers that goes by the packed records of the tree
+-- the result of a lookup that uses the packed records of the tree
 abbrev pub FindsOpened : Base → Tree → List (List ℕ) → Result (Option Reference) Error → Type 0
 FindsOpened b tree names result =
     let met =
     first_met (ref_state b tree) names
     in MatchResult result (λ found. option_map met_of found ≡ met) (OpenedFault b tree met)
 
--- a failed reading of a file is told only where a reading may fail
+-- a failed reading of a file is reported only if a reading may fail
 abbrev pub MayTell : Type 0 → Error → Type 0
 MayTell may_fail (ReferenceCreation error) = Unit {0}
 MayTell may_fail (PackedOpen error) = error ≡ Io → may_fail
 MayTell may_fail ReadFileContents = may_fail
 MayTell may_fail Memory = Unit {0}
 
--- ---- calls that ask for one that stands
+-- ---- calls for one that must exist
 
 -- nothing is met, or the lookup gives up so
 abbrev pub OnExisting : Type 0 → (Error → Type 0) → ExistingError → Type 0
@@ -90,7 +90,7 @@ OnExisting absent fault (existing.Find error) = fault error
 
 -- ---- one name
 
--- what is told of a name that reads so
+-- the result for a name that reads so
 abbrev pub TellsState : List ℕ → RefState → Result (Option Reference) Error → Type 0
 TellsState name ref_state (Ok None) = ref_state ≡ Absent
 TellsState name ref_state (Ok (Some r)) = (r.name ≡ name) × (ref_state ≡ state_of r)
@@ -99,7 +99,7 @@ TellsState name ref_state (Err (PackedOpen error)) = ⊥
 TellsState name ref_state (Err ReadFileContents) = Unit {0}
 TellsState name ref_state (Err Memory) = Unit {0}
 
--- what is told of a file of its own, whatever is told where none stands
+-- the result for a file of its own, whatever it is if there is none
 abbrev pub TellsFile : Kind → Option (List ℕ) → Result (Option Target) Error → Type 0
 TellsFile kind text (Ok None) = (other : RefState) → read_by kind text other ≡ other
 TellsFile kind text (Ok (Some target)) =

@@ -18,8 +18,9 @@ use Rattle.gix_ref_store.specs.declared.store.file.find.ExistingError.{ExistingE
 use Rattle.gix_ref_store.specs.declared.store.file.follow.Error.{Error}
 use Rattle.gix_ref_store.specs.declared.store.file.follow.Error.TheVariants.{Follow, Cycle, DepthLimitExceeded, Memory}
 
--- The chain ends at a name that points to an object, with the peeled id told of it; or it meets a name again, is too long, or
--- leads to a name that isn't there or can't be read, for this reason.
+-- The chain ends at a name that points to an object, with its peeled id if there is one; or it
+-- meets a name again, is too long, or leads to a name that isn't there or can't be read, for this
+-- reason.
 pub data Followed : Type 0 where
   Ends : List ℕ → Id → Option Id → Followed
   Cycles : Followed
@@ -51,7 +52,7 @@ EndsBy r id followed =
     (target_view r.target ≡ ToObject (id_of id))
     × (followed ≡ Ends r.name (id_of id) (option_map id_of r.peeled))
 
--- ---- what is told, where `Unopened` says why packed references aren't opened
+-- ---- the results, where `Unopened` says why packed references aren't opened
 
 -- the packed references that a caller gives are open
 abbrev pub IsGiven : OpenError → Type 0
@@ -68,14 +69,14 @@ ReadFault Unopened Broken (find.PackedOpen error) = Unopened error
 ReadFault Unopened Broken find.ReadFileContents = Unit {0}
 ReadFault Unopened Broken find.Memory = Unit {0}
 
--- what is told of a name that must stand
+-- the result for a name that must exist
 abbrev pub TellsExisting : (OpenError → Type 0) → (List ℕ → RefState) → List ℕ
     → Result Reference ExistingError → Type 0
 TellsExisting Unopened read name result =
     MatchResult result (λ r. (r.name ≡ name) × (read name ≡ state_of r))
     (OnExisting (read name ≡ Absent) (ReadFault Unopened (λ why. read name ≡ Faulty why)))
 
--- the reference that a target names: none where it is an object
+-- the reference that a target names: none if it is an object
 abbrev pub FollowsTo : (OpenError → Type 0) → (List ℕ → RefState) → Points
     → Option (Result Reference ExistingError) → Type 0
 FollowsTo Unopened read target None = IsObject target
@@ -93,7 +94,7 @@ FollowFault Unopened followed Cycle = followed ≡ Cycles
 FollowFault Unopened followed DepthLimitExceeded = followed ≡ TooDeep
 FollowFault Unopened followed Memory = Unit {0}
 
--- a failed reading is told only where a reading may fail
+-- a failed reading is reported only if a reading may fail
 abbrev pub MayTell : Type 0 → Error → Type 0
 MayTell may_fail (Follow error) = OnExisting (Unit {0}) (finds.MayTell may_fail) error
 MayTell may_fail Cycle = Unit {0}

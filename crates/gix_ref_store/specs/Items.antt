@@ -30,13 +30,13 @@ mets_of read names = map (met_by read) (filter (λ name. is_there (read name)) n
 abbrev pub left_in : {F : Type 0} → Tree → LooseThenPacked F → List Met
 left_in tree items = mets_of (reads_in tree items.search) items.names
 
--- the records of a buffer, and none where there is none
+-- the records of a buffer, and none if there is none
 abbrev pub kept_in : Option Buffer → List Record
 kept_in None = []
 kept_in (Some buffer) = kept buffer
 
--- The next of what is to come, and the rest stays; nothing at the end. A failed reading or refused memory takes the next, or
--- none, where it concerns a name that has no reference.
+-- The next of what is to come, and the rest stays; nothing at the end. A failed reading or refused
+-- memory takes the next, or none, if it concerns a name that has no reference.
 abbrev pub GivesNext : (List ℕ → RefState) → List Met → Option (Result Reference Error) → List Met
     → Type 0
 GivesNext read left None after = (left ≡ []) × (after ≡ [])
@@ -50,7 +50,7 @@ GivesNext read left (Some (Err Memory)) after =
     (left ≡ after) ⊎ ((met : Met) × (left ≡ met ∷ after))
 GivesNext read left (Some (Err Traversal)) after = ⊥
 
--- what is told of one name: nothing where it reads as absent
+-- the result for one name: nothing if it reads as absent
 abbrev pub TellsName : List ℕ → RefState → Option (Result Reference Error) → Type 0
 TellsName name r None = r ≡ Absent
 TellsName name r (Some (Ok found)) = (name ≡ found.name) × (r ≡ state_of found)
@@ -60,7 +60,7 @@ TellsName name r (Some (Err (ReferenceCreation n reason))) =
     (name ≡ n) × (r ≡ Faulty (InFile reason))
 TellsName name r (Some (Err Memory)) = Unit {0}
 
--- what an item tells of failed readings
+-- what an item reports of failed readings
 abbrev pub ItemMayTell : Type 0 → Option (Result Reference Error) → Type 0
 ItemMayTell may_fail None = Unit {0}
 ItemMayTell may_fail (Some (Ok r)) = Unit {0}

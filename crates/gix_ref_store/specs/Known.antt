@@ -1,4 +1,5 @@
--- Names as a store knows them: with their characters composed, where it is told so (git-config, `core.precomposeUnicode`).
+-- Names as a store knows them: with their characters composed, if the options say so (git-config,
+-- `core.precomposeUnicode`).
 use Rattle.std.specs.Prelude.{ℕ, Bool, List, bytes_eq, if◌then◌else◌}
 use Rattle.gix_ref_name.specs.Composed.{composed}
 

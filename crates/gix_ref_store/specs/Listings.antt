@@ -1,4 +1,5 @@
--- What listings give: of the names asked for each that stands or can't be read, once, ascending by bytes.
+-- What listings return: each of the wanted names that exists or can't be read, once, ascending by
+-- bytes.
 use Rattle.std.specs.Prelude.{ℕ, ◌≡◌, ◌≢◌, ◌↔◌, Bool, ◌&&◌, ◌||◌, List, [], map, codes, bytes_eq, IsTrue}
 use Rattle.std.specs.List.{Contains}
 use Rattle.gix_object_lines.specs.NameTest.{begins, ends, is_capitals}
@@ -8,13 +9,13 @@ use Rattle.gix_ref_store.specs.Known.{known_as, is_known}
 use Rattle.gix_ref_store.specs.RefStates.{RefState, Absent, Met}
 use Rattle.gix_ref_store.specs.declared.store.file.Store.{Store}
 
--- the name is this one, or stands below it; of one that ends with a slash, the name begins so
+-- the name is this one, or below it; of one that ends with a slash, the name begins so
 abbrev pub is_within : List ℕ → List ℕ → Bool
 is_within folder name =
     bytes_eq name folder
     || (is_below folder name || (ends (codes "/") folder && begins folder name))
 
--- a name below `refs/` that is asked for, as a store knows it
+-- a name below `refs/` that is wanted, as a store knows it
 abbrev pub is_listed : Bool → (List ℕ → Bool) → List ℕ → Bool
 is_listed composes asked name =
     begins (codes "refs/") name && (asked name && is_known composes name)
@@ -39,7 +40,7 @@ names_within store folder =
 abbrev pub is_pseudo : List ℕ → Bool
 is_pseudo name = is_capitals name && ends (codes "HEAD") name
 
--- each of the names asked for that doesn't read as absent, with what it reads as
+-- each of the wanted names that doesn't read as absent, with what it reads as
 pub record IsListing (read : List ℕ → RefState) (asked : List ℕ → Bool)
     (out : List Met) : Type 0 where
   pub ascending : IsAscending (map (λ met. met.name) out)

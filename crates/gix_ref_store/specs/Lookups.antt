@@ -1,4 +1,4 @@
--- What the lookups of a store answer.
+-- What the lookups of a store return.
 use Rattle.std.specs.Prelude.{ℕ, ◌≡◌, List, Option, Some, None, option_map, Result, MatchResult}
 use Rattle.std.specs.Borrow.{Bor}
 use Rattle.gix_ref_file.specs.Tree.{Tree}
@@ -34,7 +34,7 @@ FindsNames b tree names result =
     first_met (ref_state b tree) names
     in MatchResult result (λ found. option_map met_of found ≡ met) (FindFault b tree names met)
 
--- the same of the names that a word may stand for
+-- the same of the names that a word may mean
 abbrev pub FindsWord : {F : Type 0} → Store F → Tree → List ℕ → Result (Option Reference) Error
     → Type 0
 FindsWord store tree word result = FindsNames (base_of store) tree (names_of store word) result
@@ -52,7 +52,7 @@ FindsLoose store tree word result =
     let met = first_met (reads_with store tree None) (names_of store word) in
     MatchResult result (λ found. option_map loose_met found ≡ met) (LookupFault met)
 
--- ---- one must stand
+-- ---- one must exist
 
 abbrev pub FindsOne : {F : Type 0} → Store F → Tree → List ℕ → Result Reference ExistingError
     → Type 0

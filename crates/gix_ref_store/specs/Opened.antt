@@ -9,7 +9,7 @@ use Rattle.gix_ref_store.specs.RefStates.{packed_text_in, records_of}
 use Rattle.gix_ref_store.specs.Stores.{base_of}
 use Rattle.gix_ref_store.specs.declared.store.file.Store.{Store}
 
--- the buffer keeps the records of the file that stands in this tree, and there is none where no file stands
+-- the buffer keeps the records of the file in this tree, and there is none if there is no file
 abbrev pub KeepsPacked : {F : Type 0} → Store F → Tree → Option Buffer → Type 0
 KeepsPacked store tree found =
     KeepsFile (base_of store).kind (packed_text_in (base_of store) tree) (option_map kept found)

@@ -1,5 +1,5 @@
--- What references stand for in the end, behind names and tags. H says whether the store of objects answers by its table, M whether
--- its lookups may fail.
+-- The objects that references lead to in the end, over names and tags. H says whether the store of
+-- objects answers by its table, M whether its lookups may fail.
 use Rattle.std.specs.Prelude.{ℕ, ◌≡◌, ◌≢◌, ◌⊎◌, ⊤, List, [], ◌∷◌, Option, Some, None, option_map, codes, IsTrue}
 use Rattle.std.specs.List.{list_any}
 use Rattle.gix_hash_id.specs.Id.{Id, id_of}
@@ -35,33 +35,34 @@ LeadsOver table id [] end = id ≡ end
 LeadsOver table id (tag ∷ tags) end =
     (tag ≡ id) × ((next : Id) × TagNames table id next × LeadsOver table next tags end)
 
--- an object stands there that is no tag
+-- the id has an object that is no tag
 abbrev pub IsPlain : Table → Id → Type 0
 IsPlain table id = (object : Object) × (table id ≡ Some object) × (object.kind ≢ kinds.Tag)
 
--- the object that an id stands for: its own, or the one that tags lead to
+-- the object that an id leads to: its own, or the one that tags lead to
 abbrev pub PeelsTo : Table → Id → Id → Type 0
 PeelsTo table id end = (tags : List Id) × LeadsOver table id tags end × IsPlain table end
 
--- a tag stands there, and no id is told in its first line
+-- the id has a tag whose first line has no id
 abbrev pub NamesNone : Table → Id → Type 0
 NamesNone table id =
     (content : List ℕ) × (error : decode.Error) × Stands table id kinds.Tag content
     × HexLineFault (codes "object") (hex_len id.kind) content error
 
--- tags lead to an id where nothing stands, or a tag that names none, or one of those that lead there
+-- tags lead to an id that has no object, or a tag that names none, or is one of those that lead
+-- there
 abbrev pub IsLost : Table → Id → Id → Type 0
 IsLost table id end = (tags : List Id) × LeadsOver table id tags end
     × ((table end ≡ None) ⊎ (NamesNone table end ⊎ IsTrue (list_any (id_eq end) tags)))
 
--- why an id stands for no object
+-- why an id leads to no object
 abbrev pub TagFault : Type 0 → Type 0 → Table → Id → Error → Type 0
 TagFault H M table id (FollowToObject error) = ⊥
 TagFault H M table id (Find error) = LookupFault M error
 TagFault H M table id (NotFound oid) = H → IsLost table id (id_of oid)
 TagFault H M table id Memory = ⊤
 
--- the same of one id: nothing stands there, or a tag that names none
+-- the same of one id: it has no object, or a tag that names none
 abbrev pub StepFault : Type 0 → Type 0 → Table → Id → Error → Type 0
 StepFault H M table id (FollowToObject error) = ⊥
 StepFault H M table id (Find error) = LookupFault M error
@@ -71,14 +72,15 @@ StepFault H M table id Memory = ⊥
 
 -- ---- references
 
--- from a name: the object that its record tells, or the one that tags lead to from where the chain ends, and the name there
+-- from a name: the object that its record has, or the one that tags lead to from where the chain
+-- ends, and the name there
 abbrev pub PeelsBy : Followed → Table → List ℕ → Option Id → List ℕ → Id → Type 0
 PeelsBy followed table from (Some told) name id = (name ≡ from) × (id ≡ told)
 PeelsBy followed table from None name id =
     (first : Id) × (peeled : Option Id) × (followed ≡ Ends name first peeled)
     × PeelsTo table first id
 
--- a reference stands for this object, which the reference of this name leads to
+-- a reference leads to this object, over the reference of this name
 abbrev pub Peels : (List ℕ → RefState) → Table → Reference → List ℕ → Id → Type 0
 Peels read table r name id =
     PeelsBy (follow_from read r) table r.name (option_map id_of r.peeled) name id
@@ -86,7 +88,7 @@ Peels read table r name id =
 abbrev pub IsPeeled : (List ℕ → RefState) → Table → Reference → Id → Type 0
 IsPeeled read table r id = (name : List ℕ) × Peels read table r name id
 
--- what is told where packed references aren't opened
+-- the error if packed references aren't opened
 abbrev pub unopened : OpenError → Error
 unopened error = FollowToObject (Follow (existing.Find (finds.PackedOpen error)))
 
@@ -94,11 +96,11 @@ unopened error = FollowToObject (Follow (existing.Find (finds.PackedOpen error))
 abbrev pub IsUnopened : Error → Type 0
 IsUnopened error = (cause : OpenError) × (error ≡ unopened cause)
 
--- no id is told as the object that the reference stands for, or it is told that packed references aren't opened
+-- the reference has no peeled id, or the error is that packed references aren't opened
 abbrev pub LacksObject : Reference → Error → Type 0
 LacksObject r error = (r.peeled ≡ None) ⊎ IsUnopened error
 
--- why it stands for none, where `Unopened` says why packed references aren't opened
+-- why it leads to none, where `Unopened` says why packed references aren't opened
 abbrev pub PeelFault : (OpenError → Type 0) → (List ℕ → RefState) → Table → Reference → Error
     → Type 0
 PeelFault Unopened read table r (FollowToObject error) =
@@ -110,7 +112,7 @@ PeelFault Unopened read table r (NotFound oid) =
     × ((first : Id) × EndsAt first (follow_from read r) × IsLost table first (id_of oid))
 PeelFault Unopened read table r Memory = ⊤
 
--- a failed reading is told only where a reading may fail, and a failed lookup where a lookup may
+-- a failed reading is reported only if a reading may fail, and a failed lookup only if a lookup may
 abbrev pub MayTell : Type 0 → Type 0 → Error → Type 0
 MayTell reading_may_fail M (FollowToObject error) = follows.MayTell reading_may_fail error
 MayTell reading_may_fail M (Find error) = LookupFault M error

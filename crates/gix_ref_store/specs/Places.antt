@@ -1,4 +1,5 @@
--- Where the files of names stand, and those of their logs and of packed records (gitrepository-layout; git-worktree, "Refs").
+-- Where the files of names are, and those of their logs and of packed records
+-- (gitrepository-layout; git-worktree, "Refs").
 use Rattle.std.specs.Prelude.{ℕ, ◌-◌, ◌||◌, List, length, take, drop, codes, if◌then◌else◌, Option, Some, None}
 use Rattle.gix_ref_file.specs.Tree.{under}
 use Rattle.gix_hash_id.specs.declared.kind.Kind.{Kind}
@@ -19,17 +20,18 @@ pub record Home : Type 0 where
 abbrev pub shared_home : Base → List ℕ → Home
 shared_home b path = record { folder = b.common; path = path }
 
--- what stands behind `main-worktree/` is a name of the main worktree, whose folder is the shared one
+-- what follows `main-worktree/` is a name of the main worktree, whose folder is the shared one
 abbrev pub main_home : Base → List ℕ → List ℕ → Home
 main_home b name rest =
     if is_capitals rest || begins (codes "refs/") rest then shared_home b rest
     else shared_home b name
 
--- what stands before the rest, without the slash between them
+-- what precedes the rest, without the slash between them
 abbrev pub front_of : List ℕ → List ℕ → List ℕ
 front_of name rest = take (length name - length rest - 1) name
 
--- what stands behind `worktrees/<worktree>/` is a name of that worktree, whose folder has the path of this front
+-- what follows `worktrees/<worktree>/` is a name of that worktree, whose folder has the path of
+-- this front
 abbrev pub linked_home : Base → List ℕ → Option (List ℕ) → Home
 linked_home b name None = shared_home b name
 linked_home b name (Some rest) =
@@ -51,14 +53,14 @@ place_in h = under h.folder h.path
 abbrev pub log_place_in : Home → List ℕ
 log_place_in h = under (under h.folder (codes "logs")) h.path
 
--- where the file of a full name stands
+-- where the file of a full name is
 abbrev pub place : Base → List ℕ → List ℕ
 place b name = place_in (home b name)
 
--- where its log stands
+-- where its log is
 abbrev pub log_place : Base → List ℕ → List ℕ
 log_place b name = log_place_in (home b name)
 
--- where the packed records stand
+-- where the packed records are
 abbrev pub packed_place : Base → List ℕ
 packed_place b = under b.common (codes "packed-refs")

@@ -18,20 +18,20 @@ head_in b tree = state_among b tree [] (codes "HEAD")
 abbrev pub PointsNowhere : RefState → Type 0
 PointsNowhere r = (points : Points) (peeled : Option Id) → r ≢ Stands points peeled
 
--- one of the names asked for points to something
+-- one of the wanted names points to something
 abbrev pub SomeStands : (List ℕ → RefState) → (List ℕ → Bool) → Type 0
 SomeStands read asked =
     (name : List ℕ) × (points : Points) × (peeled : Option Id) × IsTrue (asked name)
     × (read name ≡ Stands points peeled)
 
--- `HEAD` points to this name; there are no packed references, and no name below `refs/` that a store knows has a file that tells a
--- target
+-- `HEAD` points to this name; there are no packed references, and no name below `refs/` that a
+-- store knows has a file with a target
 pub record IsPristine {F : Type 0} (store : Store F) (tree : Tree) (branch : List ℕ) : Type 0 where
   pub head : head_in (base_of store) tree ≡ Stands (ToName branch) None
   pub unpacked : packed_text_in (base_of store) tree ≡ None
   pub alone : ¬ SomeStands (state_among (base_of store) tree []) (all_names store)
 
--- why it isn't told: a folder couldn't be listed, a file not be read, or memory was refused
+-- why there is no result: a folder couldn't be listed, a file not be read, or memory was refused
 abbrev pub MayStopAt : Type 0 → Error → Type 0
 MayStopAt may_fail Traversal = may_fail
 MayStopAt may_fail (ReadFileContents name) = may_fail

@@ -13,18 +13,20 @@ use Rattle.gix_ref_format.specs.declared.loose.Error.{Error as LooseError}
 use Rattle.gix_ref_format.specs.declared.loose.Error.TheVariants.{Parse, RefnameValidation}
 use Rattle.gix_ref_store.specs.Places.{Base, place, packed_place}
 
--- why a name can't be read: its file tells no target, for this reason; or the packed records can't be read
+-- why a name can't be read: its file has no target, for this reason; or the packed records can't be
+-- read
 pub data Fault : Type 0 where
   InFile : LooseError → Fault
   InRecords : Fault
 
--- what a name points to, with the peeled id that its record tells; or it doesn't stand, or can't be read
+-- what a name points to, with the peeled id of its record; or it doesn't exist, or can't be read
 pub data RefState : Type 0 where
   Stands : Points → Option Id → RefState
   Absent : RefState
   Faulty : Fault → RefState
 
--- why a text tells no target: no full name follows `ref: `, or it begins with neither that nor an id
+-- why a text names no target: no full name follows `ref: `, or it begins with neither that nor an
+-- id
 abbrev pub text_fault : List ℕ → LooseError
 text_fault text = if is_symbolic text then RefnameValidation else Parse
 
@@ -36,7 +38,7 @@ abbrev pub packed_state : Option Record → RefState
 packed_state (Some r) = Stands (ToObject r.target) r.peeled
 packed_state None = Absent
 
--- the file of its own, else what the records tell
+-- what the file of its own says, and otherwise the records
 abbrev pub read_by : Kind → Option (List ℕ) → RefState → RefState
 read_by kind (Some text) packed = loose_state text (loose_target kind text)
 read_by kind None packed = packed
@@ -45,7 +47,7 @@ read_by kind None packed = packed
 abbrev pub loose_text_at : Base → Tree → List ℕ → Option (List ℕ)
 loose_text_at b tree name = bytes_of (node_at tree (place b name))
 
--- what a name reads as where these records are packed
+-- what a name reads as if these records are packed
 abbrev pub state_among : Base → Tree → List Record → List ℕ → RefState
 state_among b tree records name =
     if is_full_name name
@@ -56,12 +58,12 @@ state_among b tree records name =
 abbrev pub packed_text_in : Base → Tree → Option (List ℕ)
 packed_text_in b tree = bytes_of (node_at tree (packed_place b))
 
--- the records of a text, none where there is no text; the whole is `None` where a line can't be read
+-- the records of a text, none if there is no text; the whole is `None` where a line can't be read
 abbrev pub records_of : Kind → Option (List ℕ) → Option (List Record)
 records_of kind None = Some []
 records_of kind (Some text) = packed_records kind text
 
--- what these records tell of a name; names of which each worktree has its own have none
+-- what these records say of a name; names of which each worktree has its own have none
 abbrev pub told_by : Option (List Record) → List ℕ → RefState
 told_by (Some records) name = packed_state (packed_hit records name)
 told_by None name = if is_some (packed_key name) then Faulty InRecords else Absent
@@ -87,7 +89,7 @@ met_or name (Stands points peeled) later =
     Some (record { name = name; ref_state = Stands points peeled })
 met_or name (Faulty why) later = Some (record { name = name; ref_state = Faulty why })
 
--- the first of the names that stands or can't be read
+-- the first of the names that exists or can't be read
 abbrev pub first_met : (List ℕ → RefState) → List (List ℕ) → Option Met
 first_met read [] = None
 first_met read (name ∷ names) = met_or name (read name) (first_met read names)

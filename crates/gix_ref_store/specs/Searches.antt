@@ -14,24 +14,24 @@ use Rattle.gix_ref_store.specs.declared.store.file.search.Search.{Search}
 abbrev pub reads_in : {F : Type 0} → Tree → Search F → List ℕ → RefState
 reads_in tree search = state_among (base_of search.store.now) tree (records_in search.packed)
 
--- what a search over these names answers
+-- the result of a search over these names
 abbrev pub Finds : (List ℕ → RefState) → List (List ℕ) → Result (Option Reference) Error → Type 0
 Finds read names result =
     MatchResult result (λ found. option_map met_of found ≡ first_met read names)
     (LookupFault (first_met read names))
 
--- what it answers of one name
+-- the result for one name
 abbrev pub AnswersName : (List ℕ → RefState) → List ℕ → Result (Option Reference) Error → Type 0
 AnswersName read name result = TellsState name (read name) result
 
--- what it answers of the first of the names
+-- the result for the first of the names
 abbrev pub AnswersFirst : (List ℕ → RefState) → List (List ℕ) → Result (Option Reference) Error
     → Type 0
 AnswersFirst read names result =
     (first : List ℕ) × (rest : List (List ℕ)) × (names ≡ first ∷ rest)
     × TellsState first (read first) result
 
--- the record of the name is told
+-- the record of the name is returned
 abbrev pub AnswersRecord : List Record → List ℕ → Option Reference → Type 0
 AnswersRecord records name found =
     TellsState name (packed_state (packed_hit records name)) (Ok found)

@@ -10,7 +10,7 @@ use Rattle.gix_ref_format.specs.Lookup.{lookup_names}
 use Rattle.gix_ref_store.specs.Known.{known_as}
 use Rattle.gix_ref_store.specs.Places.{Base}
 
--- logs as Git writes them where nothing is set, SHA-1 ids, names as they are
+-- logs as Git writes them by default, SHA-1 ids, names as they are
 pub record IsUsual (options : Options) : Type 0 where
   pub logs : options.write_reflog ≡ Normal
   pub kind : options.object_hash ≡ Sha1
@@ -29,6 +29,6 @@ base_of store = record {
   common = shared_folder store.git_dir.items store.common_dir;
 }
 
--- the names that a word may stand for in a store, in the order in which they are tried
+-- the names that a word may mean in a store, in the order in which they are tried
 abbrev pub names_of : {F : Type 0} → Store F → List ℕ → List (List ℕ)
 names_of store word = lookup_names (known_as store.options.precompose_unicode word)

@@ -20,7 +20,7 @@ has names name = list_any (same_path name) names
 abbrev pub Keeps : List (List ℕ) → List (List ℕ) → Type 0
 Keeps old new = (name : List ℕ) → IsTrue (has old name) → IsTrue (has new name)
 
--- and come only where they are asked for
+-- and only wanted ones are added
 abbrev pub BringsAsked : (List ℕ → Bool) → List (List ℕ) → List (List ℕ) → Type 0
 BringsAsked asked old new =
     (name : List ℕ) → IsTrue (has new name) → IsTrue (has old name) ⊎ IsTrue (asked name)
@@ -32,18 +32,18 @@ pub record HasFile (tree : Tree) (base : List ℕ) (asked : List ℕ → Bool)
   pub full : IsTrue (is_full_name name)
   pub asked_for : IsTrue (asked name)
 
--- the names asked for that have a file below a folder of names are there
+-- the wanted names that have a file below a folder of names are there
 abbrev pub GathersBelow : Tree → List ℕ → (List ℕ → Bool) → List ℕ → List (List ℕ) → Type 0
 GathersBelow tree base asked folder names =
     (name rest : List ℕ) → under base name ≡ under base folder ++ 47 ∷ rest
     → HasFile tree base asked name → IsTrue (has names name)
 
--- all names asked for that have a file are there
+-- all wanted names that have a file are there
 abbrev pub Gathers : Tree → List ℕ → (List ℕ → Bool) → List (List ℕ) → Type 0
 Gathers tree base asked names =
     (name : List ℕ) → HasFile tree base asked name → IsTrue (has names name)
 
--- all names asked for that have a file of their own are there
+-- all wanted names that have a file of their own are there
 abbrev pub GathersPlaces : Base → Tree → (List ℕ → Bool) → List (List ℕ) → Type 0
 GathersPlaces b tree asked names =
     (name : List ℕ) → IsTrue (is_file_at tree (place b name)) → IsTrue (is_full_name name)
@@ -54,7 +54,7 @@ abbrev pub GathersRecords : List Record → (List ℕ → Bool) → List (List �
 GathersRecords records asked names =
     (name : List ℕ) → IsSome (hit records name) → IsTrue (asked name) → IsTrue (has names name)
 
--- a failed reading is told only where a reading may fail
+-- a failed reading is reported only if a reading may fail
 abbrev pub MayTell : Type 0 → Error → Type 0
 MayTell may_fail Traversal = may_fail
 MayTell may_fail (ReadFileContents name) = may_fail
@@ -68,7 +68,7 @@ MayStop may_fail (ReadFileContents name) = ⊥
 MayStop may_fail (ReferenceCreation name source) = ⊥
 MayStop may_fail Memory = Unit {0}
 
--- what is told of a failed listing of a folder
+-- the error for a failed listing of a folder
 abbrev pub stop_of : FileError → Error
 stop_of files.Failed = Traversal
 stop_of files.Memory = Memory

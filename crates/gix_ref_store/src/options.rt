@@ -1,4 +1,4 @@
-//! What a store is told of its repository.
+//! What a store must know of its repository.
 
 ghost use Rattle.gix_ref_store.specs.Stores.{IsUsual};
 
@@ -9,14 +9,14 @@ use gix_hash::Kind;
 pub enum WriteReflog {
     /// Those of every name.
     Always,
-    /// Those of HEAD, of names below `refs/heads/`, `refs/remotes/`, `refs/notes/` and `refs/worktree/`, and of names whose log
-    /// stands or is asked for.
+    /// Those of HEAD, of names below `refs/heads/`, `refs/remotes/`, `refs/notes/` and
+    /// `refs/worktree/`, and of names whose log exists or is wanted.
     Normal,
     /// None.
     Disable,
 }
 
-/// What a store is told of its repository.
+/// What a store must know of its repository.
 #[derive(Debug, Clone, Copy, PartialEq, Eq)]
 pub struct Options {
     /// Which updates are written to logs.

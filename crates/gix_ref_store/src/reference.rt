@@ -20,7 +20,7 @@ pub struct Reference {
     pub name: FullName,
     /// What it points to.
     pub target: Target,
-    /// The id of the object that a tag points to in the end, where a packed record tells it.
+    /// The id of the object that a tag points to in the end, if a packed record has it.
     pub peeled: Option<ObjectId>,
 }
 
@@ -36,14 +36,15 @@ impl Reference {
         })
     }
 
-    /// Whether it points to an object or to another reference.
+    /// Returns whether it points to an object or to another reference.
     pub fn kind(&self) -> Kind
         ensures { result ≡ kind_of (target_view self.now.target) }
     {
         self.target.kind()
     }
 
-    /// The name without the namespace's front; `None` where it doesn't begin with the front, or what is left is no full name.
+    /// The name without the namespace's front; `None` if it doesn't begin with the front, or what
+    /// is left is no full name.
     pub fn name_without_namespace(&self, namespace: &Namespace) -> Option<FullNameRef<'_>>
         ensures { MatchOption result
             ((rest : List ℕ) → self.now.name ≡ namespace.now ++ rest → IsFalse (is_full_name rest))
@@ -56,8 +57,8 @@ impl Reference {
         }
     }
 
-    /// Takes the namespace's front off the name, and off the name that it points to, as `FullName::strip_namespace` does. Where no
-    /// memory is left it is as it was.
+    /// Takes the namespace's front off the name, and off the name that it points to, as
+    /// `FullName::strip_namespace` does. If no memory is left, it is as it was.
     pub fn strip_namespace(
         &mut self,
         alloc: Global,

@@ -15,7 +15,7 @@ place_of t = t.lock.place.items
 abbrev pub lock_path_of : Transaction → List ℕ
 lock_path_of t = t.lock.path.items
 
--- the bytes of `packed-refs`, where it stands, are of records
+-- the bytes of `packed-refs`, if it exists, are of records
 abbrev pub IsRead : Kind → Option (List ℕ) → Type 0
 IsRead kind None = ⊤
 IsRead kind (Some text) = IsSome (packed_records kind text)

@@ -8,12 +8,13 @@ use Rattle.gix_ref_format.specs.declared.packed.buffer.Buffer.{Buffer}
 use Rattle.gix_ref_packed.specs.Edited.{Line, IsEdited}
 use Rattle.gix_ref_packed.specs.Written.{packed_text, AllHaveKind}
 
--- the records of a file; none where none stands
+-- the records of a file; none if there is no file
 abbrev pub records_in : Option Buffer → List Record
 records_in None = []
 records_in (Some buffer) = kept buffer
 
--- The text of the records under the edits, which is read as them where all their ids are of the hash function.
+-- The text of the records under the edits, which is read as them if all their ids are of the hash
+-- function.
 pub record IsTextOf (kind : Kind) (records : List Record) (lines : List Line)
     (text : List ℕ) : Type 0 where
   pub after : List Record
@@ -21,7 +22,7 @@ pub record IsTextOf (kind : Kind) (records : List Record) (lines : List Line)
   pub is : text ≡ packed_text after
   pub reads : AllHaveKind kind after → packed_records kind text ≡ Some after
 
--- a file with that text stands at the path
+-- a file with that text is at the path
 pub record HoldsEdited (kind : Kind) (records : List Record) (lines : List Line) (path : List ℕ)
     (tree : Tree) : Type 0 where
   pub text : List ℕ

@@ -12,7 +12,7 @@ ghost use Rattle.gix_ref_transaction.specs.Locks.{lock_of, OthersStay, KeepsHeld
 use gix_ref_file::{FileError, Files};
 use std::alloc::{AllocError, Global};
 
-/// A lock that is held: a file stands at its path.
+/// A lock that is held: a file is at its path.
 #[derive(Debug, Drop)]
 pub struct Lock {
     /// The path of what is locked.
@@ -22,8 +22,9 @@ pub struct Lock {
     ghost beside: { path.items ≡ lock_of place.items },
 }
 
-/// Makes the lock of a place, an empty file; `None` where something stands at the lock's path already. It is `Failed` where no file may
-/// stand there or a call of the files failed, and `Memory` where no memory is left.
+/// Makes the lock of a place, an empty file; `None` if something is at the lock's path already.
+/// Returns `Failed` if the path may hold no file or a call of the files failed, and `Memory` if no
+/// memory is left.
 pub fn acquire<F: Files>(
     alloc: Global,
     files: &mut F,
@@ -68,7 +69,8 @@ fn lock_path(alloc: Global, place: &[u8]) -> Result<Vec<u8>, AllocError>
 }
 
 impl Lock {
-    /// Writes these bytes into the lock, in place of what it held. It is `Failed` where a call of the files failed.
+    /// Writes these bytes into the lock, in place of what it held. Returns `Failed` if a call of
+    /// the files failed.
     pub fn fill<F: Files>(
         &self,
         alloc: Global,
@@ -90,7 +92,7 @@ impl Lock {
         files.write(alloc, &self.path, bytes)
     }
 
-    /// Removes the lock. It is `Failed` where none stands or a call of the files failed.
+    /// Removes the lock. Returns `Failed` if there is none or a call of the files failed.
     pub fn give_back<F: Files>(&self, alloc: Global, files: &mut F) -> Result<(), FileError>
         ensures honest { F.is_honest files.old → F.is_honest files.new }
         ensures later { F.failures files.old ≤ F.failures files.new }
@@ -110,8 +112,8 @@ impl Lock {
         files.remove_file(alloc, &self.path)
     }
 
-    /// Puts the lock in its place, where a file that stood is replaced whole. It is `Failed` where a folder stands in the place or a
-    /// call of the files failed.
+    /// Puts the lock in its place, replacing a file there whole. Returns `Failed` if a folder is in
+    /// the place or a call of the files failed.
     pub fn put<F: Files>(&self, alloc: Global, files: &mut F) -> Result<(), FileError>
         ensures honest { F.is_honest files.old → F.is_honest files.new }
         ensures later { F.failures files.old ≤ F.failures files.new }

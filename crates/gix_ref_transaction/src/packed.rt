@@ -29,7 +29,7 @@ use thiserror::Error;
 /// Why a lock isn't held.
 #[derive(Debug, Clone, Copy, PartialEq, Eq, Error)]
 pub enum LockError {
-    /// Something stands at its path: another transaction holds it, or one was stopped.
+    /// Something is at its path: another transaction holds it, or one was stopped.
     #[error("the lock of the packed references is held already")]
     Held,
     /// It couldn't be made.
@@ -65,7 +65,7 @@ pub enum PrepareError {
 /// Why a transaction isn't committed.
 #[derive(Debug, Clone, Copy, PartialEq, Eq, Error)]
 pub enum CommitError {
-    /// The lock couldn't be put in its place, or given back.
+    /// The lock couldn't be put in its place, or removed.
     #[error("the packed references can't be replaced")]
     Commit,
     /// No memory is left.
@@ -76,7 +76,7 @@ pub enum CommitError {
 /// What becomes of a name's record.
 #[derive(Debug, Drop, PartialEq, Eq)]
 pub enum RecordEdit {
-    /// This record stands for its name, in place of any that stood.
+    /// The name gets this record, in place of any that it has.
     Write {
         /// Its name.
         name: FullName,
@@ -85,7 +85,7 @@ pub enum RecordEdit {
         /// The id of the object that a tag points to in the end.
         object: Option<ObjectId>,
     },
-    /// None stands for the name.
+    /// The name gets no record.
     Remove {
         /// The name.
         name: FullName,
@@ -134,8 +134,9 @@ pub struct Transaction {
 impl Transaction {
     ghost use Rattle.gix_ref_transaction.specs.PackedEdits.{IsBegun, IsReadAt, place_of, lock_path_of};
 
-    /// Makes the lock of the file at this place, and reads the file, whose ids are of this kind. `Held` where something stands at the
-    /// lock's path already; else the reasons of `Buffer::open`, where the lock has gone again.
+    /// Makes the lock of the file at this place, and reads the file, whose ids are of this kind.
+    /// Returns `Held` if something is at the lock's path already; the other errors are those of
+    /// `Buffer::open`, and the lock is then removed.
     pub fn new<F: Files>(
         alloc: Global,
         files: &mut F,
@@ -178,15 +179,17 @@ impl Transaction {
         &self.lock
     }
 
-    /// The records of the file, as they were when the transaction began; `None` where no file stood.
+    /// The records of the file, as they were when the transaction began; `None` if there was no
+    /// file.
     pub fn buffer(&self) -> Option<&Buffer>
         ensures { option_map (λ buffer. buffer.now) result ≡ self.now.buffer }
     {
         self.buffer.as_ref()
     }
 
-    /// Writes the text of the records under these edits into the lock; of several edits of a name the first counts. Without edits
-    /// nothing is written. `CloseLock` where the text couldn't be written; after an error the lock has gone.
+    /// Writes the text of the records under these edits into the lock; of several edits of a name
+    /// the first counts. Without edits nothing is written. Returns `CloseLock` if the text couldn't
+    /// be written. After an error the lock is removed.
     pub fn prepare<F: Files>(
         self,
         alloc: Global,
@@ -240,8 +243,9 @@ impl Transaction {
         }
     }
 
-    /// Puts the lock in the place of the file, where a text was written, and else gives it back: then the file stays. A stop leaves
-    /// the file as before or with the whole new text. After an error the lock has gone, as far as that succeeds.
+    /// Puts the lock in the place of the file if a text was written, and otherwise removes it: then
+    /// the file stays. A stop leaves the file as before or with the whole new text. After an error
+    /// the lock is removed, as far as that succeeds.
     pub fn commit<F: Files>(self, alloc: Global, files: &mut F) -> Result<(), CommitError>
         ensures honest { F.is_honest files.old → F.is_honest files.new }
         ensures later { F.failures files.old ≤ F.failures files.new }
@@ -329,7 +333,7 @@ fn take_lock<F: Files>(alloc: Global, files: &mut F, place: &[u8]) -> Result<Loc
     }
 }
 
-// Gives the lock of a file back that couldn't be opened, and tells why.
+// Removes the lock of a file that couldn't be opened, and returns why.
 fn unopened<F: Files>(alloc: Global, files: &mut F, lock: &Lock, error: buffer::Error) -> Error
     ensures honest { F.is_honest files.old → F.is_honest files.new }
     ensures later { F.failures files.old ≤ F.failures files.new }
@@ -433,7 +437,7 @@ fn new_records<'a>(
     }
 }
 
-// Gives back the lock of a transaction that isn't prepared, and tells why.
+// Removes the lock of a transaction that isn't prepared, and returns why.
 fn unprepared<F: Files>(
     alloc: Global,
     files: &mut F,
@@ -457,7 +461,7 @@ fn unprepared<F: Files>(
     }
 }
 
-// Puts the lock in its place, and gives it back where that fails.
+// Puts the lock in its place, and removes it if that fails.
 fn replace<F: Files>(alloc: Global, files: &mut F, lock: &Lock) -> Result<(), CommitError>
     ensures honest { F.is_honest files.old → F.is_honest files.new }
     ensures later { F.failures files.old ≤ F.failures files.new }

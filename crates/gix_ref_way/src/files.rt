@@ -9,7 +9,7 @@ use gix_ref_file::paths::{is_deeper, joined};
 use gix_ref_file::{FileError, Files, Place};
 use std::alloc::Global;
 
-/// Whether a file stands at the path.
+/// Returns whether a file exists at the path. Returns `Failed` only if a reading failed.
 pub fn is_file<F: Files>(files: &F, path: &[u8]) -> Result<bool, FileError>
     ensures found { Finds F.is_honest F.history files.now
         (λ tree. IfOk result (λ found. found ≡ is_file_at tree path.now)) }
@@ -22,7 +22,8 @@ pub fn is_file<F: Files>(files: &F, path: &[u8]) -> Result<bool, FileError>
     }
 }
 
-/// Whether a file stands where the path needs a folder.
+/// Returns whether a file exists where the path needs a folder. Returns `Failed` only if a reading
+/// failed.
 pub fn has_file_above<F: Files>(files: &F, path: &[u8]) -> Result<bool, FileError>
     ensures found { Finds F.is_honest F.history files.now
         (λ tree. IfOk result (λ found. TellsAbove path.now tree found)) }
@@ -38,7 +39,8 @@ pub fn has_file_above<F: Files>(files: &F, path: &[u8]) -> Result<bool, FileErro
     Ok(false)
 }
 
-/// Whether a file stands below a path that isn't the root's.
+/// Returns whether a file exists below a path that isn't the root's. Returns `Failed` only if a
+/// reading failed.
 pub fn has_file_below<F: Files>(alloc: Global, files: &F, path: &[u8]) -> Result<bool, FileError>
     ensures found { path.now ≢ [] → Finds F.is_honest F.history files.now
         (λ tree. IfOk result (λ found. TellsBelow path.now tree found)) }

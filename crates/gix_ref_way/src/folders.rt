@@ -1,4 +1,4 @@
-//! The folders that a file stands in.
+//! The folders that a file is in.
 ghost use Rattle.std.specs.Prelude.{◌≡◌, ◌≤◌, IfOk, OnOk, IsErrOf, IsTrue};
 ghost use Rattle.gix_ref_file.specs.Calls.{Achieves, Finds, HasFault, Passes};
 ghost use Rattle.gix_ref_file.specs.Tree.{is_path, parent, node_at, is_folder};
@@ -9,8 +9,9 @@ use gix_ref_file::paths::parent;
 use gix_ref_file::{FileError, Files, Place};
 use std::alloc::Global;
 
-/// Makes those folders of a path that are missing, the outermost first. Files stay. If the path's own folder exists, nothing else is
-/// asked. It is `Failed` if a file exists at one of the folders or a call of the files failed, and `Memory` if no memory is left.
+/// Makes those folders of a path that are missing, the outermost first. Files stay. If the path's
+/// own folder exists, no more calls are made. Returns `Failed` if a file exists at one of the
+/// folders or a call of the files failed, and `Memory` if no memory is left.
 pub fn make_folders<F: Files>(alloc: Global, files: &mut F, path: &[u8]) -> Result<(), FileError>
     ensures honest { F.is_honest files.old → F.is_honest files.new }
     ensures moments { Passes F.is_honest F.history files.old files.new SameFiles }
@@ -32,7 +33,7 @@ pub fn make_folders<F: Files>(alloc: Global, files: &mut F, path: &[u8]) -> Resu
     make_each(alloc, files, path)
 }
 
-// Makes those folders of a path that are missing, and asks for each.
+// Makes those folders of a path that are missing, and tests each.
 fn make_each<F: Files>(alloc: Global, files: &mut F, path: &[u8]) -> Result<(), FileError>
     ensures honest { F.is_honest files.old → F.is_honest files.new }
     ensures moments { Passes F.is_honest F.history files.old files.new SameFiles }
@@ -55,7 +56,7 @@ fn make_each<F: Files>(alloc: Global, files: &mut F, path: &[u8]) -> Result<(), 
     Ok(())
 }
 
-// Whether a folder exists at the path.
+// Returns whether a folder exists at the path.
 fn is_folder<F: Files>(files: &F, path: &[u8]) -> Result<bool, FileError>
     ensures found { Finds F.is_honest F.history files.now (λ tree.
         IfOk result (λ found. found ≡ is_folder (node_at tree path.now))) }
@@ -67,7 +68,7 @@ fn is_folder<F: Files>(files: &F, path: &[u8]) -> Result<bool, FileError>
     }
 }
 
-// Makes a folder where nothing stands.
+// Makes a folder if nothing is there.
 fn make_folder<F: Files>(alloc: Global, files: &mut F, folder: &[u8]) -> Result<(), FileError>
     ensures honest { F.is_honest files.old → F.is_honest files.new }
     ensures moments { Passes F.is_honest F.history files.old files.new SameFiles }

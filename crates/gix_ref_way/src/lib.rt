@@ -1,4 +1,4 @@
-//! The way of a file: the folders that it stands in, folders that stand in its place, and files that are in the way.
+//! The way of a file: the folders that it is in, folders in its place, and files that block it.
 #![tactic(auto)]
 
 mod anew;

@@ -1,4 +1,4 @@
-//! The way of a file: the folders that it stands in, and no folder in its place.
+//! The way of a file: the folders that it is in, and no folder in its place.
 ghost use Rattle.std.specs.Prelude.{◌≡◌, ◌≢◌, ◌≤◌, [], IfOk, OnOk, IsErrOf, IsTrue, Some};
 ghost use Rattle.std.specs.FinMap.{get};
 ghost use Rattle.gix_ref_file.specs.Tree.{folder, is_path};
@@ -12,8 +12,9 @@ use gix_ref_file::paths::{is_deeper, joined};
 use gix_ref_file::{FileError, Files, Place};
 use std::alloc::Global;
 
-/// Makes room for a file: the folder in its place goes, with those below it, and the folders that it stands in are made. Files stay.
-/// It is `Failed` where a file stands above or below the path, or a call of the files failed, and `Memory` where no memory is left.
+/// Makes room for a file: the folder in its place goes, with those below it, and the folders that
+/// it is in are made. Files stay. Returns `Failed` if a file exists above or below the path, or a
+/// call of the files failed, and `Memory` if no memory is left.
 pub fn make_way<F: Files>(alloc: Global, files: &mut F, path: &[u8]) -> Result<(), FileError>
     ensures honest { F.is_honest files.old → F.is_honest files.new }
     ensures moments { Passes F.is_honest F.history files.old files.new SameFiles }
@@ -37,7 +38,7 @@ pub fn make_way<F: Files>(alloc: Global, files: &mut F, path: &[u8]) -> Result<(
     }
 }
 
-// Makes room where a folder may be.
+// Makes room for a file if a folder may be in its place.
 fn make_room<F: Files>(alloc: Global, files: &mut F, path: &[u8]) -> Result<(), FileError>
     ensures honest { F.is_honest files.old → F.is_honest files.new }
     ensures moments { Passes F.is_honest F.history files.old files.new SameFiles }
@@ -57,8 +58,8 @@ fn make_room<F: Files>(alloc: Global, files: &mut F, path: &[u8]) -> Result<(), 
     make_folders(alloc, files, path)
 }
 
-// Removes the folder at a path and those below it, the deepest first, where a folder stands there; the root stays.
-// `Failed` where a file stands below it.
+// Removes the folder at a path, if one is there, and those below it, the deepest first; the root
+// stays. Returns `Failed` if a file is below it.
 fn clear_way<F: Files>(alloc: Global, files: &mut F, place: &[u8]) -> Result<(), FileError>
     ensures honest { F.is_honest files.old → F.is_honest files.new }
     ensures moments { Passes F.is_honest F.history files.old files.new (ClearsWay place.now) }

@@ -14,12 +14,12 @@ use std::alloc::{AllocError, Global};
 // How to undo a change.
 #[derive(Debug, Drop)]
 pub enum Undo {
-    // Puts back what stood at a path.
+    // Restores what was at a path.
     Restore {
         path: Vec<u8>,
         before: Option<Entry>,
     },
-    // Gives a file its old path again, and puts back what stood at the new one.
+    // Gives a file its old path again, and restores what was at the new one.
     Return {
         from: Vec<u8>,
         to: Vec<u8>,
@@ -47,7 +47,7 @@ impl MemoryFiles {
         Ok(())
     }
 
-    // Puts a file at a path where no folder stands, and answers whether none does.
+    // Puts a file at a path unless a folder is there, and returns whether none is.
     pub fn put_file(&mut self, alloc: Global, path: &[u8], bytes: &[u8]) -> Result<bool, AllocError>
         ensures free { IfOk result (λ free. free
             ≡ not (is_folder (map.get self.old.nodes path.now))) }
@@ -69,7 +69,7 @@ impl MemoryFiles {
         Ok(true)
     }
 
-    // Takes away what stands at a path.
+    // Removes what is at a path.
     pub fn take(&mut self, path: &[u8]) -> Result<(), AllocError>
         requires { IsSome (map.get self.old.nodes path.now) }
         ensures ok { OnOk result (Steps (history_of self.old) (history_of self.new)
@@ -87,7 +87,7 @@ impl MemoryFiles {
         Ok(())
     }
 
-    // Gives a file another path where no folder stands, and answers whether none does.
+    // Gives a file another path unless a folder is there, and returns whether none is.
     pub fn move_file(&mut self, alloc: Global, from: &[u8], to: &[u8]) -> Result<bool, AllocError>
         requires there { IsTrue (is_file_at self.old.nodes from.now) }
         requires apart { IsFalse (same_path from.now to.now) }
@@ -113,7 +113,7 @@ impl MemoryFiles {
         Ok(true)
     }
 
-    // Puts bytes behind those of a file, and answers whether one stands there.
+    // Appends bytes to a file, and returns whether there is one.
     pub fn lengthen(&mut self, alloc: Global, path: &[u8], bytes: &[u8]) -> Result<bool, AllocError>
         ensures found { IsRooted self.old.nodes
             → IfOk result (λ found. found ≡ is_file_at self.old.nodes path.now) }

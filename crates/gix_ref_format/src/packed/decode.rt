@@ -17,8 +17,8 @@ use gix_hash::{Kind, ObjectId};
 use gix_ref_name::FullNameRef;
 
 impl Header {
-    /// The header that a first line is, its line feed included: `# pack-refs with:` and words, of which `peeled`,
-    /// `fully-peeled` and `sorted` have a meaning. `None` where it is no header.
+    /// The header that a first line is, its line feed included: `# pack-refs with:` and words, of
+    /// which `peeled`, `fully-peeled` and `sorted` have a meaning. `None` if it is no header.
     pub fn from_line(line: &[u8]) -> Option<Header>
         ensures { result ≡ header_line line.now }
     {
@@ -52,14 +52,14 @@ fn peeled_in(words: &[u8]) -> Peeled
     }
 }
 
-// Whether the word is one of those between spaces.
+// Returns whether the word is one of those between spaces.
 fn has_word(words: &[u8], word: &[u8]) -> bool
     ensures { result ≡ is_among (slice_split (λ byte. byte == 32) words.now) word.now }
 {
     words.split(|byte| *byte == b' ').any(|other| other == word)
 }
 
-/// The name and the id that a line tells, its line feed included; `None` where it is no record.
+/// The name and the id that a line holds, its line feed included; `None` if it is no record.
 pub(crate) fn record_in_line(line: &[u8], kind: Kind) -> Option<(FullNameRef<'_>, ObjectId)>
     ensures { option_map (λ r. without_peel (name_of r.0) (id_of r.1)) result
         ≡ record_line kind line.now }
@@ -79,7 +79,7 @@ fn record_in(text: &[u8], kind: Kind) -> Option<(FullNameRef<'_>, ObjectId)>
     }
 }
 
-// The first bytes, and what follows the space behind them; `None` where no space stands there.
+// The first bytes, and what follows the space after them; `None` if no space is there.
 fn split_at_space(text: &[u8], at: usize) -> Option<(&[u8], &[u8])>
     ensures { MatchOption result (IsFalse (begins (32 ∷ []) (drop at text.now)))
         (λ cut. IsTrue (begins (32 ∷ []) (drop at text.now)) × (cut.0.now ≡ take at text.now)
@@ -93,7 +93,7 @@ fn split_at_space(text: &[u8], at: usize) -> Option<(&[u8], &[u8])>
     }
 }
 
-/// The peeled id that a line tells, its line feed included; `None` where it tells none.
+/// The peeled id that a line holds, its line feed included; `None` if it holds none.
 pub(crate) fn peel_in_line(line: &[u8], kind: Kind) -> Option<ObjectId>
     ensures { option_map id_of result ≡ peel_line kind line.now }
 {

@@ -28,7 +28,8 @@ pub enum FindError {
 }
 
 impl Buffer {
-    /// The record that this name stands for, as `try_find` has it; `NotFound` where there is none.
+    /// The record that this name means, as `try_find` returns it; `NotFound` if there is none,
+    /// `Memory` if no memory is left.
     pub fn find(&self, alloc: Global, name: PartialNameRef<'_>) -> Result<Reference<'_>, FindError>
         ensures found { IfOk result
             (λ r. first_hit (kept self.now) (lookup_names (part_of name.entry))
@@ -42,9 +43,10 @@ impl Buffer {
         }
     }
 
-    /// The record that this name stands for: of a name that begins `refs/`, one of another worktree and one of capital letters
-    /// its own; else the first of those below `refs/`, `refs/tags/`, `refs/heads/` and `refs/remotes/`, and of its `HEAD` below
-    /// the last. `None` where there is none, as for names of which each worktree has its own.
+    /// The record that this name means. A name that begins `refs/`, one of another worktree and one
+    /// of capital letters mean their own. Any other means the first of those below `refs/`,
+    /// `refs/tags/`, `refs/heads/` and `refs/remotes/`, and of its `HEAD` below the last. Returns
+    /// `None` if there is no record, as for names of which each worktree has its own.
     pub fn try_find(
         &self,
         alloc: Global,
@@ -125,8 +127,9 @@ impl Buffer {
         }
     }
 
-    /// The record of this name; the first in the file where several have it. `None` where none has, and for names of which each
-    /// worktree has its own. It takes as many comparisons as the number of records has binary digits.
+    /// The record of this name; the first in the file if several have it. Returns `None` if none
+    /// has it, and for names of which each worktree has its own. It takes as many comparisons as
+    /// the number of records has binary digits.
     pub fn try_find_full_name(&self, name: FullNameRef<'_>) -> Option<Reference<'_>>
         ensures { option_map record_of result ≡ packed_hit (kept self.now) (name_of name.entry) }
     {

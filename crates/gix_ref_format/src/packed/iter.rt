@@ -43,7 +43,8 @@ pub struct Iter<'a> {
 }
 
 impl<'a> Iter<'a> {
-    /// The records of these bytes, whose ids are of this kind; `Header` where the first line begins with `#` and is no header.
+    /// The records of these bytes, whose ids are of this kind; `Header` if the first line begins
+    /// with `#` and is no header.
     pub fn new(packed: &'a [u8], kind: Kind) -> Result<Iter<'a>, Error<'a>>
         ensures { MatchResult result (λ it. packed_items kind packed.now ≡ Some (items_left it))
             (λ error. (packed_items kind packed.now ≡ None) × IsHeaderFault packed.now error) }
@@ -71,7 +72,7 @@ impl<'a> Iter<'a> {
         }
     }
 
-    // What stands behind the line that comes next, given what follows it.
+    // What follows the line that comes next, given the rest of the bytes.
     fn behind(&self, rest: &'a [u8]) -> Iter<'a>
         ensures left { items_left result
             ≡ items self.now.kind (next_number self.now.line_number) false (lines rest.now) }
@@ -104,7 +105,7 @@ impl<'a> Iterator for Iter<'a> {
     }
 }
 
-// The first item, and what comes behind it.
+// The first item, and what follows it.
 fn first<'a>(before: Iter<'a>) -> (Result<Reference<'a>, Error<'a>>, Iter<'a>)
     requires { before.rest.now ≢ [] }
     ensures { items_left before.entry ≡ item_view result.0 ∷ items_left result.1 }
@@ -133,7 +134,7 @@ fn bad<'a>(line: &'a [u8], line_number: u64) -> Error<'a>
     }
 }
 
-// The peeled id in the line that comes next, if it tells one, and what comes behind it.
+// The peeled id in the line that comes next, if it has one, and what follows it.
 fn peeled<'a>(before: Iter<'a>) -> (Option<ObjectId>, Iter<'a>)
     ensures { HasPeel before.entry.kind before.entry.line_number (lines before.entry.rest.now)
         (option_map id_of result.0) (items_left result.1) }

@@ -16,8 +16,9 @@ use gix_ref_file::{FileError, Files};
 use std::alloc::{AllocError, Global};
 
 impl Buffer {
-    /// The buffer of these bytes, which are taken over, with ids of this kind. It reads each line once: the first bad one is told
-    /// by its number (`Iter`), a first line that begins with `#` and is no header is `HeaderParsing`.
+    /// The buffer of these bytes, which are taken over, with ids of this kind. It reads each line
+    /// once. Returns `Iter` with the number of the first bad line, and `HeaderParsing` if the first
+    /// line begins with `#` and is no header; and `Memory` if no memory is left.
     pub fn from_bytes(alloc: Global, bytes: Vec<u8>, kind: Kind) -> Result<Buffer, Error>
         ensures kept { MatchResult result (λ buffer. Keeps kind bytes.items (kept buffer))
             (OpenFault kind bytes.items) }
@@ -27,8 +28,8 @@ impl Buffer {
         Ok(Buffer { bytes, entries })
     }
 
-    /// The buffer of the file at this path, with ids of this kind; `None` where no file stands. `Io` where the file couldn't be
-    /// read, else the reasons of `from_bytes`.
+    /// The buffer of the file at this path, with ids of this kind; `None` if there is no file.
+    /// Returns `Io` if the file couldn't be read; the other errors are those of `from_bytes`.
     pub fn open<F: Files>(
         alloc: Global,
         files: &F,

@@ -50,7 +50,7 @@ impl Buffer {
     }
 }
 
-// The entries whose names begin with this prefix, where they come before all others.
+// The entries whose names begin with this prefix, if they come before all others.
 fn beginning<'a>(entries: &'a [Entry], prefix: &[u8]) -> &'a [Entry]
     ensures { IsPartitionedBy (has_prefix prefix.now) entries.now
         → result.now ≡ filter (has_prefix prefix.now) entries.now }
@@ -60,7 +60,7 @@ fn beginning<'a>(entries: &'a [Entry], prefix: &[u8]) -> &'a [Entry]
     found
 }
 
-// Whether its name begins with this prefix.
+// Returns whether its name begins with this prefix.
 fn begins(entry: &Entry, prefix: &[u8]) -> bool
     ensures { result ≡ has_prefix prefix.now entry.now }
 {

@@ -9,7 +9,7 @@ pub enum IoError {
     /// A reading failed, or was refused memory.
     #[error("the log couldn't be read")]
     Reader(FileError),
-    /// Fewer bytes came than the log's length told.
+    /// Fewer bytes came than the log's length says.
     #[error("the log is shorter than it told")]
     Short,
     /// The buffer has no room for any byte.

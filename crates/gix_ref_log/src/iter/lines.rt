@@ -16,7 +16,7 @@ use gix_object_lines::cut::split_once;
 /// The lines of a log, the first first.
 #[derive(Debug, Clone, Copy)]
 pub struct Forward<'a> {
-    // `None` where no line is left.
+    // `None` if no line is left.
     pub(crate) rest: Option<&'a [u8]>,
     pub(crate) given: usize,
 }
@@ -42,7 +42,8 @@ impl<'a> Iterator for Forward<'a> {
     }
 }
 
-// What stands before the first line feed, and what stands behind it; all of it, and `None`, where it has none.
+// What comes before the first line feed, and what follows it; all of it, and `None`, if it has
+// none.
 fn first_line(text: &[u8]) -> (&[u8], Option<&[u8]>)
     ensures { slice_split is_feed text.now
         ≡ result.0.now ∷ lines_of_rest (option_map (λ rest. rest.now) result.1) }

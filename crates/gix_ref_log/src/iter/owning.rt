@@ -15,8 +15,8 @@ use crate::iter::reader::ReadAt;
 use crate::line::decode::read_line;
 use std::alloc::Global;
 
-/// Where the last line of the log's bytes before `end` begins in the buffer, where it ends there, and a copy of it, `None`
-/// where it is no line of a log.
+/// Where the last line of the log's bytes before `end` begins in the buffer, where it ends there,
+/// and a copy of it, `None` if it is no line of a log.
 pub(crate) fn read_last<R: ReadAt>(
     alloc: Global,
     log: &R,
@@ -49,7 +49,7 @@ pub(crate) fn read_last<R: ReadAt>(
     Ok((start, held, line))
 }
 
-// A copy of the line that the text spells, and `None` where it spells none.
+// A copy of the line that the text spells, and `None` if it spells none.
 fn own_line(alloc: Global, text: &[u8]) -> Result<Option<Line>, Error>
     ensures own { IfOk result (λ line. IsCopied text.now line) }
     ensures refused { IfErr result (λ error. error ≡ Memory) }

@@ -1,4 +1,4 @@
-//! Where the last line of some bytes of a log stands in a buffer.
+//! Where the last line of some bytes of a log is in a buffer.
 
 ghost use Rattle.std.specs.Prelude.{◌≡◌, ◌≢◌, ◌≤◌, false, length, min, IfOk, IfErr, IsErrOf, MatchOption};
 ghost use Rattle.gix_object_lines.specs.Bytes.{Lacks};
@@ -11,8 +11,9 @@ use crate::iter::error::IoError;
 use crate::iter::reader::ReadAt;
 use memchr::memrchr;
 
-/// Where the last line of the log's bytes before `end` begins in the buffer, and where it ends there: the buffer is read
-/// anew where it doesn't hold the line whole, and then holds as many of these bytes as it has room for.
+/// Where the last line of the log's bytes before `end` begins in the buffer, and where it ends
+/// there: the buffer is read anew if it doesn't hold the line whole, and then holds as many of
+/// these bytes as it has room for.
 pub(crate) fn last_line<R: ReadAt>(
     log: &R,
     end: u64,
@@ -43,7 +44,7 @@ pub(crate) fn last_line<R: ReadAt>(
     }
 }
 
-// Where the last line begins, if a line feed stands before it or the bytes are all that there are.
+// Where the last line begins, if a line feed is before it or the bytes are all that there are.
 fn line_start(bytes: &[u8], is_all: bool) -> Option<usize>
     ensures { MatchOption result ((is_all ≡ false) × Lacks 10 bytes.now)
         (IsLineStart bytes.now is_all) }

@@ -25,8 +25,8 @@ pub trait ReadAt {
         ensures told { is_honest self.now → IfOk result (λ len. len ≡ length (contents self.now)) }
         ensures failed { IsErrOf result Failed → may_fail };
 
-    /// Puts bytes from `at` on into the beginning of the buffer and returns how many: as many as fit, where it gives all. The rest
-    /// of the buffer stays as it was.
+    /// Puts bytes from `at` on into the beginning of the buffer and returns how many: as many as
+    /// fit, if it gives all. The rest of the buffer stays as it was.
     fn read_at(&self, at: u64, buffer: &mut [u8]) -> Result<usize, FileError>
         ensures count { is_honest self.now → gives_all
             → IfOk result (λ n. n ≡ length (part (contents self.now) at (length buffer.old))) }
@@ -61,7 +61,7 @@ impl ReadAt for &[u8] {
     }
 }
 
-/// The file at a path, which has no bytes where none stands.
+/// The file at a path, which has no bytes if there is none.
 #[derive(Debug, Drop)]
 pub struct FileAt<'a, F> {
     /// The files.

@@ -19,11 +19,12 @@ use gix_object_lines::lines::read_actor;
 pub struct Error;
 
 impl<'a> LineRef<'a> {
-    /// The line that a text spells, with or without the line feed that ends it: the id before the update, the id after it,
-    /// who made it and when, and, behind the first tab, the message. A line without a tab has the empty message.
+    /// The line that a text spells, with or without the line feed that ends it: the id before the
+    /// update, the id after it, who made it and when, and, after the first tab, the message. A line
+    /// without a tab has the empty message.
     ///
-    /// The ids are 40 or 64 hexadecimal digits, in any letter case. A carriage return is a byte of the message like any
-    /// other. All else is an error, as is a line feed before the end.
+    /// The ids are 40 or 64 hexadecimal digits, in any letter case. A carriage return is a byte of
+    /// the message like any other. All else is an error, as is a line feed before the end.
     pub fn from_bytes(input: &'a [u8]) -> Result<LineRef<'a>, Error>
         ensures read { IfOk result
             (λ line. SpellsLine (without_last_feed input.now) (parts_of line)) }
@@ -34,7 +35,7 @@ impl<'a> LineRef<'a> {
     }
 }
 
-/// The text without the line feed that ends it, where one does.
+/// The text without the line feed that ends it, if one does.
 pub(crate) fn without_feed(input: &[u8]) -> &[u8]
     ensures bytes { result.now ≡ without_last_feed input.now }
     ensures shorter { length result.now ≤ length input.now }
@@ -64,7 +65,7 @@ pub(crate) fn read_line(line: &[u8]) -> Option<LineRef<'_>>
     })
 }
 
-// What stands before the first tab, and behind it: the whole line and nothing, where it has none.
+// What comes before the first tab, and after it: the whole line and nothing, if it has none.
 fn cut_message(line: &[u8]) -> (&[u8], &[u8])
     ensures { IsMessageCut line.now result.0.now result.1.now }
 {
@@ -74,7 +75,7 @@ fn cut_message(line: &[u8]) -> (&[u8], &[u8])
     }
 }
 
-// The digits of two ids with a space behind each, and what follows.
+// The digits of two ids with a space after each, and what follows.
 fn cut_ids(front: &[u8]) -> Option<(&[u8], &[u8], &[u8])>
     ensures { MatchOption result
         ((before after actor : List ℕ) → ¬ IsIdsCut front.now before after actor)

@@ -11,9 +11,9 @@ use gix_object_lines::text::own_text;
 use std::alloc::{AllocError, Global};
 
 impl LineRef<'_> {
-    /// The line with copies of its parts. It is `HexDigits` where one of the ids is no id's digits, and else `InvalidTime`
-    /// where the text of the time tells none, neither of which a line that was read is; and else `Memory` where no memory is
-    /// left.
+    /// The line with copies of its parts. Returns `HexDigits` if one of the ids is no id's digits,
+    /// and otherwise `InvalidTime` if the text of the time is none; neither happens for a line that
+    /// was read. Returns `Memory` if no memory is left.
     pub fn to_owned(self, alloc: Global) -> Result<Line, Error>
         ensures own { IfOk result (IsLineOf (parts_of self.entry)) }
         ensures refused { IfErr result (OwningFault (parts_of self.entry)) }

@@ -33,12 +33,13 @@ pub enum Error {
 }
 
 impl Line {
-    /// Appends the line: both ids in lower-case hexadecimal and the signature, each with one space between, a tab, the
-    /// message, which may be empty, and a line feed. It is read back where neither name nor email holds a tab:
-    /// `laws::written_line_is_read_back`.
+    /// Appends the line: both ids in lower-case hexadecimal and the signature, each with one space
+    /// between, a tab, the message, which may be empty, and a line feed. It is read back if neither
+    /// name nor email holds a tab: `laws::written_line_is_read_back`.
     ///
-    /// It is `MessageWithNewlines` where the message holds a line feed, and else `Unspellable` where the signature has no
-    /// spelling; nothing is then written. A writer that fails has taken a beginning of the line.
+    /// Returns `MessageWithNewlines` if the message holds a line feed, and otherwise `Unspellable`
+    /// if the signature has no spelling; nothing is then written. A writer that fails has taken a
+    /// beginning of the line.
     pub fn write_to<W: io::Write>(&self, out: &mut W) -> Result<(), Error>
         ensures written { WritesLogLine (W.contents out.old) (W.contents out.new) self.now result }
         ensures unchanged_by_message { IsErrOf result MessageWithNewlines → out.new ≡ out.old }
@@ -116,7 +117,7 @@ fn write_message<W: io::Write>(message: &[u8], out: &mut W) -> io::Result<()>
     write_bytes(out, b"\n")
 }
 
-// Whether the signature has a spelling.
+// Returns whether the signature has a spelling.
 fn is_spellable(actor: &Actor) -> bool
     ensures { IsTrue result ↔ IsSpellable actor.now.name actor.now.email actor.now.time }
 {

@@ -10,7 +10,7 @@ use bstr::BStr;
 use gix_object_lines::cut::{split_once, starts_with, strip_prefix};
 use gix_object_lines::lines::is_capitals;
 
-/// The category of a name and its short name; `None` where it has none.
+/// The category of a name and its short name; `None` if it has none.
 pub(crate) fn category_of(name: &[u8]) -> Option<(Category<'_>, BStr<'_>)>
     ensures { MatchOption result (HasNoCategory name.now)
         (λ found. Tells name.now found.0 (bstr_bytes found.1)) }
@@ -55,7 +55,7 @@ fn kept_apart(name: &[u8]) -> Option<(Category<'_>, BStr<'_>)>
     Some((category, BStr::new(short)))
 }
 
-// The category of a name that begins so behind `refs/`.
+// The category of a name that begins so after `refs/`.
 fn below_refs(short: &[u8]) -> Option<Category<'_>>
     ensures { MatchOption result (NoWord short.now) (λ category. HasWord category short.now) }
 {

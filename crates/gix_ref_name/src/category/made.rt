@@ -35,7 +35,7 @@ impl Category<'_> {
         }
     }
 
-    /// Whether each worktree has names of the category of its own.
+    /// Returns whether each worktree has names of the category of its own.
     pub fn is_worktree_private(&self) -> bool
         ensures { result ≡ spec.is_private self.now }
     {
@@ -55,16 +55,17 @@ impl Category<'_> {
         }
     }
 
-    /// Whether it is the category of remote-tracking branches.
+    /// Returns whether it is the category of remote-tracking branches.
     pub fn is_remote_tracking_branch(&self) -> bool
         ensures { result ≡ spec.is_remote self.now }
     {
         matches!(self, Category::RemoteBranch)
     }
 
-    /// The name of this category with this short name, as `category_and_short_name` gives both. A short name may leave
-    /// out the word that the front ends with, as `notes/`, or be a full name of the category already. `Invalid` where the
-    /// whole is no full name.
+    /// The name of this category with this short name, as `category_and_short_name` returns both. A
+    /// short name may leave out the word that the front ends with, as `notes/`, or be a full name
+    /// of the category already. Returns `Invalid` if the whole is no full name, and `Memory` if no
+    /// memory is left.
     pub fn to_full_name(&self, alloc: Global, short: BStr<'_>) -> Result<FullName, Error>
         ensures { Makes is_full_name (spec.full_text self.now (bstr_bytes short.entry)) result }
     {

@@ -38,7 +38,8 @@ impl FullName {
     ghost use Rattle.gix_ref_name.specs.Namespaces.{outside_of};
     ghost use Rattle.gix_ref_name.specs.Categories.{Tells, HasNoCategory, IsShortName};
 
-    /// The name of these bytes, which are taken over; `InvalidName` where they break a rule of full names.
+    /// The name of these bytes, which are taken over; `InvalidName` if they break a rule of full
+    /// names.
     pub fn new(bytes: ByteString) -> Result<FullName, InvalidName>
         ensures { MatchResult result (λ name. (name ≡ bytes) × IsTrue (is_full_name bytes))
             (λ _. IsFalse (is_full_name bytes)) }
@@ -50,7 +51,8 @@ impl FullName {
         }
     }
 
-    /// The name of a copy of these bytes: `Invalid` where they break a rule of full names.
+    /// The name of a copy of these bytes; `Invalid` if they break a rule of full names, `Memory` if
+    /// no memory is left.
     pub fn from_bytes(alloc: Global, bytes: &[u8]) -> Result<FullName, Error>
         ensures { Makes is_full_name bytes.now result }
     {
@@ -103,8 +105,8 @@ impl FullName {
         self.as_ref().as_partial_name()
     }
 
-    /// The name in the namespace: its front is put before the name, unless the name begins with it. `Invalid` where
-    /// that breaks a rule of full names.
+    /// The name in the namespace: its front is put before the name, unless the name begins with it.
+    /// Returns `Invalid` if that breaks a rule of full names, and `Memory` if no memory is left.
     pub fn prefix_namespace(&self, alloc: Global, namespace: &Namespace) -> Result<FullName, Error>
         ensures { Makes is_full_name (with_front namespace.now self.now) result }
     {
@@ -117,8 +119,8 @@ impl FullName {
         }
     }
 
-    /// The name without the namespace's front. It is the same name where it doesn't begin with the front, and where what
-    /// is left is no full name.
+    /// The name without the namespace's front. It is the same name if it doesn't begin with the
+    /// front, or if what is left is no full name.
     pub fn strip_namespace(
         &self,
         alloc: Global,
@@ -133,7 +135,7 @@ impl FullName {
         }
     }
 
-    /// The name's category and its short name; `None` where it has no category.
+    /// The name's category and its short name; `None` if it has no category.
     pub fn category_and_short_name(&self) -> Option<(Category<'_>, BStr<'_>)>
         ensures { MatchOption result (HasNoCategory self.now)
             (λ found. Tells self.now found.0 (bstr_bytes found.1)) }
@@ -141,7 +143,7 @@ impl FullName {
         self.as_ref().category_and_short_name()
     }
 
-    /// The name's category; `None` where it has none.
+    /// The name's category; `None` if it has none.
     pub fn category(&self) -> Option<Category<'_>>
         ensures { MatchOption result (HasNoCategory self.now)
             (λ category. (short : List ℕ) × Tells self.now category short) }
@@ -149,7 +151,7 @@ impl FullName {
         self.as_ref().category()
     }
 
-    /// The short name, and the whole where the name has no category.
+    /// The short name, and the whole if the name has no category.
     pub fn shorten(&self) -> BStr<'_>
         ensures { IsShortName self.now (bstr_bytes result) }
     {

@@ -19,7 +19,7 @@ use std::alloc::{AllocError, Global};
 use std::fmt;
 
 impl<'a> FullNameRef<'a> {
-    /// The view of these bytes; `InvalidName` where they break a rule of full names.
+    /// The view of these bytes; `InvalidName` if they break a rule of full names.
     pub fn new(bytes: &'a [u8]) -> Result<FullNameRef<'a>, InvalidName>
         ensures { MatchResult result
             (λ name. (name_of name ≡ bytes.now) × IsTrue (is_full_name bytes.now))
@@ -56,7 +56,7 @@ impl<'a> FullNameRef<'a> {
         PartialNameRef { bytes: self.bytes }
     }
 
-    /// The name's category and its short name; `None` where it has no category.
+    /// The name's category and its short name; `None` if it has no category.
     pub fn category_and_short_name(self) -> Option<(Category<'a>, BStr<'a>)>
         ensures { MatchOption result (HasNoCategory (name_of self.entry))
             (λ found. Tells (name_of self.entry) found.0 (bstr_bytes found.1)) }
@@ -64,7 +64,7 @@ impl<'a> FullNameRef<'a> {
         category_of(self.bytes.as_bytes())
     }
 
-    /// The name's category; `None` where it has none.
+    /// The name's category; `None` if it has none.
     pub fn category(self) -> Option<Category<'a>>
         ensures { MatchOption result (HasNoCategory (name_of self.entry))
             (λ category. (short : List ℕ) × Tells (name_of self.entry) category short) }
@@ -73,7 +73,7 @@ impl<'a> FullNameRef<'a> {
         Some(category)
     }
 
-    /// The short name, and the whole where the name has no category.
+    /// The short name, and the whole if the name has no category.
     pub fn shorten(self) -> BStr<'a>
         ensures { IsShortName (name_of self.entry) (bstr_bytes result) }
     {

@@ -2,7 +2,7 @@
 
 use thiserror::Error;
 
-/// Bytes that are no name of the kind that was asked for.
+/// Bytes that are no name of the wanted kind.
 #[derive(Debug, Clone, Copy, PartialEq, Eq, Error)]
 #[error("the bytes break a rule of reference names")]
 pub struct InvalidName;

@@ -33,7 +33,8 @@ impl Model for PartialName {
 impl PartialName {
     ghost use Rattle.gix_ref_name.specs.Names.{part_of, Makes};
 
-    /// The name of these bytes, which are taken over; `InvalidName` where they break a rule of partial names.
+    /// The name of these bytes, which are taken over; `InvalidName` if they break a rule of partial
+    /// names.
     pub fn new(bytes: ByteString) -> Result<PartialName, InvalidName>
         ensures { MatchResult result (λ name. (name ≡ bytes) × IsTrue (is_partial_name bytes))
             (λ _. IsFalse (is_partial_name bytes)) }
@@ -45,7 +46,8 @@ impl PartialName {
         }
     }
 
-    /// The name of a copy of these bytes: `Invalid` where they break a rule of partial names.
+    /// The name of a copy of these bytes; `Invalid` if they break a rule of partial names, `Memory`
+    /// if no memory is left.
     pub fn from_bytes(alloc: Global, bytes: &[u8]) -> Result<PartialName, Error>
         ensures { Makes is_partial_name bytes.now result }
     {
@@ -58,7 +60,7 @@ impl PartialName {
         }
     }
 
-    /// The name, a slash and the component: `Invalid` where that breaks a rule of partial names.
+    /// The name, a slash and the component; `Invalid` if that breaks a rule of partial names.
     pub fn join(self, component: BStr<'_>) -> Result<PartialName, Error>
         ensures { Makes is_partial_name (self ++ 47 ∷ bstr_bytes component.entry) result }
     {
@@ -117,7 +119,7 @@ fn joined(mut bytes: Vec<u8>, component: &[u8]) -> Result<ByteString, AllocError
 impl<'a> PartialNameRef<'a> {
     ghost use Rattle.gix_ref_name.specs.Names.{name_of, part_of};
 
-    /// The view of these bytes; `InvalidName` where they break a rule of partial names.
+    /// The view of these bytes; `InvalidName` if they break a rule of partial names.
     pub fn new(bytes: &'a [u8]) -> Result<PartialNameRef<'a>, InvalidName>
         ensures { MatchResult result
             (λ name. (part_of name ≡ bytes.now) × IsTrue (is_partial_name bytes.now))

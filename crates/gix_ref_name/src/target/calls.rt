@@ -14,7 +14,7 @@ use std::alloc::{AllocError, Global};
 use std::fmt;
 
 impl Target {
-    /// Whether it is an object or a name.
+    /// Returns whether it is an object or a name.
     pub fn kind(&self) -> Kind
         ensures { result ≡ kind_of (target_view self.now) }
     {
@@ -24,7 +24,7 @@ impl Target {
         }
     }
 
-    /// Whether it is the null id of its hash function.
+    /// Returns whether it is the null id of its hash function.
     pub fn is_null(&self) -> bool
         ensures { IsTrue result ↔ IsNull (target_view self.now) }
     {
@@ -44,7 +44,7 @@ impl Target {
         }
     }
 
-    /// The object's id; `None` where it is a name.
+    /// The object's id; `None` if it is a name.
     pub fn try_id(&self) -> Option<oid<'_>>
         ensures { option_map viewed_id result ≡ id_in (target_view self.now) }
     {
@@ -65,7 +65,7 @@ impl Target {
         }
     }
 
-    /// The name; `None` where it is an object.
+    /// The name; `None` if it is an object.
     pub fn try_name(&self) -> Option<FullNameRef<'_>>
         ensures { option_map name_of result ≡ name_in (target_view self.now) }
     {
@@ -75,7 +75,7 @@ impl Target {
         }
     }
 
-    /// The object's id, taken out; the target itself where it is a name.
+    /// The object's id, taken out; the target itself if it is a name.
     pub fn try_into_id(self) -> Result<ObjectId, Target>
         ensures { MatchResult result (λ id. target_view self ≡ ToObject (id_of id))
             (λ target. (target ≡ self) × (id_in (target_view self) ≡ None)) }
@@ -109,7 +109,7 @@ impl Target {
 }
 
 impl<'a> TargetRef<'a> {
-    /// Whether it is an object or a name.
+    /// Returns whether it is an object or a name.
     pub fn kind(self) -> Kind
         ensures { result ≡ kind_of (target_ref_view self.entry) }
     {
@@ -119,7 +119,7 @@ impl<'a> TargetRef<'a> {
         }
     }
 
-    /// The object's id; `None` where it is a name.
+    /// The object's id; `None` if it is a name.
     pub fn try_id(self) -> Option<oid<'a>>
         ensures { option_map viewed_id result ≡ id_in (target_ref_view self.entry) }
     {
@@ -140,7 +140,7 @@ impl<'a> TargetRef<'a> {
         }
     }
 
-    /// The name; `None` where it is an object.
+    /// The name; `None` if it is an object.
     pub fn try_name(self) -> Option<FullNameRef<'a>>
         ensures { option_map name_of result ≡ name_in (target_ref_view self.entry) }
     {

@@ -38,7 +38,7 @@ pub struct Store<F> {
     /// The files.
     pub files: F,
     pub(crate) git_dir: Vec<u8>,
-    // `None` where the folder of the worktree is the shared one.
+    // `None` if the folder of the worktree is the shared one.
     pub(crate) common_dir: Option<Vec<u8>>,
     pub(crate) options: Options,
     pub(crate) mmap_threshold: u64,
@@ -60,7 +60,7 @@ impl<F: Files> Store<F> {
         files
     }
 
-    /// What the store was told of its repository.
+    /// What the store knows of its repository.
     pub fn options(&self) -> Options
         ensures { result ≡ self.now.options }
     {
@@ -95,7 +95,7 @@ impl<F: Files> Store<F> {
         }
     }
 
-    /// The path at which packed references stand.
+    /// The path of packed references.
     pub fn packed_refs_path(&self, alloc: Global) -> Result<Vec<u8>, AllocError>
         ensures { IfOk result (λ path. path.items ≡ packed_place (base_of self.now)) }
     {
@@ -104,8 +104,8 @@ impl<F: Files> Store<F> {
         Ok(path)
     }
 
-    /// Keeps the number of bytes from which packed references would be mapped into memory, and answers the one kept before. No
-    /// call of the store goes by it.
+    /// Keeps the number of bytes from which packed references would be mapped into memory, and
+    /// returns the one kept before. No call of the store uses it.
     pub fn set_packed_buffer_mmap_threshold(&mut self, threshold: u64) -> u64
         ensures before { result ≡ self.old.mmap_threshold }
         ensures kept { self.new ≡ record self.old { mmap_threshold = threshold } }

@@ -1,4 +1,4 @@
-//! Which names a listing asks for.
+//! Which names a listing wants.
 
 ghost use Rattle.std.specs.Prelude.{◌≡◌, IsTrue, IfOk, IfErr, OnOk};
 ghost use Rattle.gix_object_lines.specs.NameTest.{is_full_name};
@@ -17,19 +17,19 @@ use gix_ref_name::compose::precompose_unicode;
 use std::alloc::{AllocError, Global};
 use std::collections::BTreeSet;
 
-// The names below `refs/` that a listing asks for.
+// The names below `refs/` that a listing wants.
 #[derive(Clone, Copy)]
 pub(crate) struct Asked<'a> {
     // How they begin, as the store knows names.
     pub(crate) front: &'a [u8],
-    // Whether that is the name of one, and all others stand below it.
+    // Whether that is the name of one, and all others are below it.
     pub(crate) is_whole: bool,
     // Whether the store knows names with their characters composed.
     pub(crate) composes: bool,
 }
 
 impl Asked<'_> {
-    // Whether a name below `refs/` is asked for.
+    // Returns whether a name below `refs/` is wanted.
     fn fits(self, name: &[u8]) -> bool
         ensures { result ≡ spec.fits self.entry name.now }
     {
@@ -40,7 +40,7 @@ impl Asked<'_> {
         }
     }
 
-    // Whether names that are asked for may stand at this path of a file or below it.
+    // Returns whether wanted names may be at this path of a file or below it.
     pub(crate) fn may_stand_at(self, alloc: Global, path: &[u8]) -> Result<bool, AllocError>
         ensures { IfOk result (λ may. IsTrue (spec.leads self.entry path.now) → IsTrue may) }
     {
@@ -61,7 +61,7 @@ impl Asked<'_> {
         self.fits(path) || is_below(path, self.front)
     }
 
-    // Puts the name of a file or of a record in, as the store knows it, where it is asked for.
+    // Puts the name of a file or of a record in, as the store knows it, if it is wanted.
     pub(crate) fn put(
         self,
         alloc: Global,
@@ -82,7 +82,7 @@ impl Asked<'_> {
     }
 }
 
-// Whether the name is this one, or stands below it, as Git takes patterns of names.
+// Returns whether the name is this one, or below it, as Git takes patterns of names.
 fn is_within(folder: &[u8], name: &[u8]) -> bool
     ensures { result ≡ listings.is_within folder.now name.now }
 {

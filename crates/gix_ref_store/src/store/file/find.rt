@@ -26,7 +26,7 @@ pub enum Error {
     /// The file of a reference couldn't be read.
     #[error("the file of a reference couldn't be read")]
     ReadFileContents,
-    /// The text of a reference's file tells no target.
+    /// The text of a reference's file names no target.
     #[error(transparent)]
     ReferenceCreation(loose::Error),
     /// The packed references couldn't be opened.
@@ -57,14 +57,16 @@ pub enum ExistingError {
 }
 
 impl<F: Files> Store<F> {
-    /// The reference that a name stands for, `None` where there is none: of a name that begins `refs/`, one of another worktree
-    /// and one of capital letters its own; else the first that stands of those below `refs/`, `refs/tags/`, `refs/heads/` and
-    /// `refs/remotes/`, and of its `HEAD` below the last. A file of a reference's own wins over its packed record. Where the store
-    /// knows names with their characters composed, this one is composed first.
+    /// The reference that a name means; `None` if there is none. A name that begins `refs/`, one of
+    /// another worktree and one of capital letters mean their own reference. Any other means the
+    /// first that exists of those below `refs/`, `refs/tags/`, `refs/heads/` and `refs/remotes/`,
+    /// and of its `HEAD` below the last. A file of a reference's own wins over its packed record.
+    /// If the store knows names with their characters composed, this one is composed first.
     ///
-    /// `ReferenceCreation` where the file of the first of these names that doesn't read as absent tells no target. Packed
-    /// references are opened unless a file stands at the first name: `PackedOpen` where that isn't possible. `ReadFileContents` where
-    /// a reading of a name's file failed. Nothing changes.
+    /// Returns `ReferenceCreation` if the file of the first of these names that doesn't read as
+    /// absent names no target. Packed references are opened unless a file is at the first name;
+    /// `PackedOpen` is returned if they can't be. Returns `ReadFileContents` if a reading of a
+    /// name's file failed. Nothing changes.
     pub fn try_find(
         &self,
         alloc: Global,
@@ -78,7 +80,7 @@ impl<F: Files> Store<F> {
         self.find_word(alloc, word.as_bytes())
     }
 
-    // The reference that a word stands for, as the store knows words.
+    // The reference that a word means, as the store knows words.
     fn find_word(&self, alloc: Global, word: &[u8]) -> Result<Option<Reference>, Error>
         ensures found { F.is_honest self.now.files
             → FindsNames (base_of self.now) (F.history self.now.files).tree
@@ -97,7 +99,7 @@ impl<F: Files> Store<F> {
         }
     }
 
-    // The reference that a word stands for, by the packed references as they are now.
+    // The reference that a word means, by the packed references as they are now.
     fn find_opened(&self, alloc: Global, word: &[u8]) -> Result<Option<Reference>, Error>
         ensures found { F.is_honest self.now.files
             → FindsOpened (base_of self.now) (F.history self.now.files).tree
@@ -111,7 +113,7 @@ impl<F: Files> Store<F> {
         }
     }
 
-    // The reference that a word stands for, with these packed references.
+    // The reference that a word means, with these packed references.
     fn find_among(
         &self,
         alloc: Global,
@@ -131,8 +133,8 @@ impl<F: Files> Store<F> {
         search.named(word)
     }
 
-    /// The reference that a name stands for, as `try_find` has it, with these packed references; without any, `None`, only those
-    /// with files of their own are found.
+    /// The reference that a name means, as `try_find` returns it, with these packed references;
+    /// with `None`, only those with files of their own are found.
     pub fn try_find_packed(
         &self,
         alloc: Global,
@@ -148,8 +150,9 @@ impl<F: Files> Store<F> {
         self.find_among(alloc, word.as_bytes(), packed)
     }
 
-    /// The reference of just this full name, with these packed references: no rule completes the name. `ReferenceCreation` where its
-    /// file tells no target, and `ReadFileContents` where a reading failed.
+    /// The reference of just this full name, with these packed references: no rule completes the
+    /// name. Returns `ReferenceCreation` if its file names no target, and `ReadFileContents` if a
+    /// reading failed.
     pub fn try_read(
         &self,
         alloc: Global,
@@ -169,7 +172,8 @@ impl<F: Files> Store<F> {
         search.of_full_name(name)
     }
 
-    /// The reference with a file of its own that a name stands for, as `try_find_packed` has it without packed references.
+    /// The reference with a file of its own that a name means, as `try_find_packed` returns it
+    /// without packed references.
     pub fn try_find_loose(
         &self,
         alloc: Global,
@@ -185,7 +189,7 @@ impl<F: Files> Store<F> {
         }
     }
 
-    /// The reference that a name stands for, as `try_find` has it; `NotFound` where there is none.
+    /// The reference that a name means, as `try_find` returns it; `NotFound` if there is none.
     pub fn find(&self, alloc: Global, name: PartialNameRef<'_>) -> Result<Reference, ExistingError>
         ensures found { F.is_honest self.now.files
             → FindsOne self.now (F.history self.now.files).tree (part_of name.entry) result }
@@ -197,7 +201,8 @@ impl<F: Files> Store<F> {
         }
     }
 
-    /// The reference that a name stands for, as `try_find_packed` has it; `NotFound` where there is none.
+    /// The reference that a name means, as `try_find_packed` returns it; `NotFound` if there is
+    /// none.
     pub fn find_packed(
         &self,
         alloc: Global,
@@ -215,7 +220,8 @@ impl<F: Files> Store<F> {
         }
     }
 
-    /// The reference with a file of its own that a name stands for, as `try_find_loose` has it; `NotFound` where there is none.
+    /// The reference with a file of its own that a name means, as `try_find_loose` returns it;
+    /// `NotFound` if there is none.
     pub fn find_loose(
         &self,
         alloc: Global,
@@ -232,7 +238,8 @@ impl<F: Files> Store<F> {
     }
 }
 
-// Whether the name is a full one of which each worktree has its own, so that no record stands for it.
+// Returns whether the name is a full one of which each worktree has its own, so that it has no
+// record.
 fn is_unpacked(word: &[u8]) -> bool
     ensures { result ≡ (is_complete word.now && not (is_some (packed_key word.now))) }
 {

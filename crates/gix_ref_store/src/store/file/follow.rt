@@ -31,7 +31,7 @@ pub enum Error {
     /// A name was met again.
     #[error("references point to one another in a ring")]
     Cycle,
-    /// More than 5 names stand on the way.
+    /// More than 5 names are on the way.
     #[error("more than 5 references point to one another")]
     DepthLimitExceeded,
     /// No memory is left.
@@ -55,7 +55,7 @@ impl<T: Drop> From<AllocFailed<T>> for Error {
     }
 }
 
-// The reference of a full name, which must stand, with the packed references as they are now.
+// The reference of a full name, which must exist, with the packed references as they are now.
 pub(crate) fn named_in<F: Files>(
     alloc: Global,
     store: &Store<F>,
@@ -88,7 +88,7 @@ pub(crate) fn named_in<F: Files>(
     }
 }
 
-// The reference of a full name, which must stand.
+// The reference of a full name, which must exist.
 pub(crate) fn named<F: Files>(
     search: &Search<'_, '_, F>,
     name: &FullName,
@@ -108,7 +108,8 @@ pub(crate) fn named<F: Files>(
     }
 }
 
-// The object at the end of the chain that begins with a reference, and the last reference where it is another.
+// The object at the end of the chain that begins with a reference, and the last reference if it is
+// another.
 pub(crate) fn end_from<F: Files>(
     search: &Search<'_, '_, F>,
     from: &Reference,

@@ -19,7 +19,7 @@ use std::alloc::Global;
 use std::collections::BTreeSet;
 
 impl<F: Files> Store<F> {
-    // Puts the names in that are asked for and have files of their own.
+    // Adds the wanted names that have files of their own.
     pub(crate) fn put_loose(
         &self,
         alloc: Global,
@@ -91,7 +91,7 @@ impl<F: Files> Store<F> {
     }
 }
 
-// Puts the names in that are asked for and have a record.
+// Adds the wanted names that have a record.
 pub(crate) fn put_packed(
     alloc: Global,
     packed: &Buffer,
@@ -111,7 +111,7 @@ pub(crate) fn put_packed(
     Ok(())
 }
 
-// Puts the name of a record in, where it is asked for.
+// Adds the name of a record, if it is wanted.
 fn put_record(
     alloc: Global,
     found: Reference<'_>,

@@ -45,7 +45,7 @@ impl<F: Files> Store<F> {
         Store::at_opts(files, git_dir, Options::default())
     }
 
-    /// The store of the repository in this folder. `NoPath` where the folder has no clean path.
+    /// The store of the repository in this folder; `NoPath` if the folder has no clean path.
     pub fn at_opts(files: F, git_dir: Vec<u8>, options: Options) -> Result<Store<F>, Refused<F>>
         ensures made { IfOk result (IsStoreOf files git_dir.items None options) }
         ensures refused { IfErr result (IsRefused files git_dir.items None) }
@@ -92,8 +92,9 @@ impl<F: Files> Store<F> {
         Store::for_linked_worktree_opts(files, git_dir, common_dir, Options::default())
     }
 
-    /// The store of a linked worktree, whose own folder is the first, and the other that which all worktrees share. `NoPath`
-    /// where one of them has no clean path, else `Nested` where one lies in the `refs` or `logs` of the other.
+    /// The store of a linked worktree, whose own folder is the first, and the other that which all
+    /// worktrees share. Returns `NoPath` if one of them has no clean path, and otherwise `Nested`
+    /// if one lies in the `refs` or `logs` of the other.
     pub fn for_linked_worktree_opts(
         files: F,
         git_dir: Vec<u8>,
@@ -125,21 +126,21 @@ impl<F: Files> Store<F> {
     }
 }
 
-// Whether a folder may have this path.
+// Returns whether a folder may have this path.
 fn is_folder_path(folder: &[u8]) -> bool
     ensures { result ≡ spec.is_folder_path folder.now }
 {
     folder == b"".as_slice() || is_path(folder)
 }
 
-// Whether neither folder lies among the names or logs of the other.
+// Returns whether neither folder lies among the names or logs of the other.
 fn are_apart(one: &[u8], other: &[u8]) -> bool
     ensures { result ≡ spec.are_apart one.now other.now }
 {
     !lies_in_names(one, other) && !lies_in_names(other, one)
 }
 
-// Whether the path lies in the `refs` or `logs` of the folder.
+// Returns whether the path lies in the `refs` or `logs` of the folder.
 fn lies_in_names(folder: &[u8], path: &[u8]) -> bool
     ensures { result ≡ spec.lies_in_names folder.now path.now }
 {
@@ -149,7 +150,7 @@ fn lies_in_names(folder: &[u8], path: &[u8]) -> bool
     is_below(folder, path) && is_of_names(&path[folder.len() + 1..])
 }
 
-// Whether the path stands below the folder.
+// Returns whether the path is below the folder.
 pub(crate) fn is_below(folder: &[u8], path: &[u8]) -> bool
     ensures below { result ≡ spec.is_below folder.now path.now }
     ensures longer { IsTrue result → length folder.now < length path.now }

@@ -26,12 +26,12 @@ pub enum Error {
         /// The reference's name.
         name: FullName,
     },
-    /// The text of a reference's file tells no target.
+    /// The text of a reference's file names no target.
     #[error("the file of the reference {name} tells no target")]
     ReferenceCreation {
         /// The reference's name.
         name: FullName,
-        /// Why it tells none.
+        /// Why it names none.
         reason: loose::Error,
     },
     /// No memory is left.
@@ -79,7 +79,7 @@ impl<F: Files> LooseThenPacked<'_, '_, F> {
     ghost use Rattle.gix_ref_store.specs.Items.{TellsName, ItemMayTell};
     ghost use Rattle.gix_ref_store.specs.Searches.{reads_in};
 
-    // What is told of a name; `None` where there is no reference of this name.
+    // The result for a name; `None` if there is no reference of this name.
     fn item(&self, name: FullName) -> Option<Result<Reference, Error>>
         ensures told { F.is_honest self.now.search.store.now.files
             → let tree = (F.history self.now.search.store.now.files).tree in

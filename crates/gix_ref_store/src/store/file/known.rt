@@ -23,7 +23,7 @@ impl<F: Files> Store<F> {
     }
 }
 
-// A name's bytes, as a store knows them: composed, where it is told so.
+// A name's bytes, as a store knows them: composed if `composes` is set.
 pub(crate) fn as_known(
     alloc: Global,
     composes: bool,

@@ -101,9 +101,9 @@ impl<F: Files> Store<F> {
         })
     }
 
-    /// All references below `refs/` with files of their own or records of this buffer, ascending by name, each name once: a file
-    /// hides a record. A file that tells no target is an error in its place, after which the listing goes on. `Traversal` where a
-    /// folder couldn't be listed.
+    /// All references below `refs/` with files of their own or records of this buffer, ascending by
+    /// name, each name once: a file hides a record. A file that names no target is an error in its
+    /// place, after which the listing goes on. Returns `Traversal` if a folder couldn't be listed.
     pub fn iter_packed<'s, 'p>(
         &'s self,
         alloc: Global,
@@ -118,8 +118,9 @@ impl<F: Files> Store<F> {
         self.listed(alloc, self.every_name(), packed)
     }
 
-    /// The same of those whose names begin so, by their bytes: `refs/heads/fe` lists `refs/heads/feature`, and `refs/heads/a/` what
-    /// stands below `refs/heads/a` alone. Below `refs` no folder is listed in which none of them can stand.
+    /// The same of those whose names begin so, by their bytes: `refs/heads/fe` lists
+    /// `refs/heads/feature`, and `refs/heads/a/` only what is below `refs/heads/a`. Below `refs` no
+    /// folder is listed in which none of them can be.
     pub fn iter_prefixed_packed<'s, 'p>(
         &'s self,
         alloc: Global,
@@ -141,9 +142,10 @@ impl<F: Files> Store<F> {
         self.listed(alloc, asked, packed)
     }
 
-    /// The reference of this name, and those whose names stand below it, by components as `git for-each-ref` takes them:
-    /// `refs/heads/a` lists itself and `refs/heads/a/b`, and not `refs/heads/ab`; with a slash at its end it lists what begins so.
-    /// Below `refs` no folder is listed in which none of them can stand.
+    /// The reference of this name, and those whose names are below it, by components as
+    /// `git for-each-ref` takes them: `refs/heads/a` lists itself and `refs/heads/a/b`, and not
+    /// `refs/heads/ab`; with a slash at its end it lists what begins so. Below `refs` no folder is
+    /// listed in which none of them can be.
     pub fn iter_within_packed<'s, 'p>(
         &'s self,
         alloc: Global,
@@ -191,8 +193,9 @@ impl<F: Files> Store<F> {
         self.iter_prefixed_packed(alloc, prefix, None)
     }
 
-    /// The pseudo references of the worktree, ascending by name: `HEAD`, and names of capital letters and `_` that end so.
-    /// `Traversal` where the worktree's folder couldn't be listed.
+    /// The pseudo references of the worktree, ascending by name: `HEAD`, and names of capital
+    /// letters and `_` that end so. Returns `Traversal` if the worktree's folder couldn't be
+    /// listed.
     pub fn iter_pseudo(&self, alloc: Global) -> Result<LooseThenPacked<'_, '_, F>, Error>
         ensures store { IfOk result (λ items. items.search.store.now ≡ self.now) }
         ensures listed { F.is_honest self.now.files → let tree = (F.history self.now.files).tree in
@@ -205,7 +208,7 @@ impl<F: Files> Store<F> {
         Ok(self.items(alloc, None, names))
     }
 
-    // That all names below `refs/` are asked for.
+    // All names below `refs/` are wanted.
     fn every_name(&self) -> Asked<'static>
         ensures { is_asked result ≡ all_names self.now }
     {
@@ -216,7 +219,7 @@ impl<F: Files> Store<F> {
         }
     }
 
-    // The references of the names that are asked for.
+    // The references of the wanted names.
     fn listed<'s, 'p>(
         &'s self,
         alloc: Global,

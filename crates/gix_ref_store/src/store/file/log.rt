@@ -76,7 +76,7 @@ impl<F: Files> ReadAt for LogFile<'_, F> {
 }
 
 impl<F: Files> Store<F> {
-    /// Whether a name has a log. `Io` where a reading failed.
+    /// Returns whether a name has a log, and `Io` if a reading failed.
     pub fn reflog_exists(&self, alloc: Global, name: FullNameRef<'_>) -> Result<bool, Error>
         ensures exists { F.is_honest self.now.files
             → let text = log_text self.now (F.history self.now.files).tree (name_of name.entry) in
@@ -90,8 +90,8 @@ impl<F: Files> Store<F> {
         }
     }
 
-    /// Reads a name's log from its beginning, whose bytes come into the buffer in the place of what stands there; `None` where the
-    /// name has no log. `Io` where a reading failed.
+    /// Reads a name's log from its beginning; `None` if the name has no log. The log's bytes
+    /// replace what is in the buffer. Returns `Io` if a reading failed.
     pub fn reflog_iter<'b>(
         &self,
         alloc: Global,
@@ -111,8 +111,9 @@ impl<F: Files> Store<F> {
         }
     }
 
-    /// Reads a name's log from its end, through a buffer of any size above zero; `None` where the name has no log. `Io` with
-    /// `NoBuffer` where it has one and the buffer is empty, and with what a reading told that failed.
+    /// Reads a name's log from its end, through a buffer of any size above zero; `None` if the name
+    /// has no log. Returns `Io`: with `NoBuffer` if there is a log and the buffer is empty, and
+    /// otherwise with the error of a reading that failed.
     pub fn reflog_iter_rev<'s, 'b>(
         &'s self,
         alloc: Global,

@@ -15,20 +15,20 @@ use gix_ref_format::loose::Reference;
 use gix_ref_log::iter::{Forward, Reverse};
 use std::alloc::Global;
 
-/// What a loose reference tells of its log, with its store.
+/// The log of a loose reference, with its store.
 pub trait LogExt {
     /// The reference's name.
     ghost named: { Self → List ℕ };
 
-    /// Whether the reference has a log. `Io` where a reading failed.
+    /// Returns whether the reference has a log, and `Io` if a reading failed.
     fn log_exists<F: Files>(&self, alloc: Global, store: &Store<F>) -> Result<bool, Error>
         ensures exists { F.is_honest store.now.files
             → let text = log_text store.now (F.history store.now.files).tree (named self.now) in
             IfOk result (λ found. found ≡ is_some text) }
         ensures failed { IfErr result (MayTell F.reading_may_fail) };
 
-    /// Reads the reference's log from its end, as `Store::reflog_iter_rev` does; `None` where it has none. An empty buffer is
-    /// `NoBuffer`.
+    /// Reads the reference's log from its end, as `Store::reflog_iter_rev` does; `None` if it has
+    /// none. The error for an empty buffer is `NoBuffer`.
     fn log_iter_rev<'s, 'b, F: Files>(
         &self,
         alloc: Global,
@@ -47,7 +47,8 @@ pub trait LogExt {
         ensures failed { IfErr result (BackFault F.reading_may_fail (¬ F.is_honest store.now.files)
             (buffer.old ≡ [])) };
 
-    /// Reads the reference's log from its beginning, as `Store::reflog_iter` does; `None` where it has none.
+    /// Reads the reference's log from its beginning, as `Store::reflog_iter` does; `None` if it has
+    /// none.
     fn log_iter<'b, F: Files>(
         &self,
         alloc: Global,

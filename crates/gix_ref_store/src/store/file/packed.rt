@@ -10,8 +10,8 @@ use gix_ref_format::packed::{Buffer, buffer};
 use std::alloc::Global;
 
 impl<F: Files> Store<F> {
-    /// The packed references; `None` where no file holds any. `Iter` and `HeaderParsing` where a line can't be read, `Io` where
-    /// the file can't.
+    /// The packed references; `None` if there is no file of them. Returns `Iter` or `HeaderParsing`
+    /// if a line can't be read, `Io` if the file can't.
     pub fn open_packed_buffer(&self, alloc: Global) -> Result<Option<Buffer>, buffer::Error>
         ensures kept { F.is_honest self.now.files → let tree = (F.history self.now.files).tree in
             MatchResult result (KeepsPacked self.now tree) (PackedUnread self.now tree) }

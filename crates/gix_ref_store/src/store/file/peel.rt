@@ -1,4 +1,4 @@
-//! Peeling references: the objects that they stand for in the end, behind names and tags.
+//! Peeling references: the objects that they lead to in the end, over names and tags.
 
 ghost use Rattle.std.specs.Prelude.{◌≡◌, IfErr, IfOk, IsSome, Contains, MatchOption, MatchResult, None, Some, unwrap_or};
 ghost use Rattle.std.specs.List.{list_any};
@@ -22,7 +22,7 @@ use gix_ref_format::packed::buffer;
 use std::alloc::{AllocFailed, Global};
 use thiserror::Error;
 
-/// Why no object is found that a reference stands for.
+/// Why a reference leads to no object.
 #[derive(Debug, Clone, Copy, PartialEq, Eq, Error)]
 pub enum Error {
     /// No object is reached over the names of others.
@@ -77,7 +77,7 @@ impl<T: Drop> From<AllocFailed<T>> for Error {
     }
 }
 
-// The object that a reference stands for, and the last reference on the way where it is another.
+// The object that a reference leads to, and the last reference on the way if it is another.
 pub(crate) fn peeled_end<F: Files, T: FindInto>(
     search: &Search<'_, '_, F>,
     from: &Reference,
@@ -101,7 +101,7 @@ pub(crate) fn peeled_end<F: Files, T: FindInto>(
     }
 }
 
-// The object that an id stands for: its own, or the one that tags lead to.
+// The object that an id leads to: its own, or the one that tags lead to.
 fn object_named<T: FindInto>(alloc: Global, objects: &T, id: ObjectId) -> Result<ObjectId, Error>
     ensures peeled { T.is_honest objects.now
         → IfOk result (λ end. PeelsTo (T.table objects.now) (id_of id) (id_of end)) }
@@ -121,7 +121,7 @@ fn object_named<T: FindInto>(alloc: Global, objects: &T, id: ObjectId) -> Result
     Ok(end)
 }
 
-// What the tag of this id names; `None` where another object stands.
+// What the tag of this id names; `None` if the object is no tag.
 fn named_by_tag<T: FindInto>(
     objects: &T,
     id: ObjectId,
@@ -146,7 +146,7 @@ fn named_by_tag<T: FindInto>(
     }
 }
 
-// Whether one of the ids is this.
+// Returns whether one of the ids is this.
 fn is_among(ids: &[ObjectId], id: ObjectId) -> bool
     ensures { result ≡ list_any (λ other. id_eq (id_of id) (id_of other)) ids.now }
 {

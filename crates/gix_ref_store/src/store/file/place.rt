@@ -1,4 +1,4 @@
-//! Where the files of names stand.
+//! Where the files of names are.
 
 ghost use Rattle.std.specs.Prelude.{◌≡◌, option_map, IfOk, OnOk};
 ghost use Rattle.gix_ref_file.specs.Tree.{under};
@@ -15,7 +15,7 @@ use gix_ref_format::lookup::{behind_slash, is_own};
 use gix_ref_name::FullNameRef;
 use std::alloc::{AllocError, Global};
 
-// A folder, a folder below it where there is one, and a path in that.
+// A folder, a folder below it if there is one, and a path in that.
 #[derive(Clone, Copy)]
 pub(crate) struct Home<'a> {
     folder: &'a [u8],
@@ -45,7 +45,7 @@ impl<F: Files> Store<F> {
         self.shared_home(name)
     }
 
-    /// The path at which a reference's own file stands.
+    /// The path of a reference's own file.
     pub fn reference_path(
         &self,
         alloc: Global,
@@ -57,7 +57,7 @@ impl<F: Files> Store<F> {
         self.home(name.to_path()).place(alloc)
     }
 
-    /// The path at which its log stands.
+    /// The path of its log.
     pub fn reflog_path(&self, alloc: Global, name: FullNameRef<'_>) -> Result<Vec<u8>, AllocError>
         ensures { IfOk result (λ path.
             path.items ≡ spec.log_place (base_of self.now) (name_of name.entry)) }
@@ -75,7 +75,7 @@ impl<F: Files> Store<F> {
         }
     }
 
-    // The home of a name that has this rest behind the main worktree's front.
+    // The home of a name that has this rest after the main worktree's front.
     fn home_in_main<'a>(&'a self, name: &'a [u8], rest: &'a [u8]) -> Home<'a>
         ensures { home_of result ≡ main_home (base_of self.now) name.now rest.now }
     {
@@ -86,7 +86,7 @@ impl<F: Files> Store<F> {
         }
     }
 
-    // The home of a name that has this rest behind a linked worktree's front.
+    // The home of a name that has this rest after a linked worktree's front.
     fn home_in_linked<'a>(&'a self, name: &'a [u8], rest: Option<&'a [u8]>) -> Home<'a>
         ensures { home_of result
             ≡ linked_home (base_of self.now) name.now (option_map (λ rest. rest.now) rest.entry) }
@@ -103,7 +103,7 @@ impl<F: Files> Store<F> {
     }
 }
 
-// What stands before the rest, without the slash between them.
+// What precedes the rest, without the slash between them.
 fn front_of<'a>(name: &'a [u8], rest: &[u8]) -> &'a [u8]
     ensures { result.now ≡ spec.front_of name.now rest.now }
 {
@@ -122,7 +122,7 @@ impl Home<'_> {
         Ok(path)
     }
 
-    // Where the name's file stands.
+    // Where the name's file is.
     pub(crate) fn place(self, alloc: Global) -> Result<Vec<u8>, AllocError>
         ensures { IfOk result (λ path. path.items ≡ place_in (home_of self.entry)) }
     {
@@ -131,7 +131,7 @@ impl Home<'_> {
         Ok(path)
     }
 
-    // Where the name's log stands.
+    // Where the name's log is.
     pub(crate) fn log_place(self, alloc: Global) -> Result<Vec<u8>, AllocError>
         ensures { IfOk result (λ path. path.items ≡ log_place_in (home_of self.entry)) }
     {
@@ -142,7 +142,7 @@ impl Home<'_> {
     }
 }
 
-// Makes a folder's path that of what stands below it at this path.
+// Extends a folder's path by this path in it.
 pub(crate) fn push_under(folder: &mut Vec<u8>, path: &[u8]) -> Result<(), AllocError>
     ensures { OnOk result (folder.new.items ≡ under folder.old.items path.now) }
 {

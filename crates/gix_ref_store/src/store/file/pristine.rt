@@ -1,4 +1,4 @@
-//! Whether nothing was done with a store since it was made.
+//! The test that nothing was done with a store since it was made.
 
 ghost use Rattle.std.specs.Prelude.{◌≡◌, ◌⊎◌, ◌↔◌, None, is_some, IsTrue, IfErr, IfOk, IfNone, IfSome, IsSome, MatchOption};
 ghost use Rattle.gix_ref_name.specs.Names.{name_of};
@@ -16,9 +16,10 @@ use gix_ref_name::{FullNameRef, Target};
 use std::alloc::Global;
 
 impl<F: Files> Store<F> {
-    /// Whether the store is as a new one: `HEAD` points to this name, there are no packed references, and no name below `refs/`
-    /// has a file that tells a target. `None` just where `HEAD` has no such file, or it couldn't be read; else errors are those of
-    /// `loose_iter` and of its items. Nothing changes.
+    /// Returns whether the store is as a new one: `HEAD` points to this name, there are no packed
+    /// references, and no name below `refs/` has a file with a target. Returns `None` only if
+    /// `HEAD` has no such file, or it couldn't be read. The errors are those of `loose_iter` and of
+    /// its items. Nothing changes.
     pub fn is_pristine(
         &self,
         alloc: Global,
@@ -48,7 +49,7 @@ impl<F: Files> Store<F> {
         Ok(Some(!used))
     }
 
-    // What the file of `HEAD` tells; `None` where it tells nothing, or couldn't be read.
+    // The target in the file of `HEAD`; `None` if it has none, or couldn't be read.
     fn head_target(&self, alloc: Global) -> Result<Option<Target>, Error>
         ensures told { F.is_honest self.now.files
             → let head = head_in (base_of self.now) (F.history self.now.files).tree in
@@ -65,7 +66,7 @@ impl<F: Files> Store<F> {
         }
     }
 
-    // Whether there is a file of packed references.
+    // Returns whether there is a file of packed references.
     fn has_packed(&self, alloc: Global) -> Result<bool, Error>
         ensures told { F.is_honest self.now.files → let tree = (F.history self.now.files).tree in
             IfOk result (λ found. found ≡ is_some (packed_text_in (base_of self.now) tree)) }
@@ -78,7 +79,7 @@ impl<F: Files> Store<F> {
         }
     }
 
-    // Whether a name below `refs/` has a file that tells a target.
+    // Returns whether a name below `refs/` has a file with a target.
     fn has_loose(&self, alloc: Global) -> Result<bool, Error>
         ensures told { F.is_honest self.now.files → let tree = (F.history self.now.files).tree in
             IfOk result (λ found. IsTrue found
@@ -97,7 +98,7 @@ impl<F: Files> Store<F> {
     }
 }
 
-// Whether the target is this name.
+// Returns whether the target is this name.
 fn points_to(target: &Target, name: FullNameRef<'_>) -> bool
     ensures { IsTrue result ↔ (target_view target.now ≡ ToName (name_of name.entry)) }
 {

@@ -1,4 +1,4 @@
-//! What a reference tells with its store: its log, the reference that it points to, and the object that it stands for.
+//! What a reference leads to in its store: its log, the next reference, and the object at the end.
 
 ghost use Rattle.std.specs.Prelude.{◌≡◌, is_some, IfErr, IfOk, IfSome, MatchResult, None, Some};
 ghost use Rattle.gix_hash_id.specs.Id.{id_of};
@@ -29,13 +29,14 @@ use gix_ref_format::packed::Buffer;
 use gix_ref_name::Target;
 use std::alloc::Global;
 
-/// References alone have what `ReferenceExt` asks for.
+/// References alone have what `ReferenceExt` requires.
 pub trait Sealed {}
 
 impl Sealed for Reference {}
 
-/// What a reference tells with its store. A call that is handed packed references goes by these, and without any, `None`, only
-/// references with files of their own are found; `follow`, `peel_to_id` and `peel_to_id_in_place` open those of the store first.
+/// What a reference leads to in its store. A call that is given packed references uses these, and
+/// with `None`, only references with files of their own are found; `follow`, `peel_to_id` and
+/// `peel_to_id_in_place` open those of the store first.
 pub trait ReferenceExt: Sealed {
     /// The reference.
     ghost seen: { Self → Reference };
@@ -45,15 +46,16 @@ pub trait ReferenceExt: Sealed {
         ensures store { result.store.now ≡ store.now }
         ensures name { name_of result.name ≡ (seen self.now).name };
 
-    /// Whether the reference has a log. `Io` where a reading failed.
+    /// Returns whether the reference has a log, and `Io` if a reading failed.
     fn log_exists<F: Files>(&self, alloc: Global, store: &Store<F>) -> Result<bool, log::Error>
         ensures exists { F.is_honest store.now.files
             → let text = log_text store.now (F.history store.now.files).tree (seen self.now).name in
             IfOk result (λ found. found ≡ is_some text) }
         ensures failed { IfErr result (logs.MayTell F.reading_may_fail) };
 
-    /// The id of the object that the reference stands for in the end, as `peel_to_id` has it; and the reference becomes the last
-    /// of those on the way, and points to the object of the id, which it also tells as peeled. After an error it is as it was.
+    /// The id of the object that the reference leads to in the end, as `peel_to_id` returns it. The
+    /// reference becomes the last of those on the way, points to the object of the id, and also has
+    /// that as its peeled id. After an error it is as it was.
     fn peel_to_id_in_place<F: Files, T: FindInto>(
         &mut self,
         alloc: Global,
@@ -74,10 +76,11 @@ pub trait ReferenceExt: Sealed {
         ensures failed { IfErr result
             (peels.MayTell F.reading_may_fail (T.may_fail objects.now)) };
 
-    /// The id of the object that the reference stands for in the end: the one that its packed record tells; else names of others
-    /// are followed to an object, as `follow_to_object_packed` does, and tags to what they name. `NotFound` where no object stands
-    /// under an id on the way, or a tag that names none or leads back to itself. Where an id is told as peeled nothing is looked up,
-    /// and only the opening of packed references is refused.
+    /// The id of the object that the reference leads to in the end: the one that its packed record
+    /// has; otherwise names of others are followed to an object, as `follow_to_object_packed` does,
+    /// and tags to what they name. Returns `NotFound` if an id on the way has no object, or a tag
+    /// that names none or leads back to itself. If the record has the id, nothing is looked up, and
+    /// the call fails only if packed references can't be opened.
     fn peel_to_id<F: Files, T: FindInto>(
         &self,
         alloc: Global,
@@ -147,8 +150,9 @@ pub trait ReferenceExt: Sealed {
         ensures refused { IfErr result (λ _. self.new ≡ self.old) }
         ensures failed { IfErr result (follows.MayTell F.reading_may_fail) };
 
-    /// The id of the object that this reference points to, over at most 5 names of others: `DepthLimitExceeded` where there are
-    /// more, `Cycle` where one of them is met again, and `Follow` with `NotFound` where no reference has it.
+    /// The id of the object that this reference points to, over at most 5 names of others. Returns
+    /// `DepthLimitExceeded` if there are more, `Cycle` if one of them is met again, and `Follow`
+    /// with `NotFound` if no reference has it.
     fn follow_to_object_packed<F: Files>(
         &self,
         alloc: Global,
@@ -161,8 +165,8 @@ pub trait ReferenceExt: Sealed {
             MatchResult result (λ id. EndsAt (id_of id) end) (FollowFault IsGiven end) }
         ensures failed { IfErr result (follows.MayTell F.reading_may_fail) };
 
-    /// The reference that this one points to; `None` where it points to an object. `NotFound` where no reference has the name,
-    /// and `PackedOpen` where the packed references can't be opened.
+    /// The reference that this one points to; `None` if it points to an object. Returns `NotFound`
+    /// if no reference has the name, and `PackedOpen` if the packed references can't be opened.
     fn follow<F: Files>(
         &self,
         alloc: Global,

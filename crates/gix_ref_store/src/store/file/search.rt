@@ -1,4 +1,4 @@
-//! A search for the reference that a name stands for.
+//! A search for the reference that a name means.
 
 ghost use Rattle.std.specs.Prelude.{◌≡◌, Some, IfOk, IfErr};
 ghost use Rattle.gix_ref_format.specs.Lookup.{lookup_names, tag_names, branch_names, remote_names, placed};
@@ -28,7 +28,7 @@ pub(crate) struct Search<'s, 'p, F: Files> {
 }
 
 impl<F: Files> Search<'_, '_, F> {
-    // The first reference of the names that a word stands for.
+    // The first reference of the names that a word may mean.
     pub(crate) fn named(&self, word: &[u8]) -> Result<Option<Reference>, Error>
         ensures found { F.is_honest self.now.store.now.files
             → Finds (reads_in (F.history self.now.store.now.files).tree self.now)
@@ -143,7 +143,7 @@ impl<F: Files> Search<'_, '_, F> {
 }
 
 impl<F: Files> Store<F> {
-    // The target that the file of a full name tells.
+    // The target in the file of a full name.
     pub(crate) fn target_in_file(&self, alloc: Global, name: &[u8]) -> Result<Option<Target>, Error>
         ensures found { F.is_honest self.now.files
             → TellsFile (base_of self.now).kind
@@ -160,7 +160,7 @@ impl<F: Files> Store<F> {
         }
     }
 
-    // The target that this text tells.
+    // The target that this text names.
     fn target_of(&self, alloc: Global, text: &[u8]) -> Result<Option<Target>, Error>
         ensures found { TellsFile (base_of self.now).kind (Some text.now) result }
         ensures failed { IfErr result (MayTell F.reading_may_fail) }

@@ -17,7 +17,7 @@ use gix_ref_name::FullName;
 use std::alloc::Global;
 use std::collections::BTreeSet;
 
-// Files, a folder of theirs in which names stand as paths, and which names are asked for.
+// Files, a folder of theirs whose paths are names, and which names are wanted.
 #[derive(Drop)]
 pub(crate) struct Walk<'a, F> {
     pub(crate) alloc: Global,
@@ -27,8 +27,8 @@ pub(crate) struct Walk<'a, F> {
 }
 
 impl<F: Files> Walk<'_, F> {
-    // Puts the names in that are asked for and have a file below this folder of names. It goes into no folder in which none of
-    // them can stand.
+    // Adds the wanted names that have a file below this folder of names. It enters no folder in
+    // which none of them can be.
     pub(crate) fn below(&self, folder: &[u8], names: &mut BTreeSet<FullName>) -> Result<(), Error>
         requires { 0 < length folder.now }
         ensures kept { Keeps names.old.keys names.new.keys }
@@ -52,7 +52,7 @@ impl<F: Files> Walk<'_, F> {
         Ok(())
     }
 
-    // What stands at this path of the folder; nothing where none of the names can stand there.
+    // What is at this path of the folder; nothing if none of the names can be there.
     fn kind_of(&self, path: &[u8]) -> Result<Place, Error>
         ensures kind { F.is_honest self.now.files.now
             → let tree = (F.history self.now.files.now).tree in
@@ -83,7 +83,7 @@ impl<F: Files> Walk<'_, F> {
     }
 }
 
-// Puts a copy of the path in, where it is the name of a pseudo reference.
+// Adds a copy of the path, if it is the name of a pseudo reference.
 fn put_pseudo(alloc: Global, path: &[u8], names: &mut BTreeSet<FullName>) -> Result<(), Error>
     ensures kept { Keeps names.old.keys names.new.keys }
     ensures asked { BringsAsked is_pseudo names.old.keys names.new.keys }
@@ -97,7 +97,7 @@ fn put_pseudo(alloc: Global, path: &[u8], names: &mut BTreeSet<FullName>) -> Res
     Ok(())
 }
 
-// Puts a name in, where it is a full one.
+// Adds a name, if it is a full one.
 pub(crate) fn put_name(name: ByteString, names: &mut BTreeSet<FullName>) -> Result<(), Error>
     ensures kept { Keeps names.old.keys names.new.keys }
     ensures only { (other : List ℕ) → IsTrue (has names.new.keys other)
