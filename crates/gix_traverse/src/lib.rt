@@ -8,7 +8,8 @@ pub mod commit {
         pub use gix_traverse_commit::simple::{CommitTimeOrder, Error, HiddenGraphError, Sorting};
     }
 
-    /// Laws over the definitions alone: which lists answer a walk, and that all orders list one set.
+    /// Laws over the definitions alone: which lists a walk may give, and that all orders list one
+    /// set.
     pub mod laws {
         pub use gix_traverse_commit::laws::{
             breadth_is_one, orders_list_one_set, topological_is_one,
@@ -45,7 +46,7 @@ pub mod tree {
         pub use gix_traverse_tree::recorder::{Entry, Location};
     }
 
-    /// What a delegate answers.
+    /// What a delegate returns.
     pub mod visit {
         pub use gix_traverse_tree::visit::{Action, Error};
     }

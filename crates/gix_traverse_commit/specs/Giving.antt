@@ -42,7 +42,7 @@ pub record IsInfo (g : Commits ObjectId) (rows : List Row) (parents : Parents) (
 abbrev pub IsUnmet : List Node → ObjectId → Type 0
 IsUnmet nodes x = is_met nodes x ≡ false
 
--- of the tips before this place the times are told
+-- the times of the tips before this place are known
 abbrev pub IsReadBefore : Type 0 → List Row → Table → List Node → List ObjectId → ℕ → Type 0
 IsReadBefore honest rows table nodes tips place =
     honest → (x : ObjectId) → Contains (take place tips) x → IsUnmet nodes x
@@ -63,14 +63,14 @@ pub record InRows {F P : Type 0} (walk : Simple F P) : Type 0 where
   pub queue : AllHeld (rows_of walk.source.rows) walk.known.queue
   pub waiting_rows : AllRowed (rows_of walk.source.rows) (turns_of walk.known)
 
--- the content is the commit's where its object told it, and else nothing
+-- the content is the commit's if it was read from its object, and otherwise empty
 pub record IsContentOf (honest : Type 0) (rows : List Row) (table : Table) (id : ObjectId)
     (content : List ℕ) : Type 0 where
   pub rowed : Holds rows id → content ≡ []
   pub stored : honest → ¬ Holds rows id → object.Stands table (id_of id) kinds.Commit content
 
--- a walk begins: all that is hidden was asked for, each commit once, and by time the tips that are accepted and not hidden, each
--- once, for their times
+-- a walk begins: all that is hidden was looked up, each commit once, and by time the tips that are
+-- accepted and not hidden, each once, for their times
 pub record CountsBeginning (honest : Type 0) (rows : List Row) (table : Table) (a : Asked)
     (before after : ℕ) : Type 0 where
   pub painted : List ObjectId
@@ -86,14 +86,15 @@ pub record CountsBeginning (honest : Type 0) (rows : List Row) (table : Table) (
   pub are_timed : IsSome (timing a) → honest → (g : Commits ObjectId) → AreTold rows table g
       → IsListOf (λ x. Contains a.tips x × IsAccepted a x × (¬ ReachedFrom g a.hidden x)) timed
 
--- at least one was asked for where the commit has no row, and up to so many more; none where it has one
+-- at least one was looked up if the commit has no row, and up to so many more; none if it has one
 pub record CountsUpTo (rows : List Row) (id : ObjectId) (more before after : ℕ) : Type 0 where
   pub stored : (¬ Holds rows id) → one_more before ≤ after
   pub rowed : Holds rows id → after ≡ before
   pub most : after ≤ before + 1 + more
 
--- a commit comes: it is asked for once, and its parents are met that were not met before and are not hidden; the predicate is asked
--- of each of them once, and of no other commit, and by time those that it accepts are asked for, for their times
+-- a commit comes: it is looked up once, and its parents are met that were not met before and are
+-- not hidden; the predicate is called for each of them once, and for no other commit, and by time
+-- those that it accepts are looked up, for their times
 pub record MeetsParents {P : Type 0} (accepts : P → Id → Bool) (goes : P → Id → P → Type 0)
     (rows : List Row) (nodes : List Node) (t : Option Timing) (info : Info) (before : P)
     (lookups : ℕ) (after : P) (lookups' : ℕ) : Type 0 where
@@ -128,7 +129,8 @@ pub record ComesInTurn {F P : Type 0} (accepts : P → Id → Bool) (may_fail : 
   pub parents : LetsWaitIn (timing_of before.parents before.sorting) may_fail g
       (IsMetWith accepts before info.parent_ids.items) others (turns_of after.known)
 
--- by time what waits stays queued in its order, and parents that begin to wait are queued behind it, in their order
+-- by time what waits stays queued in its order, and parents that begin to wait are queued after it,
+-- in their order
 pub record KeepsOrder {F P : Type 0} (before : Simple F P) (info : Info)
     (after : Simple F P) : Type 0 where
   pub between : KnownCommits
@@ -146,7 +148,7 @@ pub record FailsInTurn {F P : Type 0} (honest may_fail : Type 0) (rows : List Ro
   pub taken : TakesTurn (timing_of before.parents before.sorting) (turns_of before.known) id others
   pub cause : StopsFetch before.parents honest may_fail rows table id error
 
--- the walk has begun, for which the predicate isn't asked
+-- the walk has begun, and the predicate wasn't called for that
 pub record Begins {F P : Type 0} (accepts : P → Id → Bool) (honest may_fail : Type 0)
     (table : Table) (ids : List Id) (a : Asked) (before begun : Simple F P) : Type 0 where
   pub under_way : honest → (g : Commits ObjectId) → AreTold (rows_of before.source.rows) table g
@@ -180,7 +182,8 @@ pub record CountsFirst {F P : Type 0} (accepts : P → Id → Bool) (goes : P �
   pub marks : MarksMet begun.known.nodes info.parent_ids.items after.known.nodes
   pub paint_stays : StaysPainted begun.known.nodes after.known.nodes
 
--- one object was asked for where a commit isn't read; where memory is wanting none that was counted is lost
+-- one object was looked up if a commit isn't read; if memory is wanting, none that was counted is
+-- lost
 abbrev pub CountsFault : ℕ → ℕ → Error → Type 0
 CountsFault before after (fault.Find error) = after ≡ one_more before
 CountsFault before after (fault.ObjectDecode error) = after ≡ one_more before
@@ -196,14 +199,16 @@ pub record FailsBegun {F P : Type 0} (accepts : P → Id → Bool) (honest may_f
   pub fails : FailsInTurn honest may_fail (rows_of before.source.rows) table begun error
   pub counts : CountsFault begun.source.lookups after.source.lookups error
 
--- one object was asked for where a commit that the hidden ones reach isn't read; where memory is wanting none that was counted is lost
+-- one object was looked up if a commit that the hidden ones reach isn't read; if memory is wanting,
+-- none that was counted is lost
 abbrev pub CountsHiddenFault : ℕ → ℕ → Error → Type 0
 CountsHiddenFault before after (fault.Find error) = ⊥
 CountsHiddenFault before after (fault.ObjectDecode error) = ⊥
 CountsHiddenFault before after (fault.HiddenGraph error) = after ≡ one_more before
 CountsHiddenFault before after fault.Memory = before ≤ after
 
--- a walk doesn't begin: some of what is hidden was asked for, each commit once, and then the one that isn't read
+-- a walk doesn't begin: some of what is hidden was looked up, each commit once, and then the one
+-- that isn't read
 abbrev pub CountsUnbegun : Type 0 → List Row → Table → List ObjectId → ℕ → ℕ → Error → Type 0
 CountsUnbegun honest rows table hidden before after error =
     (behind : ℕ) × PaintsSome honest rows table hidden before behind
@@ -232,7 +237,8 @@ pub record IsNext {F P : Type 0} (accepts : P → Id → Bool) (ids : List Id) (
   pub fewer : length listed < length rows + length ids
   pub stands : IsUnderWay accepts ids g a (listed ++ info.id ∷ []) after
 
--- the answer to one that asks a walk for its next commit, of a store that is honest, may fail, has this table and finds none but these ids
+-- what a walk gives as its next commit, over a store that is honest, may fail, has this table and
+-- finds none but these ids
 pub record GivesNext {F P : Type 0} (accepts : P → Id → Bool) (goes : P → Id → P → Type 0)
     (honest may_fail : Type 0) (table : Table) (ids : List Id) (before : Simple F P)
     (item : Option (Result Info Error)) (after : Simple F P) : Type 0 where

@@ -1,4 +1,4 @@
--- What a walk is asked for, and where it stands.
+-- What a walk is to list, and its state.
 use Rattle.std.specs.Prelude.{◌≡◌, ◌⊎◌, ◌↔◌, ◌≤◌, ◌+◌, ℕ, Bool, true, false, ◌&&◌, List, [], ◌∷◌, ◌++◌, length, Option, None, Some, Contains, if◌then◌else◌}
 use Rattle.std.specs.List.{sum_by}
 use Rattle.gix_hash_id.specs.Id.{Id, id_of}
@@ -23,7 +23,7 @@ use Rattle.gix_traverse_commit_known.specs.Asked.{AcceptsAs, AreRefused, Asked, 
 
 -- ---- what a clause says of a walk
 
--- where it reads commits from, and how many objects it asked for so far
+-- where it reads commits from, and how many objects it looked up so far
 abbrev pub source_of : {F P : Type 0} → Simple F P → Source F
 source_of walk = walk.source
 
@@ -31,7 +31,7 @@ source_of walk = walk.source
 abbrev pub objects_of : {F P : Type 0} → Simple F P → F
 objects_of walk = walk.source.objects
 
--- the rows that answer before them, where there are any
+-- the rows that are read before them, if there are any
 abbrev pub graph_of : {F P : Type 0} → Simple F P → Option (List Row)
 graph_of walk = walk.source.rows
 
@@ -39,11 +39,11 @@ graph_of walk = walk.source.rows
 abbrev pub predicate_of : {F P : Type 0} → Simple F P → P
 predicate_of walk = walk.predicate
 
--- how many objects it asked for so far
+-- how many objects it looked up so far
 abbrev pub lookups_of : {F P : Type 0} → Simple F P → ℕ
 lookups_of walk = walk.source.lookups
 
--- the content of the commit that was given last, where its object told it
+-- the content of the commit that was given last, if it was read from its object
 abbrev pub content_of : {F P : Type 0} → Simple F P → List ℕ
 content_of walk = walk.source.buffer.items
 
@@ -75,14 +75,14 @@ TakesOne before id after =
     → may_come after.known.nodes (times_queued after) (id_of x) + times_in (id ∷ []) (id_of x)
     ≤ may_come before.known.nodes (times_queued before) (id_of x)
 
--- what is left of a walk, of the ids of its rows and these: each once where it isn't met, and as often as it is queued or waits. An id
--- that is a row's and one of these as well counts twice
+-- what is left of a walk, of the ids of its rows and these: each once if it isn't met, and as often
+-- as it is queued or waits. An id that is a row's and one of these as well counts twice
 abbrev pub left_of : {F P : Type 0} → List Id → Simple F P → ℕ
 left_of ids walk =
     sum_by (may_come walk.known.nodes (times_queued walk))
     (known_ids (rows_of walk.source.rows) ids)
 
--- ---- what it is asked for
+-- ---- what it is to list
 
 -- the walk has begun, along the same parents, in the same order and with the same hidden commits
 pub record StaysAsked {F P : Type 0} (before after : Simple F P) : Type 0 where
@@ -119,11 +119,11 @@ pub record IsTurned {F P : Type 0} (accepts : P → Id → Bool) (a : Asked)
   pub refused : (x : ObjectId) → is_met walk.known.nodes x ≡ true → (¬ Contains a.tips x)
       → a.accepts (id_of x) ≡ false
 
--- a walk that was asked for this, and has not begun, or begins anew
+-- a walk that is to list this, and has not begun, or begins anew
 abbrev pub IsMade : {F P : Type 0} → (P → Id → Bool) → Asked → Simple F P → Type 0
 IsMade accepts a walk = IsNew accepts a walk ⊎ IsTurned accepts a walk
 
--- a walk that was asked for this, with its hidden commits painted
+-- a walk that is to list this, with its hidden commits painted
 pub record IsPaintedFor {F P : Type 0} (accepts : P → Id → Bool) (g : Commits ObjectId)
     (a : Asked) (walk : Simple F P) : Type 0 where
   pub tips : walk.tips.items ≡ a.tips
@@ -183,7 +183,7 @@ abbrev pub IsUnderWay : {F P : Type 0} → (P → Id → Bool) → List Id → C
 IsUnderWay accepts ids g a listed walk =
     IsGoing accepts ids g a listed walk ⊎ IsGoingByTime accepts ids g a listed walk
 
--- a walk that was asked for this and has given this list
+-- a walk that is to list this and has given this list
 abbrev pub Stands : {F P : Type 0} → (P → Id → Bool) → List Id → Commits ObjectId → Asked
     → List ObjectId → Simple F P → Type 0
 Stands accepts ids g a listed walk =
@@ -199,12 +199,13 @@ pub record IsOver {F P : Type 0} (walk : Simple F P) : Type 0 where
 abbrev pub is_over : {F P : Type 0} → Simple F P → Bool
 is_over walk = walk.begun && (is_empty walk.known.queue && is_empty (turns_of walk.known))
 
--- how many answers may still come, of the ids of its rows and these: none where it is over, and else the commits that are left and
--- an error
+-- how many items may still come, of the ids of its rows and these: none if it is over, and
+-- otherwise the commits that are left and an error
 abbrev pub answers_left : {F P : Type 0} → List Id → Simple F P → ℕ
 answers_left ids walk = if is_over walk then 0 else left_of ids walk + 1
 
--- what is left of a walk that was asked for this: from what is queued, in its order, past no other commit that was met
+-- what is left of a walk that is to list this: from what is queued, in its order, past no other
+-- commit that was met
 pub record IsRest {F P : Type 0} (a rest : Asked) (walk : Simple F P) : Type 0 where
   pub tips : rest.tips ≡ queued_in walk
   pub hidden : rest.hidden ≡ a.hidden
@@ -225,7 +226,7 @@ pub record IsUnderWayTo {F P : Type 0} (accepts : P → Id → Bool) (rest : Ask
   pub goes_on : ¬ IsOver walk
   pub left : IsRest a rest walk
 
--- this is what a walk has before it: it was asked for it, or it is left of one that has begun
+-- this is what a walk has before it: it is to list it, or it is left of one that has begun
 abbrev pub HasAhead : {F P : Type 0} → (P → Id → Bool) → Asked → Simple F P → Type 0
 HasAhead accepts a walk = IsMade accepts a walk ⊎ IsUnderWayTo accepts a walk
 

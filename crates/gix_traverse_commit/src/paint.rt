@@ -75,7 +75,7 @@ fn paint_tips(
     Ok(())
 }
 
-// Paints the parents of a commit that stands just before place `read`.
+// Paints the parents of the commit just before place `read`.
 fn paint_parents(
     known: &mut Known,
     painted: &mut Vec<ObjectId>,

@@ -67,8 +67,8 @@ pub struct Simple<F, P> {
 }
 
 impl<F: FindInto + Drop> Simple<F, All> {
-    /// A walk from these tips along all parents, which reads commits from these objects. It is `Memory` where there is no
-    /// memory for the walk.
+    /// A walk from these tips along all parents, which reads commits from these objects. Returns
+    /// `Memory` if there is no memory for the walk.
     pub fn new(tips: Vec<ObjectId>, find: F) -> Result<Simple<F, All>, Error>
         ensures objects { IfOk result (λ walk. objects_of walk ≡ find) }
         ensures rows { IfOk result (λ walk. graph_of walk ≡ None) }
@@ -88,9 +88,10 @@ impl<F: FindInto + Drop> Simple<F, All> {
 }
 
 impl<F: FindInto + Drop, P: Accept + Drop> Simple<F, P> {
-    /// A walk that gives the commits alone that the predicate accepts, and doesn't go on to the parents of one that it refuses.
-    /// The predicate is asked of each tip here, and of each other commit when the walk first meets it as a parent of one that
-    /// comes, unless it is hidden. It is `Memory` where there is no memory for the walk.
+    /// A walk that gives only the commits that the predicate accepts, and doesn't go on to the
+    /// parents of one that it refuses. The predicate is called for each tip here, and for each
+    /// other commit when the walk first meets it as a parent of one that comes, unless it is
+    /// hidden. Returns `Memory` if there is no memory for the walk.
     pub fn filtered(tips: Vec<ObjectId>, find: F, mut predicate: P) -> Result<Simple<F, P>, Error>
         ensures objects { IfOk result (λ walk. objects_of walk ≡ find) }
         ensures rows { IfOk result (λ walk. graph_of walk ≡ None) }
@@ -128,14 +129,15 @@ impl<F: FindInto + Drop, P: Accept + Drop> Simple<F, P> {
         })
     }
 
-    /// The same walk in this order; the last call before the first commit decides. An order by time reads the time of each tip that
-    /// the predicate accepts, in their order, and refuses where one of them can't be told. The error is that of the first such tip:
-    /// `Find` where no object of a commit is found under its id, `ObjectDecode` where the object tells no committer's time, and
-    /// `Memory` where there is no memory for the lookup. After an error there is no walk any more.
+    /// The same walk in this order; the last call before the first commit decides. An order by time
+    /// reads the time of each tip that the predicate accepts, in their order. The error is that of
+    /// the first tip whose time can't be read: `Find` if the id has no commit, `ObjectDecode` if
+    /// the object has no committer's time, and `Memory` if there is no memory for the lookup. After
+    /// an error there is no walk any more.
     ///
-    /// After the first commit this begins the rest anew, as each builder call but `commit_graph` does: a walk whose tips are what is
-    /// queued, in the order in which that was queued, and which goes to no other commit that was met. A walk that is over stays over,
-    /// and is never refused.
+    /// After the first commit this begins the rest anew, as each builder call but `commit_graph`
+    /// does: a walk whose tips are what is queued, in the order in which that was queued, and which
+    /// goes to no other commit that was met. A walk that is over stays over, and is never refused.
     pub fn sorting(mut self, sorting: Sorting) -> Result<Simple<F, P>, Error>
         ensures objects { IfOk result (λ walk. objects_of walk ≡ objects_of self) }
         ensures rows { IfOk result (λ walk. graph_of walk ≡ graph_of self) }
@@ -203,7 +205,7 @@ impl<F: FindInto + Drop, P: Accept + Drop> Simple<F, P> {
         Ok(self)
     }
 
-    /// The same walk with these rows, which answer before the objects do.
+    /// The same walk with these rows, which are read before the objects.
     pub fn commit_graph(mut self, rows: Option<Graph>) -> Simple<F, P>
         ensures objects { objects_of result ≡ objects_of self }
         ensures rows { graph_of result ≡ rows }
@@ -224,22 +226,23 @@ impl<F: FindInto + Drop, P: Accept + Drop> Simple<F, P> {
         self
     }
 
-    /// How many objects the walk asked for so far.
+    /// How many objects the walk looked up so far.
     pub fn lookups(&self) -> usize
         ensures { result ≡ lookups_of self.now }
     {
         self.source.lookups
     }
 
-    /// The content of the commit that was given last, where its object told it; else nothing: also before the first commit, and
-    /// after an error.
+    /// The content of the commit that was given last, if it was read from its object; otherwise
+    /// nothing, also before the first commit and after an error.
     pub fn commit_data(&self) -> &[u8]
         ensures { result.now ≡ content_of self.now }
     {
         self.source.buffer.as_slice()
     }
 
-    /// A reader of the parts of the commit that was given last, where its object told it; else of nothing.
+    /// A reader of the parts of the commit that was given last, if it was read from its object;
+    /// otherwise of nothing.
     pub fn commit_iter(&self) -> CommitRefIter<'_>
         ensures { place_of result ≡ start (kind_of self.now) (content_of self.now) }
     {
@@ -256,8 +259,8 @@ impl<F: FindInto + Drop, P: Accept + Drop> Iterator for Simple<F, P> {
 
     ghost remaining = { λ walk. at_most (answers_left (F.ids (objects_of walk)) walk) };
 
-    /// The next commit. It is an error where that isn't found or isn't read, where the hidden commits aren't painted, and where
-    /// no memory is left; and nothing where all are given, or an error was.
+    /// The next commit; `None` if all are given, or an error was. Returns an error if the commit
+    /// isn't found or isn't read, if the hidden commits aren't painted, and if no memory is left.
     fn next(&mut self) -> Option<Result<Info, Error>> {
         if let Err(error) = self.ready() {
             self.stop();

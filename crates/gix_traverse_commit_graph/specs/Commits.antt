@@ -21,7 +21,7 @@ abbrev pub asked_parents : {I : Type 0} → Parents → Commits I → I → List
 asked_parents All g x = (g x).parents
 asked_parents First g x = take 1 (g x).parents
 
--- reached from the tips along these parents, where each commit on the way passes
+-- reached from the tips along these parents, so that each commit on the way passes
 pub data Reached {I : Type 0} (along : I → List I) (passes : I → Type 0) (tips : List I) : I
     → Type 0 where
   tip : {x : I} → Contains tips x → passes x → Reached along passes tips x
@@ -36,7 +36,7 @@ pub record WalkRequest (I : Type 0) : Type 0 where
   pub since : Option ℤ
   pub accepts : I → Bool
 
--- accepted, and no older than the cutoff, where there is one
+-- accepted, and no older than the cutoff, if there is one
 abbrev pub Passes : {I : Type 0} → Commits I → WalkRequest I → I → Type 0
 Passes g q x = IsTrue (q.accepts x) × IfSome q.since (λ seconds. seconds ≤ℤ (g x).time)
 

@@ -1,6 +1,6 @@
 use Rattle.std.specs.Prelude.{◌≡◌, ℕ, zero, suc, ◌<◌, ◌≤◌, ◌⊎◌, ◌↔◌, List, Some, ℤ, ◌≤ℤ◌, ◌<ℤ◌, Contains, slice_get, take}
 
--- x stands at place k
+-- x is at place k
 abbrev pub At : {I : Type 0} → List I → ℕ → I → Type 0
 At xs k x = slice_get xs k ≡ Some x
 
@@ -77,7 +77,7 @@ IsByDate along time S out = IsChosen S (IsReady along S) (NewestFirst time) out
 abbrev pub NamedBy : {I : Type 0} → (I → List I) → List I → ℕ → ℕ → I → Type 0
 NamedBy {I} along before j i x = (child : I) × At before j child × At (along child) i x
 
--- its last child stands at j, and i is its last index there
+-- its last child is at j, and i is its last index there
 pub record IsLastName {I : Type 0} (along : I → List I) (before : List I) (x : I)
     (j i : ℕ) : Type 0 where
   pub named : NamedBy along before j i x

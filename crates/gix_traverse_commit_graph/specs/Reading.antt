@@ -3,7 +3,8 @@ use Rattle.std.specs.Prelude.{◌≡◌, ℕ, ◌<◌, ◌≤◌, List, length, 
 use Rattle.gix_traverse_commit_graph.specs.Order.{At, Before, IsKey, Named}
 use Rattle.gix_traverse_commit_graph.specs.Commits.{Reached}
 
--- the list so far, where each name before (p, m) was read: it has what these name, each commit by its first name
+-- the list so far, after each name before (p, m) was read: it has what these name, each commit by
+-- its first name
 pub record Read {I : Type 0} (along : I → List I) (tips : List I) (keep : I → Type 0)
     (xs : List I) (p m : ℕ) : Type 0 where
   pub within : p ≤ length xs

@@ -1,4 +1,4 @@
--- The commits that rows tell.
+-- The commits of rows.
 use Rattle.std.specs.Prelude.{List, [], Option, Some, None, pos, find}
 use Rattle.gix_hash_id.specs.declared.object_id.ObjectId.{ObjectId}
 use Rattle.gix_traverse_commit_graph.specs.Commits.{Commit, Commits}
@@ -9,7 +9,7 @@ use Rattle.gix_traverse_commit_graph.specs.declared.rows.Row.{Row}
 abbrev pub row_of : List Row → ObjectId → Option Row
 row_of rows id = find (λ (row : Row). same_id id row.id) rows
 
--- what a row tells of its commit
+-- what a row says of its commit
 abbrev pub commit_of : Option Row → Commit ObjectId
 commit_of (Some row) = record { parents = row.parents.items; time = row.time }
 commit_of None = record { parents = []; time = pos 0 }

@@ -1,7 +1,7 @@
 use Rattle.std.specs.Prelude.{ℕ, zero, suc, Bool, cond, List, [], ◌∷◌, ◌++◌, Option, Some, None, slice_get}
 use Rattle.std.specs.List.{list_any}
 
--- the list with the commit at its end, where it is kept and new
+-- the list with the commit at its end, if it is kept and new
 abbrev pub with_name : {I : Type 0} → (I → I → Bool) → (I → Bool) → List I → I → List I
 with_name eq keep xs y = cond (keep y) (cond (list_any (eq y) xs) xs (xs ++ y ∷ [])) xs
 
@@ -9,7 +9,7 @@ abbrev pub with_names : {I : Type 0} → (I → I → Bool) → (I → Bool) →
 with_names eq keep xs [] = xs
 with_names eq keep xs (y ∷ ys) = with_names eq keep (with_name eq keep xs y) ys
 
--- the list in breadth order, found one place after another; none where the number of steps runs out
+-- the list in breadth order, found one place after another; none if the number of steps runs out
 abbrev pub breadth_at : {I : Type 0} → (I → I → Bool) → (I → Bool) → (I → List I) → ℕ → List I → ℕ
     → Option I → Option (List I)
 breadth_at eq keep along fuel xs n None = Some xs

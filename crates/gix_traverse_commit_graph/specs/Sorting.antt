@@ -1,4 +1,4 @@
--- The orders that a walk is asked for.
+-- The orders that a walk may have.
 use Rattle.std.specs.Prelude.{Bool, true, ℤ, Option, Some, None, IsSome, List, ◌≡◌}
 use Rattle.std.specs.Int.Signed.{le_z}
 use Rattle.gix_traverse_commit_graph.specs.Commits.{Commits, WalkRequest, asked_parents, Listed, Commit}
@@ -14,7 +14,7 @@ use Rattle.gix_traverse_commit_graph.specs.declared.sorting.Sorting.TheVariants.
 use Rattle.gix_traverse_commit_graph.specs.declared.sorting.Timing.{Timing}
 use Rattle.gix_hash_id.specs.declared.object_id.ObjectId.{ObjectId}
 
--- the order by time, where there is one; along first parents a walk goes in breadth order
+-- the order by time, if there is one; along first parents a walk goes in breadth order
 abbrev pub timing_of : Parents → Sorting → Option Timing
 timing_of First sorting = None
 timing_of All BreadthFirst = None
@@ -26,7 +26,7 @@ timing_of All (ByCommitTimeCutoff order seconds) =
 abbrev pub IsByTime : Sorting → Type 0
 IsByTime sorting = IsSome (timing_of All sorting)
 
--- the cutoff, where there is one
+-- the cutoff, if there is one
 abbrev pub cutoff_in : Option Timing → Option ℤ
 cutoff_in None = None
 cutoff_in (Some timing) = timing.since
@@ -46,7 +46,7 @@ abbrev pub InTimeOrder : {I : Type 0} → CommitTimeOrder → Commits I → Walk
 InTimeOrder by.NewestFirst g q out = ByNewest g q out
 InTimeOrder by.OldestFirst g q out = ByOldest g q out
 
--- the list answers a walk by time, or else in breadth order
+-- the list is that of a walk by time, or else in breadth order
 abbrev pub InOrder : {I : Type 0} → Option Timing → Commits I → WalkRequest I → List I → Type 0
 InOrder None g q out = InBreadth g q out
 InOrder (Some timing) g q out = InTimeOrder timing.order g q out
@@ -59,7 +59,7 @@ IsNextIn (Some timing) g q listed x =
     IsNextByTime (asked_parents q.parents g) q.tips (Listed g q)
     (ComesFirst timing.order (λ y. (g y).time)) listed x
 
--- the commit's time, where the walk goes by time
+-- the commit's time, if the walk goes by time
 abbrev pub IsTime : Option Timing → Commit ObjectId → Option ℤ → Type 0
 IsTime None commit time = time ≡ None
 IsTime (Some _) commit time = time ≡ Some commit.time

@@ -1,4 +1,4 @@
--- Where a walk over rows in breadth order stands.
+-- The state of a walk over rows in breadth order.
 use Rattle.std.specs.Prelude.{◌≡◌, ℕ, suc, ◌<◌, ◌↔◌, ◌⊎◌, Bool, true, ◌||◌, List, ◌++◌, length, Contains, None, ⊤}
 use Rattle.std.specs.List.{list_any}
 use Rattle.gix_hash_id.specs.declared.object_id.ObjectId.{ObjectId}
@@ -54,11 +54,11 @@ StandsAt rows parents has queue tips hides listed =
 abbrev pub GoesTo : List Row → Parents → List ObjectId → List ObjectId → ObjectId → Type 0
 GoesTo rows parents tips hides x = Reached (ways rows parents) (NotIn hides) tips x
 
--- the commit whose parents stand at place p
+-- the commit whose parents are at place p
 abbrev pub Reads : List ObjectId → ℕ → ObjectId → Type 0
 Reads xs p id = (q : ℕ) × (p ≡ suc q) × At xs q id
 
--- where the fault is a missing commit, this holds of it
+-- if the fault is a missing commit, this holds of it
 abbrev pub OfMissing : (ObjectId → Type 0) → WalkError → Type 0
 OfMissing P (fault.Missing id) = P id
 OfMissing P fault.Memory = ⊤

@@ -1,4 +1,4 @@
--- The lists that may answer a walk, in each order.
+-- The lists that a walk may give, in each order.
 use Rattle.std.specs.Prelude.{List, ◌≡◌, filter, true}
 use Rattle.gix_traverse_commit_graph.specs.Commits.{Commits, WalkRequest, asked_parents, Listed}
 use Rattle.gix_traverse_commit_graph.specs.Order.{IsBreadthFirst, IsByNewest, IsByOldest, IsByDate, IsTopological}
@@ -35,7 +35,7 @@ InTopological {I} g q out =
     (finished : List I) × FinishedTopologically g (unfiltered q) finished
     × (out ≡ filter q.accepts finished)
 
--- the list answers the walk in one of the five orders
+-- the list is that of the walk in one of the five orders
 pub data InSomeOrder {I : Type 0} (g : Commits I) (q : WalkRequest I) (out : List I) : Type 0 where
   breadth : InBreadth g q out → InSomeOrder g q out
   newest : ByNewest g q out → InSomeOrder g q out

@@ -14,16 +14,17 @@ pub type ParentIds = SmallVec<ObjectId, 1>;
 pub struct Info {
     /// The commit's id.
     pub id: ObjectId,
-    /// The ids of its parents, in their order: the first alone where `Simple` walks along first parents.
+    /// The ids of its parents, in their order: the first alone if `Simple` walks along first
+    /// parents.
     pub parent_ids: ParentIds,
-    /// The generation in its row, where it has one.
+    /// The generation in its row, if it has one.
     pub generation: Option<u32>,
-    /// Its committer's seconds since 1970, where the walk goes by time.
+    /// Its committer's seconds since 1970, if the walk goes by time.
     pub commit_time: Option<i64>,
 }
 
 impl Info {
-    /// A copy. It is an error where there is no memory for it.
+    /// A copy; `AllocError` if there is no memory for it.
     pub fn try_clone(&self) -> Result<Info, AllocError>
         ensures id { IfOk result (λ copy. copy.id ≡ self.now.id) }
         ensures parents { IfOk result (λ copy. copy.parent_ids.items ≡ self.now.parent_ids.items) }

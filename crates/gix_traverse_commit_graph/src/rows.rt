@@ -65,7 +65,7 @@ struct Table {
 }
 
 impl Table {
-    /// The rows, numbered. It is `Twice` where two rows are of one commit.
+    /// The rows, numbered. Returns `Twice` if two rows are of one commit.
     fn numbered(rows: Vec<Row>) -> Result<Table, RowsError>
         ensures rows { IfOk result (λ table. table.rows.items ≡ rows.items) }
         ensures numbers { IfOk result (λ table. Numbers table.rows.items table.numbers) }
@@ -81,7 +81,7 @@ impl Table {
         Ok(Table { rows, numbers })
     }
 
-    /// The rows, numbered, where they make a graph. If not, the error tells why.
+    /// The rows, numbered, if they make a graph. If not, the error says why.
     fn checked(rows: Vec<Row>) -> Result<Table, RowsError>
         ensures rows { IfOk result (λ table. table.rows.items ≡ rows.items) }
         ensures numbers { IfOk result (λ table. Numbers table.rows.items table.numbers) }
@@ -94,7 +94,7 @@ impl Table {
         Ok(table)
     }
 
-    /// The row of a commit, where it has one.
+    /// The row of a commit, if it has one.
     fn row(&self, id: &ObjectId) -> Option<&Row>
         requires { Numbers self.now.rows.items self.now.numbers }
         ensures found { IfSome result (λ row. Contains self.now.rows.items row.now
@@ -118,7 +118,7 @@ impl Table {
         None
     }
 
-    /// The greatest generation of the rows of these commits, and 0 where there is none.
+    /// The greatest generation of the rows of these commits, and 0 if there is none.
     fn greatest(&self, parents: &[ObjectId]) -> u32
         requires numbers { Numbers self.now.rows.items self.now.numbers }
         requires rows { (p : _) → Contains parents.now p → Holds self.now.rows.items p }
@@ -133,7 +133,7 @@ impl Table {
         greatest
     }
 
-    /// Whether each row's parents have rows. If not, it is `MissingParent`.
+    /// Tests that each row's parents have rows. If not, returns `MissingParent`.
     fn check_parents(&self) -> Result<(), RowsError>
         requires { Numbers self.now.rows.items self.now.numbers }
         ensures checked { IfOk result (λ _. (r : Row) → Contains self.now.rows.items r
@@ -148,7 +148,7 @@ impl Table {
         Ok(())
     }
 
-    /// Whether each row's generation is by the rule. If not, it is `BadGeneration`.
+    /// Tests that each row's generation is by the rule. If not, returns `BadGeneration`.
     fn check_generations(&self) -> Result<(), RowsError>
         requires numbers { Numbers self.now.rows.items self.now.numbers }
         requires parents { (r : Row) → Contains self.now.rows.items r
@@ -191,9 +191,9 @@ impl Model for Graph {
 impl Graph {
     /// The graph of these rows.
     ///
-    /// It is `Twice` where two rows are of one commit, else `MissingParent` where a row's parent has
-    /// no row, else `BadGeneration` where a row's generation is not by the rule or above the limit,
-    /// and `Memory` where there is no memory for the graph.
+    /// Returns `Twice` if two rows are of one commit, otherwise `MissingParent` if a row's parent
+    /// has no row, otherwise `BadGeneration` if a row's generation is not by the rule or above the
+    /// limit, and `Memory` if there is no memory for the graph.
     pub fn from_rows(rows: Vec<Row>) -> Result<Graph, RowsError>
         ensures kept { IfOk result (λ graph. graph ≡ rows.items) }
         ensures whole { IfOk result AreRows }
@@ -204,7 +204,7 @@ impl Graph {
         Ok(Graph { table })
     }
 
-    /// The row of a commit, where it has one.
+    /// The row of a commit; `None` if it has none.
     pub fn commit_by_id(&self, id: &ObjectId) -> Option<&Row>
         ensures found { IfSome result (λ row. Contains self.now row.now × (row.now.id ≡ id.now)) }
         ensures none { IfNone result (¬ Holds self.now id.now) }
@@ -213,7 +213,7 @@ impl Graph {
         self.table.row(id)
     }
 
-    /// The parents of a commit, where it has a row.
+    /// The parents of a commit, if it has a row.
     pub(crate) fn parents_of(&self, id: &ObjectId) -> Option<&[ObjectId]>
         ensures stored { IsSome result → Holds self.now id.now }
         ensures missing { IfNone result (¬ Holds self.now id.now) }
@@ -223,7 +223,7 @@ impl Graph {
         Some(row.parents.as_slice())
     }
 
-    /// The same graph once more, which copies no row. It is an error where there are too many already.
+    /// The same graph once more, which copies no row; `AllocError` if there are too many already.
     pub fn try_clone(&self) -> Result<Graph, AllocError>
         ensures { IfOk result (λ graph. graph ≡ self.now) }
     {

@@ -55,11 +55,11 @@ impl Default for Sorting {
 pub struct Timing {
     /// Which commit comes first.
     pub order: CommitTimeOrder,
-    /// The cutoff, where there is one.
+    /// The cutoff, if there is one.
     pub since: Option<i64>,
 }
 
-/// The order by time, where a walk along these parents goes by time.
+/// The order by time, if a walk along these parents goes by time.
 pub fn time_order(parents: Parents, sorting: Sorting) -> Option<Timing>
     ensures { result ≡ timing_of parents sorting }
 {
@@ -74,7 +74,7 @@ pub fn time_order(parents: Parents, sorting: Sorting) -> Option<Timing>
     }
 }
 
-/// Whether a commit of this time is no older than the cutoff.
+/// Returns whether a commit of this time is no older than the cutoff.
 pub fn is_in_time(since: Option<i64>, time: i64) -> bool
     ensures { result ≡ in_time since time }
 {
@@ -84,7 +84,7 @@ pub fn is_in_time(since: Option<i64>, time: i64) -> bool
     }
 }
 
-/// The commit's time, where the walk goes by time.
+/// The commit's time, if the walk goes by time.
 pub fn shown_time(parents: Parents, sorting: Sorting, time: Option<i64>) -> Option<i64>
     ensures { (commit : Commit ObjectId) → unwrap_or time (pos 0) ≡ commit.time
         → IsTime (timing_of parents sorting) commit result }

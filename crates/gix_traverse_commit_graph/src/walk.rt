@@ -36,7 +36,7 @@ impl From<AllocError> for WalkError {
     }
 }
 
-/// The parents of a commit that a walk goes along, where it has a row.
+/// The parents of a commit that a walk goes along, if it has a row.
 fn parents_along<'g>(rows: &'g Graph, id: &ObjectId, parents: Parents) -> Option<&'g [ObjectId]>
     ensures stored { IsSome result → Holds rows.now id.now }
     ensures missing { IfNone result (¬ Holds rows.now id.now) }
@@ -209,8 +209,8 @@ fn list_all(
 /// What the tips reach along these parents and the hidden commits don't reach along any, in breadth
 /// order, each once.
 ///
-/// It is `Missing` where a commit that the walk or a hidden commit comes to has no row, and `Memory`
-/// where there is no memory for the walk.
+/// Returns `Missing` if a commit that the walk or a hidden commit comes to has no row, and `Memory`
+/// if there is no memory for the walk.
 pub fn breadth_first(
     alloc: Global,
     rows: &Graph,

@@ -1,4 +1,4 @@
--- What a walk is asked for, and of which commits the predicate was asked.
+-- What a walk is to list, and for which commits the predicate was called.
 use Rattle.std.specs.Prelude.{◌≡◌, ◌⊎◌, Bool, true, false, List, Option, None, Contains, not, ◌&&◌}
 use Rattle.gix_hash_id.specs.Id.{Id, id_of}
 use Rattle.gix_hash_id.specs.declared.object_id.ObjectId.{ObjectId}
@@ -13,7 +13,7 @@ use Rattle.gix_traverse_commit_graph.specs.declared.sorting.Sorting.{Sorting}
 use Rattle.gix_traverse_commit_graph.specs.declared.sorting.Timing.{Timing}
 use Rattle.gix_traverse_commit_known.specs.Painting.{IsUnpainted}
 
--- what a walk is asked for
+-- what a walk is to list
 pub record Asked : Type 0 where
   pub tips : List ObjectId
   pub hidden : List ObjectId
@@ -21,7 +21,7 @@ pub record Asked : Type 0 where
   pub sorting : Sorting
   pub accepts : Id → Bool
 
--- the order by time, where it goes by time
+-- the order by time, if it goes by time
 abbrev pub timing : Asked → Option Timing
 timing a = timing_of a.parents a.sorting
 
@@ -38,7 +38,7 @@ request_in t a =
       accepts = λ x. a.accepts (id_of x);
     }
 
--- the list is what the walk is asked for
+-- the list is what the walk is to list
 abbrev pub Answers : Commits ObjectId → Asked → List ObjectId → Type 0
 Answers g a listed = InOrder (timing a) g (request_in (timing a) a) listed
 
@@ -54,7 +54,7 @@ pub record AreRefused (accepts : Id → Bool) (tips : List ObjectId)
       → accepts (id_of x) ≡ true
   pub unpainted : IsUnpainted nodes
 
--- the same, where the predicate was asked of these tips
+-- the same, if the predicate was called for these tips
 pub record AreAsked (accepts : Id → Bool) (tips : List ObjectId) (nodes : List Node) : Type 0 where
   pub refused : (x : ObjectId) → is_met nodes x ≡ true → accepts (id_of x) ≡ false
   pub accepted : (x : ObjectId) → Contains tips x → is_met nodes x ≡ false

@@ -8,7 +8,7 @@ use Rattle.gix_traverse_commit_known.specs.Nodes.{Node, marks_in}
 use Rattle.gix_traverse_commit_known.specs.declared.waiting.Turn.{Turn}
 use Rattle.gix_traverse_commit_graph.specs.declared.rows.Row.{Row}
 
--- how often an id stands in the list
+-- how often an id is in the list
 abbrev pub times_in : List ObjectId → Id → ℕ
 times_in xs id = count_by (λ (x : ObjectId). id_eq id (id_of x)) xs
 
@@ -20,7 +20,7 @@ times_waiting turns id = count_by (λ (t : Turn). id_eq id (id_of t.id)) turns
 abbrev pub met_under : List Node → Id → Bool
 met_under nodes id = (marks_in (find (λ (node : Node). id_eq id (id_of node.id)) nodes)).met
 
--- how often it may come: once where it isn't met, and as often as it is queued
+-- how often it may come: once if it isn't met, and as often as it is queued
 abbrev pub may_come : List Node → (Id → ℕ) → Id → ℕ
 may_come nodes queued id = (if met_under nodes id then 0 else 1) + queued id
 

@@ -32,7 +32,8 @@ HasRowsGeneration rows id None = ¬ Holds rows id
 HasRowsGeneration rows id (Some n) =
     (row : Row) × Contains rows row × (row.id ≡ id) × (row.generation ≡ n)
 
--- behind the tree and some parents, and along first parents behind none, a line stands that is no part, for this cause
+-- after the tree and some parents, and along first parents after none, comes a line that is no
+-- part, for this cause
 abbrev pub LacksParents : Parents → Place → decode.Error → Type 0
 LacksParents along here error =
     (ids : List Id) × (there : Place) × (after : Place) × TellsFront here ids there
@@ -51,7 +52,7 @@ find_error (iter_case.NotFound oid) = fault.Find (iter_case.NotFound oid)
 find_error (iter_case.ObjectKind oid actual expected) =
     fault.Find (iter_case.ObjectKind oid actual expected)
 
--- why a commit's object isn't found; want of memory at its lookup is told as want of memory
+-- why a commit's object isn't found; want of memory at its lookup is reported as that
 abbrev pub FindFault : Type 0 → Type 0 → Table → ObjectId → existing_iter.Error → Type 0
 FindFault honest may_fail table id (iter_case.Find lookup.Memory) = ⊥
 FindFault honest may_fail table id (iter_case.Find lookup.Failed) =
@@ -77,7 +78,8 @@ ReadFault along honest may_fail rows table id fault.Memory = ⊤
 abbrev pub FetchFault : Type 0 → Type 0 → List Row → Table → ObjectId → FetchError → Type 0
 FetchFault honest may_fail rows table id error = ReadFault All honest may_fail rows table id error
 
--- why a commit's time isn't read: it has no row, and its object isn't found or is no commit, or tells no committer
+-- why a commit's time isn't read: it has no row, and its object isn't found or is no commit, or has
+-- no committer
 abbrev pub TimeFault : Type 0 → Type 0 → List Row → Table → ObjectId → FetchError → Type 0
 TimeFault honest may_fail rows table id (fault.Find error) =
     (¬ Holds rows id) × FindFault honest may_fail table id error
@@ -88,7 +90,7 @@ TimeFault honest may_fail rows table id (fault.ObjectDecode error) =
     × TellsNone committer_told (start (id_of id).kind content) error)
 TimeFault honest may_fail rows table id fault.Memory = ⊤
 
--- a row or an object tells the commit's time
+-- a row or an object has the commit's time
 abbrev pub TimeIsTold : List Row → Table → ObjectId → Type 0
 TimeIsTold rows table id =
     Holds rows id

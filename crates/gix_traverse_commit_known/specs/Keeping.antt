@@ -9,7 +9,7 @@ pub record IsMetBy (keep has : ObjectId → Bool) (xs : List ObjectId) : Type 0 
   pub listed : (q : ObjectId) → Contains xs q → has q ≡ true
   pub met : (q : ObjectId) → has q ≡ true → keep q ≡ true → Contains xs q
 
--- names before (p, m) are read, and those that are kept stand in the list
+-- names before (p, m) are read, and those that are kept are in the list
 pub record Kept (along : ObjectId → List ObjectId) (tips : List ObjectId)
     (keep has : ObjectId → Bool) (xs : List ObjectId) (p m : ℕ) : Type 0 where
   pub read : Read along tips (λ q. IsTrue (keep q)) xs p m

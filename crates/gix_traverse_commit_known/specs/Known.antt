@@ -17,7 +17,7 @@ pub record KnownCommits : Type 0 where
   pub pending : List Pending
   pub order : List Pending
 
--- the id at this number, where it has a node
+-- the id at this number, if it has a node
 abbrev pub id_at : List Node → Number → ObjectId
 id_at nodes number = unwrap_or (slice_get (ids_of nodes) number.0) (Sha1 [])
 

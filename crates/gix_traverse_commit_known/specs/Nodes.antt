@@ -44,6 +44,6 @@ is_met nodes id = (marks_of nodes id).met
 abbrev pub is_hidden : List Node → ObjectId → Bool
 is_hidden nodes id = (marks_of nodes id).hidden
 
--- the predicate was asked of the commit
+-- the predicate was called for the commit
 abbrev pub is_asked : List Node → ObjectId → Bool
 is_asked nodes id = (marks_of nodes id).asked

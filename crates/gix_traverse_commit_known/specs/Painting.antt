@@ -56,7 +56,7 @@ pub record IsPartOf (S : ObjectId → Type 0) (xs : List ObjectId) : Type 0 wher
   pub each : (x : ObjectId) → Contains xs x → S x
   pub once : (j k : ℕ) (x : ObjectId) → At xs j x → At xs k x → j ≡ k
 
--- of what the hidden commits reach some were asked for, each once
+-- of what the hidden commits reach some were looked up, each once
 pub record PaintsSome (honest : Type 0) (rows : List Row) (table : Table) (hidden : List ObjectId)
     (before after : ℕ) : Type 0 where
   pub painted : List ObjectId
@@ -64,13 +64,14 @@ pub record PaintsSome (honest : Type 0) (rows : List Row) (table : Table) (hidde
   pub are_reached : honest → (g : Commits ObjectId) → AreTold rows table g
       → IsPartOf (ReachedFrom g hidden) painted
 
--- one object was asked for where a commit isn't read; where memory is wanting none that was counted is lost
+-- one object was looked up if a commit isn't read; if memory is wanting, none that was counted is
+-- lost
 abbrev pub CountsUnread : ℕ → ℕ → FetchError → Type 0
 CountsUnread before after (fault.Find error) = after ≡ one_more before
 CountsUnread before after (fault.ObjectDecode error) = after ≡ one_more before
 CountsUnread before after fault.Memory = before ≤ after
 
--- a painting ends early: some were asked for, and then the one that isn't read
+-- a painting ends early: some were looked up, and then the one that isn't read
 abbrev pub CountsUnpainted : Type 0 → List Row → Table → List ObjectId → ℕ → ℕ → FetchError → Type 0
 CountsUnpainted honest rows table hidden before after error =
     (behind : ℕ) × PaintsSome honest rows table hidden before behind

@@ -23,7 +23,8 @@ Within xs [] = xs ≡ []
 Within xs (y ∷ ys) =
     Within xs ys ⊎ ((rest : List ObjectId) × (xs ≡ y ∷ rest) × Within rest ys)
 
--- these commits are queued to wait, in their order, behind what was queued, and no other begins to wait
+-- these commits are queued to wait, in their order, after what was queued, and no other begins to
+-- wait
 pub record QueuesBehind (old : KnownCommits) (ids : List ObjectId)
     (new : KnownCommits) : Type 0 where
   pub more : List Pending

@@ -1,4 +1,4 @@
--- Where a walk by time stands.
+-- The state of a walk by time.
 use Rattle.std.specs.Prelude.{◌≡◌, ◌≢◌, ◌≤ℤ◌, ◌⊎◌, ◌↔◌, ℕ, ℤ, pos, Bool, true, not, ◌&&◌, List, ◌∷◌, [], ◌++◌, Option, None, Some, take, Contains, IsTrue}
 use Rattle.gix_hash_id.specs.Id.{Id, id_of}
 use Rattle.gix_hash_id.specs.declared.object_id.ObjectId.{ObjectId}
@@ -12,7 +12,7 @@ use Rattle.gix_traverse_commit_graph.specs.declared.sorting.CommitTimeOrder.TheV
 use Rattle.gix_traverse_commit_graph.specs.declared.sorting.Timing.{Timing}
 use Rattle.gix_traverse_commit_known.specs.declared.waiting.Turn.{Turn}
 
--- one more waits, where that is so
+-- one more waits, if that is so
 abbrev pub Joins : Bool → List Turn → Turn → List Turn → Type 0
 Joins so old turn new = (t : Turn) → Contains new t ↔ (((so ≡ true) × (t ≡ turn)) ⊎ Contains old t)
 
@@ -27,7 +27,7 @@ IsTaken OldestFirst old turn new =
 abbrev pub turn_of : Commits ObjectId → ObjectId → Turn
 turn_of g x = record { time = (g x).time; id = x }
 
--- the time that a commit counts with: its own, and 0 where its lookup failed
+-- the time that a commit counts with: its own, and 0 if its lookup failed
 abbrev pub CountsAs : Type 0 → Commits ObjectId → ObjectId → ℤ → Type 0
 CountsAs may_fail g x time = (time ≡ (g x).time) ⊎ ((time ≡ pos 0) × may_fail)
 

@@ -1,4 +1,5 @@
--- What rows and objects tell of commits: a row all, where a commit has one; else its object, by the lines that begin it.
+-- What rows and objects say of commits: a row all, if a commit has one; otherwise its object, by
+-- the lines that begin it.
 use Rattle.std.specs.Prelude.{ℕ, ◌≡◌, ◌⊎◌, ℤ, pos, List, [], ◌∷◌, Contains, Option, Some, None, Result, Ok, map, take, filter_map}
 use Rattle.gix_hash_id.specs.Id.{Id, id_of}
 use Rattle.gix_hash_id.specs.declared.kind.Kind as hash
@@ -20,20 +21,20 @@ use Rattle.gix_traverse_commit_known.specs.declared.either.Either.TheVariants as
 use Rattle.gix_traverse_commit_known.specs.declared.fetch.Source.{Source}
 use Rattle.gix_traverse_commit_graph.specs.declared.rows.Row.{Row}
 
--- the rows, where there are any
+-- the rows, if there are any
 abbrev pub rows_of : Option (List Row) → List Row
 rows_of None = []
 rows_of (Some rows) = rows
 
--- ---- what an object tells (git-hash-object, `-t commit`; Git User Manual, "Commit Object")
+-- ---- what an object says (git-hash-object, `-t commit`; Git User Manual, "Commit Object")
 
--- what a part tells that is neither tree nor parent
+-- a part that is neither tree nor parent
 abbrev pub beyond_told : Part → Option Part
 beyond_told (Tree _) = None
 beyond_told (Parent _) = None
 beyond_told part = Some part
 
--- here a commit ends, or a part stands that is neither tree nor parent
+-- here a commit ends, or a part comes that is neither tree nor parent
 abbrev pub IsPastParents : Place → Type 0
 IsPastParents here =
     (here.input ≡ [])
@@ -46,7 +47,7 @@ pub record TellsFront (here : Place) (ids : List Id) (there : Place) : Type 0 wh
   pub parents : filter_map parent_told parts ≡ ids
   pub front : filter_map beyond_told parts ≡ []
 
--- the parents whose lines stand from here on, up to the first line of another part
+-- the parents whose lines come from here on, up to the first line of another part
 abbrev pub TellsParents : Place → List Id → Type 0
 TellsParents here ids = (there : Place) × TellsFront here ids there × IsPastParents there
 
@@ -61,7 +62,7 @@ pub record TellsSeconds (here : Place) (seconds : ℤ) : Type 0 where
 abbrev pub LacksSeconds : Place → Type 0
 LacksSeconds here = (seconds : ℤ) → ¬ TellsSeconds here seconds
 
--- an object of this content tells the commit; without a committer its time is 0
+-- an object of this content is the commit's; without a committer its time is 0
 pub record TellsCommit (kind : hash.Kind) (content : List ℕ)
     (commit : Commit ObjectId) : Type 0 where
   pub parents : (ids : List Id) → TellsParents (start kind content) ids
@@ -71,11 +72,11 @@ pub record TellsCommit (kind : hash.Kind) (content : List ℕ)
   pub seconds : (seconds : ℤ) → TellsSeconds (start kind content) seconds → commit.time ≡ seconds
   pub no_seconds : LacksSeconds (start kind content) → commit.time ≡ pos 0
 
--- no object stands under the id that is a commit
+-- the id has no object that is a commit
 abbrev pub IsNoCommit : Table → Id → Type 0
 IsNoCommit table id = (content : List ℕ) → ¬ Stands table id kinds.Commit content
 
--- the commits are those that the rows tell, and else those that the objects tell
+-- the commits are those of the rows, and otherwise those of the objects
 pub record AreTold (rows : List Row) (table : Table) (commits : Commits ObjectId) : Type 0 where
   pub rowed : (row : Row) → Contains rows row → commits row.id ≡ commit_of (Some row)
   pub stored : (id : ObjectId) (content : List ℕ) → ¬ Holds rows id
@@ -86,13 +87,13 @@ pub record AreTold (rows : List Row) (table : Table) (commits : Commits ObjectId
 
 -- ---- what a clause says over rows and objects
 
--- this holds of each commits that they tell, where the objects answer by their table
+-- this holds of each commits that they describe, if the objects answer by their table
 abbrev pub OverTold : {F : Type 0} → (F → Type 0) → (F → Table) → Source F
     → (Commits ObjectId → Type 0) → Type 0
 OverTold IsHonest table source What = IsHonest source.objects → (g : Commits ObjectId)
     → AreTold (rows_of source.rows) (table source.objects) g → What g
 
--- and so it does where no lookup fails besides
+-- and so it does if no lookup fails besides
 abbrev pub OverSure : {F : Type 0} → (F → Type 0) → (F → Type 0) → (F → Table) → Source F
     → (Commits ObjectId → Type 0) → Type 0
 OverSure IsHonest MayFail table source What =
@@ -114,7 +115,7 @@ abbrev pub LacksTime : Either → decode.Error → Type 0
 LacksTime (either.CommitRefIter reader) error = TellsNone committer_told (place_of reader) error
 LacksTime (either.CachedCommit row) error = ⊥
 
--- its row where it has one, else a reader at the start of its object
+-- its row if it has one, and otherwise a reader at the start of its object
 abbrev pub IsFound : List Row → Table → ObjectId → Either → Type 0
 IsFound rows table id (either.CachedCommit row) = Contains rows row.now × (row.now.id ≡ id)
 IsFound rows table id (either.CommitRefIter reader) =

@@ -6,7 +6,7 @@ ghost use Rattle.gix_hash_id.specs.Views.{viewed_id};
 
 use gix_hash::oid;
 
-/// Tells which commits a walk accepts, and names them in its contract.
+/// Decides which commits a walk accepts, and names them in its contract.
 pub trait Accept {
     /// The ids that are accepted.
     ghost accepts: { Self → Id → Bool };
@@ -14,7 +14,7 @@ pub trait Accept {
     /// What a question makes of the predicate.
     ghost goes: { Self → Id → Self → Type 0 };
 
-    /// Whether this id is accepted. An answer changes no later one.
+    /// Returns whether this id is accepted. A call changes no later result.
     fn accept(&mut self, id: oid<'_>) -> bool
         ensures told { result ≡ Self.accepts self.old (viewed_id id.entry) }
         ensures kept { Self.accepts self.new ≡ Self.accepts self.old }

@@ -1,4 +1,4 @@
-//! A commit as its row tells it, or as its object does.
+//! A commit by its row, or by its object.
 
 ghost use Rattle.std.specs.Prelude.{◌≡◌, Ok, ℤ, IfOk, IfErr, IfSome, IfNone, Contains};
 ghost use Rattle.std.specs.Option.{option_copied};
@@ -18,7 +18,7 @@ use gix_object_lookup::find::existing_iter;
 use gix_object_lookup::{FindInto, content_of};
 use gix_traverse_commit_graph::{Graph, Row};
 
-/// A commit: its row where it has one, else a reader of its object's parts.
+/// A commit: its row if it has one, and otherwise a reader of its object's parts.
 #[derive(Debug, Clone, Copy)]
 pub enum Either<'buf, 'cache> {
     /// A reader of the parts of its object.
@@ -28,7 +28,7 @@ pub enum Either<'buf, 'cache> {
 }
 
 impl<'buf, 'cache> Either<'buf, 'cache> {
-    /// The id of the commit's tree. It is an error where the part that comes next is no tree.
+    /// The id of the commit's tree. Returns an error if the part that comes next is no tree.
     pub fn tree_id(self) -> Result<ObjectId, decode::Error>
         ensures { TakesTreeOf self.entry result }
     {
@@ -38,7 +38,7 @@ impl<'buf, 'cache> Either<'buf, 'cache> {
         }
     }
 
-    /// The committer's seconds since 1970. It is an error where the object tells no committer.
+    /// The committer's seconds since 1970. Returns an error if the object has no committer.
     pub fn commit_time(self) -> Result<i64, decode::Error>
         ensures told { IfOk result (TellsTime self.entry) }
         ensures every { (time : ℤ) → TellsTime self.entry time → result ≡ Ok time }
@@ -63,9 +63,9 @@ pub(crate) fn seconds(reader: CommitRefIter<'_>) -> Result<i64, decode::Error>
     Ok(time.seconds)
 }
 
-/// The commit of this id: by its row where the rows have it, else by its object, whose content stands in the buffer then. It is
-/// `NotFound` where neither stands, `ObjectKind` where the object is no commit, and `Find` where the lookup gave up: each only
-/// where the rows don't have it.
+/// The commit of this id: by its row if the rows have it, and otherwise by its object, whose
+/// content is then in the buffer. If the rows don't have it, returns `NotFound` if there is no
+/// object either, `ObjectKind` if the object is no commit, and `Find` if the lookup failed.
 pub fn find<'buf, 'cache, F: FindInto>(
     cache: Option<&'cache Graph>,
     objects: &F,
@@ -87,7 +87,7 @@ pub fn find<'buf, 'cache, F: FindInto>(
     }
 }
 
-/// The row of this commit, where the rows have it.
+/// The row of this commit, if the rows have it.
 pub(crate) fn row_in<'cache>(cache: Option<&'cache Graph>, id: &ObjectId) -> Option<&'cache Row>
     ensures found { IfSome result (λ row. Contains (rows_of (option_copied cache.entry)) row.now
         × (row.now.id ≡ id.now)) }

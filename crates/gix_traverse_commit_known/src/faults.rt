@@ -98,7 +98,7 @@ impl From<AllocError> for Error {
     }
 }
 
-/// The error where hidden commits aren't painted.
+/// The error if hidden commits aren't painted.
 pub fn of_painting(error: FetchError) -> Error
     ensures { result ≡ hidden_error error }
 {

@@ -73,11 +73,11 @@ impl<T: Drop> From<AllocFailed<T>> for FetchError {
 /// What a walk reads of a commit.
 #[derive(Drop)]
 pub struct Fetched {
-    /// The ids of the parents that were asked for.
+    /// The ids of the parents that the walk goes along.
     pub parents: ParentIds,
-    /// The committer's seconds, where the commit tells them.
+    /// The committer's seconds, if the commit has them.
     pub time: Option<i64>,
-    /// The generation in its row, where it has one.
+    /// The generation in its row, if it has one.
     pub generation: Option<u32>,
 }
 
@@ -97,7 +97,7 @@ pub fn asked_of(parents: &[ObjectId], along: Parents) -> &[ObjectId]
     }
 }
 
-// The ids of the parents that are asked for, from the parts to come.
+// The ids of the wanted parents, from the parts to come.
 fn read_parents(
     alloc: Global,
     reader: CommitRefIter<'_>,
@@ -147,16 +147,17 @@ fn load<F: FindInto>(
     }
 }
 
-/// Where a walk reads commits from: rows first, else objects. It counts the objects that it asks for.
+/// Where a walk reads commits from: rows first, and otherwise objects. It counts the objects that
+/// it looks up.
 #[derive(Drop)]
 pub struct Source<F> {
-    /// The objects, asked where there is no row.
+    /// The objects, looked up if there is no row.
     pub objects: F,
-    /// The rows, asked first.
+    /// The rows, read first.
     pub rows: Option<Graph>,
-    /// The content of the object that was read last, and nothing where a row was.
+    /// The content of the object that was read last, and nothing if a row was.
     pub buffer: Vec<u8>,
-    /// How many objects were asked for.
+    /// How many objects were looked up.
     pub lookups: usize,
 }
 
@@ -210,7 +211,8 @@ impl<F: FindInto> Source<F> {
         })
     }
 
-    /// The committer's seconds of the commit of this id. It is `ObjectDecode` where its object tells no committer.
+    /// The committer's seconds of the commit of this id. Returns `ObjectDecode` if its object has
+    /// no committer.
     pub fn seconds(&mut self, id: &ObjectId) -> Result<i64, FetchError>
         ensures objects { self.new.objects ≡ self.old.objects }
         ensures rows { self.new.rows ≡ self.old.rows }

@@ -18,7 +18,8 @@ use std::alloc::{AllocError, Global};
 use std::collections::VecDeque;
 use std::marker::Model;
 
-/// The commits that a walk knows, and those that are queued or wait, by their numbers. An id stands among the nodes alone.
+/// The commits that a walk knows, and those that are queued or wait, by their numbers. Ids are only
+/// in the nodes.
 #[derive(Drop)]
 pub struct Known {
     nodes: Nodes,
@@ -46,7 +47,7 @@ impl Model for Known {
     ghost invariant = { λ all. AreKnown all.nodes all.queue.items (pendings all.waiting) };
 }
 
-// Puts these numbers behind those that are queued.
+// Appends these numbers to those that are queued.
 fn push_all(queue: &mut VecDeque<Number>, numbers: &[Number]) -> Result<(), AllocError>
     ensures { OnOk result (queue.new.items ≡ queue.old.items ++ numbers.now) }
 {
@@ -70,14 +71,14 @@ impl Known {
         }
     }
 
-    /// What is marked of a commit: nothing where it has no node.
+    /// The marks of a commit: none if it has no node.
     pub fn marks(&self, id: &ObjectId) -> Marks
         ensures { result ≡ marks_of self.now.nodes id.now }
     {
         self.nodes.marks(id)
     }
 
-    /// Marks a commit, which gets a node where it has none.
+    /// Marks a commit, which gets a node if it has none.
     pub fn mark(&mut self, id: ObjectId, marks: Marks) -> Result<(), AllocError>
         ensures marked { OnOk result ((q : ObjectId) → marks_of self.new.nodes q
             ≡ (if same_id id q then marks else marks_of self.old.nodes q)) }
@@ -89,7 +90,7 @@ impl Known {
         Ok(())
     }
 
-    /// Marks a commit, which gets a node where it has none, and queues it last.
+    /// Marks a commit, which gets a node if it has none, and queues it last.
     pub fn enqueue(&mut self, id: ObjectId, marks: Marks) -> Result<(), AllocError>
         ensures marked { OnOk result ((q : ObjectId) → marks_of self.new.nodes q
             ≡ (if same_id id q then marks else marks_of self.old.nodes q)) }
@@ -101,7 +102,7 @@ impl Known {
         Ok(())
     }
 
-    /// Marks a commit, which gets a node where it has none, and lets it wait.
+    /// Marks a commit, which gets a node if it has none, and lets it wait.
     pub fn wait(&mut self, turn: Turn, marks: Marks) -> Result<(), AllocError>
         ensures marked { OnOk result ((q : ObjectId) → marks_of self.new.nodes q
             ≡ (if same_id turn.id q then marks else marks_of self.old.nodes q)) }
@@ -157,7 +158,7 @@ impl Known {
         Ok(())
     }
 
-    /// Whether nothing is queued or waits.
+    /// Returns whether nothing is queued or waits.
     pub fn is_idle(&self) -> bool
         ensures { (result ≡ true) ↔ ((self.now.queue ≡ []) × (turns_of self.now ≡ [])) }
     {

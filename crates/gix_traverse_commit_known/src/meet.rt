@@ -21,7 +21,7 @@ use crate::nodes::Marks;
 use gix_hash::ObjectId;
 use std::alloc::AllocError;
 
-// Asks the predicate of a tip of which it was not asked.
+// Calls the predicate for a tip, unless it was called for it.
 fn ask_tip<P: Accept>(known: &mut Known, predicate: &mut P, tip: ObjectId) -> Result<(), AllocError>
     ensures accepts { P.accepts predicate.new ≡ P.accepts predicate.old }
     ensures asked { OnOk result ((tips : List ObjectId)
@@ -50,7 +50,7 @@ fn ask_tip<P: Accept>(known: &mut Known, predicate: &mut P, tip: ObjectId) -> Re
     Ok(())
 }
 
-/// Asks the predicate of each tip once, and marks those that it refuses.
+/// Calls the predicate for each tip once, and marks those that it refuses.
 pub fn ask_tips<P: Accept>(
     known: &mut Known,
     predicate: &mut P,

@@ -15,7 +15,7 @@ use std::marker::Model;
 /// What is marked of a commit.
 #[derive(Debug, Clone, Copy, PartialEq, Eq)]
 pub struct Marks {
-    /// The predicate was asked of it as a tip.
+    /// The predicate was called for it as a tip.
     pub asked: bool,
     /// It needs no queueing any more: it was queued, or is none that the walk gives.
     pub met: bool,
@@ -40,7 +40,7 @@ impl Marks {
 #[derive(Debug, Clone, Copy, PartialEq, Eq, PartialOrd, Ord)]
 pub struct Number(pub usize);
 
-/// Nodes in the order in which their commits were met first. An id stands here once.
+/// Nodes in the order in which their commits were met first. An id is here once.
 #[derive(Drop)]
 pub struct Nodes {
     ids: IndexSet<ObjectId>,
@@ -60,7 +60,7 @@ impl Model for Nodes {
     ghost invariant = { λ all. AreNumbered all.ids.keys all.marks.items };
 }
 
-// The number of a commit, where it has one.
+// The number of a commit, if it has one.
 fn number_of(ids: &IndexSet<ObjectId>, id: &ObjectId) -> Option<Number>
     ensures found { IfSome result (λ number. At ids.now.keys number.0 id.now) }
     ensures none { IfNone result ((n : ℕ) → At ids.now.keys n id.now → ⊥) }
@@ -91,7 +91,7 @@ impl Nodes {
         }
     }
 
-    /// What is marked of a commit: nothing where it has no node.
+    /// The marks of a commit: none if it has no node.
     pub fn marks(&self, id: &ObjectId) -> Marks
         ensures { result ≡ marks_of self.now id.now }
     {
@@ -105,7 +105,7 @@ impl Nodes {
         }
     }
 
-    /// The commit of this number, where it has a node.
+    /// The commit of this number, if it has a node.
     pub fn id(&self, number: Number) -> Option<ObjectId>
         ensures id { result ≡ slice_get (ids_of self.now) number.0 }
         ensures once { (j k : ℕ) (x : ObjectId) → At (ids_of self.now) j x
@@ -114,7 +114,7 @@ impl Nodes {
         self.ids.get_index(number.0).copied()
     }
 
-    /// Marks a commit, which gets a node where it has none, and tells its number.
+    /// Marks a commit, which gets a node if it has none, and returns its number.
     pub fn mark(&mut self, id: ObjectId, marks: Marks) -> Result<Number, AllocError>
         ensures marked { OnOk result ((q : ObjectId) → marks_of self.new q
             ≡ (if same_id id q then marks else marks_of self.old q)) }

@@ -108,7 +108,7 @@ impl Waiting {
         }
     }
 
-    /// Whether none waits.
+    /// Returns whether none waits.
     pub fn is_empty(&self) -> bool
         ensures { (result ≡ true) ↔ (pendings self.now ≡ []) }
     {

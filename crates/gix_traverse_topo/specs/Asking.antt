@@ -1,4 +1,4 @@
--- What a builder was told.
+-- What a builder holds.
 use Rattle.std.specs.Prelude.{ℕ, List, Option}
 use Rattle.gix_hash_id.specs.declared.object_id.ObjectId.{ObjectId}
 use Rattle.gix_traverse_commit_graph.specs.declared.parents.Parents.{Parents}
@@ -16,7 +16,7 @@ pub record Asked (F P : Type 0) : Type 0 where
   pub parents : Parents
   pub graph : Option (List Row)
 
--- what the builder was told so far
+-- what the builder holds so far
 abbrev pub asked_of : {F P : Type 0} → Builder F P → Asked F P
 asked_of builder =
     record {
@@ -46,6 +46,6 @@ parents_of walk = walk.parents
 abbrev pub commits_of : {P : Type 0} → Topo P → List ObjectId
 commits_of walk = walk.known.ids.keys
 
--- how many objects it asked for
+-- how many objects it looked up
 abbrev pub lookups_of : {P : Type 0} → Topo P → ℕ
 lookups_of walk = walk.lookups

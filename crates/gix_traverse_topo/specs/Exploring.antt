@@ -27,7 +27,8 @@ pub record IsPainted (honest may_fail : Type 0) (rows : List Row) (table : Table
   pub hides : (h : Commits ObjectId) → ParentsFrom 0 h known.ids.keys (all_facts known.nodes.items)
       → (x : ObjectId) → Contains known.ids.keys x ↔ ReachedFrom h ends x
 
--- behind those that the ends reach stand those that the tips reach past them, in breadth order, and names are counted
+-- those that the ends reach are followed by those that the tips reach past them, in breadth order,
+-- and names are counted
 pub record Numbers (h : Commits ObjectId) (tips ends : List ObjectId) (parents : Parents)
     (known : Known) : Type 0 where
   pub hs : List ObjectId

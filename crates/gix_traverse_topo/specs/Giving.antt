@@ -21,7 +21,7 @@ use Rattle.gix_traverse_topo.specs.declared.iter.Topo.{Topo}
 abbrev pub accepted_by : {P : Type 0} → (P → Id → Bool) → Topo P → ObjectId → Bool
 accepted_by accepts walk = λ x. accepts walk.predicate (id_of x)
 
--- it stands before its first commit, as it was asked for
+-- it is before its first commit, with what the builder holds
 abbrev pub BeginsAs : {F P : Type 0} → (P → Id → Bool) → Type 0 → Type 0 → Table → Asked F P
     → Topo P → Type 0
 BeginsAs accepts honest may_fail table a walk =
@@ -40,11 +40,11 @@ HasGiven accepts walk sorting rows faults g tips ends given =
 abbrev pub left_of : {P : Type 0} → Topo P → ℕ
 left_of walk = weight walk.known walk.ready
 
--- how many answers may still come: none where no commit waits, and else what is left and an error
+-- how many items may still come: none if no commit waits, and otherwise what is left and an error
 abbrev pub answers_left : {P : Type 0} → Topo P → ℕ
 answers_left walk = if is_empty (waiting walk.ready) then 0 else left_of walk + 1
 
--- these commits were finished, in this order, and the predicate was asked of each of them once
+-- these commits were finished, in this order, and the predicate was called for each of them once
 pub record AsksEach {P : Type 0} (goes : P → Id → P → Type 0) (before after : Topo P)
     (more : List ObjectId) : Type 0 where
   pub asked : Asks goes more before.predicate after.predicate
@@ -53,7 +53,7 @@ pub record AsksEach {P : Type 0} (goes : P → Id → P → Type 0) (before afte
       → Standing sorting rows h tips before.parents hs xs finished before.known before.ready
       → Standing sorting rows h tips before.parents hs xs (finished ++ more) after.known after.ready
 
--- the rest was finished and asked of so, up to a walk in which none waits
+-- the rest was finished, with a call for each, up to a walk in which none waits
 pub record AsksRest {P : Type 0} (goes : P → Id → P → Type 0) (before after : Topo P) : Type 0 where
   pub passed : List ObjectId
   pub last : Topo P
@@ -61,7 +61,8 @@ pub record AsksRest {P : Type 0} (goes : P → Id → P → Type 0) (before afte
   pub none_waits : waiting last.ready ≡ []
   pub same : after.predicate ≡ last.predicate
 
--- those before its turn were finished and asked of so, up to a walk in which it is the turn of one that isn't read
+-- those before its turn were finished, with a call for each, up to a walk in which it is the turn
+-- of one that isn't read
 pub record AsksFault {P : Type 0} (goes : P → Id → P → Type 0) (before after : Topo P)
     (error : Error) : Type 0 where
   pub passed : List ObjectId

@@ -12,7 +12,7 @@ abbrev pub IsRow : (ObjectId → List ObjectId) → List ObjectId → List Objec
 IsRow way tips xs zero names = tips ≡ names
 IsRow way tips xs (suc q) names = (child : ObjectId) × At xs q child × (way child ≡ names)
 
--- behind these stand those that are named up to place p
+-- these are followed by those that are named up to place p
 pub record Met (way : ObjectId → List ObjectId) (tips hs keys : List ObjectId)
     (p : ℕ) : Type 0 where
   pub xs : List ObjectId
@@ -21,7 +21,7 @@ pub record Met (way : ObjectId → List ObjectId) (tips hs keys : List ObjectId)
   pub read : Read way tips (NotIn hs) xs p count
   pub all : (j : ℕ) (x : ObjectId) → Named way tips xs p j x → j < count
 
--- behind these stand all that the tips reach past them, in breadth order
+-- these are followed by all that the tips reach past them, in breadth order
 pub record Walks (way : ObjectId → List ObjectId) (tips hs keys : List ObjectId) : Type 0 where
   pub xs : List ObjectId
   pub keys_are : keys ≡ hs ++ xs

@@ -21,14 +21,15 @@ all_facts nodes = map (λ (node : Node). node.facts) nodes
 abbrev pub counts : List Node → List ℕ
 counts nodes = map (λ (node : Node). node.names) nodes
 
--- the facts tell the commit
+-- the facts are the commit's
 pub record Tells (rows : List Row) (g : Commits ObjectId) (id : ObjectId)
     (facts : Facts) : Type 0 where
   pub parents : facts.parents.items ≡ (g id).parents
   pub time : facts.time ≡ (g id).time
   pub generation : HasRowsGeneration rows id facts.generation
 
--- what was read of a commit: all that is told of it, or why nothing is, and then it counts as one without parents
+-- what was read of a commit: all that is known of it, or why nothing is, and then it counts as one
+-- without parents
 pub record AreFacts (honest may_fail : Type 0) (rows : List Row) (table : Table) (id : ObjectId)
     (facts : Facts) : Type 0 where
   pub told : honest → (g : Commits ObjectId) → AreTold rows table g → facts.fault ≡ None
@@ -38,7 +39,7 @@ pub record AreFacts (honest may_fail : Type 0) (rows : List Row) (table : Table)
       × HasRowsGeneration rows id facts.generation
   pub cause : IfSome facts.fault (IsFaultOf honest may_fail rows table id)
 
--- it stands for a commit that isn't read, for this fault, which isn't want of memory
+-- it fills the place of a commit that isn't read, for this fault, which isn't want of memory
 pub record IsBlank (fault : FetchError) (facts : Facts) : Type 0 where
   pub parents : facts.parents.items ≡ []
   pub time : facts.time ≡ pos 0
@@ -46,7 +47,7 @@ pub record IsBlank (fault : FetchError) (facts : Facts) : Type 0 where
   pub because : facts.fault ≡ Some (error_of fault)
   pub no_memory : fault ≡ fetch.Memory → ⊥
 
--- from this number on each commit's facts tell it
+-- from this number on each commit's facts are its own
 abbrev pub TellFrom : ℕ → List Row → Commits ObjectId → List ObjectId → List Facts → Type 0
 TellFrom low rows g keys told =
     (n : ℕ) (x : ObjectId) (facts : Facts) → low ≤ n → At keys n x → At told n facts

@@ -1,4 +1,4 @@
--- Where a walk stands, and what it gives.
+-- The state of a walk, and what it gives.
 use Rattle.std.specs.Prelude.{◌≡◌, ◌↔◌, ◌⊎◌, ℕ, ◌+◌, ◌<◌, ◌≤◌, Bool, ℤ, pos, List, [], ◌∷◌, ◌++◌, length, drop, map, filter, Contains, Option, None, Some, IfSome, ⊤, true, slice_set, slice_index_or}
 use Rattle.std.specs.BinaryHeap.{heap_items, IsHeap}
 use Rattle.gix_hash_id.specs.declared.object_id.ObjectId.{ObjectId}
@@ -41,7 +41,7 @@ abbrev pub Comes : Sorting → (ObjectId → List ObjectId) → List ObjectId �
 Comes DateOrder way tips time = NewestFirst time
 Comes TopoOrder way tips time = Outranks way tips time
 
--- those that wait stand as the order wants them
+-- those that wait are in the order that is wanted
 abbrev pub Ranks : Sorting → (ObjectId → List ObjectId) → List ObjectId → (ObjectId → ℤ)
     → List ObjectId → List ObjectId → Ready → Type 0
 Ranks DateOrder way tips time keys finished (ByDate heap) = IsHeap pending_cmp (heap_items heap)
@@ -55,7 +55,7 @@ abbrev pub weight : Known → Ready → ℕ
 weight known ready =
     total (λ count. count) (drop known.hidden (counts known.nodes.items)) + length (waiting ready)
 
--- a name of this commit is counted off, and it waits where that was the last
+-- a name of this commit is counted off, and it waits if that was the last
 pub data CountsOff (low : ℕ) (keys : List ObjectId) (told : List Facts) (cs : List ℕ)
     (ready : Ready) (id : ObjectId) (cs' : List ℕ) (ready' : Ready) : Type 0 where
   passed : (IsOnce keys → (n : ℕ) → At keys n id → n < low) → cs' ≡ cs → ready' ≡ ready
@@ -174,7 +174,7 @@ pub record Steps (sorting : Sorting) (rows : List Row) (h : Commits ObjectId)
   pub others : (k : ℕ) (other : Facts) → (k ≡ number → ⊥)
       → At (all_facts new.nodes.items) k other → At (all_facts old.nodes.items) k other
 
--- the walk that is asked for
+-- the request that these make
 abbrev pub topo_request : {I : Type 0} → List I → List I → Parents → (I → Bool) → WalkRequest I
 topo_request tips ends parents accepts =
     record { tips = tips; hidden = ends; parents = parents; since = None; accepts = accepts }
@@ -182,7 +182,7 @@ topo_request tips ends parents accepts =
 abbrev pub all_accepted : ObjectId → Bool
 all_accepted x = true
 
--- the list answers the walk in this order
+-- the list is that of the walk in this order
 abbrev pub Answers : Sorting → Commits ObjectId → WalkRequest ObjectId → List ObjectId → Type 0
 Answers DateOrder g q given = InDate g q given
 Answers TopoOrder g q given = InTopological g q given
@@ -197,11 +197,11 @@ abbrev pub read_so : Option Error → Commit ObjectId → Commit ObjectId
 read_so None commit = commit
 read_so (Some fault) commit = record { parents = []; time = pos 0 }
 
--- the commits as far as they were read, where these faults were found
+-- the commits as far as they were read, if these faults were found
 abbrev pub as_read : (ObjectId → Option Error) → Commits ObjectId → Commits ObjectId
 as_read faults g x = read_so (faults x) (g x)
 
--- the walk has given these of the commits that are accepted; why a commit isn't read, faults tells
+-- the walk has given these of the commits that are accepted; `faults` says why a commit isn't read
 pub record Stands (sorting : Sorting) (rows : List Row) (faults : ObjectId → Option Error)
     (g : Commits ObjectId) (tips ends : List ObjectId) (parents : Parents)
     (accepts : ObjectId → Bool) (given : List ObjectId) (known : Known)
@@ -221,7 +221,8 @@ pub record Stands (sorting : Sorting) (rows : List Row) (faults : ObjectId → O
   pub finished_read : (x : ObjectId) → Contains finished x → faults x ≡ None
   pub given_are : given ≡ filter accepts finished
 
--- why a commit isn't read is known of each; ends or tips reach all that is known; and the walk stands before its first commit
+-- for each commit it is known why it isn't read; ends or tips reach all that is known; and the walk
+-- is before its first commit
 pub record Begins (honest may_fail : Type 0) (sorting : Sorting) (rows : List Row) (table : Table)
     (tips ends : List ObjectId) (parents : Parents) (accepts : ObjectId → Bool) (known : Known)
     (ready : Ready) : Type 0 where

@@ -1,4 +1,4 @@
--- Where a walk stands in which each commit comes after all its children.
+-- The state of a walk in which each commit comes after all its children.
 use Rattle.std.specs.Prelude.{◌≡◌, ℕ, ◌+◌, ◌<◌, ◌≤◌, Bool, cond, List, [], ◌∷◌, ◌++◌, take, Contains, ℤ}
 use Rattle.gix_traverse_commit_graph.specs.Order.{At, IsReady, Outranks}
 
@@ -53,7 +53,7 @@ pub record IsLastAt {I : Type 0} (xs : List I) (x : I) (i : ℕ) : Type 0 where
   pub at : At xs i x
   pub last : (j : ℕ) → At xs j x → j ≤ i
 
--- they stand in the order of their last places in the row
+-- they are in the order of their last places in the row
 pub record Rising {I : Type 0} (row fresh : List I) : Type 0 where
   pub rising : (k l : ℕ) (y z : I) → k < l → At fresh k y → At fresh l z
       → (i : ℕ) × (j : ℕ) × IsLastAt row y i × IsLastAt row z j × (i < j)

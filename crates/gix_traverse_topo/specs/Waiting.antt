@@ -20,14 +20,14 @@ abbrev pub waiting : Ready → List Pending
 waiting (ByDate heap) = heap_items heap
 waiting (Topological stack) = stack.items
 
--- those that wait at first stand as this order wants them
+-- those that wait at first are in the order that is wanted
 abbrev pub Sorted : Sorting → Ready → Type 0
 Sorted DateOrder (ByDate heap) = IsHeap pending_cmp (heap_items heap)
 Sorted TopoOrder (Topological stack) = IsSorted pending_cmp stack.items
 Sorted DateOrder (Topological stack) = ⊥
 Sorted TopoOrder (ByDate heap) = ⊥
 
--- these wait too, behind the others
+-- these wait too, after the others
 abbrev pub Joined : Ready → List Pending → Ready → Type 0
 Joined (ByDate old) more (ByDate new) =
     IsPermutation (heap_items old ++ more) (heap_items new)

@@ -47,7 +47,8 @@ pub record Visits (honest may_fail : Type 0) (rows : List Row) (table : Table) (
   pub names : Names (λ y. times (same_id y) (asked along facts.parents.items)) keys nodes keys'
       nodes'
 
--- behind the commits that were known those up to high are read, and the names that they give are counted
+-- after the commits that were known those up to high are read, and the names that they give are
+-- counted
 pub record Walking (honest may_fail : Type 0) (rows : List Row) (table : Table) (along : Parents)
     (tips keys : List ObjectId) (nodes : List Node) (high : ℕ) (keys' : List ObjectId)
     (nodes' : List Node) : Type 0 where

@@ -1,4 +1,4 @@
-//! What a walk is asked for.
+//! The builder of a walk.
 
 ghost use Rattle.std.specs.Prelude.{◌≡◌, ◌+◌, ◌≤◌, ◌++◌, [], length, IfOk, IfErr, IfSome, IfNone, IsOk, None};
 ghost use Rattle.gix_hash_id.specs.declared.object_id.ObjectId.{ObjectId};
@@ -40,7 +40,7 @@ impl Default for Sorting {
     }
 }
 
-/// What a walk is asked for.
+/// What a walk is to list, and from where.
 #[derive(Drop)]
 pub struct Builder<F, P> {
     find: F,
@@ -52,7 +52,7 @@ pub struct Builder<F, P> {
     rows: Option<Graph>,
 }
 
-// These ids, with others behind them.
+// These ids, with others after them.
 fn with_more(mut ids: Vec<ObjectId>, more: &[ObjectId]) -> Result<Vec<ObjectId>, Error>
     ensures all { IfOk result (λ all. all.items ≡ ids.items ++ more.now) }
     ensures whole { more.now ≡ [] → IsOk result }
@@ -83,7 +83,8 @@ impl<F: FindInto + Drop> Builder<F, All> {
         }
     }
 
-    /// A walk from these tips, without what the ends reach. It is an error where there is no memory for them.
+    /// A walk from these tips, without what the ends reach. Returns `Memory` if there is no memory
+    /// for them.
     pub fn from_iters(
         alloc: Global,
         find: F,
@@ -131,7 +132,8 @@ impl<F: FindInto + Drop, P: Accept + Drop> Builder<F, P> {
         }
     }
 
-    /// The same walk with further tips. It is an error where there is no memory for them; none takes none.
+    /// The same walk with further tips. Returns `Memory` if there is no memory for them; none takes
+    /// none.
     pub fn with_tips(self, tips: &[ObjectId]) -> Result<Builder<F, P>, Error>
         ensures asked { IfOk result (λ builder. asked_of builder
             ≡ record (asked_of self) { tips = (asked_of self).tips ++ tips.now }) }
@@ -144,7 +146,8 @@ impl<F: FindInto + Drop, P: Accept + Drop> Builder<F, P> {
         })
     }
 
-    /// The same walk with further ends. It is an error where there is no memory for them; none takes none.
+    /// The same walk with further ends. Returns `Memory` if there is no memory for them; none takes
+    /// none.
     pub fn with_ends(self, ends: &[ObjectId]) -> Result<Builder<F, P>, Error>
         ensures asked { IfOk result (λ builder. asked_of builder
             ≡ record (asked_of self) { ends = (asked_of self).ends ++ ends.now }) }
@@ -171,15 +174,15 @@ impl<F: FindInto + Drop, P: Accept + Drop> Builder<F, P> {
         Builder { parents, ..self }
     }
 
-    /// The same walk, which takes commits from these rows where they have one.
+    /// The same walk, which takes commits from these rows if they have one.
     pub fn with_commit_graph(self, rows: Option<Graph>) -> Builder<F, P>
         ensures { asked_of result ≡ record (asked_of self) { graph = rows } }
     {
         Builder { rows, ..self }
     }
 
-    /// The walk, which has read all its commits. It is an error where there is no memory, and where a commit that the ends
-    /// reach isn't read.
+    /// The walk, which has read all its commits. Returns an error if there is no memory, and if a
+    /// commit that the ends reach isn't read.
     pub fn build(self) -> Result<Topo<P>, Error>
         ensures predicate { IfOk result (λ walk. predicate_of walk ≡ (asked_of self).predicate) }
         ensures parents { IfOk result (λ walk. parents_of walk ≡ (asked_of self).parents) }
@@ -258,7 +261,7 @@ fn explore_ends<F: FindInto>(
     }
 }
 
-// All that the ends reach, and behind it all that the tips reach past it, with the counts of names.
+// All that the ends reach, and after it all that the tips reach past it, with the counts of names.
 fn explore<F: FindInto>(
     alloc: Global,
     source: &mut Source<F>,

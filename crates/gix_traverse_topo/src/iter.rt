@@ -36,7 +36,8 @@ pub struct Topo<P> {
     pub(crate) lookups: usize,
 }
 
-// Counts a name of a commit off, unless it has no number or the ends reach it. Where that was the last, the commit waits.
+// Counts a name of a commit off, unless it has no number or the ends reach it. If that was the
+// last, the commit waits.
 fn count_off(known: &mut Known, ready: &mut Ready, id: &ObjectId) -> Result<(), Error>
     ensures ids { known.new.ids ≡ known.old.ids }
     ensures hidden { known.new.hidden ≡ known.old.hidden }
@@ -110,7 +111,7 @@ fn give(known: &mut Known, ready: &mut Ready, number: Number, along: Parents) ->
     known.take(number)
 }
 
-// This commit, where the predicate accepts it.
+// This commit, if the predicate accepts it.
 fn accepted<P: Accept>(predicate: &mut P, info: Info) -> Option<Info>
     ensures kept { IfSome result (λ given. (given ≡ info)
         × (P.accepts predicate.old (id_of info.id) ≡ true)) }
@@ -126,7 +127,7 @@ fn accepted<P: Accept>(predicate: &mut P, info: Info) -> Option<Info>
 }
 
 impl<P: Accept + Drop> Topo<P> {
-    /// How many objects the walk asked for.
+    /// How many objects the walk looked up.
     pub fn lookups(&self) -> usize
         ensures { result ≡ lookups_of self.now }
     {
@@ -229,8 +230,8 @@ impl<P: Accept + Drop> Iterator for Topo<P> {
 
     ghost remaining = { λ walk. at_most (answers_left walk) };
 
-    /// The next commit. It is an error where that isn't read, and where no memory is left; and nothing where all are given, or an
-    /// error was.
+    /// The next commit; `None` if all are given, or an error was. Returns an error if the commit
+    /// isn't read, and if no memory is left.
     fn next(&mut self) -> Option<Result<Info, Error>> {
         self.advance()
     }

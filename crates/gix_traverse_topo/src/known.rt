@@ -39,7 +39,7 @@ pub(crate) struct Facts {
     pub parents: ParentIds,
     /// Its committer's seconds.
     pub time: i64,
-    /// The generation in its row, where it has one.
+    /// The generation in its row, if it has one.
     pub generation: Option<u32>,
     /// Why it isn't read.
     pub fault: Option<Error>,
@@ -65,7 +65,7 @@ pub(crate) struct Known {
     pub hidden: usize,
 }
 
-// What stands for a commit until it is read.
+// What fills the place of a commit until it is read.
 fn unread(alloc: Global) -> Facts
     ensures { result.parents.items ≡ [] }
 {
@@ -77,7 +77,7 @@ fn unread(alloc: Global) -> Facts
     }
 }
 
-// What stands for a commit that isn't read, for this fault.
+// What fills the place of a commit that isn't read, for this fault.
 fn blank(alloc: Global, fault: FetchError) -> Result<Facts, Error>
     ensures blank { IfOk result (IsBlank fault) }
     ensures refused { IfErr result (λ error. error ≡ Memory) }
@@ -137,7 +137,7 @@ fn add_name(nodes: &mut Vec<Node>, number: Number) -> Result<(), Error>
     Ok(())
 }
 
-// Puts what was read of a commit in the place of what stood for it.
+// Replaces what filled the place of a commit by what was read of it.
 fn put_facts(nodes: &mut Vec<Node>, number: Number, facts: Facts) -> Result<(), Error>
     ensures as_many { length nodes.new.items ≡ length nodes.old.items }
     ensures counts { counts nodes.new.items ≡ counts nodes.old.items }
@@ -153,7 +153,7 @@ fn put_facts(nodes: &mut Vec<Node>, number: Number, facts: Facts) -> Result<(), 
     Ok(())
 }
 
-/// Counts a name of a commit off, and tells whether it was the last.
+/// Counts a name of a commit off, and returns whether it was the last.
 pub(crate) fn take_name(nodes: &mut Vec<Node>, number: Number) -> Result<bool, Error>
     ensures as_many { length nodes.new.items ≡ length nodes.old.items }
     ensures all_facts { all_facts nodes.new.items ≡ all_facts nodes.old.items }
@@ -210,7 +210,7 @@ impl Known {
         }
     }
 
-    // The number of a commit, a new one where it has none.
+    // The number of a commit, a new one if it has none.
     fn number(&mut self, id: &ObjectId) -> Result<Number, Error>
         ensures hidden { self.new.hidden ≡ self.old.hidden }
         ensures keys { OnOk result
@@ -345,7 +345,7 @@ impl Known {
         Ok(())
     }
 
-    /// Why a commit isn't read, where there is one that isn't.
+    /// Why a commit isn't read, if there is one that isn't.
     pub fn first_fault(&self) -> Option<Error>
         ensures fault { IfSome result (λ error. (n : ℕ) × (facts : Facts)
             × At (all_facts self.now.nodes.items) n facts × (facts.fault ≡ Some error)) }
@@ -401,7 +401,7 @@ impl Known {
         })
     }
 
-    // Whether no commit that is still to be given names this one.
+    // Returns whether no commit that is still to be given names this one.
     fn is_free(&self, number: Number) -> bool
         ensures { (count : ℕ) → At (counts self.now.nodes.items) number.0 count
             → result ≡ (count == 0) }
@@ -429,7 +429,7 @@ impl Known {
         Ok(first)
     }
 
-    /// Whether this commit is read. It is an error that tells why where it isn't.
+    /// Tests that this commit is read. The error says why it isn't.
     pub fn check(&self, number: Number) -> Result<(), Error>
         ensures read { OnOk result ((facts : Facts)
             → At (all_facts self.now.nodes.items) number.0 facts → facts.fault ≡ None) }

@@ -7,7 +7,8 @@ ghost use Rattle.gix_traverse_commit_graph.specs.Walks.{InSomeOrder};
 ghost use Rattle.gix_traverse_topo.specs.Standing.{Answers};
 ghost use Rattle.gix_traverse_topo.specs.declared.init.Sorting.{Sorting};
 
-/// A walk by date or by topology lists the set that a walk in any order lists, where no commit is refused.
+/// A walk by date or by topology lists the set that a walk in any order lists, if no commit is
+/// refused.
 pub fn lists_one_set()
     ensures { (sorting : Sorting) (g : Commits ObjectId) (q : WalkRequest ObjectId)
         (xs ys : List ObjectId) → ((x : ObjectId) → IsTrue (q.accepts x)) → Answers sorting g q xs

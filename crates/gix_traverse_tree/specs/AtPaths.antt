@@ -1,5 +1,5 @@
--- What stands at several paths below a root, and the trees that are asked for on the way. H says whether the store's answers are
--- those of the table, M whether its lookups may fail.
+-- What is at several paths below a root, and the trees that are looked up on the way. H says
+-- whether the store answers by the table, M whether its lookups may fail.
 use Rattle.std.specs.Prelude.{ℕ, ◌≡◌, ◌≢◌, ◌==◌, ◌⊎◌, ⊤, true, false, List, [], ◌∷◌, ◌++◌, Option, Some, length, option_map, Contains}
 use Rattle.std.specs.List.{AllByRecursion, AllZip, slice_split}
 use Rattle.gix_hash_id.specs.Id.{Id, id_of}
@@ -19,7 +19,7 @@ use Rattle.gix_object_lookup.specs.Table.{Table}
 use Rattle.gix_traverse_tree.specs.declared.error.Error.{Error}
 use Rattle.gix_traverse_tree.specs.declared.error.Error.TheVariants as errors
 
--- the names of a path: what stands between its slashes
+-- the names of a path: what lies between its slashes
 abbrev pub names_of : List ℕ → Path
 names_of path = slice_split (λ byte. byte == 47) path
 
@@ -33,19 +33,19 @@ root_item id =
       id = id;
     }
 
--- the entry to which names lead from the root: none where one of them isn't there or lies in no tree
+-- the entry to which names lead from the root: none if one of them isn't there or lies in no tree
 abbrev pub LeadsTo : Type 0 → Table → Id → Path → Option Item → Type 0
 LeadsTo H table root names found = Follows H table (Some (root_item root)) names found
 
--- an entry as it is answered
+-- an entry as it is returned
 abbrev pub Answer : Type 0
 Answer = EntryMode × ObjectId
 
--- what is told of an entry
+-- what is returned of an entry
 abbrev pub told_of : Answer → Mode × Id
 told_of answer = (mode_of answer.0, id_of answer.1)
 
--- the answer tells the entry at the path
+-- the answer is the entry at the path
 abbrev pub TellsAt : Type 0 → Table → Id → Path → Option Answer → Type 0
 TellsAt H table root names answer = (found : Option Item) × LeadsTo H table root names found
     × (option_map told_of answer ≡ option_map (λ (item : Item). (item.mode, item.id)) found)
@@ -54,7 +54,7 @@ TellsAt H table root names answer = (found : Option Item) × LeadsTo H table roo
 abbrev pub TellsEach : Type 0 → Table → Id → List Path → List (Option Answer) → Type 0
 TellsEach H table root paths answers = AllZip (TellsAt H table root) paths answers
 
--- ---- the trees that are asked for
+-- ---- the trees that are looked up
 
 -- the path begins with these names, and doesn't end with them
 abbrev pub Begins : Path → Path → Type 0
@@ -79,7 +79,7 @@ AreDifferent [] = ⊤
 AreDifferent (front ∷ fronts) =
     AllByRecursion (λ other. other ≢ front) fronts × AreDifferent fronts
 
--- so many trees are asked for: one at a time, and none twice, behind what begins the paths
+-- so many trees are looked up: one at a time, and none twice, at beginnings of the paths
 pub record AsksFor (H : Type 0) (table : Table) (root : Id) (paths : List Path)
     (asked : ℕ) : Type 0 where
   pub fronts : List Path
@@ -87,14 +87,14 @@ pub record AsksFor (H : Type 0) (table : Table) (root : Id) (paths : List Path)
   pub once : AreDifferent fronts
   pub above : AllByRecursion (IsTreeAbove H table root paths) fronts
 
--- all that the paths lead into, where the store answers by its table
+-- all that the paths lead into, if the store answers by its table
 pub record AsksForAll (H : Type 0) (table : Table) (root : Id) (paths : List Path)
     (asked : ℕ) : Type 0 where
   pub asks : AsksFor H table root paths asked
   pub whole : H → (front : Path) → IsTreeAbove H table root paths front
       → Contains asks.fronts front
 
--- ---- why none is told
+-- ---- why none is returned
 
 -- entries begin the content, and then, before its end, none does for this cause
 abbrev pub IsUnread : Place → decode.Error → Type 0

@@ -11,11 +11,11 @@ use Rattle.gix_traverse_tree.specs.Trees.{End, whole, failed, IsRead, TreeFault}
 use Rattle.gix_traverse_tree.specs.declared.error.Error.{Error}
 use Rattle.gix_traverse_tree.specs.declared.error.Error.TheVariants.{Cancelled, ObjectDecode}
 
--- behind an entry that the walk goes past; a tree that it will go below is queued
+-- after an entry that the walk goes past; a tree that it will go below is queued
 abbrev pub behind : Item → Bool → List Call
 behind item queued = if queued then pop ∷ push_back item.name ∷ pop ∷ [] else pop ∷ []
 
--- the entry's id, where the walk will go below it
+-- the entry's id, if the walk will go below it
 abbrev pub queued_id : Item → Bool → List Id
 queued_id item queued = if queued then item.id ∷ [] else []
 

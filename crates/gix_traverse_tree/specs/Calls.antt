@@ -5,7 +5,7 @@ use Rattle.std.specs.declared.ops.ControlFlow.TheVariants.{Continue, Break}
 use Rattle.gix_object_entries.specs.Entry.{Item}
 use Rattle.gix_object_entries.specs.Order.{is_tree}
 
--- what a delegate answers to a visit
+-- what a delegate returns from a visit
 abbrev pub Answer : Type 0
 Answer = ControlFlow (Unit {0}) Bool
 
@@ -29,7 +29,7 @@ Runs {S} goes before (call ∷ calls) after =
 abbrev pub visit_of : Item → Answer → Call
 visit_of item answer = if is_tree item then at_tree item answer else at_nontree item answer
 
--- the entry's name is told, and the entry is shown
+-- the entry's name is pushed, and the entry is shown
 abbrev pub shown : Item → Answer → List Call
 shown item answer = push item.name ∷ visit_of item answer ∷ []
 

@@ -1,4 +1,4 @@
--- The walk in depth order: each entry, and then what lies in it, before the entry behind it.
+-- The walk in depth order: each entry, and then what lies in it, before the entry after it.
 use Rattle.std.specs.Prelude.{ℕ, ◌≡◌, ◌≢◌, Bool, true, false, List, [], ◌∷◌, ◌++◌, if◌then◌else◌}
 use Rattle.std.specs.declared.ops.ControlFlow.TheVariants.{Continue, Break}
 use Rattle.gix_hash_id.specs.Id.{Id}
@@ -11,12 +11,12 @@ use Rattle.gix_traverse_tree.specs.Trees.{End, whole, broken, failed, IsRead, Tr
 use Rattle.gix_traverse_tree.specs.declared.error.Error.{Error}
 use Rattle.gix_traverse_tree.specs.declared.error.Error.TheVariants.{ObjectDecode}
 
--- where a walk stands: before a tree, or in one, before the entries that this content spells
+-- where a walk is: before a tree, or in one, before the entries that this content spells
 pub data Place : Type 0 where
   before : Id → Place
   inside : Id → List ℕ → Place
 
--- behind an entry at which the walk ends: a tree's name is taken off the path
+-- after an entry at which the walk ends: a tree's name is taken off the path
 abbrev pub behind_last : Item → List Call
 behind_last item = if is_tree item then pop ∷ [] else []
 

@@ -12,12 +12,12 @@ use Rattle.gix_traverse_tree.specs.declared.folders.Folder.{Folder}
 
 -- ---- numbers
 
--- the number behind a name
+-- the number of a name
 abbrev pub number_in : Folder → List ℕ → Option ℕ
 number_in folder name =
     lookup (is_at (λ (k : Bor (List ℕ)). slice_cmp nat_cmp name k.now)) folder.names.entries
 
--- the number behind a name behind each number
+-- the number of a name in the folder of each number
 abbrev pub Numbers : Type 0
 Numbers = ℕ → List ℕ → Option ℕ
 
@@ -32,7 +32,7 @@ Way numbers from [] end = end ≡ from
 Way numbers from (name ∷ names) end =
     (next : ℕ) × (numbers from name ≡ Some next) × Way numbers next names end
 
--- each number stands behind one name of one smaller number
+-- each number is that of one name in the folder of a smaller number
 pub record IsNumbered (folders : List Folder) : Type 0 where
   pub later : (i n : ℕ) (name : List ℕ) → numbers_of folders i name ≡ Some n
       → (i < n) × (n < length folders)
@@ -46,7 +46,7 @@ pub record Grows (old new : List Folder) : Type 0 where
   pub kept : (i n : ℕ) (name : List ℕ) → numbers_of old i name ≡ Some n
       → numbers_of new i name ≡ Some n
 
--- a number stands behind a name, and no other was added
+-- a name has a number, and no other was added
 pub record NumbersName (at : ℕ) (name : List ℕ) (number : ℕ) (old new : List Folder) : Type 0 where
   pub grows : Grows old new
   pub here : numbers_of new at name ≡ Some number
@@ -71,7 +71,7 @@ HasNumber folders path number = (number < length folders) × Way (numbers_of fol
 abbrev pub HaveNumbers : List Folder → List Path → List ℕ → Type 0
 HaveNumbers folders paths numbers = AllZip (HasNumber folders) paths numbers
 
--- the paths have these numbers, and what has a number behind it begins one of them
+-- the paths have these numbers, and what has a number after it begins one of them
 pub record NumbersPaths (paths : List Path) (numbers : List ℕ) (folders : List Folder) : Type 0
   where
     pub some : 0 < length folders

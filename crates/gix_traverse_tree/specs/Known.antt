@@ -1,5 +1,5 @@
--- What is known behind the numbers of paths, while trees are read. H says whether the store's answers are those of the table, M
--- whether its lookups may fail.
+-- What is known of the numbers of paths, while trees are read. H says whether the store answers by
+-- the table, M whether its lookups may fail.
 use Rattle.std.specs.Prelude.{ℕ, zero, suc, ◌≡◌, ◌<◌, ◌≤◌, ◌⊎◌, true, List, [], ◌∷◌, Option, None, Some, length, slice_index_or, option_map, bytes_eq, if◌then◌else◌}
 use Rattle.gix_hash_id.specs.Id.{id_of}
 use Rattle.gix_object_lines.specs.declared.kind.Kind.TheVariants as kinds
@@ -16,16 +16,16 @@ use Rattle.gix_traverse_tree.specs.declared.error.Error.{Error}
 use Rattle.gix_traverse_tree.specs.declared.error.Error.TheVariants as errors
 use Rattle.gix_traverse_tree.specs.declared.folders.Folder.{Folder}
 
--- what is known behind a number
+-- what is known of a number
 abbrev pub known : List (Option Answer) → ℕ → Option Answer
 known found n = slice_index_or found n None
 
--- the entry of this name that is answered so
+-- the entry of this name that is returned so
 abbrev pub item_named : List ℕ → Answer → Item
 item_named name answer =
     record { mode = mode_of answer.0; name = name; id = id_of answer.1 }
 
--- the entry of this name that is known behind a number
+-- the entry of this name that is known of a number
 abbrev pub told_at : List ℕ → List (Option Answer) → ℕ → Option Item
 told_at name found n = option_map (item_named name) (known found n)
 
@@ -39,14 +39,14 @@ abbrev pub else_this : Option Item → Item → Option Item
 else_this None item = Some item
 else_this (Some before) item = Some before
 
--- nothing is known behind the numbers of a folder's names, each of which has its own
+-- nothing is known of the numbers of a folder's names, each of which has its own
 pub record AwaitsNames (folder : Folder) (found : List (Option Answer)) : Type 0 where
   pub within : (name : List ℕ) (n : ℕ) → number_in folder name ≡ Some n → n < length found
   pub none : (name : List ℕ) (n : ℕ) → number_in folder name ≡ Some n → known found n ≡ None
   pub once : (name other : List ℕ) (n : ℕ) → number_in folder name ≡ Some n
       → number_in folder other ≡ Some n → name ≡ other
 
--- behind all other numbers the same is known
+-- of all other numbers the same is known
 pub record KeepsOthers (folder : Folder) (old new : List (Option Answer)) : Type 0 where
   pub len : length new ≡ length old
   pub others : (n : ℕ) → ((name : List ℕ) → number_in folder name ≡ Some n → ⊥)
@@ -64,7 +64,7 @@ IsAskedFor folder None = ⊥
 IsAskedFor folder (Some answer) = (is_tree (item_named [] answer) ≡ true)
     × ((name : List ℕ) × (n : ℕ) × (number_in folder name ≡ Some n))
 
--- such a tree is asked for and counted, and nothing else
+-- such a tree is looked up and counted, and nothing else
 abbrev pub CountsAsked : Folder → Option Answer → ℕ → ℕ → Type 0
 CountsAsked folder place old new =
     ((new ≡ suc old) × IsAskedFor folder place)
@@ -110,7 +110,7 @@ pub record ReadsBelow (H : Type 0) (table : Table) (folders : List Folder)
       → known found n ≡ None
   pub counted : Counted folders found below asked
 
--- behind the trees of all numbers below this one its own isn't read
+-- after the trees of all numbers below this one its own isn't read
 pub record StopsReading (H M : Type 0) (table : Table) (folders : List Folder)
     (found : List (Option Answer)) (asked : ℕ) (error : Error) : Type 0 where
   pub number : ℕ

@@ -43,7 +43,7 @@ AreAllFrom nodes n trees = StandFrom nodes n trees × (n + length trees ≡ leng
 abbrev pub node_under : Option ℕ → ObjectId → Node
 node_under above id = record { id = id; above = above }
 
--- trees of these ids, which lie in the same, are put behind the others
+-- trees of these ids, which lie in the same, are put after the others
 abbrev pub Queues : Option ℕ → List Node → List Node → List Id → Type 0
 Queues above before after ids =
     (added : List ObjectId) × (map id_of added ≡ ids)

@@ -1,4 +1,5 @@
--- The entries that lie under a tree, with their paths, in both orders. H says whether the store's answers are those of the table.
+-- The entries that lie under a tree, with their paths, in both orders. H says whether the store
+-- answers by the table.
 use Rattle.std.specs.Prelude.{ℕ, ◌≡◌, ◌≢◌, ⊤, true, false, List, [], ◌∷◌, ◌++◌, Option, Some, None, if◌then◌else◌}
 use Rattle.std.specs.List.{AllByRecursion}
 use Rattle.gix_hash_id.specs.Id.{Id}
@@ -15,7 +16,7 @@ use Rattle.gix_traverse_tree.specs.declared.recorder.Location.{Location}
 use Rattle.gix_traverse_tree.specs.declared.recorder.Location.TheVariants.{Path, FileName}
 use Rattle.gix_traverse_tree.specs.declared.recorder.Recorder.{Recorder}
 
--- what is told of where a name lies: its whole path, itself, or nothing
+-- what is recorded of where a name lies: its whole path, itself, or nothing
 abbrev pub tracked : Option Location → Bytes → Bytes → Bytes
 tracked (Some Path) folder name = joined folder name
 tracked (Some FileName) folder name = name
@@ -30,7 +31,7 @@ recorded_in location folder item =
 abbrev pub folder_in : Bytes → Item → Bytes
 folder_in folder item = joined folder item.name
 
--- ---- each entry, then what lies in it, then the entry behind it
+-- ---- each entry, then what lies in it, then the entry after it
 
 pub data InOrder (H : Type 0) (table : Table) (location : Option Location) : Kind → Bytes → List ℕ
     → List Recorded → Type 0 where
@@ -66,7 +67,7 @@ pub data Listed (location : Option Location) (ids : Kind) (folder : Bytes) : Lis
       → Listed location ids folder content (recorded_in location folder item ∷ more)
       (folders_in folder item ++ folders)
 
--- the entries of these folders, each one's own folders behind all others
+-- the entries of these folders, each one's own folders after all others
 pub data LevelByLevel (H : Type 0) (table : Table) (location : Option Location) : List Folder
     → List Recorded → Type 0 where
   none : LevelByLevel H table location [] []
@@ -82,7 +83,7 @@ pub data LevelByLevel (H : Type 0) (table : Table) (location : Option Location) 
 abbrev pub IsName : Bytes → Type 0
 IsName name = (name ≢ []) × Lacks 47 name
 
--- each name that is told is such a name
+-- each name that is pushed is such a name
 abbrev pub TellsName : Call → Type 0
 TellsName (push name) = IsName name
 TellsName call = ⊤
@@ -92,7 +93,7 @@ HasNames calls = AllByRecursion TellsName calls
 
 -- ---- what a recorder has after a whole walk
 
--- no path is told or queued yet
+-- no path is built or queued yet
 abbrev pub IsFresh : Recorder → Type 0
 IsFresh recorder = ((recording_of recorder).queue ≡ []) × ((recording_of recorder).path ≡ [])
 

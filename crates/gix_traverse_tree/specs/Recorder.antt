@@ -30,7 +30,7 @@ joined folder [] = folder
 joined [] (b ∷ name) = b ∷ name
 joined (a ∷ folder) (b ∷ name) = (a ∷ folder) ++ 47 ∷ b ∷ name
 
--- what stands before the path's last `/`, nothing where there is none
+-- what precedes the path's last `/`, nothing if there is none
 abbrev pub parent : Bytes → Bytes
 parent [] = []
 parent (b ∷ path) = if list_any (λ c. c == 47) path then b ∷ parent path else []

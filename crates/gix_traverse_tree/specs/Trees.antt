@@ -1,4 +1,5 @@
--- Trees as a walk comes to them. H says whether the store's answers are those of the table, M whether its lookups may fail.
+-- Trees as a walk comes to them. H says whether the store answers by the table, M whether its
+-- lookups may fail.
 use Rattle.std.specs.Prelude.{ℕ, ◌≡◌, Bool, true, false, List}
 use Rattle.std.specs.List.{list_any}
 use Rattle.gix_hash_id.specs.Id.{Id}

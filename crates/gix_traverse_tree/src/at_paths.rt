@@ -1,4 +1,4 @@
-//! What stands at several paths.
+//! The entries at several paths.
 
 ghost use Rattle.std.specs.Prelude.{◌≡◌, ◌<◌, ◌≤◌, ℕ, List, [], length, map, IfOk, IfErr, OnOk, Some, None};
 ghost use Rattle.std.specs.List.{All};
@@ -40,7 +40,7 @@ impl EntriesState {
         }
     }
 
-    /// How many trees the last call asked for.
+    /// How many trees the last call looked up.
     pub fn asked(&self) -> usize
         ensures { result ≡ self.now.asked }
     {
@@ -48,7 +48,7 @@ impl EntriesState {
     }
 }
 
-// Tells the entry at its name's number, where none is told there.
+// Records the entry at its name's number, unless one is there.
 fn tell(entry: &EntryRef<'_>, folder: &Folder<'_>, found: &mut Vec<Option<(EntryMode, ObjectId)>>)
     requires { (name : List ℕ) (n : ℕ) → number_in folder.now name ≡ Some n
         → n < length found.old.items }
@@ -66,7 +66,7 @@ fn tell(entry: &EntryRef<'_>, folder: &Folder<'_>, found: &mut Vec<Option<(Entry
     }
 }
 
-// Tells the first entry of each name that has a number.
+// Records the first entry of each name that has a number.
 fn tell_names(
     entries: TreeRefIter<'_>,
     folder: &Folder<'_>,
@@ -102,7 +102,7 @@ impl EntriesState {
         self.found.resize(count, None)
     }
 
-    // Reads the tree that is known behind a number, where a path goes on from there.
+    // Reads the tree that is known of a number, if a path goes on from there.
     fn read<F: FindInto>(
         &mut self,
         folder: &Folder<'_>,
@@ -136,7 +136,7 @@ impl EntriesState {
         Ok(())
     }
 
-    // Reads all known trees from which a path goes on, each behind those that it lies in.
+    // Reads all known trees from which a path goes on, each after those that it lies in.
     fn read_all<F: FindInto>(&mut self, folders: &[Folder<'_>], objects: &F) -> Result<(), Error>
         requires len { length self.old.found.items ≡ length folders.now }
         requires numbered { IsNumbered folders.now }
@@ -157,7 +157,7 @@ impl EntriesState {
         Ok(())
     }
 
-    // What is known behind these numbers.
+    // What is known of these numbers.
     fn answers(&self, numbers: &[usize]) -> Result<Vec<Option<(EntryMode, ObjectId)>>, AllocError>
         requires { All (λ n. n < length self.now.found.items) numbers.now }
         ensures { IfOk result (λ answers.
@@ -171,13 +171,14 @@ impl EntriesState {
     }
 }
 
-/// The entry at each of the paths below the root, in their order, and `None` where none stands. The names of a path stand between
-/// slashes, and lead from the tree of the root's id down through the trees of the store; of entries of one name the first counts,
-/// and below what is no tree nothing stands. Paths may be equal, and may begin one another. Each tree is asked for once, and read
+/// The entry at each of the paths below the root, in their order, and `None` if there is none. The
+/// names of a path are separated by slashes, and lead from the tree of the root's id down through
+/// the trees of the store. Of entries of one name the first counts, and nothing is below what is no
+/// tree. Paths may be equal, and may begin one another. Each tree is looked up once, and read
 /// whole, however many paths lead into it.
 ///
-/// It is `Find` where a tree into which a path leads isn't found, `ObjectDecode` where an entry of one can't be read, and `Memory`
-/// where no memory is left.
+/// Returns `Find` if a tree into which a path leads isn't found, `ObjectDecode` if an entry of one
+/// can't be read, and `Memory` if no memory is left.
 pub fn entries_at<F: FindInto + Drop>(
     root: ObjectId,
     paths: &[&[u8]],

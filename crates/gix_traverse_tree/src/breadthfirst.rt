@@ -58,7 +58,7 @@ impl State {
     }
 }
 
-// Whether the way up from a node leads past this id.
+// Returns whether the way up from a node leads past this id.
 fn lies_above(nodes: &[Node], above: Option<usize>, id: &ObjectId) -> bool
     requires linked { IsLinked nodes.now }
     requires within { IfSome above (λ n. n < length nodes.now) }
@@ -98,7 +98,7 @@ fn queue<V: Visit>(
     Ok(())
 }
 
-// Shows an entry, and queues it where it is a tree to go below.
+// Shows an entry, and queues it if it is a tree to go below.
 fn pass<V: Visit>(
     entry: &EntryRef<'_>,
     above: Option<usize>,
@@ -245,12 +245,14 @@ impl State {
     }
 }
 
-/// Shows the delegate all entries that lie under the root: first those of the root, in their order, then those of the trees among
-/// them, and so on, level by level. Below a tree it goes where the delegate answers `Continue(true)`.
+/// Shows the delegate all entries under the root: first those of the root, in their order, then
+/// those of the trees among them, and so on, level by level. It goes below a tree if the delegate
+/// returns `Continue(true)`.
 ///
-/// It is `Cancelled` after an entry to which the delegate answers `Break`. At a tree's turn, after all that comes before, it is
-/// `Cycle` where the tree lies under itself, and `Find` where it isn't found; at an entry's turn it is `ObjectDecode` where none
-/// can be read. It is `Memory` where no memory is left, also the delegate's. The root's own id isn't known, so that a root which
+/// Returns `Cancelled` after an entry for which the delegate returns `Break`. At a tree's turn,
+/// after all that comes before, returns `Cycle` if the tree lies under itself, and `Find` if it
+/// isn't found; at an entry's turn, `ObjectDecode` if the entry can't be read. Returns `Memory` if
+/// no memory is left, also for the delegate. The root's own id isn't known, so that a root which
 /// lies under itself is met twice.
 pub fn breadthfirst<F: FindInto + Drop, V: Visit>(
     root: TreeRefIter<'_>,

@@ -9,7 +9,8 @@ use crate::visit::{Action, Error};
 use bstr::BStr;
 use gix_object_entries::tree::EntryRef;
 
-/// Is called by a walk over trees at each entry, and told the way there. Each call that finds no memory ends the walk.
+/// Is called by a walk over trees at each entry, and follows the way there. Each call that finds no
+/// memory ends the walk.
 pub trait Visit {
     /// What a call makes of the delegate.
     ghost goes: { Self → Call → Self → Type 0 };
@@ -22,12 +23,13 @@ pub trait Visit {
     fn pop_front_tracked_path_and_set_current(&mut self) -> Result<(), Error>
         ensures { OnOk result (Self.goes self.old pop_front self.new) };
 
-    /// Puts a component behind the path, and queues the path at the back. An empty component leaves the path as it is.
+    /// Appends a component to the path, and queues the path at the back. An empty component leaves
+    /// the path as it is.
     fn push_back_tracked_path_component(&mut self, component: BStr<'_>) -> Result<(), Error>
         ensures { OnOk result
             (Self.goes self.old (push_back (bstr_bytes component.entry)) self.new) };
 
-    /// Puts a component behind the path.
+    /// Appends a component to the path.
     fn push_path_component(&mut self, component: BStr<'_>) -> Result<(), Error>
         ensures { OnOk result (Self.goes self.old (push (bstr_bytes component.entry)) self.new) };
 
@@ -35,12 +37,12 @@ pub trait Visit {
     fn pop_path_component(&mut self) -> Result<(), Error>
         ensures { OnOk result (Self.goes self.old pop self.new) };
 
-    /// Is shown an entry that is a tree, and answers how the walk goes on.
+    /// Is shown an entry that is a tree, and returns how the walk goes on.
     fn visit_tree(&mut self, entry: &EntryRef<'_>) -> Result<Action, Error>
         ensures { IfOk result
             (λ action. Self.goes self.old (at_tree (item_of entry.now) action) self.new) };
 
-    /// Is shown an entry that is no tree, and answers how the walk goes on.
+    /// Is shown an entry that is no tree, and returns how the walk goes on.
     fn visit_nontree(&mut self, entry: &EntryRef<'_>) -> Result<Action, Error>
         ensures { IfOk result
             (λ action. Self.goes self.old (at_nontree (item_of entry.now) action) self.new) };

@@ -63,7 +63,7 @@ impl State {
         Ok(State::new(*self.buffers.allocator()))
     }
 
-    /// An empty buffer, one of those given back where there is one.
+    /// An empty buffer, one of those given to `push_buf` if there is one.
     pub fn pop_buf(&mut self) -> Vec<u8>
         ensures empty { result.items ≡ [] }
         ensures taken { IsTakenFrom self.old.buffers.items self.new.buffers.items }
@@ -77,7 +77,7 @@ impl State {
         }
     }
 
-    /// Takes a buffer back for later use. Where no memory is left it is dropped.
+    /// Takes a buffer back for later use. If no memory is left, it is dropped.
     pub fn push_buf(&mut self, buffer: Vec<u8>)
         ensures given { IsGivenBack buffer self.old.buffers.items self.new.buffers.items }
         ensures kept { self.old.buffers.len < self.old.buffers.cap
@@ -87,7 +87,7 @@ impl State {
     }
 }
 
-// Shows an entry, and tells how the walk goes on.
+// Shows an entry, and returns how the walk goes on.
 fn pass<V: Visit>(entry: &EntryRef<'_>, delegate: &mut V) -> Result<Step, visit::Error>
     ensures { IfOk result
         (λ step. ShowsEntry V.goes delegate.old (item_of entry.now) delegate.new step) }
@@ -121,7 +121,7 @@ impl Open {
     }
 }
 
-// Whether one of the trees has this id.
+// Returns whether one of the trees has this id.
 fn is_open(trees: &[Open], id: &ObjectId) -> bool
     ensures { result ≡ list_any (λ tree. id_eq (id_of id.now) (id_of tree.id)) trees.now }
 {
@@ -177,7 +177,7 @@ fn enter<F: FindInto, V: Visit>(
     Ok(())
 }
 
-// Takes the path of the innermost tree again, where there is one.
+// Takes the path of the innermost tree again, if there is one.
 fn resume<V: Visit>(trees: &[Open], delegate: &mut V) -> Result<(), visit::Error>
     ensures { OnOk result (IsResumed V.goes delegate.old (length trees.now) delegate.new) }
 {
@@ -254,11 +254,13 @@ fn walk<F: FindInto, V: Visit>(
     Ok(())
 }
 
-/// Shows the delegate all entries that lie under the root, each before what lies in it, and that before the entry behind it. Below a
-/// tree it goes where the delegate answers `Continue(true)`, and on `Break` it ends.
+/// Shows the delegate all entries under the root, each before what lies in it, and that before the
+/// entry after it. It goes below a tree if the delegate returns `Continue(true)`, and ends on
+/// `Break`.
 ///
-/// At a tree's turn, after all that comes before, it is `Cycle` where the tree lies under itself, and `Find` where it isn't found;
-/// at an entry's turn it is `ObjectDecode` where none can be read. It is `Memory` where no memory is left, also the delegate's.
+/// At a tree's turn, after all that comes before, returns `Cycle` if the tree lies under itself,
+/// and `Find` if it isn't found; at an entry's turn, `ObjectDecode` if the entry can't be read.
+/// Returns `Memory` if no memory is left, also for the delegate.
 pub fn depthfirst<F: FindInto + Drop, V: Visit>(
     root: ObjectId,
     state: &mut State,

@@ -8,7 +8,7 @@ use crate::Visit;
 use crate::visit::{Action, Error};
 use gix_object_entries::tree::EntryRef;
 
-/// Tells the delegate the entry's name, shows it the entry, and answers what it says.
+/// Gives the delegate the entry's name, shows it the entry, and returns its reply.
 pub(crate) fn show<V: Visit>(entry: &EntryRef<'_>, delegate: &mut V) -> Result<Action, Error>
     ensures { IfOk result
         (λ action. Runs V.goes delegate.old (shown (item_of entry.now) action) delegate.new) }

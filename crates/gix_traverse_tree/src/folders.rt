@@ -23,7 +23,7 @@ impl<'a> Folder<'a> {
         }
     }
 
-    /// Whether no path goes on from here.
+    /// Returns whether no path goes on from here.
     pub(crate) fn is_empty(&self) -> bool
         ensures { MatchBool result ((name : List ℕ) → number_in self.now name ≡ None)
             ((name : List ℕ) × (n : ℕ) × (number_in self.now name ≡ Some n)) }
@@ -38,7 +38,7 @@ impl<'a> Folder<'a> {
         self.names.get(name).copied()
     }
 
-    // Puts a number behind a name.
+    // Gives a name a number.
     fn put(&mut self, name: &'a [u8], number: usize) -> Result<(), AllocError>
         ensures here { OnOk result (number_in self.new name.now ≡ Some number) }
         ensures others { (other : List ℕ) → other ≢ name.now
@@ -49,7 +49,7 @@ impl<'a> Folder<'a> {
     }
 }
 
-// The number behind a name behind this number.
+// The number of a name in the folder of this number.
 fn number_at(folders: &[Folder<'_>], at: usize, name: &[u8]) -> Option<usize>
     requires { at < length folders.now }
     ensures { result ≡ numbers_of folders.now at name.now }
@@ -57,7 +57,7 @@ fn number_at(folders: &[Folder<'_>], at: usize, name: &[u8]) -> Option<usize>
     folders[at].number(name)
 }
 
-// Puts a number behind a name behind this number.
+// Gives a name in the folder of this number a number.
 fn put_at<'a>(
     folders: &mut Vec<Folder<'a>>,
     at: usize,
@@ -73,7 +73,7 @@ fn put_at<'a>(
     folders[at].put(name, number)
 }
 
-// The number behind a name behind this number, which is a new one where there was none.
+// The number of a name in the folder of this number, a new one if there was none.
 fn number_name<'a>(
     alloc: Global,
     folders: &mut Vec<Folder<'a>>,
@@ -120,7 +120,8 @@ fn number_path<'a>(
     Ok(at)
 }
 
-/// Numbers all that begins the paths, each once, and answers the paths' own numbers, in their order. Nothing has the number 0.
+/// Numbers all that begins the paths, each once, and returns the paths' own numbers, in their
+/// order. Nothing has the number 0.
 pub(crate) fn number_paths<'a>(
     alloc: Global,
     folders: &mut Vec<Folder<'a>>,

@@ -10,8 +10,9 @@ use gix_object_lines::Kind;
 use gix_object_lookup::FindInto;
 use gix_object_lookup::find::existing_iter::Error;
 
-/// Puts the content of the tree of this id into the buffer, in place of what it held. It is `Find` where the lookup gave up,
-/// `NotFound` where no object stands, and `ObjectKind` where another kind does.
+/// Puts the content of the tree of this id into the buffer, in place of what it held. Returns
+/// `Find` if the lookup failed, `NotFound` if there is no object, and `ObjectKind` if it is of
+/// another kind.
 pub(crate) fn read_tree<F: FindInto>(
     objects: &F,
     id: &ObjectId,

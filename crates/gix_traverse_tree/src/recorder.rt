@@ -18,7 +18,7 @@ use std::alloc::{AllocError, Global};
 use std::collections::VecDeque;
 use std::ops::ControlFlow;
 
-// How many bytes of a path stand before its last `/`.
+// How many bytes of a path precede its last `/`.
 fn parent_len(path: &[u8]) -> usize
     ensures { take result path.now ≡ parent path.now }
 {
@@ -28,7 +28,7 @@ fn parent_len(path: &[u8]) -> usize
     }
 }
 
-// A copy of these bytes. Where there are none it takes no memory.
+// A copy of these bytes. If there are none, it takes no memory.
 fn copied_bytes(alloc: Global, bytes: &[u8]) -> Result<Vec<u8>, AllocError>
     ensures copied { IfOk result (λ copy. copy.items ≡ bytes.now) }
     ensures whole { bytes.now ≡ [] → IsOk result }
@@ -59,7 +59,7 @@ pub struct Entry {
 }
 
 impl Entry {
-    /// A copy. It is an error where there is no memory for its path; an empty path takes none.
+    /// A copy; `AllocError` if there is no memory for its path. An empty path takes none.
     pub fn try_clone(&self) -> Result<Entry, AllocError>
         ensures copied { IfOk result (λ copy. recorded_of copy ≡ recorded_of self.now) }
         ensures whole { (recorded_of self.now).path ≡ [] → IsOk result }
@@ -134,15 +134,15 @@ impl Recorder {
         recorder
     }
 
-    /// The path that the next name is put behind, or the name that was told last.
+    /// The path that the next name is appended to, or the name that was pushed last.
     pub fn path(&self) -> BStr<'_>
         ensures { bstr_bytes result ≡ (recording_of self.now).path }
     {
         BStr::new(self.path.as_slice())
     }
 
-    /// A copy, with its entries and with the paths that are queued. It is an error where there is no memory for it; where there
-    /// are no entries, and no path is built on or queued, it takes none.
+    /// A copy, with its entries and with the paths that are queued; `AllocError` if there is no
+    /// memory for it. If there are no entries, and no path is built or queued, it takes none.
     pub fn try_clone(&self) -> Result<Recorder, AllocError>
         ensures copied { IfOk result (λ copy. recording_of copy ≡ recording_of self.now) }
         ensures whole { (recording_of self.now).queue ≡ [] → (recording_of self.now).path ≡ []
@@ -157,7 +157,7 @@ impl Recorder {
         })
     }
 
-    /// A copy of that path. It is an error where there is no memory for it; an empty one takes none.
+    /// A copy of that path; `AllocError` if there is no memory for it. An empty one takes none.
     pub fn path_clone(&self) -> Result<ByteString, AllocError>
         ensures copied { IfOk result (λ path. path ≡ (recording_of self.now).path) }
         ensures whole { (recording_of self.now).path ≡ [] → IsOk result }
@@ -168,7 +168,7 @@ impl Recorder {
 }
 
 impl Recorder {
-    // Puts a name behind the path.
+    // Appends a name to the path.
     fn push_element(&mut self, name: &[u8]) -> Result<(), AllocError>
         ensures { OnOk result
             (recording_of self.new
@@ -194,7 +194,7 @@ impl Recorder {
         self.path.truncate(kept);
     }
 
-    // Takes a path that was queued, or the root's where none was.
+    // Takes a path that was queued, or the root's if none was.
     fn set_path(&mut self, path: Option<ByteString>)
         ensures { recording_of self.new
             ≡ record (recording_of self.old) { path = unwrap_or path [] } }

@@ -56,7 +56,7 @@ impl<F: FindInto + Drop, P: Accept + Drop> Simple<F, P> {
         self.begun = self.is_idle();
     }
 
-    // Whether nothing is queued.
+    // Returns whether nothing is queued.
     fn is_idle(&self) -> bool
         ensures { (result ≡ true) ↔ ((self.now.known.queue ≡ [])
             × (turns_of self.now.known ≡ [])) }
@@ -64,7 +64,8 @@ impl<F: FindInto + Drop, P: Accept + Drop> Simple<F, P> {
         self.known.is_idle()
     }
 
-    // Reads the times of the tips, but of those that the predicate refused, where the order goes by time.
+    // Reads the times of the tips, except those that the predicate refused, if the order goes by
+    // time.
     pub(crate) fn read_tips(&mut self, sorting: Sorting) -> Result<(), Error>
         ensures predicate { self.new.predicate ≡ self.old.predicate }
         ensures objects { self.new.source.objects ≡ self.old.source.objects }
@@ -177,7 +178,8 @@ impl<F: FindInto + Drop, P: Accept + Drop> Simple<F, P> {
         Ok(())
     }
 
-    // Paints what is hidden, and queues the tips: where the walk was begun before, what was queued then.
+    // Paints what is hidden, and queues the tips; if the walk was begun before, what was queued
+    // then.
     fn begin(&mut self) -> Result<(), Error>
         ensures predicate { self.new.predicate ≡ self.old.predicate }
         ensures objects { self.new.source.objects ≡ self.old.source.objects }
@@ -226,7 +228,7 @@ impl<F: FindInto + Drop, P: Accept + Drop> Simple<F, P> {
         Ok(())
     }
 
-    // Begins the walk where that was not done yet.
+    // Begins the walk unless that was done already.
     pub(crate) fn ready(&mut self) -> Result<(), Error>
         ensures predicate { self.new.predicate ≡ self.old.predicate }
         ensures objects { self.new.source.objects ≡ self.old.source.objects }

@@ -31,7 +31,7 @@ use gix_traverse_commit_known::meet::mark_met;
 use gix_traverse_commit_known::nodes::Marks;
 use gix_traverse_commit_known::waiting::Turn;
 
-// The committer's seconds, and 0 where they aren't read. It is `Memory` where no memory is left.
+// The committer's seconds, and 0 if they aren't read. Returns `Memory` if no memory is left.
 fn seconds_or_zero<F: FindInto>(source: &mut Source<F>, id: &ObjectId) -> Result<i64, Error>
     ensures objects { source.new.objects ≡ source.old.objects }
     ensures rows { source.new.rows ≡ source.old.rows }
@@ -111,7 +111,7 @@ pub fn read_times<F: FindInto>(
     Ok(())
 }
 
-// Marks a commit as met, and lets it wait where it is no older than the cutoff.
+// Marks a commit as met, and lets it wait if it is no older than the cutoff.
 fn wait<F: FindInto>(
     source: &mut Source<F>,
     known: &mut Known,
