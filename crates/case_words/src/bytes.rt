@@ -2,10 +2,11 @@
 
 use std::alloc::Global;
 
-/// The bytes of a word; `None` where it spells none.
+/// The bytes of a word; `None` if it spells none.
 ///
-/// A word is parts with `+` between them. Of a part each byte stands as it is, or as `%` and two hexadecimal digits, and `*` with a
-/// number behind it repeats the part so many times. The word `-` spells no bytes.
+/// A word is parts with `+` between them. In a part each byte is written as it is, or as `%` and
+/// two hexadecimal digits, and `*` with a number after it repeats the part so many times. The word
+/// `-` spells no bytes.
 pub fn read_bytes(alloc: Global, word: &str) -> Option<Vec<u8>> {
     let mut bytes = Vec::new(alloc);
     if word == "-" {

@@ -15,7 +15,8 @@ pub struct Case {
 }
 
 impl Case {
-    /// The case of these words: the name of a hash function, and bytes in hexadecimal digits, of which `-` tells that there are none.
+    /// The case of these words: the name of a hash function, and bytes in hexadecimal digits, of
+    /// which `-` means none.
     pub fn read(alloc: Global, words: &str) -> Option<Case> {
         let (kind, texts) = match words.split_once(' ') {
             Some((kind, texts)) => (kind, Texts::read(alloc, texts)?),
@@ -27,7 +28,7 @@ impl Case {
         })
     }
 
-    /// The bytes of the word at this place, none where there is no such word.
+    /// The bytes of the word at this place, none if there is no such word.
     pub fn text(&self, place: usize) -> &[u8] {
         self.texts.text(place)
     }

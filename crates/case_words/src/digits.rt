@@ -3,7 +3,8 @@
 use std::alloc::Global;
 use std::str;
 
-/// The bytes of a word: two hexadecimal digits each, and `-` for none. `None` where it has another form or no memory is left.
+/// The bytes of a word: two hexadecimal digits each, and `-` for none. `None` if it has another
+/// form or no memory is left.
 pub fn read_digits(alloc: Global, word: &str) -> Option<Vec<u8>> {
     hex::decode(alloc, if word == "-" { "" } else { word }).ok()
 }
@@ -17,7 +18,7 @@ pub fn read_texts(alloc: Global, words: &str) -> Option<Vec<Vec<u8>>> {
     Some(texts)
 }
 
-/// Bytes as text, where they are.
+/// Bytes as text, if they are UTF-8.
 pub fn text_of(bytes: &[u8]) -> Option<&str> {
     str::from_utf8(bytes).ok()
 }
@@ -43,7 +44,7 @@ impl Texts {
         })
     }
 
-    /// The bytes of the word at this place, none where there is no such word.
+    /// The bytes of the word at this place, none if there is no such word.
     pub fn text(&self, place: usize) -> &[u8] {
         match self.all.get(place) {
             Some(text) => text.as_slice(),

@@ -15,10 +15,11 @@ pub fn sound(files: MemoryFiles) -> Trial {
     Fuse::failing_at(files, 0, None)
 }
 
-/// Changes or reads files as a word says, and answers on the page; `None` where the word says nothing.
+/// Changes or reads files as a word says, and adds the result to the page; `None` if the word says
+/// nothing.
 ///
-/// A word is an operation's name and what it takes, with `:` between them: a path, and bytes or a second path. A number that stands
-/// as `#` is this one.
+/// A word is an operation's name and its arguments, with `:` between them: a path, and bytes or a
+/// second path. In a number, `#` means this one.
 pub fn act_on(
     alloc: Global,
     files: &mut Trial,
@@ -45,7 +46,8 @@ pub fn act_on(
     }
 }
 
-/// Changes or reads any files as a word says, and answers on the page; `None` where the word says nothing.
+/// Changes or reads any files as a word says, and adds the result to the page; `None` if the word
+/// says nothing.
 pub fn call_by<F: Files>(alloc: Global, files: &mut F, word: &str, page: &mut Page) -> Option<()> {
     let mut parts = word.split(':');
     let (operation, first) = (parts.next()?, parts.next().unwrap_or("-"));
@@ -90,7 +92,7 @@ fn set_fuse(alloc: Global, files: &mut Trial, how: &str, call: u64, kept: &str) 
     Some(())
 }
 
-// What a change answers; what `create_new` does, and else true.
+// The result of a change: that of `create_new`, and otherwise true.
 fn change<F: Files>(
     alloc: Global,
     files: &mut F,
@@ -127,7 +129,7 @@ fn show_error(error: FileError, page: &mut Page) {
     }
 }
 
-// Answers a reading; `None` where the operation is none.
+// The result of a reading; `None` if there is no such operation.
 fn read<F: Files>(
     alloc: Global,
     files: &F,
@@ -161,7 +163,7 @@ fn show_place<F: Files>(files: &F, path: &[u8], page: &mut Page) -> Result<(), F
     Ok(())
 }
 
-// What is read behind `so `, and how many bytes that is.
+// What is read, after `so `, and how many bytes that is.
 fn show_file<F: Files>(
     alloc: Global,
     files: &F,

@@ -20,14 +20,14 @@ impl Page {
         }
     }
 
-    /// Adds text as it stands.
+    /// Adds text as it is.
     pub fn text(&mut self, text: &str) {
         if self.text.push_str(text).is_err() {
             self.full = true;
         }
     }
 
-    /// Adds a word, behind a space where it isn't the first.
+    /// Adds a word, after a space unless it is the first.
     pub fn word(&mut self, word: &str) {
         if !self.text.is_empty() {
             self.text(" ");
@@ -85,7 +85,8 @@ impl Page {
         self.put(char::from_digit(u32::from(digit), 16).unwrap_or('?'));
     }
 
-    /// Adds bytes as a word has them: each as it is or, where that would be taken for something else, as `%` and two digits.
+    /// Adds bytes as a word has them: each as it is or, if that would be taken for something else,
+    /// as `%` and two digits.
     pub fn bytes(&mut self, bytes: &[u8]) {
         match bytes {
             b"" => self.text("-"),
@@ -175,7 +176,7 @@ impl Page {
         self.text.as_str()
     }
 
-    /// The text, where no growth was refused.
+    /// The text; `AllocError` if a growth was refused.
     pub fn finish(self) -> Result<String, AllocError> {
         if self.full {
             return Err(AllocError);

@@ -5,17 +5,18 @@ use std::alloc::{AllocError, Global};
 
 /// What the words of a line act on.
 pub trait Session: Sized + Drop {
-    /// What stands at first, by the line's first word; `None` where that says nothing.
+    /// The state at first, by the line's first word; `None` if that says nothing.
     fn begin(alloc: Global, first: &str) -> Option<Self>;
 
-    /// Acts as a word says, and answers on the page; `None` where the word says nothing. The number stands for `#`.
+    /// Acts as a word says, and adds the result to the page; `None` if the word says nothing. In a
+    /// word `#` means the number.
     fn act(&mut self, alloc: Global, word: &str, number: u64, page: &mut Page) -> Option<()>;
 }
 
-/// What a line is answered with.
+/// The reply to a line.
 ///
-/// Behind `each:LIMIT` the words are played for each number from 1 to the limit, from the beginning each time, and each answer stands
-/// once that isn't the one before, with `|` between them.
+/// After `each:LIMIT` the words are played for each number from 1 to the limit, from the beginning
+/// each time, and each result that differs from the one before is shown, with `|` between them.
 pub fn answer<S: Session>(alloc: Global, line: &str) -> Result<String, AllocError> {
     let limit = match line.split_once(' ') {
         Some((first, words)) => match first.strip_prefix("each:") {

@@ -9,14 +9,17 @@ use gix_object_lines::encode::loose_header;
 use std::alloc::{AllocError, Global};
 use std::io;
 
-/// What a line is answered with.
+/// The reply to a line.
 ///
-/// Behind `sizes ` the answers to the rest are told for the sizes 0, 1, 2, 63 to 65, each of 1,000 to 1,025, and 4,097, each by the
-/// first four digits of a SHA-1 digest. The rest is lines with `&` between them; the digest is that of their answers, each with a line feed behind.
-/// In a line `[PART]` is the part, so many times as the size says; where it ends with a comma, there is none behind the last, and `-` at
-/// size 0. In it `#` is the running number, from 0, and `^` the next one, both in four digits, and `~` is the digits of the first in
-/// hexadecimal digits; outside they are of the size. Then `(KIND CONTENT)` is the SHA-1 id of an object, and `(=KIND CONTENT)` the loose
-/// object, both in hexadecimal digits, as the content is.
+/// After `sizes ` the rest is answered for the sizes 0, 1, 2, 63 to 65, each of 1,000 to 1,025, and
+/// 4,097, each shown by the first four digits of a SHA-1 digest. The rest is lines with `&` between
+/// them; the digest is that of their replies, each with a line feed after it.
+///
+/// In a line `[PART]` is the part, so many times as the size says; if it ends with a comma, there
+/// is none after the last, and `-` at size 0. In it `#` is the running number, from 0, and `^` the
+/// next one, both in four digits, and `~` is the digits of the first in hexadecimal digits; outside
+/// they are of the size. Then `(KIND CONTENT)` is the SHA-1 id of an object, and `(=KIND CONTENT)`
+/// the loose object, both in hexadecimal digits, as the content is.
 pub fn answer_sizes<F: FnMut(&str) -> io::Result<String>>(
     alloc: Global,
     line: &str,
@@ -123,7 +126,7 @@ fn make_objects(alloc: Global, text: &str) -> Result<String, AllocError> {
     page.finish()
 }
 
-// `None` where this is no object, or where no memory is left.
+// `None` if this is no object, or if no memory is left.
 fn put_object(alloc: Global, text: &str, page: &mut Page) -> Option<()> {
     let (word, digits) = text.split_once(' ')?;
     let kind = Kind::from_bytes(word.strip_prefix('=').unwrap_or(word).as_bytes()).ok()?;

@@ -37,7 +37,8 @@ fn has_id(stored: &Stored, id: oid<'_>) -> bool
     stored.id.as_oid().eq_oid(id)
 }
 
-/// A loose object under its id by this hash function. `None` where it isn't loose, or where no memory is left.
+/// A loose object under its id by this hash function. `None` if it isn't loose, or if no memory is
+/// left.
 pub fn read_loose(alloc: Global, ids: gix_hash::Kind, loose: &[u8]) -> Option<Stored> {
     let (kind, _, header) = loose_header(loose).ok()?;
     let content = loose.get(header..)?;

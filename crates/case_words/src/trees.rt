@@ -1,4 +1,4 @@
-//! Trees in memory, which count how often they are asked for one, and may fail at one asking.
+//! Trees in memory, which count how often one is looked up, and may fail at one lookup.
 
 ghost use Rattle.std.specs.Prelude.{map, None, ⊤};
 ghost use Rattle.gix_hash_id.specs.Id.{id_of};
@@ -37,23 +37,23 @@ impl Trees {
         }
     }
 
-    /// How often a tree was asked for since the count began.
+    /// How often a tree was looked up since the count began.
     pub fn asked(&self) -> u64 {
         self.asked.get()
     }
 
-    /// Begins the count once more. No asking fails from here on.
+    /// Begins the count once more. No lookup fails from here on.
     pub fn count_anew(&self) {
         self.asked.set(0);
         self.failing.set(0);
     }
 
-    /// From here on the asking of this number fails.
+    /// From here on the lookup of this number fails.
     pub fn fail_at(&self, number: u64) {
         self.failing.set(number);
     }
 
-    /// Whether a tree of this id stands.
+    /// Returns whether there is a tree of this id.
     pub fn has(&self, oid: &ObjectId) -> bool {
         for row in &self.rows {
             if row.oid == *oid {
@@ -68,7 +68,7 @@ impl Trees {
         Ok(self.rows.push(row)?)
     }
 
-    // Counts an asking: whether it goes well.
+    // Counts a lookup, and returns whether it succeeds.
     fn goes_well(&self) -> bool {
         let asked = self.asked.get().saturating_add(1);
         self.asked.set(asked);

@@ -25,7 +25,7 @@ pub fn put_answer(alloc: Global, operation: &str, case: &Case, page: &mut Page) 
     }
 }
 
-// What is asked of a commit that is read whole.
+// The operations on a commit that is read whole.
 fn put_of_commit<'a>(
     alloc: Global,
     operation: &str,

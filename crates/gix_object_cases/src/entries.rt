@@ -9,7 +9,7 @@ use gix_object_entries::{Tree, TreeRef, TreeRefIter};
 use gix_object_lines::{ByteString, WriteTo};
 use std::alloc::{AllocError, Global};
 
-/// Adds what the operation gives. `None` where it is none.
+/// Adds what the operation gives. `None` if there is no such operation.
 pub fn put_answer(alloc: Global, operation: &str, case: &Case, page: &mut Page) -> Option<()> {
     match operation {
         "tree" => put_tree(alloc, case, page),
@@ -31,7 +31,7 @@ fn show(entry: EntryRef<'_>, page: &mut Page) {
     page.between(" ", entry.filename.as_bytes(), "");
 }
 
-// The order of two names, each a tree's where the word behind it isn't empty.
+// The order of two names, each a tree's if the word after it isn't empty.
 fn put_order(case: &Case, page: &mut Page) {
     page.name(name_order(
         case.text(0),

@@ -55,7 +55,8 @@ fn write_to_interrupted(alloc: Global, bytes: &[u8], page: &mut Page) {
     page.between(" ", out.taken.as_slice(), "");
 }
 
-/// Adds what the operation gives: of `header` what the header of a tag of seven bytes prints for those who debug. `None` where it is none.
+/// Adds what the operation gives: of `header` what the header of a tag of seven bytes prints for
+/// those who debug. `None` if there is no such operation.
 pub fn put_answer(alloc: Global, operation: &str, case: &Case, page: &mut Page) -> Option<()> {
     match operation {
         "interrupted" => write_to_interrupted(alloc, case.text(0), page),

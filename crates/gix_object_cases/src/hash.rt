@@ -10,8 +10,8 @@ use case_words::{Page, read_texts};
 use gix_hash::ObjectId;
 use std::alloc::Global;
 
-/// Adds what the operation of the line gives; `list` sets the ids that `find` searches. `None` where the line is no case or no memory is
-/// left.
+/// Adds what the operation of the line gives; `list` sets the ids that `find` searches. `None` if
+/// the line is no case or no memory is left.
 pub fn put_answer(
     rt: &HostRuntime,
     list: &mut Vec<ObjectId>,

@@ -1,4 +1,4 @@
-//! Answers cases of the crates from ids up to the face `gix_object`, a line each: a family, an operation of it, and what it is asked of.
+//! Answers cases of the crates up to `gix_object`: lines of a family, an operation and arguments.
 #![tactic(auto)]
 
 mod commit;
@@ -20,7 +20,7 @@ use gix_hash::ObjectId;
 use std::alloc::{AllocError, Global};
 use std::io;
 
-// Adds what a line gives: its family stands first. `None` where it is no case or no memory is left.
+// Adds what a line gives; its family comes first. `None` if it is no case or no memory is left.
 fn put_answer(
     rt: &HostRuntime,
     list: &mut Vec<ObjectId>,
@@ -46,7 +46,7 @@ fn put_of_words(alloc: Global, family: &str, line: &str, page: &mut Page) -> Opt
     put_of_case(alloc, family, operation, &Case::read(alloc, words)?, page)
 }
 
-// The families whose operations are asked of a hash function and bytes.
+// The families whose operations take a hash function and bytes.
 fn put_of_case(
     alloc: Global,
     family: &str,

@@ -5,13 +5,13 @@ use case_words::{Page, read_digits};
 use gix_object_message::{MessageRef, TrailerRef};
 use std::alloc::Global;
 
-/// Adds what the operation of the line gives. `None` where the line is no case or no memory is left.
+/// Adds what the operation of the line gives. `None` if the line is no case or no memory is left.
 pub fn put_answer(alloc: Global, line: &str, page: &mut Page) -> Option<()> {
     let bytes = read_digits(alloc, line.strip_prefix("message ")?)?;
     put_message(alloc, &bytes, page)
 }
 
-// The summary of a message, its body, empty where there is none, and the lines of its trailers.
+// The summary of a message, its body, empty if there is none, and the lines of its trailers.
 fn put_message(alloc: Global, bytes: &[u8], page: &mut Page) -> Option<()> {
     let message = MessageRef::from_bytes(bytes);
     page.name(BStr::new(message.summary(alloc).ok()?.as_slice()));

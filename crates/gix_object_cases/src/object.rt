@@ -7,7 +7,7 @@ mod owned;
 use case_words::{Case, Page};
 use std::alloc::Global;
 
-/// Adds what the operation gives. `None` where it is none.
+/// Adds what the operation gives. `None` if there is no such operation.
 pub fn put_answer(alloc: Global, operation: &str, case: &Case, page: &mut Page) -> Option<()> {
     match operation {
         "loose" => borrowed::loose(alloc, case, page),
@@ -28,7 +28,8 @@ pub fn show_entries(count: Option<usize>, page: &mut Page) {
     }
 }
 
-/// The bytes of a blob, the message of a commit or the name of a tag behind the word of its kind, or that there is none.
+/// The bytes of a blob, the message of a commit or the name of a tag after the word of its kind, or
+/// that there is none.
 pub fn show_part(kind: &str, bytes: Option<&[u8]>, page: &mut Page) {
     page.text("; ");
     page.text(kind);

@@ -1,12 +1,12 @@
-//! A program that is asked to sign or to verify, and answers from a table.
+//! A program that signs or verifies, and answers from a table.
 
 use case_words::Page;
 use gix_object_lines::ByteString;
 use gix_object_signature::run::{Answer, RunError, Word};
 use std::alloc::Global;
 
-/// Answers its requests one behind the other, or all with the first answer; where no answer is left it can't be started. It notes what it
-/// is asked.
+/// Answers its requests one after the other, or all with the first answer; if no answer is left, it
+/// can't be started. It notes its requests.
 #[derive(Drop)]
 pub struct Program<'a> {
     alloc: Global,
@@ -27,7 +27,7 @@ impl<'a> Program<'a> {
         }
     }
 
-    /// Adds what it was asked to a page.
+    /// Adds its requests to a page.
     pub fn tell(&self, page: &mut Page) {
         page.add(&self.notes);
     }
@@ -49,7 +49,7 @@ impl<'a> Program<'a> {
         )
     }
 
-    // What it is asked: its words, and its standard input.
+    // Notes a request: its words, and its standard input.
     fn note(&mut self, words: &[Word<'_>], input: &[u8]) {
         self.notes.text(if self.is_repeating {
             "asked "
@@ -72,7 +72,7 @@ fn note_word(word: &Word<'_>, notes: &mut Page) {
     }
 }
 
-// It succeeded where the status is `0`.
+// It succeeded if the status is `0`.
 fn answer_of(
     alloc: Global,
     status: &[u8],

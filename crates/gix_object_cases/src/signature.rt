@@ -10,7 +10,7 @@ use gix_object_signature::run::Word;
 use gix_object_signature::sign::{Options, sign};
 use std::alloc::Global;
 
-/// Adds what the operation of the line gives. `None` where the line is no case or no memory is left.
+/// Adds what the operation of the line gives. `None` if the line is no case or no memory is left.
 pub fn put_answer(alloc: Global, line: &str, page: &mut Page) -> Option<()> {
     let (operation, words) = line.split_once(' ')?;
     put_of_texts(alloc, operation, &Texts::read(alloc, words)?, page)

@@ -20,7 +20,7 @@ pub fn put_answer(alloc: Global, operation: &str, case: &Case, page: &mut Page) 
     }
 }
 
-// What is asked of a tag that is read whole.
+// The operations on a tag that is read whole.
 fn put_of_tag(alloc: Global, operation: &str, tag: TagRef<'_>, case: &Case, page: &mut Page) {
     match operation {
         "read" => whole::read(tag, page),

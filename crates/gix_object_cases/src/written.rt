@@ -6,7 +6,7 @@ use gix_object_lines::WriteTo;
 use gix_object_lines::lines::ActorRef;
 use std::alloc::Global;
 
-// The id of an object: of its header and of what is written of it. `None` where that is refused.
+// The id of an object: of its header and of what is written of it. `None` if that is refused.
 fn written_id<T: WriteTo>(alloc: Global, kind: gix_hash::Kind, object: &T) -> Option<ObjectId> {
     let mut digest = gix_hash::hasher::hasher(kind);
     digest.update(object.loose_header()?.as_slice());
@@ -29,7 +29,7 @@ pub fn show_object<T: WriteTo>(alloc: Global, kind: gix_hash::Kind, object: &T, 
     page.put(id);
 }
 
-/// Adds what is written of an object, or why it is refused and how much stands before that.
+/// Adds what is written of an object, or why it is refused and how much is written before that.
 pub fn show_written<T: WriteTo>(alloc: Global, object: &T, page: &mut Page) {
     let mut content = Vec::new(alloc);
     match object.write_to(&mut content) {

@@ -3,7 +3,7 @@ use case_words::{Page, act_on, sound};
 use gix_ref_file::MemoryFiles;
 use std::alloc::Global;
 
-/// Adds what the words of a line answer, over files in memory of which none stands at first.
+/// Adds the results of a line's words, over files in memory, of which there are none at first.
 pub fn put_answer(alloc: Global, line: &str, page: &mut Page) {
     let mut files = sound(MemoryFiles::new(alloc));
     for word in line.split(' ') {

@@ -12,8 +12,8 @@ fn part<'a>(rt: &'a HostRuntime, root: &str, part: Part) -> io::Result<RealFolde
     Ok(Folder::new(rt.alloc(), Disk::new(rt), root, part))
 }
 
-/// What the words of a line answer, over a folder that is made for the line of this number in the one that the program runs in, and
-/// that goes with all that it holds once the line is answered.
+/// The results of a line's words, over a folder that is made for the line of this number in the one
+/// that the program runs in, and that is removed with all that it holds after the line.
 pub fn answer(rt: &HostRuntime, number: u64, line: &str) -> io::Result<String> {
     let root = format!(in rt.alloc(); "case-{number}")?;
     fs::create_dir(rt, root.as_str())?;
@@ -22,7 +22,7 @@ pub fn answer(rt: &HostRuntime, number: u64, line: &str) -> io::Result<String> {
     Ok(text)
 }
 
-// What the words answer over the folder at this path.
+// The results of the words over the folder at this path.
 fn play(rt: &HostRuntime, root: &str, line: &str) -> io::Result<String> {
     let mut objects = part(rt, root, Part::Objects)?;
     let mut names = part(rt, root, Part::Names)?;

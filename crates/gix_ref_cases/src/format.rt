@@ -23,7 +23,7 @@ fn word(error: loose::Error) -> &'static str {
     }
 }
 
-// The text that is written of the target that a text tells.
+// The text that is written of the target that a text names.
 fn again(alloc: Global, text: &[u8], page: &mut Page) {
     match loose::decode(alloc, text, Kind::Sha1) {
         Ok(target) => put_written(alloc, target.to_ref(), page),
@@ -123,7 +123,7 @@ fn found(alloc: Global, word: &[u8], buffer: &Buffer, page: &mut Page) {
     }
 }
 
-// A word that must stand.
+// A word whose record must exist.
 fn must_stand(alloc: Global, word: &[u8], buffer: &Buffer, page: &mut Page) {
     let Ok(name) = PartialNameRef::new(word) else {
         return page.text("no name");

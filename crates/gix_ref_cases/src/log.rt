@@ -9,7 +9,7 @@ use std::alloc::Global;
 
 const REFUSED: &str = "refused";
 
-// Bytes in hexadecimal digits, behind a slash.
+// Bytes in hexadecimal digits, after a slash.
 fn put_part(bytes: &[u8], page: &mut Page) {
     page.text("/");
     page.hex(bytes);
@@ -30,7 +30,7 @@ fn put_owned(line: &Line, page: &mut Page) {
     put_part(line.message.as_bytes(), page);
 }
 
-// Each item behind a space: a line, or `!` and the number of one that is none.
+// Each item after a space: a line, or `!` and the number of one that is none.
 fn put_forward(log: &[u8], page: &mut Page) {
     for item in forward(log) {
         page.text(" ");
@@ -109,7 +109,7 @@ fn put_copy(alloc: Global, line: &Line, page: &mut Page) {
     }
 }
 
-// The ids that a line tells, by the calls that give them.
+// The ids in a line, by the calls that return them.
 fn ids(text: &[u8], page: &mut Page) {
     let Ok(line) = LineRef::from_bytes(text) else {
         return page.text(REFUSED);

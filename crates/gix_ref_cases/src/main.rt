@@ -1,4 +1,4 @@
-//! Answers cases of the crates below the face `gix_ref`, a line each: a family, an operation of it, and what it is asked of.
+//! Answers cases of the crates below `gix_ref`: lines of a family, an operation and arguments.
 #![tactic(auto)]
 
 mod file;
@@ -30,7 +30,7 @@ fn told(alloc: Global, family: &str, case: &str) -> Result<String, AllocError> {
     page.finish()
 }
 
-// What the operation of the line of this number gives: its family stands first.
+// What the operation of the line of this number gives; its family comes first.
 fn answer(rt: &HostRuntime, number: u64, line: &str) -> io::Result<String> {
     let (family, case) = line.split_once(' ').unwrap_or((line, ""));
     match family {

@@ -28,7 +28,7 @@ fn open(alloc: Global, file: &[u8], kind: Kind) -> Option<Buffer> {
     Buffer::from_bytes(alloc, file.to_vec(alloc).ok()?, kind).ok()
 }
 
-// The file under edits: the answer has a `|` in place of each line feed.
+// The file under edits, with a `|` in place of each line feed.
 fn put_of_file(alloc: Global, kind: Kind, file: &[u8], edits: &[u8], page: &mut Page) {
     match open(alloc, file, kind) {
         Some(buffer) => put_of_buffer(alloc, &buffer, edits, page),

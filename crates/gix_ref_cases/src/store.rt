@@ -14,7 +14,8 @@ use gix_ref_store::Options;
 use gix_ref_store::store::file::Store;
 use std::alloc::Global;
 
-// The words of a line: the operation, the worktree's folder, what it is asked of, the files, and objects or a namespace.
+// The words of a line: the operation, the worktree's folder, its argument, the files, and objects
+// or a namespace.
 #[derive(Clone, Copy)]
 struct Line<'a> {
     operation: &'a str,

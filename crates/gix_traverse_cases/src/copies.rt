@@ -9,8 +9,8 @@ use gix_traverse_tree::recorder::Recorder;
 use gix_traverse_tree::{Visit, breadthfirst, depthfirst};
 use std::alloc::Global;
 
-/// Adds what a copy of a recorder has after a walk with a copied state: its path, the one that is queued, and copies of its entries. `None`
-/// where the walk ends with an error, or no memory is left.
+/// Adds what a copy of a recorder has after a walk with a copied state: its path, the one that is
+/// queued, and copies of its entries. `None` if the walk ends with an error, or no memory is left.
 pub fn put_copied(
     alloc: Global,
     operation: &str,
@@ -28,7 +28,8 @@ pub fn put_copied(
     put_copy(&mut recorder.try_clone().ok()?, page)
 }
 
-// The walk, with how long the buffers are that a state gives, at first and after one was given back with a byte.
+// The walk, with how long the buffers are that a state gives, at first and after it got one back
+// with a byte.
 fn by_depth(
     alloc: Global,
     root: &ObjectId,

@@ -13,7 +13,7 @@ use std::mem;
 pub struct History {
     /// The objects.
     pub objects: Store,
-    /// The graph, where one was made.
+    /// The graph, if one was made.
     pub graph: Option<Graph>,
     rows: Vec<Row>,
 }
@@ -28,7 +28,8 @@ impl History {
         }
     }
 
-    /// A further row: a number, a time, a generation and the parents' numbers. `None` where the words spell none, or no memory is left.
+    /// A further row: a number, a time, a generation and the parents' numbers. `None` if the words
+    /// spell none, or no memory is left.
     pub fn add_row(&mut self, alloc: Global, word: &[&str]) -> Option<()> {
         let id = read_id(*word.get(1)?)?;
         let parents = read_ids(alloc, *word.get(4)?)?;

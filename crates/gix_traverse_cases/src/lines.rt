@@ -10,7 +10,7 @@ use gix_traverse_commit::simple::{CommitTimeOrder, Sorting};
 use gix_traverse_commit::{Parents, WalkError, breadth_first};
 use std::alloc::Global;
 
-/// Adds the answer to a line. `None` where it is no case, or where no memory is left.
+/// Adds the answer to a line. `None` if it is no case, or if no memory is left.
 pub fn put_answer(
     alloc: Global,
     history: &mut History,
@@ -127,8 +127,9 @@ fn put_given(alloc: Global, history: &History, word: &[&str], page: &mut Page) -
     put_found(alloc, *word.get(5)?, found.infos.as_slice(), page)
 }
 
-// A walk of `Simple`: the tips, and what is asked of it, up to the word `end`, before which its commits are shown; behind
-// `lookups` how many objects it asked for, and of a predicate that refuses some the commits that it was asked of.
+// A walk of `Simple`: the tips, and the builder's calls, up to the word `end`, before which its
+// commits are shown; after `lookups` how many objects it looked up, and of a predicate that refuses
+// some the commits that it was called for.
 fn put_calls(alloc: Global, history: &History, word: &[&str], page: &mut Page) -> Option<()> {
     let mut asked = Asked {
         tips: *word.get(1)?,
@@ -155,7 +156,7 @@ fn put_calls(alloc: Global, history: &History, word: &[&str], page: &mut Page) -
     put_walked(alloc, history, asked, sorting, refused, is_counted, page)
 }
 
-// A call that a builder answers is shown where it is made.
+// The result of a builder's call is shown where the call is made.
 fn put_call(call: &str, page: &mut Page) {
     if call != "end" && call != "lookups" && !call.starts_with("refuse=") {
         page.text(call);
@@ -189,7 +190,7 @@ fn put_walked(
     Some(())
 }
 
-// The commits that a walk lists, ascending, where all five orders list the same; else `differ`.
+// The commits that a walk lists, ascending, if all five orders list the same; otherwise `differ`.
 fn put_one_set(alloc: Global, history: &History, word: &[&str], page: &mut Page) -> Option<()> {
     let asked = Asked {
         tips: *word.get(1)?,

@@ -16,7 +16,7 @@ use case_words::{Page, answer_sizes};
 use std::alloc::{AllocError, Global};
 use std::io;
 
-// What a line gives: its family stands first.
+// What a line gives; its family comes first.
 fn answer(alloc: Global, history: &mut History, line: &str) -> Result<String, AllocError> {
     let mut page = Page::new(alloc);
     let (family, case) = line.split_once(' ').unwrap_or((line, ""));

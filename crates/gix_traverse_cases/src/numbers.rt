@@ -32,7 +32,7 @@ pub fn number(id: &ObjectId) -> u16 {
     }
 }
 
-/// Adds the numbers of these ids, each with a space behind it.
+/// Adds the numbers of these ids, each with a space after it.
 pub fn put_each(ids: &[ObjectId], page: &mut Page) {
     for id in ids {
         page.put_between("", number(id), " ");

@@ -1,4 +1,4 @@
-//! A predicate that keeps what it was asked.
+//! A predicate that notes its calls.
 
 ghost use Rattle.std.specs.Prelude.{◌≡◌, not};
 ghost use Rattle.std.specs.List.{list_any};
@@ -9,12 +9,12 @@ ghost use Rattle.gix_hash_id.specs.Views.{viewed_id};
 use gix_hash::{ObjectId, oid};
 use gix_traverse_commit::Accept;
 
-/// Refuses some commits, and keeps of which commits it was asked, in order.
+/// Refuses some commits, and notes for which commits it was called, in order.
 #[derive(Drop)]
 pub struct Refusing<'a> {
     /// The commits that it refuses.
     pub refused: Vec<ObjectId>,
-    /// Of which it was asked.
+    /// The commits for which it was called.
     pub asked: &'a mut Vec<ObjectId>,
 }
 
@@ -26,7 +26,7 @@ impl Refusing<'_> {
         self.refused.iter().any(|it| is_of(it, id))
     }
 
-    // Where no memory is left it is missing in what is shown.
+    // If no memory is left, it is missing in what is shown.
     fn note(&mut self, id: oid<'_>)
         ensures { self.new.refused ≡ self.old.refused }
     {

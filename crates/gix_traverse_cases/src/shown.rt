@@ -6,7 +6,7 @@ use gix_hash::ObjectId;
 use gix_traverse_commit::Info;
 use std::alloc::Global;
 
-/// The ids of these commits, ascending. `None` where no memory is left.
+/// The ids of these commits, ascending. `None` if no memory is left.
 pub fn set_of(alloc: Global, infos: &[Info]) -> Option<Vec<ObjectId>> {
     let mut ids = Vec::new(alloc);
     for info in infos {
@@ -16,8 +16,8 @@ pub fn set_of(alloc: Global, infos: &[Info]) -> Option<Vec<ObjectId>> {
     Some(ids)
 }
 
-/// Adds all that is told of the commits for `infos`, their numbers in ascending order for `set`, and else their numbers. `None` where no
-/// memory is left.
+/// Adds all that is known of the commits for `infos`, their numbers in ascending order for `set`,
+/// and otherwise their numbers. `None` if no memory is left.
 pub fn put_found(alloc: Global, what: &str, infos: &[Info], page: &mut Page) -> Option<()> {
     if what == "set" {
         put_each(set_of(alloc, infos)?.as_slice(), page);

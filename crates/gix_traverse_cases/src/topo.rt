@@ -9,8 +9,8 @@ use gix_traverse_commit::All;
 use gix_traverse_topo::{Builder, Error, Sorting, Topo};
 use std::alloc::Global;
 
-/// Adds the commits that a walk in this order gives, and how many objects it asked for, or that a commit isn't found. `None` at another
-/// error, or where no memory is left.
+/// Adds the commits that a walk in this order gives, and how many objects it looked up, or that a
+/// commit isn't found. `None` at another error, or if no memory is left.
 pub fn put_given(
     alloc: Global,
     history: &History,
@@ -37,7 +37,7 @@ fn put_commits(alloc: Global, walk: &mut Topo<All>, page: &mut Page) -> Option<(
     }
 }
 
-// The end of a walk by this error, where a commit isn't found.
+// The end of a walk by this error, if a commit isn't found.
 fn put_end(error: Error, page: &mut Page) -> Option<()> {
     match error {
         Error::Find(_) => {
@@ -48,7 +48,8 @@ fn put_end(error: Error, page: &mut Page) -> Option<()> {
     }
 }
 
-/// The commits that a walk in this order gives, ascending. `None` at an error, or where no memory is left.
+/// The commits that a walk in this order gives, ascending. `None` at an error, or if no memory is
+/// left.
 pub fn set(
     alloc: Global,
     history: &History,
@@ -86,7 +87,7 @@ fn between<'s>(
     Some(builder.ok()?.with_predicate(All))
 }
 
-// Adds the commits that come, up to the end or the first error. `None` where no memory is left.
+// Adds the commits that come, up to the end or the first error. `None` if no memory is left.
 fn collect(walk: &mut Topo<All>, ids: &mut Vec<ObjectId>) -> Option<Result<(), Error>> {
     for _ in 0..100_000u32 {
         match walk.next() {

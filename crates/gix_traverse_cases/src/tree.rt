@@ -9,7 +9,7 @@ use gix_traverse_tree::recorder::{Entry, Location, Recorder};
 use gix_traverse_tree::{EntriesState, breadthfirst, depthfirst, entries_at};
 use std::alloc::Global;
 
-/// Adds the answer to a line. `None` where it is no case, or where no memory is left.
+/// Adds the answer to a line. `None` if it is no case, or if no memory is left.
 pub fn put_answer(alloc: Global, line: &str, page: &mut Page) -> Option<()> {
     let (operation, words) = line.split_once(' ')?;
     put_of_case(alloc, operation, &Case::read(alloc, words)?, page)
@@ -26,7 +26,8 @@ fn put_of_case(alloc: Global, operation: &str, case: &Case, page: &mut Page) -> 
     }
 }
 
-// These trees, each an id and behind it the content. `None` where one has no id, or where no memory is left.
+// These trees, each an id and after it the content. `None` if one has no id, or if no memory is
+// left.
 fn read_trees(alloc: Global, width: usize, words: &[Vec<u8>]) -> Option<Trees> {
     let mut trees = Trees::new(alloc);
     for word in words {
@@ -44,8 +45,8 @@ pub fn put_record(entry: &Entry, page: &mut Page) {
     page.put_between(" ", entry.oid, "");
 }
 
-// How a walk from the root ends, and what a recorder has that tracks what the operation's name says after the order; before it, at
-// `asked`, how many trees were asked for.
+// How a walk from the root ends, and what a recorder has that tracks what the operation's name says
+// after the order; before it, at `asked`, how many trees were looked up.
 fn put_walk(
     alloc: Global,
     operation: &str,
@@ -108,7 +109,7 @@ fn by_levels(
     }
 }
 
-// What two calls with one state answer for these paths, each of which ends with a zero byte.
+// What two calls with one state return for these paths, each of which ends with a zero byte.
 fn put_paths(
     alloc: Global,
     root: &ObjectId,
@@ -125,7 +126,7 @@ fn put_paths(
     Some(())
 }
 
-// One call, behind how many trees it says that it asked for, and how many were asked for.
+// One call, after how many trees it says that it looked up, and how many were looked up.
 fn put_entries(
     root: &ObjectId,
     paths: &[&[u8]],

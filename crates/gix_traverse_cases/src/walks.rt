@@ -9,7 +9,7 @@ use gix_traverse_commit::simple::Sorting;
 use gix_traverse_commit::{Accept, All, Graph, Info, Parents, Simple};
 use std::alloc::Global;
 
-/// What is asked of a walk.
+/// What a walk is to list.
 #[derive(Clone, Copy)]
 pub struct Asked<'a> {
     /// The tips.
@@ -29,7 +29,7 @@ pub fn parents_of(word: &str) -> Parents {
     }
 }
 
-/// A copy of the graph, where there is one. `None` where no memory is left.
+/// A copy of the graph, if there is one. `None` if no memory is left.
 pub fn copied(graph: &Option<Graph>) -> Option<Option<Graph>> {
     match graph {
         Some(graph) => Some(Some(graph.try_clone().ok()?)),
@@ -37,7 +37,7 @@ pub fn copied(graph: &Option<Graph>) -> Option<Option<Graph>> {
     }
 }
 
-/// Copies of what a walk gave, and how many objects it asked for.
+/// Copies of what a walk gave, and how many objects it looked up.
 #[derive(Drop)]
 pub struct Listed {
     /// The commits.
@@ -46,7 +46,8 @@ pub struct Listed {
     pub lookups: usize,
 }
 
-/// Copies of what a walk gives in this order, made with a predicate or without. `None` where it ends with an error, or no memory is left.
+/// Copies of what a walk gives in this order, made with a predicate or without. `None` if it ends
+/// with an error, or no memory is left.
 pub fn given(
     alloc: Global,
     history: &History,
@@ -67,7 +68,7 @@ pub fn given(
     }
 }
 
-/// The same with a predicate that refuses some commits, and of which commits it was asked.
+/// The same with a predicate that refuses some commits, and for which commits it was called.
 pub fn given_refusing(
     alloc: Global,
     history: &History,
@@ -89,7 +90,7 @@ pub fn given_refusing(
     )
 }
 
-// What a walk is told once it is made.
+// What a walk is given once it is made.
 #[derive(Drop)]
 struct Rest {
     parents: Parents,

@@ -51,8 +51,8 @@ impl Interrupt for Never {
     }
 }
 
-/// The id of an object whose content is the front of a stream: the word of its kind, the content's length and the stream; how
-/// much progress was told; and how many bytes are left.
+/// The id of an object whose content is the front of a stream: the word of its kind, the content's
+/// length and the stream; how much progress was reported; and how many bytes are left.
 pub fn stream(case: &Case, page: &mut Page) {
     let (Ok(kind), Some(length)) = (Kind::from_bytes(case.text(0)), read_unsigned(case.text(1)))
     else {

@@ -44,7 +44,7 @@ fn options(key: &[u8]) -> Options<'_> {
     }
 }
 
-// What is written of a commit that owns its parts, behind another call to sign it.
+// What is written of a commit that owns its parts, after another call to sign it.
 fn sign_own(
     alloc: Global,
     mut own: Commit,
@@ -86,8 +86,8 @@ fn sign_lent(
     }
 }
 
-/// Signs a commit, the signed commit again, and a copy of the commit, with what a program answers: the commit, the user's key,
-/// the program's status, its standard output and its standard error.
+/// Signs a commit, the signed commit again, and a copy of the commit, with a program's answers: the
+/// commit, the user's key, the program's status, its standard output and its standard error.
 pub fn sign(alloc: Global, commit: CommitRef<'_>, case: &Case, page: &mut Page) {
     let options = options(case.text(1));
     let mut program = Program::new(alloc, case.behind(2), true);

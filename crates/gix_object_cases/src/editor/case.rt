@@ -14,7 +14,7 @@ pub struct Case {
     pub kind: Kind,
     /// The tree that is edited.
     pub root: Tree,
-    /// The trees that may be asked for.
+    /// The trees that may be looked up.
     pub trees: Trees,
 }
 

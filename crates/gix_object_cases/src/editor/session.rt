@@ -8,7 +8,7 @@ use gix_object_entries::Tree;
 use gix_object_entries::tree::{EntryKind, EntryRef};
 use std::alloc::{AllocError, Global};
 
-/// Adds what the words of a line answer.
+/// Adds the results of a line's words.
 pub fn put_answer(alloc: Global, line: &str, page: &mut Page) {
     if edit(alloc, line, page).is_none() {
         page.word("unread");
@@ -182,7 +182,7 @@ fn make_call_at(
     Some(())
 }
 
-// The id that is answered for the tree at a cursor.
+// The id that is returned for the tree at a cursor.
 fn show_written(
     alloc: Global,
     kind: Kind,
@@ -229,7 +229,7 @@ fn count_written(alloc: Global, kind: Kind, editor: &Editor<Trees>, page: &mut P
     Some(())
 }
 
-// The error that is answered for the tree behind so many, and how many calls were made.
+// The error that is returned for the tree after so many, and how many calls were made.
 fn write_failing(
     alloc: Global,
     kind: Kind,
@@ -309,8 +309,8 @@ fn written_of(alloc: Global, kind: Kind, tree: &Tree) -> Option<Written> {
     })
 }
 
-// The id of the written root, and whether each tree that a written one names was there or written before. They may be asked
-// for afterwards.
+// The id of the written root, and whether each tree that a written one names was there or written
+// before. They may be looked up afterwards.
 fn write(alloc: Global, kind: Kind, editor: &mut Editor<Trees>, page: &mut Page) -> Option<()> {
     let mut trees: Vec<Written> = Vec::new(alloc);
     let root = editor.write(

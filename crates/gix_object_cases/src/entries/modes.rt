@@ -15,7 +15,7 @@ impl fmt::Display for InOctal {
     }
 }
 
-// A mode's number, its two texts, what it names and what its tests tell.
+// A mode's number, its two texts, what it names and what its tests return.
 fn show(mode: EntryMode, page: &mut Page) {
     let mut backing = [0; 6];
     page.put_between("", mode.value(), " ");

@@ -1,4 +1,4 @@
-//! One operation, asked of whatever looks objects up.
+//! One operation on whatever looks objects up.
 
 use crate::find::{kinds, paths};
 use case_words::{Case, Page};
@@ -6,7 +6,7 @@ use gix_hash::ObjectId;
 use gix_object_find::{Exists, Find, FindHeader};
 use std::alloc::Global;
 
-/// The answer of these objects to the operation: the id is the first text, and a path the second.
+/// The result of the operation on these objects: the id is the first text, and a path the second.
 pub fn ask<T: Exists + Find + FindHeader>(
     alloc: Global,
     objects: &T,

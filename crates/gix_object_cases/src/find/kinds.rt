@@ -1,4 +1,4 @@
-//! Objects that must stand, of any kind and of each.
+//! Objects that must exist, of any kind and of each.
 
 use crate::find::errors;
 use case_words::Page;
@@ -6,7 +6,7 @@ use gix_hash::oid;
 use gix_object_find::{Exists, Find, FindExt, FindHeader, HeaderExt};
 use std::alloc::Global;
 
-/// Whether an object of the id stands, and its header, by `exists`, `try_header` and `header`.
+/// Whether an object of the id exists, and its header, by `exists`, `try_header` and `header`.
 pub fn header<T: Exists + FindHeader>(objects: &T, id: oid<'_>, page: &mut Page) {
     page.test("exists", objects.exists(id));
     match objects.try_header(id) {

@@ -8,7 +8,8 @@ use gix_object_lookup::find::Never;
 use std::alloc::Global;
 use std::rc::Rc;
 
-// The operation asked of the store, of a reference to it, of a shared one, of one that fails, and of none.
+// The operation on the store, on a reference to it, on a shared one, on one that fails, and on
+// none.
 fn ask_all(alloc: Global, operation: &str, case: &Case, page: &mut Page) {
     let objects = case.behind(2);
     let Some(mut store) = Store::new(alloc, case.kind, objects) else {

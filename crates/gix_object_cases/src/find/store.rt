@@ -22,7 +22,8 @@ pub struct Store {
 }
 
 impl Store {
-    /// The store of these loose objects, their ids of this hash function. `None` where one isn't loose, or where no memory is left.
+    /// The store of these loose objects, their ids of this hash function. `None` if one isn't
+    /// loose, or if no memory is left.
     pub fn new(alloc: Global, kind: HashKind, loose: &[Vec<u8>]) -> Option<Store> {
         let mut objects = Vec::new(alloc);
         for object in loose {

@@ -15,7 +15,7 @@ impl Progress for Amount {
     }
 }
 
-// Says yes at the asking of that number, the first being 1; at 0 never.
+// Says yes at the poll of that number, the first being 1; at 0 never.
 #[derive(Drop)]
 struct YesAt {
     number: usize,
@@ -29,7 +29,7 @@ impl Interrupt for YesAt {
     }
 }
 
-// The id, or why there is none, and how many bytes were told.
+// The id, or why there is none, and how many bytes were reported.
 fn show(answer: Result<ObjectId, Error>, told: usize, page: &mut Page) {
     match answer {
         Ok(id) => page.put(id),
@@ -39,7 +39,8 @@ fn show(answer: Result<ObjectId, Error>, told: usize, page: &mut Page) {
     page.value(told);
 }
 
-// How the hashing of a stream's first bytes ends, and how many of its bytes are left where they were all there.
+// How the hashing of a stream's first bytes ends, and how many of its bytes are left if they were
+// all there.
 fn hashed(kind: Kind, stream: &[u8], count: u64, number: usize, page: &mut Page) {
     let mut progress = Amount(0);
     let mut interrupt = YesAt { number, asked: 0 };
@@ -51,7 +52,8 @@ fn hashed(kind: Kind, stream: &[u8], count: u64, number: usize, page: &mut Page)
     }
 }
 
-/// The hashing of a kind of so many first bytes of a stream, and the number of the asking that is answered yes.
+/// The hashing of a kind of so many first bytes of a stream, and the number of the poll that
+/// returns yes.
 pub fn stream(fields: &[Vec<u8>], page: &mut Page) -> Option<()> {
     let [kind, count, number, stream] = fields else {
         return None;

@@ -24,7 +24,7 @@ pub fn decode(alloc: Global, case: &Case, page: &mut Page) {
     }
 }
 
-/// The id of an object of a kind and its content, where it is this one.
+/// The id of an object of a kind and its content, if it is this one.
 pub fn verify(case: &Case, page: &mut Page) {
     let (Some(data), Ok(expected)) = (data(case), ObjectId::from_hex(case.text(2))) else {
         return page.text("no kind or id");

@@ -71,8 +71,8 @@ fn verify(alloc: Global, signed: &Signed<'_>, options: &Options<'_>, page: &mut 
     program.tell(page);
 }
 
-// How a signature of OpenPGP, of X.509 or of the secure shell is verified, of which the last has the paths of the allowed signers and of
-// the revoked keys behind the program; there are none where the path is empty.
+// How a signature of OpenPGP, of X.509 or of SSH is verified. The last has the paths of the allowed
+// signers and of the revoked keys after the program; there are none if the path is empty.
 fn options<'a>(operation: &str, case: &'a Texts, minimum_trust: TrustLevel) -> Options<'a> {
     let program = BStr::new(case.text(0));
     let revoked = BStr::new(case.text(2));
@@ -98,8 +98,9 @@ fn options<'a>(operation: &str, case: &'a Texts, minimum_trust: TrustLevel) -> O
     }
 }
 
-/// What a program tells of a signature: the program, the paths, the least trust, the bytes before and behind the signature, the
-/// signature, and the program's answers. `None` where the operation or the words are none.
+/// What a program reports about a signature: the program, the paths, the least trust, the bytes
+/// before and after the signature, the signature, and the program's answers. `None` if there is no
+/// such operation or the words are none.
 pub fn put_answer(alloc: Global, operation: &str, case: &Texts, page: &mut Page) -> Option<()> {
     let front = match operation {
         "verify-openpgp" | "verify-x509" => 1,

@@ -83,8 +83,9 @@ fn sign_lent(
     page.text("; ");
 }
 
-/// Signs a tag, lent and owned, with what a program answers: the tag, the signature in the place of its own where that isn't
-/// empty, the user's key, the program's status, its standard output and its standard error.
+/// Signs a tag, lent and owned, with a program's answers: the tag, the signature in the place of
+/// its own if that isn't empty, the user's key, the program's status, its standard output and its
+/// standard error.
 pub fn sign<'a>(alloc: Global, mut tag: TagRef<'a>, case: &'a Case, page: &mut Page) {
     let signature = case.text(1);
     if !signature.is_empty() {

@@ -26,7 +26,7 @@ pub fn again(alloc: Global, bytes: &[u8], page: &mut Page) -> Option<()> {
     Some(())
 }
 
-/// The name as it is printed: a view and a name of its own, and both again where it is a full one.
+/// The name as it is printed: a view and a name of its own, and both again if it is a full one.
 pub fn shown(alloc: Global, bytes: &[u8], page: &mut Page) -> Option<()> {
     let partial = PartialNameRef::new(bytes).ok()?;
     page.put(partial);

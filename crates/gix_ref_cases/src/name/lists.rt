@@ -94,8 +94,9 @@ fn deletion(log: RefLog) -> Change {
     }
 }
 
-/// The edits of the second field's lines over the references of the first's, made ready: each by its name, what it concerns and
-/// what it asks; then the places of those that were split. Or why they aren't made ready.
+/// The edits of the second field's lines over the references of the first's, made ready: each by
+/// its name, what it concerns and what it expects; then the places of those that were split. Or why
+/// they aren't made ready.
 pub fn ready(alloc: Global, references: &[u8], edits: &[u8], page: &mut Page) -> Option<()> {
     let table = read_table(alloc, text_of(references)?)?;
     let mut edits = read_edits(alloc, text_of(edits)?)?;

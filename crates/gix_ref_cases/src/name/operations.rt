@@ -17,7 +17,7 @@ pub fn put_answer(alloc: Global, line: &str, page: &mut Page) {
     }
 }
 
-// `None` where a field is refused, or no memory is left.
+// `None` if a field is refused, or no memory is left.
 fn of_fields(alloc: Global, operation: &str, fields: &[Vec<u8>], page: &mut Page) -> Option<()> {
     match fields {
         [bytes] => of_names(alloc, operation, bytes, page),

@@ -6,7 +6,7 @@ use gix_ref_name::namespace::expand;
 use gix_ref_name::{Namespace, PartialName, PartialNameRef};
 use std::alloc::Global;
 
-/// The name of a copy of the bytes, told by its path, its text and the bytes of a copy of it.
+/// The name of a copy of the bytes, shown by its path, its text and the bytes of a copy of it.
 pub fn partial(alloc: Global, bytes: &[u8], page: &mut Page) -> Option<()> {
     match PartialName::from_bytes(alloc, bytes) {
         Ok(name) => show(&name, page),
@@ -34,7 +34,8 @@ pub fn join(alloc: Global, name: &[u8], component: &[u8], page: &mut Page) -> Op
     Some(())
 }
 
-/// The prefix behind the front of the name's namespace, and the front that a copy keeps, as a path and taken out.
+/// The prefix after the front of the name's namespace, and the front that a copy keeps, as a path
+/// and taken out.
 pub fn prefixed(alloc: Global, name: &[u8], prefix: &[u8], page: &mut Page) -> Option<()> {
     let namespace = expand(alloc, PartialNameRef::new(name).ok()?).ok()?;
     let copy = namespace.try_clone().ok()?;

@@ -7,7 +7,8 @@ use gix_ref_name::{FullName, Target};
 use std::alloc::Global;
 use std::convert::TryFrom;
 
-/// The target of the text of a loose file without its line feed. `None` where it is no such text or no memory is left.
+/// The target of the text of a loose file without its line feed. `None` if it is no such text or no
+/// memory is left.
 pub fn read(alloc: Global, text: &[u8]) -> Option<Target> {
     match strip_prefix(text, b"ref: ") {
         Some(name) => Some(Target::from(FullName::from_bytes(alloc, name).ok()?)),

@@ -58,7 +58,7 @@ fn follow_in_place(
     show(reference, page);
 }
 
-// The object that a reference stands for, and the reference once it is peeled in place.
+// The object that a reference leads to, and the reference once it is peeled in place.
 fn show_peeled(
     alloc: Global,
     store: &Store<MemoryFiles>,
@@ -93,7 +93,8 @@ fn show_peeled_packed(
     }
 }
 
-// The object that a reference stands for, with a space behind it, or why there is none. Whether there is one.
+// The object that a reference leads to, with a space after it, or why there is none. Returns
+// whether there is one.
 fn show_id(peeled: Result<ObjectId, peel::Error>, page: &mut Page) -> bool {
     match peeled {
         Ok(id) => {

@@ -4,7 +4,8 @@ use gix_ref_file::{Files, MemoryFiles};
 use gix_ref_way::make_way;
 use std::alloc::Global;
 
-/// The files of this text: a path, `=` and the bytes in hexadecimal digits, with `;` between files. `None` where it tells none.
+/// The files of this text: a path, `=` and the bytes in hexadecimal digits, with `;` between files.
+/// `None` if it spells none.
 pub fn read(alloc: Global, text: &str) -> Option<MemoryFiles> {
     let mut files = MemoryFiles::new(alloc);
     for item in text.split(';') {
@@ -19,7 +20,8 @@ fn add(alloc: Global, files: &mut MemoryFiles, item: &str) -> Option<()> {
     put_file(alloc, files, path.as_bytes(), bytes.as_slice())
 }
 
-/// One file more, below folders that are made as far as they don't stand. `None` where it can't stand there.
+/// One file more, below folders that are made if they are missing. `None` if the path may hold no
+/// file.
 pub fn put_file(alloc: Global, files: &mut MemoryFiles, path: &[u8], bytes: &[u8]) -> Option<()> {
     make_way(alloc, files, path).ok()?;
     files.write(alloc, path, bytes).ok()

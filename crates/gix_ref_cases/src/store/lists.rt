@@ -10,7 +10,7 @@ use std::alloc::Global;
 
 type Listing<'s, 'p> = Result<LooseThenPacked<'s, 'p, MemoryFiles>, Error>;
 
-// Each reference, and `!` where one can't be read.
+// Each reference, and `!` for one that can't be read.
 fn show_all(listing: Listing<'_, '_>, page: &mut Page) {
     let mut references = match listing {
         Ok(references) => references,

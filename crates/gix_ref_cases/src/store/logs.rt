@@ -13,7 +13,7 @@ use gix_ref_store::store::file::loose::LogExt;
 use gix_ref_store::store::file::{ReferenceExt, Store};
 use std::alloc::Global;
 
-/// Adds what the operation tells of the log of a name, or of a loose reference of the name.
+/// Adds what the operation returns of the log of a name, or of a loose reference of the name.
 pub fn log(
     alloc: Global,
     store: &Store<MemoryFiles>,
@@ -57,7 +57,7 @@ fn show_log(
     }
 }
 
-// The new id of each line, with a space behind it. Whether there is such a log.
+// The new id of each line, with a space after it. Returns whether there is such a log.
 fn show_lines(lines: Result<Option<Forward<'_>>, Error>, page: &mut Page) -> bool {
     match lines {
         Ok(Some(lines)) => {

@@ -10,7 +10,7 @@ use gix_ref_store::Reference;
 use gix_ref_store::store::file::{Store, find};
 use std::alloc::Global;
 
-/// Adds its name, its target, and the peeled id that its record tells.
+/// Adds its name, its target, and the peeled id of its record.
 pub fn show(reference: &Reference, page: &mut Page) {
     page.put(&reference.name);
     page.put_between(" ", &reference.target, "");
@@ -27,7 +27,7 @@ pub fn show_found(found: Result<Reference, find::ExistingError>, page: &mut Page
     }
 }
 
-// A reference, where there is one.
+// A reference, if there is one.
 fn show_tried(found: Result<Option<Reference>, find::Error>, page: &mut Page) {
     match found {
         Ok(Some(reference)) => show(&reference, page),

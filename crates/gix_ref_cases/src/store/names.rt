@@ -1,4 +1,4 @@
-//! Namespaces of references, and what is told of a store: its folders, its options, and whether it is as a new one.
+//! Namespaces of references, and a store's folders, its options, and whether it is as a new one.
 
 use crate::store::lookups::show;
 use bstr::BStr;
@@ -46,8 +46,9 @@ fn put_folder(folder: &[u8], page: &mut Page) {
     page.put_between("[", BStr::new(folder), "] ");
 }
 
-/// Adds the store's own folder, the shared one where it is another, that one in either case, where packed references stand, whether its
-/// options are the usual ones, and how long the file of this path is among the files that are taken out.
+/// Adds the store's own folder, the shared one if it is another, that one in either case, the path
+/// of packed references, whether its options are the usual ones, and how long the file of this path
+/// is among the files that are taken out.
 pub fn folders(alloc: Global, store: Store<MemoryFiles>, path: &str, page: &mut Page) {
     put_folder(store.git_dir(), page);
     put_folder(store.common_dir().unwrap_or(b"none"), page);

@@ -1,10 +1,11 @@
-//! The objects of a line, as a store of references is asked to peel with.
+//! The objects of a line, with which a store of references peels.
 
 use case_words::{Store, Stored, read_loose};
 use gix_hash::Kind;
 use std::alloc::Global;
 
-/// Loose objects in hexadecimal digits, with `;` between them; those that don't read are left out. `None` where no memory is left.
+/// Loose objects in hexadecimal digits, with `;` between them; those that don't read are left out.
+/// `None` if no memory is left.
 pub fn read(alloc: Global, text: &str) -> Option<Store> {
     let mut store = Store::new(alloc);
     for digits in text.split(';') {

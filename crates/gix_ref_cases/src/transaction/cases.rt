@@ -9,7 +9,7 @@ use gix_ref_fuse::Fuse;
 use gix_ref_transaction::packed::{RecordEdit, Transaction};
 use std::alloc::Global;
 
-// Where the file stands, and its lock.
+// The paths of the file and its lock.
 const PLACE: &[u8] = b"packed-refs";
 
 const LOCK: &[u8] = b"packed-refs.lock";
@@ -70,7 +70,7 @@ fn trial_of(alloc: Global, operation: &str, [fuse, file]: [&[u8]; 2]) -> Option<
     fused(files_with(alloc, operation, file)?, fuse)
 }
 
-// Files in memory with this one, if it isn't `none`, and with a lock where it is to be held.
+// Files in memory with this one, if it isn't `none`, and with a lock if it is to be held.
 fn files_with(alloc: Global, operation: &str, file: &[u8]) -> Option<MemoryFiles> {
     let mut files = MemoryFiles::new(alloc);
     if file != b"none".as_slice() {
@@ -82,7 +82,7 @@ fn files_with(alloc: Global, operation: &str, file: &[u8]) -> Option<MemoryFiles
     Some(files)
 }
 
-// What is told of a call: how it goes, its number, and how many bytes it leaves.
+// The plan of a call: how it ends, its number, and how many bytes it leaves.
 fn read_fuse(text: &str) -> Option<(&str, u64, Option<usize>)> {
     let (how, rest) = text.split_once(' ')?;
     match rest.split_once(' ') {
@@ -142,7 +142,7 @@ fn put_begun(
     }
 }
 
-// What stands in the file, and what in its lock, each with `|` in place of a line feed.
+// The contents of the file and of its lock, each with `|` in place of a line feed.
 fn show_left(alloc: Global, files: &MemoryFiles, page: &mut Page) {
     page.text("; ");
     show_file(alloc, files, PLACE, page);

@@ -18,14 +18,14 @@ use gix_ref_store::Options;
 use gix_ref_store::store::file::Store;
 use std::alloc::Global;
 
-/// Adds what the operation tells of edits of which deletions alone reach packed records, and the files that it leaves: a call of the
-/// files that stops or fails, the files, and the edits.
+/// Adds the result of edits of which only deletions reach packed records, and the files that they
+/// leave: a call of the files that stops or fails, the files, and the edits.
 pub fn put_answer(alloc: Global, operation: &str, fields: [&[u8]; 3], page: &mut Page) {
     let mode = PackedRefs::<Never>::DeletionsOnly;
     put_told(alloc, operation, fields, mode, page);
 }
 
-/// Adds the same of edits of which updates are packed, with the objects that tell what tags lead to.
+/// Adds the same of edits of which updates are packed, with the objects that tags lead to.
 pub fn put_packing(
     alloc: Global,
     operation: &str,

@@ -7,9 +7,9 @@ use gix_ref_edit::{Change, LogChange, PreviousValue, RefEdit, RefLog};
 use gix_ref_name::{FullName, Target};
 use std::alloc::Global;
 
-/// The edits of lines `update <name> <target> <test>` and `delete <name> <test>`, with `deref-` before the word where the reference is
-/// changed that a symbolic one points to. A target is an id or `ref:` and a name; a test is `any`, `exist`, `new`, or `at:` or `old:` and a
-/// target.
+/// The edits of lines `update <name> <target> <test>` and `delete <name> <test>`, with `deref-`
+/// before the word if the reference is changed that a symbolic one points to. A target is an id or
+/// `ref:` and a name; a test is `any`, `exist`, `new`, or `at:` or `old:` and a target.
 pub fn read_edits(alloc: Global, text: &[u8]) -> Option<Vec<RefEdit>> {
     let mut edits = Vec::new(alloc);
     for line in text_of(text)?.lines() {

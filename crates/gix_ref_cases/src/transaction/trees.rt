@@ -22,14 +22,14 @@ fn add_line(alloc: Global, files: &mut MemoryFiles, line: &str) -> Option<()> {
     put_file(alloc, files, path.as_bytes(), bytes.as_slice())
 }
 
-/// Adds each file: its path, `=` and its text, with `|` in place of a line feed, and `;` behind it.
+/// Adds each file: its path, `=` and its text, with `|` in place of a line feed, and `;` after it.
 pub fn show_files(alloc: Global, files: &MemoryFiles, page: &mut Page) {
     if add_below(alloc, files, b"", 8, page).is_err() {
         page.text("unread");
     }
 }
 
-// Adds what stands below a folder, so many folders deep.
+// Adds what is below a folder, so many folders deep.
 fn add_below(
     alloc: Global,
     files: &MemoryFiles,
