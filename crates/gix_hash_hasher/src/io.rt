@@ -70,8 +70,8 @@ fn piece_buffer() -> [u8; 65_535] {
     [0; 65_535]
 }
 
-/// The id that is the digest of the first `num_bytes_from_start` bytes of the file at a path: see
-/// `bytes_with_hasher`. A file that cannot be opened is `Io`.
+/// The id that is the digest of the first `num_bytes_from_start` bytes of the file at a path, with
+/// the errors of `bytes_with_hasher`. Returns `Io` if the file can't be opened.
 pub fn bytes_of_file<F: Files, L: AsPath, P: Progress, I: Interrupt>(
     files: &F,
     path: L,
@@ -102,7 +102,7 @@ pub fn bytes_of_file<F: Files, L: AsPath, P: Progress, I: Interrupt>(
     )
 }
 
-/// The id that is the digest of the reader's next `num_bytes_from_start` bytes: see
+/// The id that is the digest of the reader's next `num_bytes_from_start` bytes, with the errors of
 /// `bytes_with_hasher`.
 pub fn bytes<R: io::Read, P: Progress, I: Interrupt>(
     read: &mut R,

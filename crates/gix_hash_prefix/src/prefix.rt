@@ -145,7 +145,8 @@ impl Prefix {
     }
 
     /// The prefix that a text of 4 to 64 hexadecimal digits, in any letter case, spells: of SHA-1
-    /// ids up to 40 digits, and of SHA-256 ids from 41.
+    /// ids up to 40 digits, and of SHA-256 ids from 41. Returns `TooShort` or `TooLong` for another
+    /// length, and otherwise `Invalid` if a character is no digit.
     pub fn from_hex(value: &str) -> Result<Prefix, from_hex::Error>
         ensures { MatchResult result (SpellsPrefix hex_digit_value 4 value.now)
             (IsTextFault hex_digit_value 4 value.now) }
@@ -157,8 +158,7 @@ impl Prefix {
         Prefix::from_hex_nonempty(value)
     }
 
-    /// The prefix that a text of 1 to 64 hexadecimal digits, in any letter case, spells: of SHA-1
-    /// ids up to 40 digits, and of SHA-256 ids from 41.
+    /// The same of a text of 1 to 64 hexadecimal digits. The errors are those of `from_hex`.
     pub fn from_hex_nonempty(value: &str) -> Result<Prefix, from_hex::Error>
         ensures { MatchResult result (SpellsPrefix hex_digit_value 1 value.now)
             (IsTextFault hex_digit_value 1 value.now) }
@@ -171,8 +171,8 @@ impl Prefix {
         read_padded(&text, hex_len, kind)
     }
 
-    /// The prefix that a text of 4 to 64 reverse digits, in any letter case, spells: of SHA-1 ids up
-    /// to 40 digits, and of SHA-256 ids from 41.
+    /// The prefix that a text of 4 to 64 reverse digits, in any letter case, spells: of SHA-1 ids
+    /// up to 40 digits, and of SHA-256 ids from 41. The errors are those of `from_hex`.
     pub fn from_reverse_hex(value: &str) -> Result<Prefix, from_hex::Error>
         ensures { MatchResult result (SpellsPrefix reverse_digit_value 4 value.now)
             (IsTextFault reverse_digit_value 4 value.now) }
@@ -184,8 +184,7 @@ impl Prefix {
         Prefix::from_reverse_hex_nonempty(value)
     }
 
-    /// The prefix that a text of 1 to 64 reverse digits, in any letter case, spells: of SHA-1 ids up
-    /// to 40 digits, and of SHA-256 ids from 41.
+    /// The same of a text of 1 to 64 reverse digits. The errors are those of `from_hex`.
     pub fn from_reverse_hex_nonempty(value: &str) -> Result<Prefix, from_hex::Error>
         ensures { MatchResult result (SpellsPrefix reverse_digit_value 1 value.now)
             (IsTextFault reverse_digit_value 1 value.now) }

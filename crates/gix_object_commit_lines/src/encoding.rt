@@ -11,7 +11,8 @@ use bstr::BStr;
 use gix_object_lines::cut::{split_once, strip_prefix};
 use gix_object_lines::decode::Error;
 
-/// The name of the encoding, if its line begins the input, and what follows.
+/// The name of the encoding, if its line begins the input, and what follows. Returns `LineEnd` if
+/// the line has no end.
 pub fn read_encoding(input: &[u8]) -> Result<(Option<BStr<'_>>, &[u8]), Error>
     ensures read { IfOk result
         (λ read. (input.now ≡ encoding_text (option_map bstr_bytes read.0) ++ read.1.now)

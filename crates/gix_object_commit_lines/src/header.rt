@@ -62,7 +62,8 @@ fn unfold(alloc: Global, text: &[u8]) -> Result<ByteString, AllocError>
     Ok(ByteString::new(value))
 }
 
-/// A header that begins the input, and what follows it.
+/// A header that begins the input, and what follows it. Returns `FieldName` if no name begins the
+/// input, and `LineEnd` if the value has no end.
 pub fn read_header(input: &[u8]) -> Result<(HeaderRef<'_>, &[u8]), Error>
     ensures read { IfOk result
         (λ read. (input.now ≡ field_text (field_of read.0) ++ read.1.now)

@@ -9,7 +9,9 @@ use gix_object_lines::cut::{split_once, strip_word};
 use gix_object_lines::decode::Error;
 use gix_object_lines::lines::{ActorRef, read_actor};
 
-/// The actor of a line of this word that begins the input, and what follows the line.
+/// The actor of a line of this word that begins the input, and what follows the line. Returns
+/// `FieldName` if the word doesn't begin the input, `LineEnd` if the line has no end, and otherwise
+/// the error of `read_actor`.
 pub fn read_person<'a>(input: &'a [u8], word: &[u8]) -> Result<(ActorRef<'a>, &'a [u8]), Error>
     ensures read { IfOk result
         (λ read. (input.now ≡ line word.now (actor_line (person_of read.0)) ++ read.1.now)

@@ -29,7 +29,7 @@ pub enum Error {
 }
 
 impl Kind {
-    /// The kind that the word names, in lower-case letters.
+    /// The kind that the word names, in lower-case letters; `InvalidObjectKind` if it names none.
     pub fn from_bytes(s: &[u8]) -> Result<Kind, Error>
         ensures { MatchResult result (λ kind. s.now ≡ kind_word kind) (λ _. IsNoKind s.now) }
     {

@@ -48,7 +48,7 @@ impl<'a> BodyRef<'a> {
         BStr::new(self.without_trailer)
     }
 
-    /// All before the trailer part, as `without_trailer` gives it.
+    /// All before the trailer part, as `without_trailer` returns it.
     pub fn as_ref(self) -> BStr<'a>
         ensures { bstr_bytes result ++ trailer_part (body_text self.entry) ≡ body_text self.entry }
     {

@@ -280,7 +280,8 @@ impl Transaction {
         }
     }
 
-    /// Gives the lock back; the file stays.
+    /// Removes the lock; the file stays. Returns `Commit` if the lock couldn't be removed, and
+    /// `Memory` if no memory is left.
     pub fn rollback<F: Files>(self, alloc: Global, files: &mut F) -> Result<(), CommitError>
         ensures honest { F.is_honest files.old → F.is_honest files.new }
         ensures later { F.failures files.old ≤ F.failures files.new }

@@ -162,7 +162,8 @@ pub struct Source<F> {
 }
 
 impl<F: FindInto> Source<F> {
-    /// What the commit of this id is.
+    /// What the commit of this id is. Returns `Find` if it isn't found, `ObjectDecode` if its
+    /// object's lines aren't those of a commit, and `Memory` if no memory is left.
     pub fn fetch(&mut self, id: &ObjectId, along: Parents) -> Result<Fetched, FetchError>
         ensures objects { self.new.objects ≡ self.old.objects }
         ensures rows { self.new.rows ≡ self.old.rows }

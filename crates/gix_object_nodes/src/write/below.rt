@@ -18,7 +18,8 @@ use gix_object_entries::Tree;
 use std::alloc::Global;
 
 /// Hands out the changed trees below an opened one that have entries, each after those that lie in
-/// it, and returns their ids by their numbers.
+/// it, and returns their ids by their numbers. Returns `Out` if `out` returns an error, and
+/// `Memory` if no memory is left.
 pub fn write_below<E, F: FnMut(&Tree) -> Result<ObjectId, E>>(
     nodes: &[Node],
     from: NodeId,

@@ -54,7 +54,7 @@ pub(crate) fn name(input: &[u8]) -> Result<(&[u8], &[u8]), Error>
     Ok((name, rest))
 }
 
-/// The tagger, if its line begins the input.
+/// The tagger, if its line begins the input, and what follows.
 pub(crate) fn tagger(input: &[u8]) -> Result<(Option<ActorRef<'_>>, &[u8]), Error>
     ensures read { IfOk result (λ cut. SpellsTagger input.now (tagger_of cut.0) cut.1.now) }
     ensures every { (tagger : Option Person) (after : List ℕ)

@@ -20,13 +20,14 @@ pub trait ReadAt {
     /// Whether a reading may fail.
     ghost may_fail: { Type 0 };
 
-    /// How many bytes there are.
+    /// How many bytes there are. Returns `Failed` if the reading failed.
     fn len(&self) -> Result<u64, FileError>
         ensures told { is_honest self.now → IfOk result (λ len. len ≡ length (contents self.now)) }
         ensures failed { IsErrOf result Failed → may_fail };
 
     /// Puts bytes from `at` on into the beginning of the buffer and returns how many: as many as
-    /// fit, if it gives all. The rest of the buffer stays as it was.
+    /// fit, if it gives all. The rest of the buffer stays as it was. Returns `Failed` if the
+    /// reading failed.
     fn read_at(&self, at: u64, buffer: &mut [u8]) -> Result<usize, FileError>
         ensures count { is_honest self.now → gives_all
             → IfOk result (λ n. n ≡ length (part (contents self.now) at (length buffer.old))) }

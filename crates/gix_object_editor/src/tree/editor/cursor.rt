@@ -181,7 +181,7 @@ impl<'c, S: FindInto> Cursor<'c, S> {
         self.editor.remove_from(alloc, self.at, path)
     }
 
-    /// Takes out the file at the path, which begins at the cursor, as `Editor::remove_leaf` does.
+    /// Removes the file at the path, which begins at the cursor, as `Editor::remove_leaf` does.
     pub fn remove_leaf(&mut self, alloc: Global, path: &[&[u8]]) -> Result<(), Error>
         ensures removed { (base : Path) → StandsAt self.old base
             → OkOverStored (S.is_honest self.old.editor.now.store)

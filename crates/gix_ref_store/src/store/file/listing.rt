@@ -30,7 +30,7 @@ pub struct Platform<'s, F: Files> {
 }
 
 impl<F: Files> Platform<'_, F> {
-    /// All references below `refs/`, as `Store::iter_packed` has them.
+    /// All references below `refs/`, as `Store::iter_packed` returns them.
     pub fn all(&self, alloc: Global) -> Result<LooseThenPacked<'_, '_, F>, Error>
         ensures store { IfOk result (λ items. items.search.store.now ≡ self.now.store.now) }
         ensures listed { F.is_honest self.now.store.now.files
@@ -42,7 +42,8 @@ impl<F: Files> Platform<'_, F> {
         self.store.iter_packed(alloc, self.packed.as_ref())
     }
 
-    /// The references below `refs/` whose names begin so, as `Store::iter_prefixed_packed` has them.
+    /// The references below `refs/` whose names begin so, as `Store::iter_prefixed_packed` returns
+    /// them.
     pub fn prefixed(
         &self,
         alloc: Global,
@@ -59,7 +60,7 @@ impl<F: Files> Platform<'_, F> {
             .iter_prefixed_packed(alloc, prefix, self.packed.as_ref())
     }
 
-    /// The reference of this name and those below it, as `Store::iter_within_packed` has them.
+    /// The reference of this name and those below it, as `Store::iter_within_packed` returns them.
     pub fn within(&self, alloc: Global, folder: &[u8]) -> Result<LooseThenPacked<'_, '_, F>, Error>
         ensures store { IfOk result (λ items. items.search.store.now ≡ self.now.store.now) }
         ensures listed { F.is_honest self.now.store.now.files
@@ -72,7 +73,7 @@ impl<F: Files> Platform<'_, F> {
             .iter_within_packed(alloc, folder, self.packed.as_ref())
     }
 
-    /// The pseudo references, as `Store::iter_pseudo` has them.
+    /// The pseudo references, as `Store::iter_pseudo` returns them.
     pub fn pseudo(&self, alloc: Global) -> Result<LooseThenPacked<'_, '_, F>, Error>
         ensures store { IfOk result (λ items. items.search.store.now ≡ self.now.store.now) }
         ensures listed { F.is_honest self.now.store.now.files
@@ -167,7 +168,8 @@ impl<F: Files> Store<F> {
         self.listed(alloc, asked, packed)
     }
 
-    /// The references below `refs/` with files of their own, ascending by name, as `iter_packed` has them.
+    /// The references below `refs/` with files of their own, ascending by name, as `iter_packed`
+    /// returns them.
     pub fn loose_iter(&self, alloc: Global) -> Result<LooseThenPacked<'_, '_, F>, Error>
         ensures store { IfOk result (λ items. items.search.store.now ≡ self.now) }
         ensures listed { F.is_honest self.now.files → let tree = (F.history self.now.files).tree in

@@ -26,7 +26,8 @@ pub struct Platform<'s, 'n, F: Files> {
 }
 
 impl<'s, F: Files> Platform<'s, '_, F> {
-    /// The lines from the beginning, as `Store::reflog_iter` has them, or why it has none. The log may be read again afterwards.
+    /// The lines from the beginning, as `Store::reflog_iter` returns them. The log may be read
+    /// again afterwards.
     pub fn all(&mut self, alloc: Global) -> Result<Option<Forward<'_>>, Error>
         ensures lines { F.is_honest self.old.store.now.files
             → let tree = (F.history self.old.store.now.files).tree in
@@ -37,7 +38,8 @@ impl<'s, F: Files> Platform<'s, '_, F> {
         self.store.reflog_iter(alloc, self.name, &mut self.buffer)
     }
 
-    /// The lines from the end, as `Store::reflog_iter_rev` has them with a buffer of 4,096 bytes, or why it has none.
+    /// The lines from the end, as `Store::reflog_iter_rev` returns them with a buffer of 4,096
+    /// bytes.
     pub fn rev(&mut self, alloc: Global) -> Result<Option<Reverse<'_, LogFile<'s, F>>>, Error>
         ensures lines { F.is_honest self.old.store.now.files
             → let tree = (F.history self.old.store.now.files).tree in

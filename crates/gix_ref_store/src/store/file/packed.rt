@@ -23,7 +23,8 @@ impl<F: Files> Store<F> {
         Buffer::open(alloc, &self.files, &path, self.options.object_hash)
     }
 
-    /// The packed references as they are now: a buffer of its own for each call.
+    /// The packed references as they are now: a buffer of its own for each call. The errors are
+    /// those of `open_packed_buffer`.
     pub fn cached_packed_buffer(&self, alloc: Global) -> Result<Option<Buffer>, buffer::Error>
         ensures kept { F.is_honest self.now.files → let tree = (F.history self.now.files).tree in
             MatchResult result (KeepsPacked self.now tree) (PackedUnread self.now tree) }
@@ -34,7 +35,8 @@ impl<F: Files> Store<F> {
         self.open_packed_buffer(alloc)
     }
 
-    /// Tries to open the packed references, and keeps nothing of them, since no call goes by what an earlier one opened.
+    /// Tries to open the packed references, with the errors of `open_packed_buffer`. It keeps
+    /// nothing of them, since no call uses what an earlier one opened.
     pub fn force_refresh_packed_buffer(&self, alloc: Global) -> Result<(), buffer::Error>
         ensures opened { F.is_honest self.now.files → let tree = (F.history self.now.files).tree in
             MatchResult result (λ _. CanOpenPacked self.now tree) (PackedUnread self.now tree) }

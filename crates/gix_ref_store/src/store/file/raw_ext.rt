@@ -118,7 +118,7 @@ pub trait ReferenceExt: Sealed {
         ensures failed { IfErr result
             (peels.MayTell F.reading_may_fail (T.may_fail objects.now)) };
 
-    /// The id that `peel_to_id` has, with these packed references.
+    /// The id that `peel_to_id` returns, with these packed references.
     fn peel_to_id_packed<F: Files, T: FindInto>(
         &self,
         alloc: Global,
@@ -135,8 +135,8 @@ pub trait ReferenceExt: Sealed {
         ensures failed { IfErr result
             (peels.MayTell F.reading_may_fail (T.may_fail objects.now)) };
 
-    /// The id that `follow_to_object_packed` has; and the reference becomes the last of those on the way, which points to the
-    /// object itself. After an error it is as it was.
+    /// Returns the id that `follow_to_object_packed` returns. The reference becomes the last of
+    /// those on the way, which points to the object itself. After an error it is as it was.
     fn follow_to_object_in_place_packed<F: Files>(
         &mut self,
         alloc: Global,
@@ -179,7 +179,7 @@ pub trait ReferenceExt: Sealed {
         ensures failed { IfSome result (λ next. IfErr next
             (OnExisting (Unit {0}) (finds.MayTell F.reading_may_fail))) };
 
-    /// The reference that this one points to, as `follow` has it, with these packed references.
+    /// The reference that this one points to, as `follow` returns it, with these packed references.
     fn follow_packed<F: Files>(
         &self,
         alloc: Global,
