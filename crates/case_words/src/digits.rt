@@ -9,7 +9,7 @@ pub fn read_digits(alloc: Global, word: &str) -> Option<Vec<u8>> {
     hex::decode(alloc, if word == "-" { "" } else { word }).ok()
 }
 
-/// The bytes of each of the words, which single spaces part.
+/// The bytes of each of the words, which single spaces separate.
 pub fn read_texts(alloc: Global, words: &str) -> Option<Vec<Vec<u8>>> {
     let mut texts = Vec::new(alloc);
     for word in words.split(' ') {

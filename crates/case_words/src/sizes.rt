@@ -57,7 +57,7 @@ fn put_digest<F: FnMut(&str) -> io::Result<String>>(
     Ok(())
 }
 
-// The lines at this size, but for their objects.
+// The lines at this size, except for their objects.
 fn expand(alloc: Global, row: &str, size: u32) -> Result<String, AllocError> {
     let mut page = Page::new(alloc);
     for piece in row.split('[') {

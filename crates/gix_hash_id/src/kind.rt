@@ -85,8 +85,8 @@ impl Kind {
         }
     }
 
-    /// The kind that so many hexadecimal digits may belong to: SHA-1 up to 40, SHA-256 from 41 to 64,
-    /// and else `None`.
+    /// The kind that so many hexadecimal digits may belong to: SHA-1 up to 40, SHA-256 from 41 to
+    /// 64, and otherwise `None`.
     pub const fn from_hex_len(hex_len: usize) -> Option<Kind>
         ensures { result ≡ kind_for_digits hex_len }
     {

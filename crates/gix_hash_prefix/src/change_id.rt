@@ -133,8 +133,8 @@ impl ChangeId {
         self.0.hex_to_buf(buf)
     }
 
-    /// Writes the id in lower-case hexadecimal. An error is the writer's, which has then taken fewer than all of
-    /// its characters: the first of them. A write that a signal interrupted is tried again.
+    /// Writes the id in lower-case hexadecimal. Returns the writer's error if it fails; it has then
+    /// taken the first characters, but not all. A write that a signal interrupted is tried again.
     pub fn write_hex_to<W: io::Write>(&self, out: &mut W) -> io::Result<()>
         ensures written { OnOk result
             (Appends (W.contents out.old) (W.contents out.new) (hex_text self.now.digits)) }

@@ -35,7 +35,7 @@ use std::{fmt, io};
 pub mod from_hex {
     use std::fmt;
 
-    /// Why a text is no prefix. Its length is looked at before its characters.
+    /// Why a text is no prefix. Its length is tested before its characters.
     #[derive(Debug, Clone, Copy, PartialEq, Eq)]
     pub enum Error {
         /// The text has fewer characters than a prefix has digits: this many.
@@ -120,8 +120,8 @@ impl Prefix {
     /// The fewest digits of a prefix, unless a call says that one is enough.
     pub const MIN_HEX_LEN: usize = 4;
 
-    /// The prefix of an id's first `hex_len` digits: fewer than four are `TooShort`, and more than
-    /// the id has are `TooLong`.
+    /// The prefix of an id's first `hex_len` digits; `TooShort` if these are fewer than four, and
+    /// `TooLong` if they are more than the id has.
     pub fn new(id: oid<'_>, hex_len: usize) -> Result<Prefix, Error>
         ensures ok { IfOk result (λ prefix. prefix ≡ first_digits (viewed_id id.entry) hex_len) }
         ensures length { MatchResult result (λ _. IsPrefixLength (viewed_id id.entry) hex_len)
@@ -269,8 +269,9 @@ impl Prefix {
         self.hex_len
     }
 
-    /// The dictionary order of the prefix's digits and as many first digits of the candidate, which
-    /// has so many, whatever its kind: `Equal` if the prefix begins the candidate.
+    /// Compares the prefix's digits with as many first digits of the candidate, which must have so
+    /// many, in dictionary order and whatever its kind. Returns `Equal` if the prefix begins the
+    /// candidate.
     pub fn cmp_oid(&self, candidate: oid<'_>) -> Ordering
         requires { length self.now.digits ≤ length (viewed_id candidate).digits }
         ensures { result ≡ digits_cmp self.now.digits

@@ -78,7 +78,8 @@ TakesSignature commit (Err cause) (Err error) left = (error ≡ cause) × IsAsBe
 
 -- ---- signing
 
--- a commit that isn't written without its signatures runs nothing, nor does one whose text has no memory; else its text is signed once
+-- a commit that isn't written without its signatures runs nothing, nor does one whose text has no
+-- memory; otherwise its text is signed once
 pub data SignsCommit {R : Type 0}
     (answers : R → Request → Result Answer run.RunError → R → Type 0) (before : R)
     (commit : Commit) (options : Options) (result : Result (Unit {0}) Error) (after : R)

@@ -69,12 +69,12 @@ HasFolderAt trees editor path = IsOpenedAt editor path ⊎ IsTreeEntry (entry_ov
 abbrev pub IsInNoWay : {S : Type 0} → Trees → Editor S → Path → Path → Type 0
 IsInNoWay trees editor path q = (rest : Path) → q ++ rest ≡ path → HasFolderAt trees editor q
 
--- each entry stays, but for those in the way of the path
+-- each entry stays, except those in the way of the path
 abbrev pub KeepsFolders : {S : Type 0} → Trees → Path → Editor S → Editor S → Type 0
 KeepsFolders trees path old new = (q : Path) → IsInNoWay trees old path q
     → entry_over trees new q ≡ entry_over trees old q
 
--- each entry stays, but for those in the way of the path, at its end and below it
+-- each entry stays, except those in the way of the path, at its end and below it
 abbrev pub KeepsEntries : {S : Type 0} → Trees → Path → Editor S → Editor S → Type 0
 KeepsEntries trees path old new = (q : Path) → behind path q ≡ None
     → IsInNoWay trees old path q → entry_over trees new q ≡ entry_over trees old q

@@ -18,7 +18,8 @@ place_of entries = record { kind = entries.hash_kind; input = entries.rest.now }
 abbrev pub start : Kind → List ℕ → Place
 start kind input = record { kind = kind; input = input }
 
--- at the input's end the entries end; else the one that begins it is given, or why none does, and then nothing
+-- at the input's end the entries end; otherwise the one that begins it is given, or why none does,
+-- and then nothing
 abbrev pub Steps : Place → Option (Result EntryRef Error) → Place → Type 0
 Steps before None after = (before.input ≡ []) × (after ≡ before)
 Steps before (Some (Ok entry)) after =

@@ -1,4 +1,5 @@
--- Names of references, whole or not: the rules of git-check-ref-format but for its second, as under `--allow-onelevel`.
+-- Names of references, whole or not: the rules of git-check-ref-format except its second, as under
+-- `--allow-onelevel`.
 use Rattle.std.specs.Prelude.{ℕ, ◌≡◌, ◌≢◌, ◌<◌, ◌⊎◌, List, [], ◌++◌, codes, Any, Contains}
 use Rattle.gix_object_lines.specs.Bytes.{IsBeginningOf}
 

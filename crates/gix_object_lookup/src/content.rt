@@ -11,8 +11,9 @@ use gix_hash::{ObjectId, oid};
 use gix_object_entries::TreeRefIter;
 use gix_object_lines::Kind;
 
-/// Returns the content of the object of this id and kind, which the buffer holds. It is `NotFound` if there is no object, `ObjectKind`
-/// if it is of another kind, and `Find` if the lookup gave up.
+/// Returns the content of the object of this id and kind, which the buffer holds. Returns
+/// `NotFound` if there is no object, `ObjectKind` if it is of another kind, and `Find` if the
+/// lookup failed.
 pub fn content_of<'a, T: FindInto>(
     objects: &T,
     id: oid<'_>,

@@ -12,7 +12,7 @@ use gix_hash::oid;
 use gix_object_lines::{Header, Kind};
 use std::alloc::{AllocError, AllocFailed};
 
-/// Why a lookup gave up.
+/// Why a lookup failed.
 #[derive(Debug, Clone, Copy, PartialEq, Eq, thiserror::Error)]
 pub enum Error {
     /// What keeps the objects failed.

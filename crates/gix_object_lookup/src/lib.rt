@@ -1,4 +1,4 @@
-//! Objects under their ids: what each lookup speaks of, their content, and entries by paths, after the crate `gix-object` 0.64.
+//! Objects by their ids: the map that lookups read, and entries by paths, after `gix-object` 0.64.
 #![tactic(auto)]
 
 mod content;

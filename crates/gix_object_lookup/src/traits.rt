@@ -13,7 +13,8 @@ use gix_object_lines::{Header, Kind};
 use std::alloc::Allocator;
 use std::rc::Rc;
 
-/// Objects under their ids: what all lookups speak of. A contract names this map and nothing else of who looks up.
+/// Objects under their ids: the map that all lookups read. A contract names this map and nothing
+/// else of a store.
 pub trait Lookup {
     /// The object stored under each id.
     ghost table: { Self → Table };

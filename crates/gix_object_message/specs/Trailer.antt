@@ -43,6 +43,6 @@ pub record SpellsTrailer (line : List ℕ) (trailer : Trailer) : Type 0 where
   pub token : IsTrue (list_all is_token_byte trailer.token)
   pub value : trailer.value ≡ trim rest
 
--- those of a text, in order; other lines are passed over
+-- those of a text, in order; other lines are skipped
 abbrev pub trailers_in : List ℕ → List Trailer
 trailers_in text = filter_map trailer_of (lines_of text)

@@ -9,7 +9,7 @@ use crate::paragraph::{is_trailer_paragraph, split_paragraph};
 use crate::trailers::Trailers;
 use bstr::BStr;
 
-/// The body of a message, parted before its trailers.
+/// The body of a message, split before its trailers.
 #[derive(Debug, Clone, Copy, PartialEq, Eq)]
 pub struct BodyRef<'a> {
     text: &'a [u8],

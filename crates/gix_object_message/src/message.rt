@@ -20,7 +20,7 @@ use memchr::memchr;
 use std::alloc::{AllocError, Global};
 use std::borrow::CowSlice;
 
-/// A message, parted at its first empty line.
+/// A message, split at its first empty line.
 #[derive(Debug, Clone, Copy, PartialEq, Eq)]
 pub struct MessageRef<'a> {
     /// All before the first empty line, without the line's end; all of the message if no line is
@@ -63,7 +63,7 @@ impl<'a> MessageRef<'a> {
         }
     }
 
-    /// The body, parted before its trailers; `None` if there is none.
+    /// The body, split before its trailers; `None` if there is none.
     pub fn body(self) -> Option<BodyRef<'a>>
         ensures { option_map body_text result ≡ option_map bstr_bytes self.entry.body }
     {

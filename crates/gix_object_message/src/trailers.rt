@@ -3,7 +3,7 @@
 use crate::lines::split_line;
 use crate::trailer::{TrailerRef, read_trailer};
 
-/// The trailers of a text, in order; its other lines are passed over.
+/// The trailers of a text, in order; its other lines are skipped.
 #[derive(Debug, Clone, Copy)]
 pub struct Trailers<'a> {
     text: &'a [u8],

@@ -81,7 +81,8 @@ abbrev pub IsIdle : Marks → Option Slot → Type 0
 IsIdle marks None = ⊤
 IsIdle marks (Some s) = IsMade marks s
 
--- an opened tree's slots were changed, and it is marked so; but for a made folder that was taken out
+-- an opened tree's slots were changed, and it is marked so; except for a made folder that was taken
+-- out
 pub record IsMarkedFor (old new : Slots) (was now : Marks) (at bound more : ℕ) : Type 0 where
   pub marked : AreMarked new now more
   pub kept : (j : ℕ) → (was j).changed ≡ true → (now j).changed ≡ true

@@ -61,7 +61,7 @@ impl Node {
         self.slots.get(name).copied()
     }
 
-    /// Puts an entry in, and returns the one that it replaces. It is `AllocError` if no memory is
+    /// Puts an entry in, and returns the one that it replaces. Returns `AllocError` if no memory is
     /// left; the entry is then as before.
     pub fn put(
         &mut self,

@@ -30,7 +30,7 @@ abbrev pub text_of : Option BStr → Option (List ℕ)
 text_of None = None
 text_of (Some text) = Some (bstr_bytes text)
 
--- an empty key is none of the secure shell
+-- an empty key is none for SSH
 abbrev pub key_for : Format → Option (List ℕ) → Option (List ℕ)
 key_for OpenPgp key = key
 key_for X509 key = key

@@ -13,7 +13,7 @@ pub enum Format {
     OpenPgp,
     /// X.509, in a cryptographic message.
     X509,
-    /// A key of the secure shell.
+    /// An SSH key.
     Ssh,
 }
 

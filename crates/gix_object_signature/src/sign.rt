@@ -55,7 +55,7 @@ pub enum Error {
     /// The program didn't report that it made a signature.
     #[error("the program didn't confirm the signature")]
     MissingSignatureConfirmation,
-    /// The program of the secure shell wrote no signature.
+    /// The SSH program wrote no signature.
     #[error("the program wrote no signature")]
     MissingSshSignature,
     /// No memory is left.
@@ -133,7 +133,7 @@ pub fn sign<F: FnMut(&[Word<'_>], &[u8]) -> Result<Answer, RunError>>(
     signature_of(alloc, options.format, answer)
 }
 
-// The key that signs; an empty one is none of the secure shell.
+// The key that signs; an empty one is none for SSH.
 fn key_of<'a>(options: &Options<'a>) -> Option<BStr<'a>>
     ensures { text_of result ≡ key_of options.now }
 {

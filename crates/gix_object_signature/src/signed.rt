@@ -7,7 +7,7 @@ use bstr::BStr;
 use gix_object_lines::ByteString;
 use std::alloc::{AllocError, Global};
 
-/// The bytes that a signature signs: those of an object but the signature's own.
+/// The bytes that a signature signs: those of an object except the signature's own.
 #[derive(Debug, Clone, Copy, PartialEq, Eq)]
 pub struct SignedData<'a> {
     /// The object's bytes before the signature.

@@ -37,7 +37,7 @@ pub enum Options<'a> {
         /// The level at which its key must be trusted at least (`gpg.minTrustLevel`).
         minimum_trust: TrustLevel,
     },
-    /// Of a signature of the secure shell.
+    /// Of an SSH signature.
     Ssh {
         /// The program that verifies (`gpg.ssh.program`).
         program: BStr<'a>,

@@ -53,7 +53,8 @@ abbrev pub left_of : {U : Type 0} → Result U Error → Tag → Result Tag Erro
 left_of (Ok _) tag = Ok tag
 left_of (Err error) tag = Err error
 
--- a tag with a line that can't be written runs nothing, nor does one whose text has no memory; else its text is signed once
+-- a tag with a line that can't be written runs nothing, nor does one whose text has no memory;
+-- otherwise its text is signed once
 pub data SignsTag {R : Type 0} (answers : R → Request → Result Answer run.RunError → R → Type 0)
     (before : R) (tag : Tag) (options : Options) (result : Result Tag Error)
     (after : R) : Type 0 where

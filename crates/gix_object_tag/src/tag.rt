@@ -75,7 +75,8 @@ impl<'a> TagRef<'a> {
         })
     }
 
-    /// The tagged object's id. The caller gives a tag whose target is an id's digits, as each that was read is.
+    /// The tagged object's id. The target must be an id's digits, as it is in each tag that was
+    /// read.
     pub fn target(&self) -> ObjectId
         requires { IsTrue (is_id (bstr_bytes self.now.target)) }
         ensures { IsHexOfId (bstr_bytes self.now.target) (id_of result) }

@@ -131,7 +131,7 @@ impl Object {
         Tag::try_from(self)
     }
 
-    /// The blob itself. The caller gives an object of this kind.
+    /// The blob itself. The object must be of this kind.
     pub fn into_blob(self) -> Blob
         requires { kind_of (own_value self) ≡ kinds.Blob }
         ensures { self ≡ object.Blob result }
@@ -139,7 +139,7 @@ impl Object {
         self.try_into_blob().unwrap()
     }
 
-    /// The tree itself. The caller gives an object of this kind.
+    /// The tree itself. The object must be of this kind.
     pub fn into_tree(self) -> Tree
         requires { kind_of (own_value self) ≡ kinds.Tree }
         ensures { self ≡ object.Tree result }
@@ -147,7 +147,7 @@ impl Object {
         self.try_into_tree().unwrap()
     }
 
-    /// The commit itself. The caller gives an object of this kind.
+    /// The commit itself. The object must be of this kind.
     pub fn into_commit(self) -> Commit
         requires { kind_of (own_value self) ≡ kinds.Commit }
         ensures { self ≡ object.Commit result }
@@ -155,7 +155,7 @@ impl Object {
         self.try_into_commit().unwrap()
     }
 
-    /// The tag itself. The caller gives an object of this kind.
+    /// The tag itself. The object must be of this kind.
     pub fn into_tag(self) -> Tag
         requires { kind_of (own_value self) ≡ kinds.Tag }
         ensures { self ≡ object.Tag result }

@@ -25,7 +25,7 @@ KeepFault unread honest may_refuse old new id object Failed =
 KeepFault unread honest may_refuse old new id object Read = unread × (honest → IsAsBefore old new)
 KeepFault unread honest may_refuse old new id object Memory = honest → IsAsBefore old new
 
--- a writer into memory fails for want of it; what it is written for is refused else
+-- a writer into memory fails for want of it; what it is written for is refused otherwise
 abbrev pub told_as : write.Error → Error
 told_as (Writer error) = Memory
 told_as (Header error) = Read

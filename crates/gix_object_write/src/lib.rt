@@ -1,4 +1,4 @@
-//! Keeping objects under their ids, after the crate `gix-object` 0.64.
+//! Storing objects under their ids, after the crate `gix-object` 0.64.
 #![tactic(auto)]
 
 mod stream;

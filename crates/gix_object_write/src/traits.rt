@@ -104,8 +104,9 @@ pub trait Write: Lookup {
         self.write_buf(kind, content.as_slice())
     }
 
-    /// Keeps the object of this kind whose content is exactly the stream's next `size` bytes, under an id that the caller knows to be
-    /// its own, which isn't tested. The errors are those of `write_stream`.
+    /// Stores the object of this kind whose content is exactly the stream's next `size` bytes,
+    /// under an id that the caller knows to be its own, which isn't tested. The errors are those of
+    /// `write_stream`.
     fn write_stream_with_known_id<R: io::Read>(
         &mut self,
         alloc: Global,
@@ -126,7 +127,7 @@ pub trait Write: Lookup {
     }
 }
 
-// Why an object isn't kept whose content wasn't written into memory.
+// Why an object isn't stored whose content wasn't written into memory.
 fn unwritten(error: WriteToError) -> Error
     ensures { result ≡ told_as error }
 {

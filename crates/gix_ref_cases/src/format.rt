@@ -1,4 +1,4 @@
-//! Cases of `gix_ref_format`, but for its logs.
+//! Cases of `gix_ref_format`, except for its logs.
 
 use case_words::Page;
 use gix_hash::Kind;

@@ -14,7 +14,7 @@ use case_words::{Page, answer_sizes};
 use std::alloc::{AllocError, Global};
 use std::io;
 
-// What the operation of a line gives, but for the family `folder`.
+// What the operation of a line gives, except for the family `folder`.
 fn told(alloc: Global, family: &str, case: &str) -> Result<String, AllocError> {
     let mut page = Page::new(alloc);
     match family {

@@ -7,10 +7,10 @@ ghost use Rattle.gix_ref_file.specs.History.{History, Makes, HasCause};
 
 use std::alloc::{AllocError, AllocFailed, Global};
 
-/// Why a call gave up.
+/// Why a call failed.
 #[derive(Clone, Copy, Debug, PartialEq, Eq)]
 pub enum FileError {
-    /// The tree doesn't allow the change, or a call to what keeps the files failed.
+    /// The tree doesn't allow the change, or a call to the storage failed.
     Failed,
     /// Memory was refused.
     Memory,
@@ -112,8 +112,9 @@ pub trait Files {
             ≡ names_at (history self.now).tree folder.now) }
         ensures failed { IsErrOf result Failed → reading_may_fail };
 
-    /// Makes a file of these bytes and returns true, or returns false and changes nothing if something exists at the path
-    /// already. `Failed` if nothing exists there and no file may.
+    /// Makes a file of these bytes and returns true, or returns false and changes nothing if
+    /// something exists at the path already. Returns `Failed` if nothing exists there and no file
+    /// may.
     fn create_new(&mut self, alloc: Global, path: &[u8], bytes: &[u8]) -> Result<bool, FileError>
         ensures honest { is_honest self.old → is_honest self.new }
         ensures is_new { is_honest self.old

@@ -42,7 +42,8 @@ pub struct LineRef<'a> {
 }
 
 impl LineRef<'_> {
-    /// The id that the reference held before. The caller gives a line whose digits are an id's, as in each that was read.
+    /// The id that the reference held before. The digits must be an id's, as they are in each line
+    /// that was read.
     pub fn previous_oid(&self) -> ObjectId
         requires { IsTrue (is_id (bstr_bytes self.now.previous_oid)) }
         ensures { IsHexOfId (bstr_bytes self.now.previous_oid) (id_of result) }
@@ -50,8 +51,8 @@ impl LineRef<'_> {
         ObjectId::from_hex(self.previous_oid.as_bytes()).unwrap()
     }
 
-    /// The id that the reference held afterwards. The caller gives a line whose digits are an id's, as in each that was
-    /// read.
+    /// The id that the reference held afterwards. The digits must be an id's, as they are in each
+    /// line that was read.
     pub fn new_oid(&self) -> ObjectId
         requires { IsTrue (is_id (bstr_bytes self.now.new_oid)) }
         ensures { IsHexOfId (bstr_bytes self.now.new_oid) (id_of result) }

@@ -37,7 +37,7 @@ abbrev pub records_in : Option (Bor Buffer) → List Record
 records_in None = []
 records_in (Some buffer) = kept buffer.now
 
--- why a lookup gives up that meets this name first
+-- why a lookup fails that meets this name first
 abbrev pub LookupFault : Option Met → Error → Type 0
 LookupFault met (ReferenceCreation error) = IsFaulty (InFile error) met
 LookupFault met (PackedOpen error) = ⊥
@@ -83,7 +83,7 @@ MayTell may_fail Memory = Unit {0}
 
 -- ---- calls for one that must exist
 
--- nothing is met, or the lookup gives up so
+-- nothing is met, or the lookup fails so
 abbrev pub OnExisting : Type 0 → (Error → Type 0) → ExistingError → Type 0
 OnExisting absent fault existing.NotFound = absent
 OnExisting absent fault (existing.Find error) = fault error

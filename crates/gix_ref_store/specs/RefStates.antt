@@ -58,7 +58,7 @@ state_among b tree records name =
 abbrev pub packed_text_in : Base → Tree → Option (List ℕ)
 packed_text_in b tree = bytes_of (node_at tree (packed_place b))
 
--- the records of a text, none if there is no text; the whole is `None` where a line can't be read
+-- the records of a text, none if there is no text; the whole is `None` if a line can't be read
 abbrev pub records_of : Kind → Option (List ℕ) → Option (List Record)
 records_of kind None = Some []
 records_of kind (Some text) = packed_records kind text

@@ -9,9 +9,10 @@ ghost use Rattle.gix_ref_way.specs.Ways.{ChangesOneFile};
 use gix_ref_file::{FileError, Files};
 use std::alloc::Global;
 
-/// Makes a file of these bytes, in the place of a file that exists there. That file is removed and never written through, so what a
-/// link leads to stays as it is. It is `Failed` if no file may exist there, if something comes there meanwhile, or if a call of the files
-/// failed, and `Memory` if no memory is left.
+/// Makes a file of these bytes, in the place of a file that exists there. That file is removed and
+/// never written through, so what a link leads to stays as it is. Returns `Failed` if no file may
+/// exist there, if something comes there meanwhile, or if a call of the files failed, and `Memory`
+/// if no memory is left.
 pub fn write_anew<F: Files>(
     alloc: Global,
     files: &mut F,

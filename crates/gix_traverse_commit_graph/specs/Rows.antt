@@ -36,7 +36,8 @@ pub record IsGreatest (rows : List Row) (ids : List ObjectId) (n : ℕ) : Type 0
 abbrev pub generation_limit : ℕ
 generation_limit = 1_073_741_823
 
--- the generation of a row: 1 without parents, else one more than the parents' greatest, up to the limit
+-- the generation of a row: 1 without parents, otherwise one more than the parents' greatest, up to
+-- the limit
 pub record HasGeneration (rows : List Row) (row : Row) : Type 0 where
   pub greatest : ℕ
   pub is_greatest : IsGreatest rows row.parents.items greatest

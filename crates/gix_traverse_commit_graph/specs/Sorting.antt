@@ -46,7 +46,7 @@ abbrev pub InTimeOrder : {I : Type 0} → CommitTimeOrder → Commits I → Walk
 InTimeOrder by.NewestFirst g q out = ByNewest g q out
 InTimeOrder by.OldestFirst g q out = ByOldest g q out
 
--- the list is that of a walk by time, or else in breadth order
+-- the list is that of a walk by time, or otherwise in breadth order
 abbrev pub InOrder : {I : Type 0} → Option Timing → Commits I → WalkRequest I → List I → Type 0
 InOrder None g q out = InBreadth g q out
 InOrder (Some timing) g q out = InTimeOrder timing.order g q out

@@ -28,7 +28,7 @@ pub struct Row {
     pub parents: ParentIds,
     /// Its committer's seconds since 1970.
     pub time: i64,
-    /// 1 for a commit without parents, else one more than its parents' greatest.
+    /// 1 for a commit without parents, otherwise one more than its parents' greatest.
     pub generation: u32,
 }
 

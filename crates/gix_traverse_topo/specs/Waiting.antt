@@ -36,7 +36,7 @@ Joined (Topological old) more (Topological new) = new.items ≡ old.items ++ mor
 Joined (ByDate old) more (Topological new) = ⊥
 Joined (Topological old) more (ByDate new) = ⊥
 
--- its turn came: by date none that waits is newer, and else it was the last
+-- its turn came: by date none that waits is newer, and otherwise it was the last
 abbrev pub Popped : Ready → Pending → Ready → Type 0
 Popped (ByDate old) first (ByDate new) = IsPermutation (heap_items old) (first ∷ heap_items new)
     × (IsHeap pending_cmp (heap_items old)

@@ -111,7 +111,8 @@ impl<F: FindInto + Drop> Builder<F, All> {
 }
 
 impl<F: FindInto + Drop, P: Accept + Drop> Builder<F, P> {
-    /// The same walk, which gives the commits alone that the predicate accepts. It goes through the others all the same.
+    /// The same walk, which gives only the commits that the predicate accepts. It goes through the
+    /// others all the same.
     pub fn with_predicate<Q: Accept + Drop>(self, predicate: Q) -> Builder<F, Q>
         ensures predicate { (asked_of result).predicate ≡ predicate }
         ensures objects { (asked_of result).objects ≡ (asked_of self).objects }

@@ -34,7 +34,7 @@ abbrev pub named : List ℕ → List Item → Option Item
 named name [] = None
 named name (item ∷ items) = if bytes_eq name item.name then Some item else named name items
 
--- what was there before, else this
+-- what was there before, and otherwise this
 abbrev pub else_this : Option Item → Item → Option Item
 else_this None item = Some item
 else_this (Some before) item = Some before

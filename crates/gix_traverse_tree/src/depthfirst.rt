@@ -55,7 +55,8 @@ impl State {
         }
     }
 
-    /// A state that serves as well: one for a first walk. It takes no memory, so it always comes.
+    /// A state for a first walk, which serves as well as a copy. It takes no memory, so it never
+    /// fails.
     pub fn try_clone(&self) -> Result<State, AllocError>
         ensures buffers { IfOk result (λ state. state.buffers.items ≡ []) }
         ensures whole { IsOk result }

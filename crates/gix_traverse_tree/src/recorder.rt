@@ -41,7 +41,7 @@ fn copied_bytes(alloc: Global, bytes: &[u8]) -> Result<Vec<u8>, AllocError>
 /// What is tracked of where an entry lies.
 #[derive(Debug, Clone, Copy, PartialEq, Eq)]
 pub enum Location {
-    /// The whole path from the root, its names parted by `/`.
+    /// The whole path from the root, its names separated by `/`.
     Path,
     /// The entry's own name.
     FileName,

@@ -10,7 +10,7 @@ use std::ops::ControlFlow;
 /// passes by.
 pub type Action = ControlFlow<(), bool>;
 
-/// Why a delegate gives up.
+/// Why a delegate fails.
 #[derive(Debug, Clone, Copy, PartialEq, Eq, thiserror::Error)]
 pub enum Error {
     /// No memory is left.

@@ -8,7 +8,8 @@ use gix_object_commit::commit::HeaderRef;
 use gix_object_lines::lines::{ActorRef, Time};
 use std::alloc::{AllocError, Global};
 
-/// Adds what is written of the commit with the part that the operation names, and of the commit that owns its parts, but for a header.
+/// Adds what is written of the commit with the part that the operation names, and of the commit
+/// that owns its parts, except for a header.
 pub fn change<'a>(
     alloc: Global,
     operation: &str,

@@ -1,4 +1,4 @@
-//! A commit's message, parted, and its trailers.
+//! A commit's message, split, and its trailers.
 
 use case_words::Page;
 use gix_object_commit::CommitRef;

@@ -16,7 +16,7 @@ impl<'a> CommitRef<'a> {
     ghost use Rattle.gix_object_commit.specs.Parents.{digits_left};
     ghost use Rattle.gix_object_commit.specs.Views.{parts_of};
 
-    /// The tree's id. The caller gives a commit whose tree is an id's digits, as in each that was read.
+    /// The tree's id. The tree must be an id's digits, as it is in each commit that was read.
     pub fn tree(&self) -> ObjectId
         requires { IsTrue (is_id (parts_of self.now).tree) }
         ensures { IsHexOfId (parts_of self.now).tree (id_of result) }
@@ -24,7 +24,8 @@ impl<'a> CommitRef<'a> {
         id_of_digits(self.tree.as_bytes())
     }
 
-    /// The parents' ids, in order. The caller gives a commit whose parents are ids' digits, as in each that was read.
+    /// The parents' ids, in order. The parents must be ids' digits, as they are in each commit that
+    /// was read.
     pub fn parents(&self) -> Parents<'_, 'a>
         requires { IsTrue (list_all is_id (parts_of self.now).parents) }
         ensures { digits_left result ≡ (parts_of self.now).parents }

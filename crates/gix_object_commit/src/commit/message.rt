@@ -20,7 +20,7 @@ use std::alloc::AllocError;
 use std::borrow::CowSlice;
 
 impl<'a> CommitRef<'a> {
-    /// The message, parted at its first empty line.
+    /// The message, split at its first empty line.
     pub fn message(&self) -> MessageRef<'a>
         ensures title { bstr_bytes result.title ≡ title_of (bstr_bytes self.now.message) }
         ensures body { option_map bstr_bytes result.body ≡ body_of (bstr_bytes self.now.message) }

@@ -42,7 +42,8 @@ use std::alloc::{AllocError, Global};
 impl<S: FindInto> Editor<S> {
     ghost use Rattle.gix_object_editor.specs.Lending.{LendsStore};
 
-    /// An editor of this tree, whose subtrees are looked up in the store. The tree is well-formed.
+    /// An editor of this tree, whose subtrees are looked up in the store. The tree must be
+    /// well-formed.
     pub fn new(alloc: Global, root: &Tree, store: S) -> Result<Editor<S>, AllocError>
     where
         S: Drop,
@@ -68,7 +69,8 @@ impl<S: FindInto> Editor<S> {
         })
     }
 
-    /// Edits this tree from now on, and counts lookups from here. The tree is well-formed. Without memory nothing changes.
+    /// Edits this tree from now on, and counts lookups from here. The tree must be well-formed.
+    /// Without memory nothing changes.
     pub fn set_root(&mut self, alloc: Global, root: &Tree) -> Result<(), AllocError>
         requires { IsWellFormed (map own_item root.now.entries.items) }
         ensures files { OnOk result ((trees : Trees)

@@ -26,7 +26,8 @@ impl EntryMode {
         }
     }
 
-    /// The mode's octal digits without a zero before them, but for a tree's mode that was read with one.
+    /// The mode's octal digits without a zero before them, except for a tree's mode that was read
+    /// with one.
     pub fn as_bytes<'b>(&self, backing: &'b mut [u8; 6]) -> BStr<'b>
         ensures text { bstr_bytes result ≡ mode_text (mode_of self.now) }
         ensures short { length (bstr_bytes result) ≤ 6 }

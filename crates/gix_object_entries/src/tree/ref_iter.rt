@@ -14,8 +14,8 @@ use std::alloc::Global;
 
 /// The entries of a tree, in their order, read one by one from its bytes.
 ///
-/// Each begins where the one before ended, and borrows from the bytes. After an error nothing more is given. It takes no
-/// memory.
+/// Each begins where the one before ended, and borrows from the bytes. After an error nothing more
+/// is given. It takes no memory.
 #[derive(Debug, Clone, Copy, Drop)]
 pub struct TreeRefIter<'a> {
     rest: &'a [u8],
@@ -33,7 +33,8 @@ impl<'a> TreeRefIter<'a> {
         }
     }
 
-    /// All entries to come. An error is the one of the first that can't be read; or it is `Memory`.
+    /// All entries to come. Returns the error of the first that can't be read, or `Memory` if no
+    /// memory is left.
     pub fn entries(self, alloc: Global) -> Result<Vec<EntryRef<'a>>, Error>
         ensures read { IfOk result
             (λ entries. SpellsTree (place_of self.entry).kind (place_of self.entry).input
@@ -48,7 +49,8 @@ impl<'a> TreeRefIter<'a> {
         Ok(TreeRef::from_bytes(alloc, self.rest, self.hash_kind)?.entries)
     }
 
-    /// Where the next entry begins in a content of which these entries are the end: at the length of what was read.
+    /// The place of the next entry in a content that ends with these entries: the length of what
+    /// was read.
     pub fn offset_to_next_entry(&self, content: &[u8]) -> usize
         requires { length (place_of self.now).input ≤ length content.now }
         ensures { result ≡ length content.now - length (place_of self.now).input }

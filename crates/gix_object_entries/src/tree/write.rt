@@ -13,8 +13,8 @@ use gix_object_lines::write::{Error, FilenameError, write_parts};
 use gix_object_lines::{Kind, WriteTo};
 use std::io;
 
-// The entries are written in their own order. It is `NullbyteInFilename` if a name holds a zero
-// byte.
+// The entries are written in their own order. The error is `NullbyteInFilename` if a name holds a
+// zero byte.
 impl<'a> WriteTo for TreeRef<'a> {
     ghost text = { λ tree. tree_text (map item_of tree.entries.items) };
 

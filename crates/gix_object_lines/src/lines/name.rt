@@ -10,9 +10,9 @@ use memchr::memmem;
 /// Returns whether the bytes are a name of a reference, whole or a part that is completed by rules,
 /// as `main` is.
 ///
-/// Its components are parted by single slashes; none begins with `.` or ends with `.lock`. It isn't
-/// empty nor `@`, doesn't end with `.`, and holds no `..`, no `@{`, no byte below 32, no byte 127,
-/// no space and none of `~ ^ : ? * [ \`.
+/// Its components are separated by single slashes; none begins with `.` or ends with `.lock`. It
+/// isn't empty nor `@`, doesn't end with `.`, and holds no `..`, no `@{`, no byte below 32, no byte
+/// 127, no space and none of `~ ^ : ? * [ \`.
 pub fn is_partial_name(name: &[u8]) -> bool
     ensures ruled { IsTrue result ↔ IsPartialName name.now }
     ensures tested { result ≡ test.is_partial_name name.now }

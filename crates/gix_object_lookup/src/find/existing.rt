@@ -9,7 +9,7 @@ use gix_hash::ObjectId;
 /// Why an object that must exist isn't found.
 #[derive(Debug, Clone, Copy, PartialEq, Eq, thiserror::Error)]
 pub enum Error {
-    /// The lookup gave up.
+    /// The lookup failed.
     #[error(transparent)]
     Find(find::Error),
     /// No object of this id exists.

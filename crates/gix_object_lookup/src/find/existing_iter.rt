@@ -10,7 +10,7 @@ use gix_object_lines::Kind;
 /// Why an object that must exist can't be read part by part.
 #[derive(Debug, Clone, Copy, PartialEq, Eq, thiserror::Error)]
 pub enum Error {
-    /// The lookup gave up.
+    /// The lookup failed.
     #[error(transparent)]
     Find(find::Error),
     /// No object of this id exists.

@@ -11,7 +11,7 @@ use gix_object_lines::{Kind, decode};
 /// Why an object that must exist can't be read.
 #[derive(Debug, Clone, Copy, PartialEq, Eq, thiserror::Error)]
 pub enum Error {
-    /// The lookup gave up.
+    /// The lookup failed.
     #[error(transparent)]
     Find(find::Error),
     /// The content isn't one of the object's kind, or no memory is left to read it.

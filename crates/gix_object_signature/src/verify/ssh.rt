@@ -1,4 +1,4 @@
-//! Verifying by the secure shell's ssh-keygen, after `verify_ssh_signed_buffer` in git's gpg-interface.c.
+//! Verifying by SSH's ssh-keygen, after `verify_ssh_signed_buffer` in git's gpg-interface.c.
 
 ghost use Rattle.std.specs.Prelude.{◌≡◌, ◌∷◌, ◌++◌, codes, map, filter, length, not, Ok, IfOk, ◌==◌};
 ghost use Rattle.std.specs.List.{slice_split};

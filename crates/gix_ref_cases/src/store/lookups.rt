@@ -49,7 +49,7 @@ fn show_missing(error: find::ExistingError, page: &mut Page) {
     }
 }
 
-// Why a lookup gives up.
+// Why a lookup fails.
 fn show_fault(error: find::Error, page: &mut Page) {
     page.text(match error {
         find::Error::ReadFileContents => "unread",

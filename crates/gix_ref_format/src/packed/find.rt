@@ -63,7 +63,7 @@ impl Buffer {
         self.reference_of_word(alloc, word)
     }
 
-    // The record of a word below `refs/`, else of a tag.
+    // The record of a word below `refs/`, otherwise of a tag.
     fn reference_of_word(
         &self,
         alloc: Global,
@@ -79,7 +79,7 @@ impl Buffer {
         }
     }
 
-    // The record of a word below `refs/tags/`, else of a branch.
+    // The record of a word below `refs/tags/`, otherwise of a branch.
     fn reference_of_tag(
         &self,
         alloc: Global,
@@ -95,7 +95,7 @@ impl Buffer {
         }
     }
 
-    // The record of a word below `refs/heads/`, else below `refs/remotes/`.
+    // The record of a word below `refs/heads/`, otherwise below `refs/remotes/`.
     fn reference_of_branch(
         &self,
         alloc: Global,
@@ -111,7 +111,7 @@ impl Buffer {
         }
     }
 
-    // The record of a word below `refs/remotes/`, else of its `HEAD`.
+    // The record of a word below `refs/remotes/`, otherwise of its `HEAD`.
     fn reference_of_remote(
         &self,
         alloc: Global,

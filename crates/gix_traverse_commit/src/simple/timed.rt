@@ -84,7 +84,7 @@ fn read_time<F: FindInto>(
     Ok(())
 }
 
-/// Reads the times of these tips, but of those that the predicate refused.
+/// Reads the times of these tips, except those that the predicate refused.
 pub fn read_times<F: FindInto>(
     source: &mut Source<F>,
     known: &Known,

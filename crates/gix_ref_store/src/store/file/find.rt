@@ -20,7 +20,7 @@ use gix_ref_name::{FullName, PartialNameRef};
 use std::alloc::{AllocError, Global};
 use thiserror::Error;
 
-/// Why a lookup gives up.
+/// Why a lookup fails.
 #[derive(Debug, Clone, Copy, PartialEq, Eq, Error)]
 pub enum Error {
     /// The file of a reference couldn't be read.
@@ -48,7 +48,7 @@ impl From<AllocError> for Error {
 /// Why no reference is found.
 #[derive(Debug, Clone, Copy, PartialEq, Eq, Error)]
 pub enum ExistingError {
-    /// The lookup gave up.
+    /// The lookup failed.
     #[error(transparent)]
     Find(Error),
     /// There is none.

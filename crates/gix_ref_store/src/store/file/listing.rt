@@ -87,7 +87,8 @@ impl<F: Files> Platform<'_, F> {
 }
 
 impl<F: Files> Store<F> {
-    /// Opens the packed references as they are now, for listings with them. It is refused as `open_packed_buffer` is.
+    /// Opens the packed references as they are now, for listings with them. The errors are those of
+    /// `open_packed_buffer`.
     pub fn iter(&self, alloc: Global) -> Result<Platform<'_, F>, buffer::Error>
         ensures store { IfOk result (λ platform. platform.store.now ≡ self.now) }
         ensures kept { F.is_honest self.now.files → let tree = (F.history self.now.files).tree in

@@ -28,7 +28,7 @@ pub enum Error {
     /// No object is reached over the names of others.
     #[error(transparent)]
     FollowToObject(follow::Error),
-    /// The lookup of an object gave up.
+    /// The lookup of an object failed.
     #[error(transparent)]
     Find(object::Error),
     /// An object on the way isn't there, or is a tag that names none, or one that was met before.

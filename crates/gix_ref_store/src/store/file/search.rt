@@ -58,7 +58,7 @@ impl<F: Files> Search<'_, '_, F> {
         }
     }
 
-    // The reference of a word below `refs/tags/`, else that of a branch.
+    // The reference of a word below `refs/tags/`, otherwise that of a branch.
     fn tag(&self, word: &[u8]) -> Result<Option<Reference>, Error>
         ensures found { F.is_honest self.now.store.now.files
             → Finds (reads_in (F.history self.now.store.now.files).tree self.now)
@@ -71,7 +71,7 @@ impl<F: Files> Search<'_, '_, F> {
         }
     }
 
-    // The reference of a word below `refs/heads/`, else that of a remote.
+    // The reference of a word below `refs/heads/`, otherwise that of a remote.
     fn branch(&self, word: &[u8]) -> Result<Option<Reference>, Error>
         ensures found { F.is_honest self.now.store.now.files
             → Finds (reads_in (F.history self.now.store.now.files).tree self.now)
@@ -84,7 +84,7 @@ impl<F: Files> Search<'_, '_, F> {
         }
     }
 
-    // The reference of a word below `refs/remotes/`, else that of its `HEAD`.
+    // The reference of a word below `refs/remotes/`, otherwise that of its `HEAD`.
     fn remote(&self, word: &[u8]) -> Result<Option<Reference>, Error>
         ensures found { F.is_honest self.now.store.now.files
             → Finds (reads_in (F.history self.now.store.now.files).tree self.now)
