@@ -45,7 +45,7 @@ digits-of_bytes (Sha256 bytes) = refl
 pub IsBytesOf-same : (id : ObjectId) (bytes : List ℕ) → IsBytesOf bytes (id_of id) → bytes ≡ bytes_of id
 IsBytesOf-same id bytes h = digits_of-injective bytes (bytes_of id) (h.digits ∙ digits-of_bytes id)
 
--- the comparison of two views' bytes tells whether they are one id
+-- the comparison of two views' bytes decides whether they are one id
 pub viewed-Decides : (a b : List ℕ) (r : Bool) → r ≡ pointwise nat_eq a b
     → IsTrue r ↔ (◌≡◌ {A = Id} (record { kind = kind_of_byte_len (length a); digits = digits_of a }) (record { kind = kind_of_byte_len (length b); digits = digits_of b }))
 viewed-Decides a b r e =
@@ -54,7 +54,7 @@ viewed-Decides a b r e =
       λ h. let same : a ≡ b = digits_of-injective a b (ap (λ (id : Id). id.digits) h) in e ∙ decides.1 same,
     )
 
--- the comparison of two ids' bytes tells whether they are one id
+-- the comparison of two ids' bytes decides whether they are one id
 pub ids-Decides : (a b : Id) (xs ys : List ℕ) (r : Bool) → IsBytesOf xs a → IsBytesOf ys b → r ≡ pointwise nat_eq xs ys → r ≡ id_eq a b
 ids-Decides a b xs ys r hx hy e =
     let decides = bytes_eq-Decides xs ys in

@@ -98,7 +98,7 @@ refused_whole value whole Sha1 (InvalidHexEncodingLength n) len h = absurd (h.1 
 refused_whole value whole Sha256 (InvalidHexEncodingLength n) len h = absurd (h.2 (h.0 ∙ len))
 refused_whole value whole kind Invalid len h = h.1
 
--- a character of one text that reads as none stands where the other's does
+-- a character of one text that reads as none is where the other's does
 pub any_through : (v w : ℕ → Option ℕ) (xs ys : List ℕ) → map v xs ≡ map w ys
     → Any (λ c. v c ≡ None) xs → Any (λ c. w c ≡ None) ys
 any_through v w [] ys e h = absurd (omega arith)

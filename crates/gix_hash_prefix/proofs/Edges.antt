@@ -93,7 +93,7 @@ before_edge First front xs ys hx hy h e = is_greater (digits_cmp front (take (le
     is_greater o e = rw e refl
 before_edge Past front xs ys hx hy h e = (falls_equal _ _ (falls front xs ys hx hy h)).1 e
 
--- and one behind an id that is not before the edge is not before it either
+-- and one after an id that is not before the edge is not before it either
 pub after_edge : (edge : Edge) (front xs ys : List ℕ) → length front ≤ length xs → length front ≤ length ys → is_gt (digits_cmp xs ys) ≡ false
     → comes_before edge (digits_cmp front (take (length front) xs)) ≡ false
     → comes_before edge (digits_cmp front (take (length front) ys)) ≡ false
@@ -167,7 +167,7 @@ keep_after edge ids prefix middle d ascending enough h failed i id low high =
     ]
     )
 
--- the ids that the prefix begins stand between the edges
+-- the ids that the prefix begins are between the edges
 pub between_edges : (ids : List ObjectId) (prefix : Id) (first past : ℕ)
     → ((i : ℕ) (id : ObjectId) → i < first → comes_before First (against prefix (get_or ids i id)) ≡ true)
     → ((i : ℕ) (id : ObjectId) → first ≤ i → i < length ids → comes_before First (against prefix (get_or ids i id)) ≡ false)
@@ -197,7 +197,7 @@ between_edges ids prefix first past before_first after_first before_past after_p
     under : (past ≤ i → ⊥) → i < past
     under f = elim (cases_lt i past) [ inl low ↦ low | inr high ↦ absurd (f high) ]
 
--- and so how the prefix compares before the edges, between and behind them
+-- and so how the prefix compares before the edges, between and after them
 pub falls_at : (ids : List ObjectId) (prefix : Id) (first past : ℕ) → past ≤ length ids
     → ((i : ℕ) (id : ObjectId) → i < first → comes_before First (against prefix (get_or ids i id)) ≡ true)
     → ((i : ℕ) (id : ObjectId) → first ≤ i → i < length ids → comes_before First (against prefix (get_or ids i id)) ≡ false)

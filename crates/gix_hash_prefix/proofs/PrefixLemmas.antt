@@ -86,7 +86,7 @@ read_prefix id front whole kind fits e h =
       first,
     )
 
--- the bad character stands in the text, and not in the zeros after it
+-- the bad character is in the text, and not in the zeros after it
 pub refused_front : (front whole : List ℕ) (k : ℕ) → whole ≡ front ++ replicate k 48
     → Any (λ c. hex_digit_value c ≡ None) whole → Any (λ c. hex_digit_value c ≡ None) front
 refused_front front whole k e h =

@@ -9,7 +9,7 @@ use Rattle.gix_object_commit.specs.Writing.{is_folded, begins_with_space}
 pub plain_byte : (byte : ℕ) (rest : List ℕ) → (byte ≡ 10 → ⊥) → is_folded (byte ∷ rest) ≡ is_folded rest
 plain_byte byte rest differs = ap (λ t. (if t then begins_with_space rest else true) && is_folded rest) (ne_eqb byte 10 differs)
 
--- what stands in one line says nothing
+-- what is in one line says nothing
 pub folded_behind : (line after : List ℕ) → Lacks 10 line → is_folded (line ++ 10 ∷ after) ≡ (begins_with_space after && is_folded after)
 folded_behind [] after lacks = refl
 folded_behind (byte ∷ line) after lacks = plain_byte byte (line ++ 10 ∷ after) (lacks_head 10 byte line lacks) ∙ folded_behind line after (lacks_tail 10 byte line lacks)

@@ -82,7 +82,7 @@ pub header_length : (header : ExtraHeader) (name value : List ℕ) → name ≡ 
 header_length header name value n v =
     rw (n, v) (omega (arith, length-append {A = ℕ}, folded_length header.value, length-filter (λ byte. byte == 10) header.value))
 
--- a sum that is told where 64 bits hold it
+-- a sum that is returned if 64 bits hold it
 pub sum_told : (r : Option ℕ) (sum whole : ℕ) → sum ≡ whole → SomeIff r (sum < 2 ^ 64) sum → MatchOption r (2 ^ 64 ≤ whole) (λ total. total ≡ whole)
 sum_told None sum whole is none = omega (arith, is, none)
 sum_told (Some total) sum whole is some = some.1 ∙ is

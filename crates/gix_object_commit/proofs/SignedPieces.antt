@@ -55,7 +55,7 @@ front_stays commit a b same =
     ap (λ cause. id_pieces (own_parts commit) ++ (own_author_pieces commit ++ (own_committer_pieces commit ++ record { text = encoding_text commit.encoding; cause = option_map Header cause } ∷ [])))
     (cause_stays commit.encoding a b same)
 
--- a commit whose headers a fine one is put behind
+-- a commit whose headers are followed by a fine one
 more_fine : (commit : Commit) (headers : List ExtraHeader) (kind : Kind) (value : List ℕ)
     → own_refusal_with headers commit ≡ None → own_refusal_with (headers ++ record { name = signature_name kind; value = value } ∷ []) commit ≡ None
 more_fine commit headers kind value none =

@@ -65,7 +65,7 @@ same_text commit signed signature is =
 
 -- ---- where the new one is put in
 
--- the lines before the further headers, and a text behind them
+-- the lines before the further headers, and a text after them
 abbrev lines_then : Commit → List ℕ → List ℕ
 lines_then commit text =
     let parts = own_parts commit in

@@ -24,7 +24,7 @@ lines_append xs ys =
     ∙ ap (map field_piece) (map-append own_field (unsigned xs) (unsigned ys))
     ∙ map-append field_piece (map own_field (unsigned xs)) (map own_field (unsigned ys))
 
--- ---- headers in a loop, behind those before it
+-- ---- headers in a loop, after those before it
 
 module _ (xs : List ExtraHeader) (i : ℕ) (d : ExtraHeader) (below : i < length xs) where
   more_here : unsigned_lines (take (i + 1) xs) ≡ unsigned_lines (take i xs) ++ unsigned_lines (get_or xs i d ∷ [])

@@ -59,7 +59,7 @@ module _ {X : Type 0} (f : X → Piece) (Fits : X → Type 0) (fits : (x : X) �
       let later = all_fit (before ++ (f x).text) xs rest one.1 in
       (All-cons Fits x xs (fits x one.0) later.0, later.1)
 
--- ---- what each test tells
+-- ---- what each test returns
 
 id_fits : (tree digits : List ℕ) → is_id_like tree digits ≡ true → IsHex (length tree) digits
 id_fits tree digits e =
@@ -82,7 +82,7 @@ person_fits person e =
       time_told = told;
     }
 
--- the value that stands folded
+-- the value that is folded
 told_feed : (byte : ℕ) (rest : List ℕ) → byte ≡ 10 → is_folded (byte ∷ rest) ≡ (begins_with_space rest && is_folded rest)
 told_feed byte rest is = ap (λ b. is_folded (b ∷ rest)) is
 

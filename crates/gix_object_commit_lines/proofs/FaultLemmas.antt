@@ -1,4 +1,4 @@
--- The part of a commit that fails, behind those that stand.
+-- The part of a commit that fails, after those that are read.
 use Rattle.std.proofs.Common.{◌≡◌, ◌≢◌, ◌<◌, ◌∙◌, ap, sym, subst, ℕ, List, [], ◌∷◌, ◌++◌, length, length-append, append_assoc, append-nil, Option, None, inl, inr, arith}
 use Rattle.std.proofs.lemmas.Grind.{flat_map-append}
 use Rattle.std.proofs.lemmas.List.Elements.{All-nil, All-cons, All-append}
@@ -23,17 +23,17 @@ joined text done x after =
     sym (append_assoc (flat_map text done) (text x) after)
     ∙ ap (λ t. t ++ after) (ap (λ t. flat_map text done ++ t) (sym (append-nil (text x))) ∙ sym (flat_map-append text done (x ∷ [])))
 
--- behind the parents that were read
+-- after the parents that were read
 pub next_parent : (n : ℕ) (input : List ℕ) (parents : List (List ℕ)) (rest : List ℕ) (error : Error) → All (IsHex n) parents → input ≡ flat_map (hex_line (codes "parent")) parents ++ rest → IsBeginningOf (codes "parent ") rest
     → HexLineFault (codes "parent") n rest error → ParentFault n input error
 next_parent n input parents rest error hex spelled begins fault = record { rest = rest; before = record { parents = parents; hex = hex; spelled = spelled }; begins = begins; fault = fault }
 
--- behind the headers that were read
+-- after the headers that were read
 pub next_header : (input : List ℕ) (fields : List Field) (rest : List ℕ) (error : Error) → All IsField fields → input ≡ flat_map field_text fields ++ rest → (fields ≡ []) ⊎ IsUnspaced rest → ((message : List ℕ) → rest ≢ 10 ∷ message)
     → HeaderFault rest error → HeadersFault input error
 next_header input fields rest error fit spelled ended no_message fault = record { rest = rest; before = record { fields = fields; fit = fit; spelled = spelled; ended = ended }; no_message = no_message; fault = fault }
 
--- no memory was left for a parent behind some that were read
+-- no memory was left for a parent after some that were read
 pub no_room_for_parent : (n : ℕ) (input : List ℕ) (parents : List (List ℕ)) (parent rest after : List ℕ) → All (IsHex n) parents → IsHex n parent → input ≡ flat_map (hex_line (codes "parent")) parents ++ rest
     → rest ≡ hex_line (codes "parent") parent ++ after → 0 < length parents → HasTwoParents n input
 no_room_for_parent n input parents parent rest after hex fits spelled next some = record {
@@ -46,7 +46,7 @@ no_room_for_parent n input parents parent rest after hex fits spelled next some 
   two = omega (arith, length-append parents (parent ∷ []));
 }
 
--- no memory was left for a header behind some that were read
+-- no memory was left for a header after some that were read
 pub no_room_for_header : (input : List ℕ) (fields : List Field) (field : Field) (rest after : List ℕ) → All IsField fields → IsField field → input ≡ flat_map field_text fields ++ rest
     → rest ≡ field_text field ++ after → IsUnspaced after → HasHeader input
 no_room_for_header input fields field rest after fit fits spelled next unspaced = record {

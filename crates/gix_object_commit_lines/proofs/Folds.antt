@@ -30,7 +30,7 @@ folded_same (byte ∷ value) l = plain_folded byte value (lacks_head 10 byte val
 pub folded_more : (a b : List ℕ) → folded (a ++ b) ≡ folded a ++ folded b
 folded_more a b = flat_map-append (λ (byte : ℕ). if byte == 10 then 10 ∷ (32 ∷ []) else byte ∷ []) a b
 
--- where a value goes on, and no space stands behind the end of another, the other goes on as far
+-- if a value goes on, and no space follows the end of another, the other goes on as far
 pub record GoesOn (value rest value' rest' : List ℕ) : Type 0 where
   pub more : List ℕ
   pub whole : value' ≡ value ++ more
@@ -66,7 +66,7 @@ folded_align (byte ∷ value) rest (other ∷ value') rest' u e =
     let heads : byte ≡ other = cc in
     on_one byte other value rest value' rest' heads (folded_align value rest value' rest' u tails)))
 
--- a value goes up to the first line feed without a space behind it
+-- a value goes up to the first line feed without a space after it
 pub folded_end : (more rest rest' : List ℕ) → IsUnspaced rest → 10 ∷ rest ≡ folded more ++ 10 ∷ rest' → (more ≡ []) × (rest ≡ rest')
 folded_end [] rest rest' u e = (refl, cc)
 folded_end (byte ∷ more) rest rest' u e =
@@ -82,7 +82,7 @@ folded_once text rest text' rest' f f' u u' e =
     let same : f'.0 ≡ f.0 = on.whole ∙ ap (λ m. f.0 ++ m) ends.0 ∙ append-nil f.0 in
     (f.1 ∙ ap folded (sym same) ∙ sym f'.1, ends.1)
 
--- ---- a value without the spaces behind its line feeds
+-- ---- a value without the spaces after its line feeds
 
 pub unfolded_line : (line after : List ℕ) → Lacks 10 line → unfolded (line ++ 10 ∷ after) ≡ line ++ 10 ∷ unfolded_behind true after
 unfolded_line [] after l = refl
@@ -96,7 +96,7 @@ unfolded_last (byte ∷ rest) l =
     ap (λ t. byte ∷ unfolded_behind t rest) (ne_eqb byte 10 (lacks_head 10 byte rest l))
     ∙ ap (λ t. byte ∷ t) (unfolded_last rest (lacks_tail 10 byte rest l))
 
--- no space stands behind the line feed
+-- no space follows the line feed
 pub unfolded_unspaced : (after : List ℕ) → ((rest : List ℕ) → after ≡ 32 ∷ rest → ⊥) → unfolded_behind true after ≡ unfolded after
 unfolded_unspaced [] none = refl
 unfolded_unspaced (byte ∷ after) none =

@@ -21,7 +21,7 @@ line_shape word text rest = append_assoc word (32 ∷ (text ++ 10 ∷ [])) rest 
 pub hex_shape : (word digits rest : List ℕ) → hex_line word digits ++ rest ≡ word ++ 32 ∷ (digits ++ 10 ∷ rest)
 hex_shape word digits rest = append_assoc (word ++ 32 ∷ digits) (10 ∷ []) rest ∙ append_assoc word (32 ∷ digits) (10 ∷ rest)
 
--- what stands behind a word and a space
+-- what follows a word and a space
 pub behind_same : (input word text text' : List ℕ) → input ≡ word ++ 32 ∷ text → input ≡ word ++ 32 ∷ text' → text ≡ text'
 behind_same input word text text' a b = let same : 32 ∷ text ≡ 32 ∷ text' = append_cancel_left word (32 ∷ text) (32 ∷ text') (sym a ∙ b) in cc
 

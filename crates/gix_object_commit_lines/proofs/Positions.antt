@@ -1,4 +1,4 @@
--- Where the first element of a list stands that passes a test.
+-- The place of the first element of a list that passes a test.
 use Rattle.std.proofs.Common.{◌≡◌, ◌∙◌, ap, sym, ℕ, ◌+◌, ◌≤◌, Bool, true, false, List, length, drop, Some, None, inl, inr}
 use Rattle.std.specs.Prelude.{position, cond}
 use Rattle.std.specs.List.{slice_get, position_from}

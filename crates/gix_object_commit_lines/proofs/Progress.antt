@@ -29,7 +29,7 @@ module _ {X : Type 0} (text : X → List ℕ) (Fits : X → Type 0) (Ends : List
   pub progress_none : (input : List ℕ) → Progress input [] input
   progress_none input = record { spelled = refl; fit = All-nil Fits; every = λ all end fits ends is. record { more = all; whole = refl; remaining = is; fit = fits } }
 
-  -- the part that stands next is the one that was read
+  -- the part that is next is the one that was read
   pub IsNext : List ℕ → X → List ℕ → Type 0
   IsNext rest x after = (y : X) (r : List ℕ) (more : List X) (end : List ℕ) → Fits y → All Fits more → Ends end → r ≡ flat_map text more ++ end → rest ≡ text y ++ r → (x ≡ y) × (after ≡ r)
 
@@ -73,7 +73,7 @@ module _ {X : Type 0} (text : X → List ℕ) (Fits : X → Type 0) (Ends : List
           cases [] whole remaining fit = (sym (whole ∙ append-nil done), remaining)
           cases (y ∷ more) whole remaining fit = absurd (none y (flat_map text more ++ end) (all_head Fits y more fit) (remaining ∙ append_assoc (text y) (flat_map text more) end))
 
-  -- where no part can be read and no end stands, there is no spelling
+  -- if no part can be read and no end comes, there is no spelling
   pub progress_stuck : (input : List ℕ) (done : List X) (rest : List ℕ) → Progress input done rest
       → ((end : List ℕ) → Ends end → rest ≡ end → ⊥)
       → ((y : X) (more : List X) (end : List ℕ) → Fits y → All Fits more → Ends end → rest ≡ text y ++ (flat_map text more ++ end) → ⊥)

@@ -1,4 +1,4 @@
--- What results tell.
+-- What follows from results.
 use Rattle.std.proofs.Common.{◌≡◌, false, Ok, Err, Result, List}
 use Rattle.std.specs.Prelude.{OnOk, IfOk, if◌then◌else◌}
 use Rattle.std.specs.Result.{is_err, is_ok}

@@ -24,11 +24,11 @@ after_parents parts = line (codes "author") (actor_line parts.author) ++ after_a
 abbrev pub after_tree : Parts → List ℕ
 after_tree parts = flat_map (hex_line (codes "parent")) parts.parents ++ after_parents parts
 
--- no parent stands where the author does
+-- no parent is where the author is
 pub no_parent : (parts : Parts) → IsBeginningOf (codes "parent ") (after_parents parts) → ⊥
 no_parent parts begins = let heads : ◌≡◌ {A = ℕ} 97 112 = cc (begins.1) in omega arith
 
--- where the encoding isn't told, no line for it stands
+-- if there is no encoding, there is no line for it
 pub no_encoding : (headers : List Field) (message : List ℕ) → All IsField headers → ¬ IsEncodingFirst headers → IsBeginningOf (codes "encoding ") (flat_map field_text headers ++ 10 ∷ message) → ⊥
 no_encoding [] message fits none begins = let heads : ◌≡◌ {A = ℕ} 10 101 = cc (begins.1) in omega arith
 no_encoding (field ∷ headers) message fits none begins =
@@ -47,7 +47,7 @@ first_begins (field ∷ headers) end named =
 pub parts_same : (a b : Parts) → a.tree ≡ b.tree → a.parents ≡ b.parents → a.author ≡ b.author → a.committer ≡ b.committer → a.encoding ≡ b.encoding → a.headers ≡ b.headers → a.message ≡ b.message → a ≡ b
 parts_same a b t p u c e h m = λ i. record { tree = t i; parents = p i; author = u i; committer = c i; encoding = e i; headers = h i; message = m i }
 
--- the lines as they stand one behind the other
+-- the lines one after the other
 pub chain : (input tree : List ℕ) (parts : Parts) (r1 r2 r3 r4 r5 : List ℕ) → input ≡ hex_line (codes "tree") tree ++ r1 → parts.tree ≡ tree
     → r1 ≡ flat_map (hex_line (codes "parent")) parts.parents ++ r2 → r2 ≡ line (codes "author") (actor_line parts.author) ++ r3 → r3 ≡ line (codes "committer") (actor_line parts.committer) ++ r4
     → r4 ≡ encoding_text parts.encoding ++ r5 → r5 ≡ after_encoding parts → input ≡ commit_text parts

@@ -1,4 +1,4 @@
--- A commit's first signature header, and where it stands.
+-- A commit's first signature header, and its place.
 use Rattle.std.proofs.Common.{◌≡◌, ◌∙◌, ap, refl, sym, subst, ℕ, ◌+◌, ◌-◌, ◌≤◌, Bool, true, List, [], ◌∷◌, ◌++◌, ◌⊎◌, append_assoc, append-nil, length, length-append, take, Option, Some, None, inl, inr, Result, Ok, Err, arith}
 use Rattle.std.specs.Prelude.{codes, filter_map, cond}
 use Rattle.std.specs.Option.{option_map, ok_or}
@@ -30,7 +30,7 @@ use Rattle.gix_object_commit_tokens.proofs.NoMore.{none_told}
 use Rattle.gix_object_commit_tokens.proofs.OnePart.{one_next}
 use Rattle.gix_object_commit_tokens.proofs.Readings.{tells_one}
 
--- ---- one part is the first that tells a value, and it is left at one place
+-- ---- one part is the first with a value, and it is left at one place
 
 module _ {X : Type 0} (told : Part → Option X) where
   silent : (part : Part) (parts : List Part) (x : X) → told part ≡ Some x → filter_map told (part ∷ parts) ≡ [] → ⊥
@@ -65,7 +65,7 @@ part_text kind stage input (Encoding name) rest h = (line (codes "encoding") nam
 part_text kind stage input (Header field) rest h = (field_text field, h.3)
 part_text kind stage input (Message message) rest h = (input, sym (ap (λ r. input ++ r) h.2 ∙ append-nil input))
 
--- what stood before the rest, and one part more
+-- what was before the rest, and one part more
 pub front_more : (input : List ℕ) (mid after : Place) (token : Token) → (front : List ℕ) × (input ≡ front ++ mid.input) → GivesToken mid (Some (Ok token)) after → (front : List ℕ) × (input ≡ front ++ after.input)
 front_more input mid after token so_far gives =
     let text = part_text mid.kind mid.stage mid.input (part_of token) after.input gives.0 in
@@ -102,7 +102,7 @@ signed_once kind input a b x y =
     let tail : field_text a.header ++ a.behind ≡ field_text b.header ++ b.behind = λ i. field_text (header i) ++ behind i in
     cut_same a b (append_cancel_right a.before b.before (field_text b.header ++ b.behind) (ap (λ t. a.before ++ t) (sym tail) ∙ sym x.whole ∙ y.whole)) header behind
 
--- what is found is told first
+-- what is found comes first
 pub finds_first : (kind : Kind) (input : List ℕ) (found : Option Cut) → FindsSignature kind input found → TellsFirst (signature_told kind) (start kind input) (option_map (λ (cut : Cut). cut.header) found)
 finds_first kind input None first = first
 finds_first kind input (Some cut) is =
@@ -124,7 +124,7 @@ none_found kind input error found none is = none_first (signature_told kind) (st
 given_same : (other given : Result Token Error) → ◌≡◌ {A = Result (Result Token Error) Error} (Ok other) (Ok given) → other ≡ given
 given_same other given e = cc
 
--- the token that a call asked for
+-- the token that a call wants
 pub gives_token : (mid after : Place) (o : Option (Result Token Error)) (r : Result (Result Token Error) Error) (given : Result Token Error) → GivesToken mid o after → r ≡ ok_or o FieldName → r ≡ Ok given → GivesToken mid (Some given) after
 gives_token mid after None r given gives asked is = absurd (let clash : Err FieldName ≡ Ok given = sym asked ∙ is in cc)
 gives_token mid after (Some other) r given gives asked is = subst (λ g. GivesToken mid (Some g) after) (given_same other given (sym asked ∙ is)) gives
@@ -134,7 +134,7 @@ pub gives_none : (mid after : Place) (o : Option (Result Token Error)) (r : Resu
 gives_none mid after None r error gives asked is = gives
 gives_none mid after (Some other) r error gives asked is = absurd (let clash : Ok other ≡ Err error = sym asked ∙ is in cc)
 
--- ---- what tokens tell
+-- ---- what tokens hold
 
 pub before_actors : (kind : Kind) (given : Token) → ((id : ObjectId) × (given ≡ token.Tree id)) ⊎ (((id : ObjectId) × (given ≡ token.Parent id)) ⊎ ((actor : ActorRef) × (given ≡ token.Author actor))) → signature_told kind (part_of given) ≡ None
 before_actors kind given (inl is) = ap (λ t. signature_told kind (part_of t)) is.1

@@ -1,4 +1,4 @@
--- One value is told first.
+-- One value comes first.
 use Rattle.std.proofs.Common.{◌≡◌, ◌∙◌, ap, refl, sym, subst, List, [], ◌∷◌, inl, inr, Option, Some, None, Result, Err}
 use Rattle.std.specs.Prelude.{filter_map}
 use Rattle.std.specs.List.{cons_option}
@@ -34,7 +34,7 @@ module _ {X : Type 0} (told : Part → Option X) where
   no_more_at_stop place error (inl end) = none_at_end told place end.0
   no_more_at_stop place error (inr gives) = none_at_fault told place gives.1.0
 
-  -- where none is told, none is told first
+  -- if no value comes, none comes first
   pub none_first : (here : Place) (error : Error) (value : X) → TellsNone told here error → TellsFirst told here value → ⊥
   none_first here error value none first =
       let empty = none_before told here none.0 none.1.0 none.1.1 none.1.2 (no_more_at_stop none.0 error none.2) (value ∷ []) first.0 first.1 in cc

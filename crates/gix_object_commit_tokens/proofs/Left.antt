@@ -1,4 +1,4 @@
--- What is left of a commit behind some of its parts.
+-- What is left of a commit after some of its parts.
 use Rattle.std.proofs.Common.{◌≡◌, ◌≢◌, ◌∙◌, ap, refl, sym, subst, ℕ, Bool, true, false, List, [], ◌∷◌, ◌++◌, append_assoc, Option, Some, None, inl, inr, arith}
 use Rattle.std.specs.Prelude.{codes, flat_map, All, IfSome}
 use Rattle.std.proofs.lemmas.List.Elements.{All-nil, All-cons}
@@ -69,7 +69,7 @@ IsFrom kind at.Committer input = CommitterOn input
 IsFrom kind at.Encoding input = EncodingOn input
 IsFrom kind at.Headers input = HeadersOn input
 
--- nothing is asked behind the message
+-- nothing is required after the message
 abbrev pub IsLeft : Kind → Stage → List ℕ → Bool → Type 0
 IsLeft kind stage input true = Unit {0}
 IsLeft kind stage input false = IsFrom kind stage input
@@ -132,7 +132,7 @@ no_part kind stage (Encoding name) rest is = no_line (codes "encoding") name res
 no_part kind stage (Header field) rest is = no_field field rest is.1 is.3
 no_part kind stage (Message message) rest is = let e = is.1 in cc
 
--- where something is left, some part stands next
+-- if something is left, some part is next
 abbrev pub HasPart : Kind → Stage → List ℕ → Type 0
 HasPart kind stage input = (part : Part) × (rest : List ℕ) × IsPartAt kind stage input part rest
 
@@ -218,7 +218,7 @@ encoding_on input name rest lacks whole e =
     let same = encoding_once (Some name) e.encoding rest (flat_map field_text e.fields ++ 10 ∷ e.message) lacks e.in_line (λ none. absurd cc) (λ none. no_encoding e.fields e.message e.fit (e.untold none)) (sym whole ∙ e.spelled) in
     record { fields = e.fields; message = e.message; fit = e.fit; spelled = same.1 }
 
--- a header that isn't named as the encoding stands where none is told
+-- a header that isn't named as the encoding comes if there is none
 untold_on : (input : List ℕ) (field : Field) (rest : List ℕ) → IsField field → field.name ≢ codes "encoding" → input ≡ field_text field ++ rest → EncodingOn input → HeadersOn input
 untold_on input field rest fits differs whole e = go e.encoding e.spelled
   where
@@ -314,7 +314,7 @@ message_ends kind stage input (Encoding name) rest is e = absurd cc
 message_ends kind stage input (Header field) rest is e = absurd cc
 message_ends kind stage input (Message message) rest is e = is.2
 
--- what is read so far is the beginning of a commit exactly where the rest goes on as one, and behind the message is nothing
+-- what is read so far is the beginning of a commit exactly where the rest goes on as one, and after the message is nothing
 pub record IsReadSoFar (kind : Kind) (input : List ℕ) (stage : Stage) (rest : List ℕ) (whole : Bool) : Type 0 where
   pub on : IsCommit kind input → IsLeft kind stage rest whole
   pub back : IsLeft kind stage rest whole → IsCommit kind input
@@ -332,7 +332,7 @@ one_read kind input stage rest false part after so_far is = record {
   ended = message_ends kind stage rest part after is;
 }
 
--- where no part stands, no commit is spelled
+-- if no part is next, no commit is spelled
 pub stuck : (kind : Kind) (input : List ℕ) (stage : Stage) (rest : List ℕ) (whole : Bool) → IsReadSoFar kind input stage rest whole → rest ≢ [] → ((part : Part) (after : List ℕ) → ¬ IsPartAt kind stage rest part after) → IsCommit kind input → ⊥
 stuck kind input stage rest true so_far some none is = some (so_far.ended refl)
 stuck kind input stage rest false so_far some none is = let next = has_part kind stage rest (so_far.on is) in none next.0 next.1 next.2

@@ -1,4 +1,4 @@
--- Where nothing more is told.
+-- When no more values come.
 use Rattle.std.proofs.Common.{◌≡◌, ◌∙◌, ap, refl, sym, subst, ℕ, ◌<◌, List, [], ◌∷◌, ◌++◌, ◌⊎◌, inl, inr, length, Option, Some, None, Result, Ok, Err, arith}
 use Rattle.std.specs.Prelude.{codes, filter_map}
 use Rattle.std.specs.List.{cons_option}
@@ -17,7 +17,7 @@ use Rattle.gix_object_commit_tokens.specs.ReadingOn.{Reads, Tells, TellsNoMore, 
 use Rattle.gix_object_commit_lines.proofs.Lines.{line_shape, hex_shape, field_shorter}
 use Rattle.gix_object_commit_tokens.proofs.OnePart.{one_next}
 
--- ---- no part stands at the input's end
+-- ---- no part is at the input's end
 
 empty_part : (kind : Kind) (stage : Stage) (input : List ℕ) (part : Part) (rest : List ℕ) → input ≡ [] → IsPartAt kind stage input part rest → ⊥
 empty_part kind stage input (Tree id) rest none h = let e : codes "tree" ++ 32 ∷ (h.1.digits ++ 10 ∷ rest) ≡ [] = sym (hex_shape (codes "tree") h.1.digits rest) ∙ sym h.1.spelled ∙ none in cc
@@ -28,7 +28,7 @@ empty_part kind stage input (Encoding name) rest none h = let e : codes "encodin
 empty_part kind stage input (Header field) rest none h = let less : length rest < length input = field_shorter input rest field h.3 in let zero : length input ≡ 0 = ap length none in omega arith
 empty_part kind stage input (Message message) rest none h = let e : 10 ∷ message ≡ [] = sym h.1 ∙ none in cc
 
--- ---- what is told from a place on
+-- ---- which values come from a place on
 
 module _ {X : Type 0} (told : Part → Option X) where
   nothing_next : (here : Place) → ((part : Part) (next : Place) → IsNext here part next → ⊥) → TellsNoMore told here
@@ -65,7 +65,7 @@ module _ {X : Type 0} (told : Part → Option X) where
               let still : told first ≡ None = ap told (sym same.0) ∙ silent in
               later values there (others, subst (λ p. Reads p others there) (sym same.1) other.2, ap (λ o. cons_option o (filter_map told others)) (sym still) ∙ whole)
 
-  -- behind a stage no value comes
+  -- after a stage no value comes
   module _ (Past : Stage → Type 0) (step : (here next : Place) (part : Part) → IsNext here part next → Past here.stage → (told part ≡ None) × Past next.stage) where
     pub none_past : (here : Place) → Past here.stage → TellsNoMore told here
     none_past here past values there tells = sym tells.2 ∙ silent here past tells.0 tells.1
@@ -95,7 +95,7 @@ module _ {X : Type 0} (told : Part → Option X) (before mid after : Place) (pas
   ends_at_fault (Ok token) gives lost = absurd cc
   ends_at_fault (Err error) gives lost = ends (none_at_fault told mid gives.0) (none_at_end told after gives.2)
 
--- ---- behind the parents
+-- ---- after the parents
 
 abbrev pub PastParents : Stage → Type 0
 PastParents at.Tree = ⊥
@@ -116,7 +116,7 @@ past_parent here next (Message message) is past = (refl, subst PastParents (sym 
 pub no_parent_past : (here : Place) → PastParents here.stage → TellsNoMore parent_told here
 no_parent_past here past = none_past parent_told PastParents past_parent here past
 
--- an author, or what stands behind it
+-- an author, or what follows it
 pub no_parent_from : (here next : Place) (part : Part) → IsNext here part next → (parent_told part ≡ None) → PastParents next.stage → TellsNoMore parent_told here
 no_parent_from here next part is silent past = none_before parent_told here next (part ∷ []) (next, is, refl) (ap (λ o. cons_option o []) silent) (no_parent_past next past)
 
@@ -133,7 +133,7 @@ ends_behind_parents before mid after given last passed gives ok tree parent =
     let past = subst PastParents (sym is.1) behind.1 in
     ends parent_told before mid after passed None refl (no_parent_from mid after (part_of last) is behind.0 past) (no_parent_past after past)
 
--- ---- behind the actors
+-- ---- after the actors
 
 pub before_actors : (given : Token) → ((id : ObjectId) × (given ≡ token.Tree id)) ⊎ ((id : ObjectId) × (given ≡ token.Parent id)) → actor_told (part_of given) ≡ None
 before_actors given (inl is) = ap (λ t. actor_told (part_of t)) is.1

@@ -1,4 +1,4 @@
--- One part stands at a place.
+-- One part is at a place.
 use Rattle.std.proofs.Common.{◌≡◌, ◌∙◌, ap, refl, sym, subst, ℕ, List, ◌∷◌, ◌++◌, inl, inr, arith}
 use Rattle.std.specs.Prelude.{codes}
 use Rattle.gix_hash_id.specs.declared.kind.Kind.{Kind}

@@ -1,4 +1,4 @@
--- Parts that are read one after another, and what they tell.
+-- Parts that are read one after another, and what they hold.
 use Rattle.std.proofs.Common.{◌≡◌, ◌∙◌, ap, refl, sym, subst, List, [], ◌∷◌, ◌++◌, inr, Option, Some, None, Result, Ok, Err}
 use Rattle.std.specs.Prelude.{filter_map, IfErr}
 use Rattle.std.proofs.lemmas.List.Elements.{filter_map-append}
@@ -18,14 +18,14 @@ module _ {X : Type 0} (told : Part → Option X) where
   pub tells_start : (here : Place) → Tells told here [] here
   tells_start here = ([], refl, refl)
 
-  -- a part that tells nothing is passed over
+  -- a part without such a value is skipped
   pub tells_on : (here mid there : Place) (part : Part) → Tells told here [] mid → IsNext mid part there → told part ≡ None → Tells told here [] there
   tells_on here mid there part so_far next none = (so_far.0 ++ part ∷ [], reads_more here mid there so_far.0 part so_far.1 next, whole)
     where
       whole : filter_map told (so_far.0 ++ part ∷ []) ≡ []
       whole = filter_map-append told so_far.0 (part ∷ []) ∙ ap (λ t. t ++ filter_map told (part ∷ [])) so_far.2 ∙ rw none refl
 
-  -- the first that tells a value
+  -- the first with such a value
   pub tells_one : (here mid there : Place) (part : Part) (value : X) → Tells told here [] mid → IsNext mid part there → told part ≡ Some value → Tells told here (value ∷ []) there
   tells_one here mid there part value so_far next some = (so_far.0 ++ part ∷ [], reads_more here mid there so_far.0 part so_far.1 next, whole)
     where
@@ -47,7 +47,7 @@ module _ {X : Type 0} (told : Part → Option X) where
       subst (λ (r : Result R Error). IfErr r (λ fault. TellsNone told here fault)) (sym (answer ∙ ap (λ e. Err e) same))
       (mid, so_far, inr (after, subst (λ g. GivesToken mid (Some g) after) is gives))
 
--- ---- tokens that tell nothing
+-- ---- tokens without a value
 
 pub no_author : (given : Token) → ((actor : ActorRef) → given ≡ token.Author actor → ⊥) → author_told (part_of given) ≡ None
 no_author (token.Author actor) other = absurd (other actor refl)

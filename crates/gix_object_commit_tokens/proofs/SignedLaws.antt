@@ -22,7 +22,7 @@ use Rattle.gix_object_commit_lines.proofs.Progress.{all_head, all_tail}
 use Rattle.gix_object_commit_tokens.proofs.Readings.{tells_start, tells_on, tells_one}
 use Rattle.gix_object_commit_lines.proofs.Whole.{after_tree, after_parents, after_author, after_committer, after_encoding}
 
--- ---- what stands before some of the headers
+-- ---- what is before some of the headers
 
 abbrev front : Parts → List Field → List ℕ
 front parts first =
@@ -63,7 +63,7 @@ module _ (kind : Kind) (here : Place) where
       (tells_on (signature_told kind) here (place kind at.Parents ((hex_line (codes "parent") digits ++ flat_map (hex_line (codes "parent")) parents) ++ rest)) (place kind at.Parents after) (Parent id.0) so_far
       ((refl, record { digits = digits; hex = fits; id_spelled = id.1; spelled = append_assoc (hex_line (codes "parent") digits) (flat_map (hex_line (codes "parent")) parents) rest }), refl, refl) refl)
 
-  -- a header may stand at these stages, and the first not as the encoding's line
+  -- a header may come at these stages, and the first not as the encoding's line
   abbrev MayHead : Stage → List Field → Type 0
   MayHead stage fields = (stage ≡ at.Headers) ⊎ ((stage ≡ at.Encoding) × ¬ IsEncodingFirst fields)
 
@@ -97,7 +97,7 @@ module _ (kind : Kind) (here : Place) where
       (tells_on (signature_told kind) here (place kind stage (flat_map field_text (field ∷ (first ++ rest)) ++ 10 ∷ message)) (place kind at.Headers (flat_map field_text (first ++ rest) ++ 10 ∷ message)) (Header field) so_far
       (header_next stage field (first ++ rest) message may fits) (other_silent field (all_head Other field first others)))
 
--- the headers stand next
+-- the headers are next
 abbrev AtHeaders : Kind → List ℕ → Parts → Type 0
 AtHeaders kind input parts = (stage : Stage) × MayHead kind (start kind input) stage parts.headers × Tells (signature_told kind) (start kind input) [] (place kind stage (after_encoding parts))
 

@@ -1,4 +1,4 @@
--- Which parts may stand where.
+-- Which parts may come where.
 use Rattle.std.proofs.Common.{◌≡◌, ◌∙◌, ap, refl, sym, ℕ, List, [], ◌∷◌, ◌++◌, inl, inr, arith}
 use Rattle.std.specs.Prelude.{codes}
 use Rattle.gix_hash_id.specs.declared.kind.Kind.{Kind}
@@ -40,7 +40,7 @@ module _ (kind : Kind) (input : List ℕ) where
   at_message (Header field) rest message h is = absurd (field_no_message field rest message h.1 (sym is ∙ h.3))
   at_message (Message text) rest message h is = (let same : 10 ∷ text ≡ 10 ∷ message = sym h.1 ∙ is in cc, h.2)
 
-  -- a header may stand first where it isn't named as the encoding
+  -- a header may come first if it isn't named as the encoding
   pub first_from : (part : Part) (rest : List ℕ) → ¬ IsBeginningOf (codes "encoding ") input → IsPartAt kind at.Headers input part rest → IsPartAt kind at.Encoding input part rest
   first_from (Tree id) rest none h = absurd (let e : at.Headers ≡ at.Tree = h.0 in cc)
   first_from (Parent id) rest none h = absurd (let e : at.Headers ≡ at.Parents = h.0 in cc)
@@ -69,7 +69,7 @@ module _ (kind : Kind) (input : List ℕ) where
   at_encoding (Header field) rest h begins = absurd (elim h.0 [ inl e ↦ (let f : at.Encoding ≡ at.Headers = e in cc) | inr e ↦ e.1 (sym (cut_once 32 (codes "encoding") begins.0 field.name (field.value ++ 10 ∷ rest) refl h.1.name_one_word (sym begins.1 ∙ h.3 ∙ line_shape field.name field.value rest)).0) ])
   at_encoding (Message message) rest h begins = absurd (let heads : ◌≡◌ {A = ℕ} 10 101 = cc (h.1, begins.1) in omega arith)
 
--- at the place of the encoding: an encoding, or what may stand there without one
+-- at the place of the encoding: an encoding, or what may be there without one
 pub data FirstHeader (kind : Kind) (input : List ℕ) (part : Part) (rest : List ℕ) : Type 0 where
   Told : (name : List ℕ) → part ≡ Encoding name → Lacks 10 name → input ≡ line (codes "encoding") name ++ rest → FirstHeader kind input part rest
   Untold : ¬ IsBeginningOf (codes "encoding ") input → IsPartAt kind at.Headers input part rest → FirstHeader kind input part rest

@@ -1,4 +1,4 @@
--- Counting the trees that an edit asks for.
+-- Counting the trees that an edit looks up.
 use Rattle.std.proofs.Common.{ℕ, zero, suc, ◌≡◌, ◌≢◌, ◌<◌, ◌+◌, ◌&&◌, ◌⊎◌, inl, inr, Bool, true, false, List, [], ◌∷◌, ◌++◌, Option, Some, None, refl, sym, ap, subst, ◌∙◌, arith, length, drop, get_or, add-one, if◌then◌else◌}
 use Rattle.std.specs.Prelude.{not, Result, Ok, Err, IfOk, IfErr, OnOk, ⊤}
 use Rattle.std.specs.List.{All, Contains}
@@ -23,7 +23,7 @@ use Rattle.gix_object_editor.proofs.Walked.{names, names_length, last_name}
 use Rattle.gix_object_editor.proofs.Edits.{last_split}
 use Rattle.gix_object_editor.proofs.Folders.{below_base}
 
--- ---- one asking behind another
+-- ---- one lookup after another
 
 counts_then : (was mid now n m : ℕ) → CountsUp was mid n → CountsUp mid now m → CountsUp was now (n + m)
 counts_then was mid now n m first second fit =
@@ -89,7 +89,7 @@ some_then table ids left was mid now a b = record {
   counted = subst (CountsUp was now) (sym (length-append a.front b.front)) (counts_then was mid now (length a.front) (length b.front) a.counted b.counted);
 }
 
--- the cause isn't one of those that are told before a tree is asked for
+-- the cause isn't one of those that are found before a tree is looked up
 abbrev pub IsLate : Error → Type 0
 IsLate EmptyPathComponent = ⊥
 IsLate (FindExistingObject error) = ⊤
@@ -98,7 +98,7 @@ IsLate (MalformedTree oid) = ⊤
 IsLate EmptyTree = ⊥
 IsLate Memory = ⊤
 
--- where a cause stops an edit behind others
+-- if a cause stops an edit after others
 pub stops_then : (honest may_fail : Type 0) (table : Table) (ids left : List Id) (was mid now : ℕ) (e : Error) → IsLate e → AsksUpTo table ids left was mid → StopsAt honest may_fail table left mid now e
     → StopsAt honest may_fail table ids was now e
 stops_then honest may_fail table ids left was mid now EmptyPathComponent late a h = absurd late
@@ -218,7 +218,7 @@ pub way_into : (trees : Trees) (slots : Slots) (way : Path) (at : ℕ) (p : Path
 way_into trees slots [] at p w = ap (λ k. unopened_into trees slots k p) w
 way_into trees slots (n ∷ way) at p w = way_into trees slots way w.0 (n ∷ p) w.1 ∙ child_into trees slots p (slots w.0 n) at w.2
 
--- ---- a slot that is asked for
+-- ---- a slot that is looked up
 
 pub folder_split : (trees : Trees) (slots : Slots) (at : ℕ) (name : Bytes) (rest : Path) (s : Slot) → slots at name ≡ Some s → s.child ≡ None → leads_on (leaf_in s) ≡ true
     → (left : List Id) × (unopened_into trees slots at (name ∷ rest) ≡ (leaf_in s).id ∷ left)
@@ -307,7 +307,7 @@ module _ (table : Table) (trees : Trees) (old new : Slots) (at : ℕ) (path : Li
       let rest = front_of (names (drop (i + 1) path)) ++ more in
       stops_then honest may_fail table ids (unopened_into trees old at ((get_or path i d).now ∷ rest)) was mid now e (late_opening honest may_fail table id e fault) stepped (stops rest)
 
--- ---- what was asked for, in the end
+-- ---- what was looked up, in the end
 
 pub found_none : (trees : Trees) (slots : Slots) (o : Option NodeId) → found_into trees slots o [] ≡ []
 found_none trees slots None = refl

@@ -118,7 +118,7 @@ opened_same_changed old mid was now a b ok mid_ok opened links tree = (
   ),
 )
 
--- a slot that is taken out while no mark changes, since no more than a made folder stood there
+-- a slot that is removed while no mark changes, since no more than a made folder was there
 module _ (mid new : Slots) (now fin : Marks) (b : ℕ) (marked : AreMarked mid now b) (at : ℕ) (name : Bytes) (here : new at name ≡ None) (others : (i : ℕ) (m : Bytes) → ((i ≡ at) → (m ≡ name) → ⊥) → new i m ≡ mid i m)
     (same : (i : ℕ) → fin i ≡ now i) (idle : IsIdle now (mid at name)) where
   -- none that is changed lies in it
@@ -170,7 +170,7 @@ module _ (old mid new end : Slots) (was now put fin : Marks) (a b c : ℕ) (mid_
   laid_changed path on_path way rest down some ends tree j to t =
       edit_changed old mid was now a b mid_ok opened new put fin c new_ok made at path on_path up.only way rest down some ends tree j (subst (λ f. LeadsTo f tree j []) same to) t
 
--- an edit that failed behind opened trees
+-- an edit that failed after opened trees
 pub failed_changed : {state : Bool} → (old mid new : Slots) (was now put : Marks) (a b c : ℕ) → IsForest mid b → AreMarksKept false old mid was now a b → AreMarksKept state mid new now put b c → new ≡ mid
     → (tree : Path) (j : ℕ) → LeadsTo new tree j [] → (put j).changed ≡ true → (k : ℕ) × LeadsTo old tree k [] × ((was k).changed ≡ true)
 failed_changed old mid new was now put a b c ok opened made same tree j to t =

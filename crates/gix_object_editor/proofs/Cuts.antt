@@ -22,7 +22,7 @@ use Rattle.gix_object_nodes.proofs.Ways.{child_files, child_no_file, down}
 
 -- ---- the files
 
--- what an entry without files leaves below a name at which no folder stands, or at its end
+-- what an entry without files leaves below a name that has no folder, or at its end
 hidden : (trees : Trees) (leaf : Leaf) (more rest : Path) (below : Path → Option Leaf) → is_null leaf.id ≡ true → (more ≢ [] → (k : Bytes) (x : Path) → below (k ∷ x) ≡ None)
     → put_at trees leaf (behind more rest) (if is_some (behind rest more) then None else below rest) ≡ None
 hidden trees leaf [] rest below null plain = null_none trees leaf null rest
@@ -98,7 +98,7 @@ slot_none : (trees : Trees) (slots : Slots) (s : Slot) (c : ℕ) (rest : Path) �
 slot_none trees slots s c [] link none = child_no_file trees slots (Some s) c link
 slot_none trees slots s c (m ∷ rest) link none = child_files trees slots m rest (Some s) c link ∙ none
 
--- where nothing stood folders were made that no files lie in
+-- if nothing was there, folders were made that no files lie in
 module _ (trees : Trees) (mid new : Slots) (bound more : ℕ) (mid_ok : IsForest mid bound) (new_ok : IsForest new more) (at : ℕ) (name : Bytes)
     (others : (i : ℕ) (m : Bytes) → i < bound → ((i ≡ at) → (m ≡ name) → ⊥) → new i m ≡ mid i m)
     (hollow : (rest : Path) → files_of_node trees new at (name ∷ rest) ≡ None) (nothing : mid at name ≡ None) where
@@ -144,7 +144,7 @@ module _ (trees : Trees) (mid new : Slots) (bound more : ℕ) (mid_ok : IsForest
       one : (c d : ℕ) → Some c ≡ Some d → c ≡ d
       one c d e = cc
 
--- where no file stood none stands in what was made
+-- if no file was there, none is in what was made
 pub made_hollow : (trees : Trees) (mid new : Slots) (at : ℕ) (name : Bytes) (way left : Path) → Way mid way at → Way new way at → mid at name ≡ None
     → ((q : Path) → files_of_node trees new 0 q ≡ cleared left (files_of_node trees mid 0) q) → (rest : Path) → files_of_node trees new at (name ∷ rest) ≡ None
 made_hollow trees mid new at name way left before down_to nothing clears rest =

@@ -95,7 +95,7 @@ append_nil : (p : Path) → p ++ [] ≡ p
 append_nil [] = refl
 append_nil (n ∷ p) = ap (λ q. n ∷ q) (append_nil p)
 
--- an unopened tree stands as a file, where its tree isn't there
+-- an unopened tree is a file, if its tree isn't there
 alone : (slots : Slots) (at : ℕ) (name : Bytes) (slot : Slot) → slots at name ≡ Some slot → IsUnopened slot → (trees : Trees) → trees (id_of slot.oid) ≡ None
     → files_of_node trees slots at (name ∷ []) ≡ Some (leaf_in slot)
 alone slots at name slot stands unopened trees gone =
@@ -104,13 +104,13 @@ alone slots at name slot stands unopened trees gone =
     ∙ ap (λ b. unless_tree (if b then trees (leaf_in slot).id else None) (leaf_in slot)) unopened.is_tree
     ∙ ap (λ o. unless_tree o (leaf_in slot)) gone
 
--- it stands where a way leads
+-- it is where a way leads
 tree_at_way : (slots : Slots) (way : Path) (at : ℕ) (name : Bytes) (slot : Slot) (id : Id) → Way slots way at → slots at name ≡ Some slot → IsUnopened slot → id_of slot.oid ≡ id
     → (trees : Trees) → trees id ≡ None → IsTreeNamed id (files_of_node trees slots 0 (onto way (name ∷ [])))
 tree_at_way slots way at name slot id reached stands unopened is trees gone =
     subst (IsTreeNamed id) (sym (down trees slots way at name [] reached ∙ alone slots at name slot stands unopened trees (ap trees is ∙ gone))) (is, unopened.is_tree)
 
--- where a walk stops, an unopened tree stands
+-- where a walk stops, there is an unopened tree
 pub stopped_tree : (slots : Slots) (path : Path) (id : Id) → IsStoppedAt slots path id → LeadsThrough (λ trees. files_of_node trees slots 0) path id
 stopped_tree slots path id s =
     let way = s.leads.0 in (
@@ -130,7 +130,7 @@ pub end_tree : (slots : Slots) (path : Path) (at : ℕ) (name : Bytes) (slot : S
 end_tree slots path at name slot leads stands unopened =
     (onto leads.0 (name ∷ []), [], append_nil (onto leads.0 (name ∷ [])) ∙ leads.2, tree_at_way slots leads.0 at name slot (id_of slot.oid) leads.1 stands unopened refl)
 
--- what stands below a path's end
+-- what is below a path's end
 pub below_end : (slots : Slots) (path : Path) (at : ℕ) (name : Bytes) (left : Path) (trees : Trees) (m : Bytes) (rest : Path) → LeadsTo slots path at (name ∷ left)
     → files_of_node trees slots 0 (path ++ m ∷ rest) ≡ files_of_node trees slots at (name ∷ (left ++ m ∷ rest))
 below_end slots path at name left trees m rest leads =
@@ -205,7 +205,7 @@ last_split (p ∷ path) (suc i) d e =
     let rest = last_split path i d less in
     (p.now ∷ rest.0, ap (λ q. p.now ∷ q) rest.1)
 
--- ---- an entry that stands already
+-- ---- an entry that is there already
 
 pub entry_of : (trees : Trees) (leaf : Leaf) (s : Slot) (child : Option NodeId) → s.child ≡ child → child_or child (λ c. None) (files_of_entry trees [] (leaf_in s)) ≡ Some leaf → (leaf_in s ≡ leaf) × (s.child ≡ None)
 entry_of trees leaf s (Some c) is e = absurd (cc e)

@@ -26,7 +26,7 @@ within_way : (slots : Slots) (bound : ℕ) → IsForest slots bound → (way : P
 within_way slots bound ok [] j w = subst (λ k. k < bound) w ok.rooted
 within_way slots bound ok (n ∷ way) j w = ok.within w.0 n j w.2
 
--- ---- a change of one slot, beside nodes that are put behind the others
+-- ---- a change of one slot, beside nodes that are put after the others
 
 module _ (trees : Trees) (slots new : Slots) (bound : ℕ) (ok : IsForest slots bound) (j : ℕ) (name : Bytes) (way : Path) (reached : Way slots way j)
     (agree : (i : ℕ) (m : Bytes) → i < bound → ((i ≡ j) → (m ≡ name) → ⊥) → new i m ≡ slots i m) where
@@ -166,7 +166,7 @@ laid_off trees leaf (n ∷ left) (k ∷ r) e f = elim (by_test (bytes_eq n k)) [
       ∙ laid_off trees leaf left r (sym (ap (λ b. if b then behind left r else None) t) ∙ e) (sym (ap (λ b. if b then behind r left else None) (flipped n k t)) ∙ f)
 ]
 
--- ---- what stands in no way of a path
+-- ---- what isn't in the way of a path
 
 -- no names are left of a path with one more
 not_none : (way : Path) (name : Bytes) (rest : Path) → onto way (name ∷ rest) ≡ [] → ⊥
@@ -181,7 +181,7 @@ opened_slot slots q j leads some = by_way leads.0 leads.1 leads.2
     by_way [] w e = absurd (some (sym e))
     by_way (n ∷ way) w e = ap (λ p. child_of (slot_over slots 0 p)) (sym e) ∙ ap child_of (slot_below slots way w.0 n [] w.1) ∙ w.2
 
--- no tree is opened where no folder stands, nor below it
+-- no tree is opened where there is no folder, nor below it
 unopened_slot : (o : Option Slot) → IsNoFolder o → child_of o ≡ None
 unopened_slot None plain = refl
 unopened_slot (Some s) plain = ap (λ c. child_or c (λ k. Some k) None) (plain s refl).0
@@ -216,7 +216,7 @@ module _ (honest : Type 0) (table : Table) (old mid : Slots) (bound more : ℕ) 
   there : (q r : Path) → q ≡ onto leads.0 (name ∷ r) → entry_from none_met trees old 0 q ≡ through (mid at name) (slot_entry none_met trees mid r)
   there q r e = sym (before q) ∙ ap (entry_from none_met trees mid 0) e ∙ entry_below none_met trees mid leads.0 at name r leads.1
 
-  -- no folder stands where none does after trees were opened, nor below it
+  -- no folder is where none is after trees were opened, nor below it
   no_folder : IsNoFolder (mid at name) → (q r : Path) → q ≡ onto leads.0 (name ∷ r) → ((j : ℕ) × LeadsTo old q j []) ⊎ IsTreeEntry (entry_from none_met trees old 0 q) → ⊥
   no_folder plain q r e (inl to) =
       let kept : LeadsTo mid q to.0 [] = (to.1.0, way_kept old mid opened.links to.1.0 to.0 to.1.1, to.1.2) in
@@ -248,13 +248,13 @@ module _ (honest : Type 0) (table : Table) (old mid : Slots) (bound more : ℕ) 
           ap (entry_from none_met trees mid 0) at_q ∙ entry_below none_met trees mid leads.0 at name ((m ∷ k) ++ r) leads.1
           ∙ no_entry trees mid (mid at name) ((m ∷ k) ++ r) plain (longer_some m k r)
 
-  -- ---- what stands in no way
+  -- ---- what isn't in the way
 
   module _ (q : Path) (free : (r : Path) → q ++ r ≡ path → ((j : ℕ) × LeadsTo old q j []) ⊎ IsTreeEntry (entry_from none_met trees old 0 q)) where
     at_name : (r : Path) → behind (onto leads.0 (name ∷ [])) q ≡ Some r → q ≡ onto leads.0 (name ∷ r)
     at_name r e = behind_is (onto leads.0 (name ∷ [])) q r e ∙ sym (onto-append leads.0 (name ∷ []) r)
 
-    -- it isn't on the path, and nothing stood there
+    -- it isn't on the path, and nothing was there
     unmet : IsNoFolder (mid at name) → (r : Path) → behind (onto leads.0 (name ∷ [])) q ≡ Some r → (behind r left ≡ None) × (entry_from none_met trees old 0 q ≡ None)
     unmet plain r e = (off, there q r (at_name r e) ∙ no_entry trees mid (mid at name) r plain (λ none. cc (sym (ap (λ p. behind p left) none) ∙ off)))
       where

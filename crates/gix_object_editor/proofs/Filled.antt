@@ -20,7 +20,7 @@ NoFile slots s = (trees : Trees) (rest : Path) → files_of_slot trees slots res
 abbrev pub NoFiles : Slots → List Slot → Type 0
 NoFiles slots ss = AllByRecursion (NoFile slots) ss
 
--- each of the slots stands in the node
+-- each of the slots is in the node
 abbrev pub AreOf : (Bytes → Option Slot) → List Slot → Type 0
 AreOf slots ss = AllByRecursion (λ (s : Slot). (m : Bytes) × (slots m ≡ Some s)) ss
 

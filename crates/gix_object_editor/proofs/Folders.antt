@@ -1,4 +1,4 @@
--- Folders that are made by an entry below them that is taken out again, and cursors that stand at them.
+-- Folders that are made by an entry below them that is removed again, and cursors at them.
 use Rattle.std.proofs.Common.{ℕ, ◌≡◌, ◌≢◌, ◌<◌, ◌≤◌, Bool, true, false, List, [], ◌∷◌, ◌++◌, Option, Some, None, refl, sym, ap, subst, ◌∙◌, inl, inr, arith, length, get_or, if◌then◌else◌}
 use Rattle.std.specs.Prelude.{bytes_eq, is_some}
 use Rattle.std.specs.Borrow.{Bor}
@@ -68,7 +68,7 @@ too_long : (p : Path) (k : Bytes) (r : Path) → behind (p ++ k ∷ r) p ≡ Non
 too_long [] k r = refl
 too_long (n ∷ p) k r = ap (λ b. if b then behind (p ++ k ∷ r) p else None) (name_itself n) ∙ too_long p k r
 
--- no file stands at a beginning of a folder's path
+-- no file is at a beginning of a folder's path
 no_file : (trees : Trees) (slots : Slots) (way : Path) (j : ℕ) → Way slots way j → (q : Path) → is_some (behind q (onto way [])) ≡ true → files_of_node trees slots 0 q ≡ None
 no_file trees slots [] j w [] t = refl
 no_file trees slots [] j w (m ∷ q) t = absurd (cc t)
@@ -96,7 +96,7 @@ folder_clear trees slots path j leads q = elim (by_test (is_some (behind q path)
   | inr f ↦ ap (λ b. if b then None else files_of_node trees slots 0 q) f
 ]
 
--- no file stands below where names lead to no folder
+-- no file is below where names lead to no folder
 pub none_below : (trees : Trees) (slots : Slots) (way : Path) (at : ℕ) (p : Path) → Way slots way at → 0 < length p → IsFolderAt slots at (get_or p 0 []) None → HasNoneBelow (onto way p) (files_of_node trees slots 0)
 none_below trees slots way at [] w some plain = absurd (omega arith)
 none_below trees slots way at (name ∷ left) w some plain = λ m rest.
@@ -170,7 +170,7 @@ folder_leads slots path at name c leads found = (name ∷ leads.0, (at, leads.1,
 
 -- ---- ways
 
--- an edit at an opened tree, or behind it, leaves the way to a tree above
+-- an edit at an opened tree, or after it, leaves the way to a tree above
 pub still_way : (old mid new : Slots) (more from at : ℕ) → IsForest mid more → ((i : ℕ) (m : Bytes) (c : ℕ) → child_of (old i m) ≡ Some c → child_of (mid i m) ≡ Some c)
     → from ≤ at → ((i : ℕ) (m : Bytes) → i < at → new i m ≡ mid i m) → (way : Path) → Way old way from → Way new way from
 still_way old mid new more from at ok links le same way w = way_above mid new more at ok same way from le (way_kept old mid links way from w)

@@ -19,7 +19,7 @@ item_leaf name s item e = ap leaf_of (one item _ (sym e))
     one : (a b : Item) → Some a ≡ Some b → a ≡ b
     one a b h = cc
 
--- ---- a file that stands there
+-- ---- a file that is there
 
 at_last : (trees : Trees) (slots : Slots) (name : Bytes) (leaf : Leaf) (item : Item) (o : Option Slot) → through o (files_of_slot trees slots []) ≡ Some leaf → entry_in name o ≡ Some item → leaf_of item ≡ leaf
 at_last trees slots name leaf item None f e = absurd (cc f)
@@ -102,7 +102,7 @@ got_below trees slots base j p item leads e some gone = elim (got_there trees sl
   | inr opened ↦ inr (opened.0, subst (λ q. LeadsTo slots q opened.0 []) (below_base leads.0 base p leads.2) opened.1)
 ]
 
--- ---- it is the entry that stands there
+-- ---- it is the entry that is there
 
 pub got_entry : (trees : Trees) (slots : Slots) (p : Path) (i : ℕ) (item : Item) → entry_at slots i p ≡ Some item → entry_from none_met trees slots i p ≡ Some (leaf_of item)
 got_entry trees slots [] i item e = absurd (cc e)

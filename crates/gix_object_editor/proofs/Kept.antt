@@ -127,7 +127,7 @@ one_each node items has stands all (suc i) m u is = absurd (cc is)
 
 -- ---- folders that are made for a cursor
 
--- of a node's names that are put behind the others, one behind the other, each is alone
+-- of a node's names that are put after the others, one after the other, each is alone
 pub hung_names : (slots : Slots) (bound : ℕ) (tail : Path) (last : Slot) → ((k : ℕ) → k < length tail → IsRung slots bound tail last k)
     → ((i : ℕ) (m : Bytes) → bound + length tail ≤ i → slots i m ≡ None) → (i : ℕ) (m : Bytes) (s : Slot) → bound ≤ i → slots i m ≡ Some s
     → (i + 1 ≡ bound + length tail) ⊎ ((k : ℕ) × (suc k < length tail) × (m ≡ get_or tail k []))
@@ -160,7 +160,7 @@ fits_more has name leaf h = elim (by_test (bytes_eq name [])) [
 pub each_more_has : (has : Property) (slots : Slots) → EachHas has slots → EachHas (unless_empty has) slots
 each_more_has has slots each i m s is = fits_more has m (leaf_in s) (each i m s is)
 
--- names may stand with an empty one behind them
+-- names may have an empty one after them
 pub may_stand_more : (has : Property) (kind : Kind) (names : Path) → MayStandMade has kind names → MayStand (unless_empty has) (names ++ [] ∷ []) (made_leaf kind)
 may_stand_more has kind names fit = All-push (λ (n : Bytes). (unless_empty has n (made_leaf kind) ≡ true) × (unless_empty has n (made_leaf kind) ≡ true)) names []
     (All-weaker (λ (n : Bytes). has n (made_leaf kind) ≡ true) (λ (n : Bytes). (unless_empty has n (made_leaf kind) ≡ true) × (unless_empty has n (made_leaf kind) ≡ true))

@@ -1,4 +1,4 @@
--- Trees with one slot each, put behind the others and then linked.
+-- Trees with one slot each, put after the others and then linked.
 use Rattle.std.proofs.Common.{ℕ, zero, suc, ◌≡◌, ◌≢◌, ◌<◌, ◌≤◌, ◌+◌, ◌-◌, ◌++◌, Bool, true, List, [], ◌∷◌, Some, None, refl, sym, ap, subst, ◌∙◌, inl, inr, arith, length, get_or, drop, if◌then◌else◌}
 use Rattle.std.specs.Prelude.{bytes_eq, is_some}
 use Rattle.std.specs.Borrow.{Bor}
@@ -21,7 +21,7 @@ use Rattle.gix_object_editor.proofs.Standing.{child_entry}
 use Rattle.gix_object_editor.proofs.Entered.{none_met, closed_entry, laid_entries}
 use Rattle.gix_hash_id.specs.Id.{id_of}
 
--- nodes behind the others change no file
+-- nodes after the others change no file
 pub front_files : (trees : Trees) (slots new : Slots) (bound : ℕ) → IsForest slots bound → ((i : ℕ) (m : Bytes) → i < bound → new i m ≡ slots i m)
     → (q : Path) (i : ℕ) → i < bound → files_of_node trees new i q ≡ files_of_node trees slots i q
 front_files trees slots new bound ok front [] i lt = refl
@@ -190,7 +190,7 @@ rung_less : (at first k : ℕ) → at < first → rung_parent at first k < first
 rung_less at first zero lt = omega (arith, lt)
 rung_less at first (suc k) lt = omega arith
 
--- ---- a ladder behind a forest
+-- ---- a ladder after a forest
 
 module _ (slots mid : Slots) (bound more : ℕ) (ok : IsForest slots bound) (names : Path) (s : Slot) (closed : s.child ≡ None)
     (front : (i : ℕ) (m : Bytes) → i < bound → mid i m ≡ slots i m) (rungs : (k : ℕ) → k < length names → IsRung mid bound names s k)

@@ -100,7 +100,7 @@ fresh_of None p h = refl
 fresh_of (Some s) None h = absurd h
 fresh_of (Some s) (Some x) h = ap (λ c. child_or c (λ k. Some k) None) h.1
 
--- what stands in a node is an entry of the tree
+-- what is in a node is an entry of the tree
 pub entries_stand : (slots : Bytes → Option Slot) (items : List Item) → ((m : Bytes) → StandsFor (slots m) (named m items)) → (m : Bytes) (s : Slot) → slots m ≡ Some s → (item : Item) × (named m items ≡ Some item) × (leaf_in s ≡ leaf_of item)
 entries_stand slots items stands m s is = by_item (named m items) refl (subst (λ o. StandsFor o (named m items)) is (stands m))
   where

@@ -11,7 +11,7 @@ use Rattle.gix_object_editor.proofs.Opening.{at_or_off, same_through}
 use Rattle.gix_object_editor.proofs.Filled.{null_none}
 use Rattle.gix_object_nodes.proofs.Ways.{unique, closed_files}
 
--- ---- nodes that are put behind the others
+-- ---- nodes that are put after the others
 
 pub not_yet : (m : Mark) → m.changed ≡ false → m.changed ≡ true → ⊥
 not_yet m f t = cc (sym f ∙ t)
@@ -400,7 +400,7 @@ one_marked node closed = record {
 
 -- ---- which trees are marked
 
--- a way to a tree that stood before
+-- a way to a tree that was there before
 pub way_before : (old new : Slots) (bound more : ℕ) → IsForest new more → ((i : ℕ) (n : Bytes) (c : ℕ) → child_of (new i n) ≡ Some c → c < bound → new i n ≡ old i n) → (way : Path) (j : ℕ) → j < bound → Way new way j → Way old way j
 way_before old new bound more ok links [] j lt w = w
 way_before old new bound more ok links (n ∷ way) j lt w =
@@ -412,7 +412,7 @@ onto_two : (below front q : Path) → onto (below ++ front) q ≡ onto front (on
 onto_two [] front q = refl
 onto_two (n ∷ below) front q = onto_two below front (n ∷ q)
 
--- a tree on a way lies above what stands behind the way's end
+-- a tree on a way lies above what is after the way's end
 pub on_way_above : (slots : Slots) (bound : ℕ) → IsForest slots bound → (way : Path) (j : ℕ) (tree rest path : Path) → IsOnWay slots way j → LeadsTo slots tree j [] → rest ≢ [] → onto way rest ≡ path
     → (more : Path) × (more ≢ []) × (tree ++ more ≡ path)
 on_way_above slots bound ok way j tree rest path on leads some e =

@@ -26,7 +26,7 @@ pub begins_behind : (q r : Path) → behind q (q ++ r) ≡ Some r
 begins_behind [] r = refl
 begins_behind (n ∷ q) r = ap (λ b. if b then behind q (q ++ r) else None) (name_itself n) ∙ begins_behind q r
 
--- a beginning of a way and a rest is that of an opened tree, or goes on behind the way
+-- a beginning of a way and a rest is that of an opened tree, or goes on after the way
 above_way : (slots : Slots) (way : Path) (i : ℕ) (tail q t : Path) → Way slots way i → behind q (onto way tail) ≡ Some t
     → ((w : Path) × (j : ℕ) × Way slots w j × (onto w [] ≡ q)) ⊎ ((n : Bytes) × (x : Path) × (q ≡ onto way (n ∷ x)) × (behind (n ∷ x) tail ≡ Some t))
 above_way slots [] i tail [] t w e = inl ([], 0, refl, refl)
@@ -45,7 +45,7 @@ above_way slots (n ∷ way) i tail q t w e = elim (above_way slots way w.0 (n �
         let same : m ≡ n = same_first m n (k ∷ x) tail t e in
         inr (k, x, at ∙ ap (λ l. onto way (l ∷ k ∷ x)) same, after_first m n (k ∷ x) tail t e)
 
--- ---- folders that stood before trees were opened
+-- ---- folders that were there before trees were opened
 
 no_rest : (x : Path) (n : Bytes) (t : Path) → behind x [] ≡ Some (n ∷ t) → ⊥
 no_rest [] n t e = cc e
@@ -56,7 +56,7 @@ never_behind n x t e = cc e
 
 module _ (honest : Type 0) (table : Table) (old mid : Slots) (bound more : ℕ) (ok : IsForest old bound) (opened : IsOpened honest table old mid bound more) (h : honest) (trees : Trees) (has : HasStored table trees)
     (was now : Marks) (kept : AreMarksKept false old mid was now bound more) where
-  -- where a tree is opened a folder stood before
+  -- where a tree is opened, a folder was before
   still_folder : (q w : Path) (j : ℕ) → Way mid w j → onto w [] ≡ q → ((k : ℕ) × LeadsTo old q k []) ⊎ IsTreeEntry (entry_from none_met trees old 0 q)
   still_folder q [] j w e = inl (0, ([], refl, e))
   still_folder q (n ∷ way) j w e = by_slot (mid w.0 n) refl
@@ -126,7 +126,7 @@ module _ (honest : Type 0) (table : Table) (old mid : Slots) (bound more : ℕ) 
       cuts ∙ ap (λ o. if is_some o then None else entry_from none_met trees mid 0 path) found
 
   module _ (was now : Marks) (kept : AreMarksKept false old mid was now bound more) where
-    -- what is in the way lies behind the names that lead to opened trees
+    -- what is in the way lies after the names that lead to opened trees
     in_way : (q t : Path) → q ++ t ≡ path → (((k : ℕ) × LeadsTo old q k []) ⊎ IsTreeEntry (entry_from none_met trees old 0 q) → ⊥)
         → (x : Path) × (behind (onto leads.0 (name ∷ [])) q ≡ Some x) × (behind x left ≡ Some t)
     in_way q t on apart = elim (above_way mid leads.0 at (name ∷ left) q t leads.1 (ap (behind q) (path_is ∙ sym on) ∙ begins_behind q t)) [
@@ -158,7 +158,7 @@ module _ (honest : Type 0) (table : Table) (old mid : Slots) (bound more : ℕ) 
         let so = in_way q t on apart in
         cuts ∙ ap (λ o. if is_some o then None else entry_from none_met trees mid 0 q) so.1
 
-    -- where one name alone is left, each folder above it stood
+    -- if one name alone is left, each folder above it was there
     pub none_above : left ≡ [] → (q : Path) (n : Bytes) (t : Path) → q ++ n ∷ t ≡ path → (((k : ℕ) × LeadsTo old q k []) ⊎ IsTreeEntry (entry_from none_met trees old 0 q) → ⊥) → ⊥
     none_above last q n t on apart =
         let so = in_way q (n ∷ t) on apart in

@@ -21,7 +21,7 @@ after_first m n x tail t e = elim (by_test (bytes_eq m n)) [
   | inr isnt ↦ let none : None ≡ Some t = ap (λ b. if b then behind x tail else None) (sym isnt) ∙ e in absurd (cc none)
 ]
 
--- no file stands above a way's end
+-- no file is above a way's end
 pub above : (trees : Trees) (slots : Slots) (way : Path) (i : ℕ) (tail q t : Path) → Way slots way i → behind q (onto way tail) ≡ Some t
     → (files_of_node trees slots 0 q ≡ None) ⊎ ((n : Bytes) × (x : Path) × (q ≡ onto way (n ∷ x)) × (behind (n ∷ x) tail ≡ Some t))
 above trees slots [] i tail [] t w e = inl refl
@@ -148,7 +148,7 @@ module _ (trees : Trees) (slots new : Slots) (bound : ℕ) (ok : IsForest slots 
       by_case (Some rest) e =
           here q rest e ∙ ap (λ o. through o (files_of_slot trees new rest)) stands ∙ entry rest ∙ sym (below_put (leaf_in s) [] q rest e)
 
-  -- a tree that is put into the slot, with one entry alone at the end of its names, where no folder stood
+  -- a tree that is put into the slot, with one entry alone at the end of its names, where there was no folder
   pub lays : (c : ℕ) (leaf : Leaf) (next : Bytes) (more : Path) → child_of (new j name) ≡ Some c
       → ((m : Bytes) (rest : Path) → files_of_node trees new c (m ∷ rest) ≡ put_at trees leaf (behind (next ∷ more) (m ∷ rest)) None)
       → ((m : Bytes) (rest : Path) → through (slots j name) (files_of_slot trees slots (m ∷ rest)) ≡ None)

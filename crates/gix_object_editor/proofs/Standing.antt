@@ -1,4 +1,4 @@
--- What stands at a path's end, where an edit finds it, and that some edits find nothing to change.
+-- What is at a path's end, where an edit finds it, and that some edits find nothing to change.
 use Rattle.std.proofs.Common.{ℕ, ◌≡◌, ◌≢◌, ◌<◌, ◌≤◌, ◌+◌, ◌⊎◌, inl, inr, List, false, [], ◌∷◌, Option, Some, None, refl, sym, ap, subst, ◌∙◌, arith, length, drop, get_or, if◌then◌else◌}
 use Rattle.std.specs.Borrow.{Bor}
 use Rattle.std.proofs.lemmas.List.{get_or-map}
@@ -71,7 +71,7 @@ module _ (old new : Slots) (links : (i : ℕ) (m : Bytes) (c : ℕ) → child_of
       by_child deeper None is h = absurd (cc h)
       by_child deeper (Some k) is h = ap (λ o. through o (λ j. slot_over new j (m ∷ rest))) (ap child_of (links i n k is) ∙ is) ∙ deeper k h
 
--- no slot stands below what is no folder
+-- no slot is below what is no folder
 no_slot : (slots : Slots) (o : Option Slot) (p : Path) (s : Slot) → IsNoFolder o → through (child_of o) (λ c. slot_over slots c p) ≡ Some s → ⊥
 no_slot slots None p s plain e = cc e
 no_slot slots (Some u) p s plain e = let none = ap (λ k. through (child_or k (λ c. Some c) None) (λ c. slot_over slots c p)) (plain u refl).0 in cc (sym none ∙ e)
@@ -86,7 +86,7 @@ module _ (honest : Type 0) (table : Table) (old mid : Slots) (bound more : ℕ) 
       ∙ ap (entry_from blocked trees mid 0) (ap (onto leads.0) (sym is) ∙ leads.2)
       ∙ opened.entries h trees has blocked path 0 ok.rooted
 
-  -- no entry stands there
+  -- no entry is there
   pub nothing_there : (blocked : Leaf → Option Leaf) → (left ≢ [] → IsNoFolder (mid at name) × ((leaf : Leaf) → blocked leaf ≢ None)) → honest → (trees : Trees) → HasStored table trees
       → entry_from blocked trees old 0 path ≡ None → mid at name ≡ None
   nothing_there blocked plain h trees has none = free_slot blocked trees mid left (mid at name) plain (here blocked h trees has ∙ none)
@@ -96,7 +96,7 @@ module _ (honest : Type 0) (table : Table) (old mid : Slots) (bound more : ℕ) 
   nothing_idle now blocked plain h trees has none = subst (IsIdle now) (sym (nothing_there blocked plain h trees has none)) tt
 
   module _ (was now : Marks) (marks : AreMarksKept false old mid was now bound more) (plain : left ≢ [] → IsNoFolder (mid at name)) where
-    -- no more than a made folder stands there
+    -- no more than a made folder is there
     pub made_there : (s : Slot) → slot_over old 0 path ≡ Some s → IsMade was s → IsIdle now (mid at name)
     made_there s stands made = at_end left plain below
       where
@@ -116,7 +116,7 @@ module _ (honest : Type 0) (table : Table) (old mid : Slots) (bound more : ℕ) 
         at_end [] h e = subst (IsIdle now) (sym e) (made.0, made.1, made.2, ap (λ (m : Mark). m.changed) (marks.same made.0 early) ∙ made.3)
         at_end (n ∷ l) h e = absurd (no_slot mid (mid at name) (n ∷ l) s (h (λ x. cc x)) e)
 
-    -- this entry stands there, and no tree was opened for it
+    -- this entry is there, and no tree was opened for it
     pub already_there : ((m : Bytes) (c : ℕ) → child_of (mid at m) ≡ Some c → c < bound) → honest → (trees : Trees) → HasStored table trees → (leaf : Leaf)
         → entry_from (λ l. None) trees old 0 path ≡ Some leaf → (((j : ℕ) × LeadsTo old path j []) → ⊥) → (left ≡ []) × IsEntry (mid at name) leaf
     already_there before h trees has leaf stands closed = at_end left plain refl (mid at name) refl (here (λ l. None) h trees has ∙ stands)

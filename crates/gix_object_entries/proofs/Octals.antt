@@ -86,7 +86,7 @@ drop_set [] k v within = absurd (omega arith)
 drop_set (x ∷ xs) zero v within = refl
 drop_set (x ∷ xs) (suc k) v within = let less : k < length xs = omega arith in drop_set xs k v less
 
--- the last digit of what is left is written before those behind it
+-- the last digit of what is left is written before those after it
 pub write_digit : (k rest number : ℕ) (bytes : List ℕ) → k < length bytes → digits_onto (58 + suc k) 8 false rest (drop (suc k) bytes) ≡ digits 8 false number → 0 < rest / 8
     → digits_onto (58 + k) 8 false (rest / 8) (drop k (slice_set bytes k (48 + rest % 8))) ≡ digits 8 false number
 write_digit k rest number bytes within old more =

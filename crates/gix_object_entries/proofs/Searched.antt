@@ -49,11 +49,11 @@ index_by a b key Less e less = low (digits_cmp a key) (ordering_index (digits_cm
 index_by a b key Equal e less = low (digits_cmp a key) (ordering_index (digits_cmp b key)) (subst (λ t. digits_cmp a t ≡ Less) (one_key b key e) less)
 index_by a b key Greater e less = let t = top (digits_cmp a key) in let g = ap ordering_index e in omega arith
 
--- of two keys in order, the second isn't before a third where the first is behind it
+-- of two keys in order, the second isn't before a third if the first is after it
 index_rises : (a b key : List ℕ) → digits_cmp a b ≡ Less → ordering_index (digits_cmp a key) ≤ ordering_index (digits_cmp b key)
 index_rises a b key = index_by a b key (digits_cmp b key) refl
 
--- a name and whether it is a tree's tell the key
+-- a name and whether it is a tree's determine the key
 pub key_named : (item : Item) (name : List ℕ) (of_tree : Bool) → IsNamed name of_tree item → item_key item ≡ git_key name of_tree
 key_named item name of_tree is = ap (git_key item.name) is.1 ∙ ap (λ n. git_key n of_tree) is.0
 
@@ -125,7 +125,7 @@ other_named items at one name of_tree within is key differs ordered = λ k d bel
     same_item : (k : ℕ) (d e : Item) → k < length items → get_or items k d ≡ get_or items k e
     same_item k d e below = let found = element (λ (i : Item). i) items k below in found.1 d ∙ sym (found.1 e)
 
--- ---- what a test of an option tells
+-- ---- what a test of an option returns
 
 pub none_of : {Q : Type 0} (o : Option ℕ) → is_some o ≡ false → IfNone o Q → Q
 none_of None none q = q

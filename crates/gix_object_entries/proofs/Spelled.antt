@@ -34,7 +34,7 @@ one_id bytes a b one other =
     let make : Kind → List ℕ → Id = λ kind digits. record { kind = kind; digits = digits } in
     ap (λ k. make k a.digits) (byte_len-injective a.kind b.kind (sym one.whole ∙ other.whole)) ∙ ap (make b.kind) (sym one.digits ∙ other.digits)
 
--- two cuts behind as many bytes
+-- two cuts after as many bytes
 one_front : (a b c d : List ℕ) → length a ≡ length c → a ++ b ≡ c ++ d → (a ≡ c) × (b ≡ d)
 one_front [] b [] d long e = (refl, e)
 one_front [] b (y ∷ c) d long e = absurd (omega arith)

@@ -1,4 +1,4 @@
--- Trees are told by their bytes, and their bytes by them.
+-- Trees are determined by their bytes, and their bytes by them.
 use Rattle.std.proofs.Common.{◌≡◌, ◌∙◌, ap, refl, sym, subst, ℕ, suc, zero, ◌<◌, ◌≤◌, Bool, true, false, ◌||◌, List, [], ◌∷◌, ◌++◌, length, map, None, append_assoc, eqb-true, codes, if◌then◌else◌, arith}
 use Rattle.std.specs.Prelude.{IsTrue, ◌==◌, ◌&&◌, slice_index}
 use Rattle.std.specs.Str.Parse.{IsNumeral}

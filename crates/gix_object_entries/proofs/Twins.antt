@@ -34,7 +34,7 @@ all_more P items at one within is old new = λ k d below.
 
 -- ---- order
 
--- the last of entries in order, and one that comes behind it
+-- the last of entries in order, and one that comes after it
 before_by : (items : List Item) (at k : ℕ) (last one d : Item) → (k < at) ⊎ (at ≤ k) → k < at + 1 → at + 1 < length items → get_or items at last ≡ last
     → IsInOrder (take (at + 1) items) → ComesBefore last one → ComesBefore (get_or items k d) one
 before_by items at k last one d (inl before) below within is ordered next =

@@ -25,7 +25,7 @@ use Rattle.std.proofs.lemmas.Bool.{or_parts}
 pub raw_of : (bytes : List ℕ) (id : Id) → IsBytesOf bytes id → bytes ≡ raw_bytes id
 raw_of bytes id is = sym (bytes_from-digits_of bytes) ∙ ap bytes_from is.digits
 
--- the element at a place, between those before and those behind
+-- the element at a place, between those before and those after
 pub cut_at : {T : Type 0} (item : T → Item) (xs : List T) (at : ℕ) (x : T) → at < length xs → x ≡ get_or xs at x → map item xs ≡ map item (take at xs) ++ item x ∷ map item (drop (suc at) xs)
 cut_at item xs at x below is =
     ap (map item) (split_at xs at x below) ∙ map-append item (take at xs) (get_or xs at x ∷ drop (suc at) xs)

@@ -23,11 +23,11 @@ space_end : (byte : ℕ) (name : List ℕ) → (32 ≡ byte → ⊥) → Lacks b
 space_end byte name other l = lacks_both byte name (32 ∷ []) l (lacks_cons byte 32 [] other refl)
 
 module _ (line name email rest : List ℕ) (is : IsCut line name email rest) where
-  -- the first `<` stands behind the name and a space
+  -- the first `<` is after the name and a space
   pub front_is : (front back : List ℕ) → line ≡ front ++ 60 ∷ back → Lacks 60 front → (front ≡ name ++ 32 ∷ []) × (back ≡ email ++ 62 ∷ (32 ∷ rest))
   front_is front back cut lacks = cut_once 60 front back (name ++ 32 ∷ []) (email ++ 62 ∷ (32 ∷ rest)) lacks (space_end 60 name (λ e. omega arith) is.first) (sym cut ∙ is.spelled ∙ shape name email rest)
 
-  -- the last `>` stands behind the email
+  -- the last `>` is after the email
   pub email_is : (back other behind : List ℕ) → back ≡ email ++ 62 ∷ (32 ∷ rest) → back ≡ other ++ 62 ∷ behind → Lacks 62 behind → (other ≡ email) × (behind ≡ 32 ∷ rest)
   email_is back other behind whole cut lacks = cut_last_once 62 other behind email (32 ∷ rest) lacks (lacks_cons 62 32 rest (λ e. omega arith) is.last) (sym cut ∙ whole)
 
@@ -90,7 +90,7 @@ line_parts name email time seconds offset p q =
     regroup : (a b c d e : List ℕ) → a ++ (b ++ (c ++ (d ++ e))) ≡ a ++ b ++ c ++ d ++ e
     regroup a b c d e = simp append_assoc
 
--- where reading fails, the text tells no time
+-- if reading fails, the text is no time
 pub untold : {E : Type 0} (read text : List ℕ) (fault : E) → read ≡ text → ((time : Time) → SpellsTime read time → ◌≡◌ {A = Result Time E} (Err fault) (Ok time)) → TellsTime text → ⊥
 untold read text fault same every told = differ fault told.0 (every told.0 (subst (λ t. SpellsTime t told.0) (sym same) told.1))
   where

@@ -31,7 +31,7 @@ cut_last_once byte (x ∷ front) rest (y ∷ front') rest' l l' e =
     let later = cut_last_once byte front rest front' rest' l l' tails in
     (ap (λ b. b ∷ front) heads ∙ ap (λ t. y ∷ t) later.0, later.1)
 
--- where it stands, the text doesn't lack it
+-- if the byte is there, the text doesn't lack it
 pub lacks_at : (byte : ℕ) (text : List ℕ) (at : ℕ) → at < length text → Lacks byte text → slice_index text at ≡ byte → ⊥
 lacks_at byte text at below l is = lacks_not byte (take at text) (drop (at + 1) text) (ap (list_any (λ other. other == byte)) (sym (cut_at byte text at below is)) ∙ l)
 

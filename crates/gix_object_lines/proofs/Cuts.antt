@@ -7,14 +7,14 @@ use Rattle.std.proofs.lemmas.Bool.{ne_eqb, eqb-false, or_parts}
 use Rattle.std.proofs.lemmas.List.{take-append-drop, get_or-take}
 use Rattle.gix_object_lines.specs.Bytes.{Lacks}
 
--- where it stands at no place, it doesn't stand
+-- if the byte is at no place, the text lacks it
 pub lacks_from : (byte : ℕ) (text : List ℕ) → ((k : ℕ) → k < length text → slice_index text k ≡ byte → ⊥) → Lacks byte text
 lacks_from byte [] nowhere = refl
 lacks_from byte (x ∷ text) nowhere =
     ap (λ b. b || list_any (λ other. other == byte) text) (ne_eqb x byte (nowhere 0 (omega arith)))
     ∙ lacks_from byte text (λ k below. nowhere (suc k) (omega arith))
 
--- what stands before and behind a place
+-- what is before and after a place
 pub cut_at : (byte : ℕ) (text : List ℕ) (at : ℕ) → at < length text → slice_index text at ≡ byte → text ≡ take at text ++ byte ∷ drop (at + 1) text
 cut_at byte text at below is =
     let next : suc at ≡ at + 1 = omega arith in

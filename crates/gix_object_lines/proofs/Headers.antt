@@ -29,7 +29,7 @@ pub header_cut : (word digits content : List ℕ) → (word ++ 32 ∷ digits ++ 
 header_cut word digits content =
     append_assoc (word ++ 32 ∷ digits) (0 ∷ []) content ∙ append_assoc word (32 ∷ digits) (0 ∷ content)
 
--- how much stands before a content
+-- how much comes before a content
 pub length_before : (front content : List ℕ) → length (front ++ content) - length content ≡ length front
 length_before front content = omega (arith, length-append front content)
 
@@ -63,7 +63,7 @@ behind kind size input content whole =
     let left : drop (length input - length content) input ≡ content = ap (λ i. drop (length i - length content) i) whole ∙ content_behind (header_text kind size) content in
     whole ∙ ap (λ t. header_text kind size ++ t) (sym left)
 
--- what was read is what stands there
+-- what was read is what is there
 pub same_header : {E : Type 0} (kind k : Kind) (size n : ℕ) (input content : List ℕ) → size < 2 ^ 64 → n < 2 ^ 64 → input ≡ header_text kind size ++ content → kind_word k ≡ kind_word kind → decimal n ≡ decimal size
     → ◌≡◌ {A = Result (Kind × ℕ × ℕ) E} (Ok (k, n, length input - length content)) (Ok (kind, size, length (header_text kind size)))
 same_header kind k size n input content fits fits' whole words digits =

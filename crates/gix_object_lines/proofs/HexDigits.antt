@@ -95,7 +95,7 @@ id_of_spelled text id is = is_id_of_hex id.kind text (is.whole, digits_are_hex t
 pub spells_none : (text : List ℕ) → ¬ (is_id text ≡ true) → (id : Id) → ¬ IsHexOfId text id
 spells_none text none id is = none (id_of_spelled text id is)
 
--- ---- what is no digit doesn't stand in them
+-- ---- what is no digit isn't in them
 
 hex_lacks : (byte : ℕ) (text : List ℕ) → is_ascii_hexdigit byte ≡ false → is_hex text ≡ true → Lacks byte text
 hex_lacks byte [] none hex = refl

@@ -1,4 +1,4 @@
--- Where a part stands in a name.
+-- Where a part of a name is.
 use Rattle.std.proofs.Common.{◌≡◌, ◌∙◌, ap, refl, sym, ℕ, ◌+◌, ◌<◌, List, ◌++◌, length, take, drop, length-append, Option, Some, None, true, arith}
 use Rattle.std.specs.Prelude.{is_some}
 use Rattle.std.proofs.lemmas.List.{take-append-drop, drop_at}

@@ -1,4 +1,4 @@
--- Which bytes stand in a decimal number.
+-- Which bytes a decimal number has.
 use Rattle.std.proofs.Common.{ℕ, ◌+◌, ◌%◌, ◌<◌, ◌^◌, [], ◌∷◌, ◌||◌, false, ap, ◌∙◌, arith}
 use Rattle.std.specs.Prelude.{◌==◌, decimal}
 use Rattle.std.specs.List.{list_any}

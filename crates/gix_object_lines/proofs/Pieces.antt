@@ -1,4 +1,4 @@
--- Pieces that are written one behind the other.
+-- Pieces that are written one after the other.
 use Rattle.std.proofs.Common.{◌≡◌, ◌∙◌, ap, refl, sym, subst, ℕ, List, [], ◌∷◌, ◌++◌, ◌<◌, ◌≤◌, ◌+◌, suc, length, map, take, drop, get_or, append_assoc, append-nil, length-append, arith}
 use Rattle.std.specs.Prelude.{Option, None, Some, Result, Ok, Err}
 use Rattle.std.proofs.KnownBytes.{Appends-trans}
@@ -41,7 +41,7 @@ reach_from before x (piece ∷ ps) = by_cause (reach_from (before ++ piece.text)
           ap cause_of (here (x ++ before)) ∙ ap cause_of (sym (here before)),
         )
 
--- pieces behind those that are all written
+-- pieces after those that are all written
 after_all : (before : List ℕ) (ps qs : List Piece) → cause_of (first_refused before ps) ≡ None → first_refused before (ps ++ qs) ≡ first_refused (before ++ pieces_text ps) qs
 after_all before [] qs none = ap (λ b. first_refused b qs) (sym (append-nil before))
 after_all before (piece ∷ ps) qs none = by_cause (after_all (before ++ piece.text) ps qs) piece.cause refl
@@ -53,7 +53,7 @@ after_all before (piece ∷ ps) qs none = by_cause (after_all (before ++ piece.t
         ap (λ c. refused_or c before (first_refused (before ++ piece.text) (ps ++ qs))) is ∙ later none' ∙ ap (λ b. first_refused b qs) (append_assoc before piece.text (pieces_text ps))
     by_cause later (Some cause) is = absurd (let clash : Some cause ≡ None = sym (ap (λ c. cause_of (refused_or c before (first_refused (before ++ piece.text) ps))) is) ∙ none in cc)
 
--- pieces behind a refused one say nothing
+-- pieces after a refused one say nothing
 after_refused : (before : List ℕ) (ps qs : List Piece) (r : Refusal) → first_refused before ps ≡ Some r → first_refused before (ps ++ qs) ≡ Some r
 after_refused before [] qs r is = absurd cc
 after_refused before (piece ∷ ps) qs r is = by_cause (after_refused (before ++ piece.text) ps qs r) piece.cause refl
@@ -114,7 +114,7 @@ module _ (a b : Option (List ℕ)) (ps qs : List Piece) where
   pieces_stop (TagName error) w = refused_whole a b ps qs (TagName error) w
   pieces_stop (Filename error) w = refused_whole a b ps qs (Filename error) w
 
--- ---- pieces in a loop, behind those before it
+-- ---- pieces in a loop, after those before it
 
 module _ {X Y : Type 0} (first : List Piece) (f : Y → Piece) (h : X → Y) (xs : List X) (i : ℕ) (d : X) (below : i < length xs) where
   abbrev done : List Piece

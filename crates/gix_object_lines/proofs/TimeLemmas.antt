@@ -62,7 +62,7 @@ module _ (text : List ℕ) where
   offset_once y z (Behind h m _ _ spelled is) (Ahead h' m' _ _ spelled' is') = let signs : ◌≡◌ {A = ℕ} 45 43 = ap (λ t. get_or t 0 0) (sym spelled ∙ spelled') in absurd (omega arith)
   offset_once y z (Behind h m _ _ spelled is) (Behind h' m' _ _ spelled' is') = is ∙ ap (λ n. neg_ℤ (pos n)) (clock_once h m h' m' 45 (sym spelled ∙ spelled')) ∙ sym is'
 
--- no byte but a digit or `-` stands in seconds
+-- seconds have no byte but digits and `-`
 pub seconds_lack : (byte : ℕ) (text : List ℕ) (z : ℤ) → (45 ≡ byte → ⊥) → ((d : ℕ) → IsInRange 48 57 d → d ≡ byte → ⊥) → SpellsSeconds text z → Lacks byte text
 seconds_lack byte text z no_sign none (Since numeral is) = digits_lack byte text none numeral.1
 seconds_lack byte text z no_sign none (Before digits spelled numeral is) =
@@ -71,7 +71,7 @@ seconds_lack byte text z no_sign none (Before digits spelled numeral is) =
 time_same : (a b : Time) → a.seconds ≡ b.seconds → a.offset ≡ b.offset → a ≡ b
 time_same a b p q = λ i. record { seconds = p i; offset = q i }
 
--- the first space is the one behind the seconds
+-- the first space is the one after the seconds
 pub front_is : (text : List ℕ) (time : Time) (spells : SpellsTime text time) → (front back : List ℕ) → text ≡ front ++ 32 ∷ back → Lacks 32 front → (spells.front ≡ front) × (spells.back ≡ back)
 front_is text time spells front back cut lacks =
     cut_once 32 spells.front spells.back front back (seconds_lack 32 spells.front time.seconds (λ e. cc) (λ d r e. omega arith) spells.seconds) lacks (sym spells.spelled ∙ cut)

@@ -76,7 +76,7 @@ module _ (honest : Type 0) (table : Table) where
       (follows_on (Some start) along.front (texts (drop at path)) item (Some item) along.leads
       (subst (λ names. Follows honest table (Some item) names (Some item)) (sym end) refl))
 
-  -- a reader of the content that stands under an entry's id
+  -- a reader of the content that is stored under an entry's id
   pub named_by : (item : Item) (tree : Place) (id : Id) → id ≡ item.id
       → (honest → (content : List ℕ) × Stands table id kinds.Tree content × (tree ≡ start id.kind content))
       → IsNamedBy honest table item tree
@@ -92,7 +92,7 @@ module _ (honest : Type 0) (table : Table) where
   below_here item name tree found is named first =
       subst (λ b. MatchBool b ((t : Place) × IsNamedBy honest table item t × FindsFirst t name found) (found ≡ None)) (sym is) (tree, named, first)
 
--- ---- why none is told
+-- ---- why none is returned
 
 module _ (honest may_fail : Type 0) (table : Table) where
   pub below_fault : (item : Item) (name : List ℕ) (tree : Place) (error : Error) → IsTrue (is_tree item)

@@ -61,7 +61,7 @@ behind_none [] before = refl
 behind_none (b ∷ text) before =
     behind_other b text (before 0 (omega arith)) ∙ behind_none text (λ k low. before (suc k) (omega arith))
 
--- ---- what `memmem::find` tells
+-- ---- what `memmem::find` returns
 
 begins_from : (front text : List ℕ) (at : ℕ) → OccursAt text front at → take (length front) (drop at text) ≡ front
 begins_from front text at occurs =
@@ -116,7 +116,7 @@ short_first text at occurs no_short no_long =
       sym (behind_short text at before here ∙ drop-drop 2 at text),
     )
 
--- both can't stand at one place
+-- both can't be at one place
 pub long_first : (text : List ℕ) (at : ℕ) → OccursAt text long_break at → Absent text short_break (at + 1) → Absent text long_break at → (take at text ≡ title_of text) × (drop (at + 4) text ≡ behind_title text)
 long_first text at occurs no_short no_long =
     let before = none_before text at (within text short_break (at + 1) at (omega arith) no_short) no_long in
@@ -131,7 +131,7 @@ no_break text no_short no_long =
     let before = none_before text (length text) (within text short_break _ _ (omega arith) no_short) (within text long_break _ _ (omega arith) no_long) in
     (sym (title_whole text before), sym (behind_none text before))
 
--- where LF LF stands, CR LF CR LF doesn't
+-- where LF LF is, CR LF CR LF isn't
 pub apart : (text : List ℕ) (at : ℕ) → OccursAt text short_break at → OccursAt text long_break at → ⊥
 apart text at short long =
     let low : 0 < length short_break = omega arith in
@@ -149,7 +149,7 @@ occurs_in text front other back is =
       reads = at_reads 0 text other (length front) back behind;
     }
 
--- neither break stands at this place
+-- neither break is at this place
 absent_break : (text : List ℕ) (at k : ℕ) → Absent text short_break at → Absent text long_break at → (other : List ℕ) → IsBreak other → k < at → OccursAt text other k → ⊥
 absent_break text at k no_short no_long other (inl short) low occurs = no_short k low (subst (λ b. OccursAt text b k) short occurs)
 absent_break text at k no_short no_long other (inr long) low occurs = no_long k low (subst (λ b. OccursAt text b k) long occurs)

@@ -87,7 +87,7 @@ module _ (slots : Slots) (base : Path) (bound : ℕ) (ok : IsForest slots bound)
         sym (files_below trees slots path i (name ∷ rest) to)
         ∙ no_entry slots bound ok ids handed base i done (λ x h. All-contains (λ (t : HandedOut). is_null t.id ≡ false) handed x some h) trees rest i items name le (way, w) tree.entries none
 
-    -- a tree that is handed out behind those of greater numbers
+    -- a tree that is handed out after those of greater numbers
     pub is_next : (id : Id) → IsHandedOut slots handed (record { path = path; items = items; id = id })
     is_next id =
         let to : LeadsTo slots path i [] = (way ++ base, w, leads) in

@@ -48,7 +48,7 @@ some_child j m (x ∷ es) e = elim (by_test (is_named m x.0)) [
     or_true true = refl
     or_true false = refl
 
--- a slot behind the first is found by its name as well
+-- a slot after the first is found by its name as well
 pub found_later : (m : Bytes) (x : Key × Slot) (es : List (Key × Slot)) (s : Slot) → IsDistinct (eq_by_cmp key_cmp) (keys_of (x ∷ es)) → lookup (is_named m) es ≡ Some s → lookup (is_named m) (x ∷ es) ≡ Some s
 found_later m x es s apart e = elim (by_test (is_named m x.0)) [
   | inl t ↦
@@ -91,7 +91,7 @@ pub or_none : (a b : Bool) → (a || false) ≡ b → a ≡ b
 or_none true b e = e
 or_none false b e = e
 
--- a mark that is set stands for the first slot
+-- a mark that is set counts for the first slot
 pub marked : (marks : List Bool) (j c : ℕ) (child : Option NodeId) (rest : Bool) → child_or child (λ c. Some c) None ≡ Some c → c < length marks
     → (get_or (slice_set marks c true) j false || rest) ≡ (get_or marks j false || (child_or child (λ c. c == j) false || rest))
 marked marks j c None rest e lt = absurd (cc e)

@@ -67,7 +67,7 @@ set_others nodes j d new name lt same i m off = elim (cases_eq i j) [
   | inr ne ↦ set_other nodes j i new m ne
 ]
 
--- ---- nodes behind the others
+-- ---- nodes after the others
 
 pub front_kept : (nodes more : List Node) (i : ℕ) (m : Bytes) → i < length nodes → slots_of (nodes ++ more) i m ≡ slots_of nodes i m
 front_kept [] more i m lt = absurd (omega arith)

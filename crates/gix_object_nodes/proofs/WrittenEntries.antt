@@ -83,7 +83,7 @@ named_itself k = is_eq-slice_cmp k.items k.items ∙ name_itself k.items
 named_apart : (name : Bytes) (k : Key) → is_named name k ≡ false → bytes_eq name k.items ≡ false
 named_apart name k e = sym (is_eq-slice_cmp name k.items) ∙ e
 
--- a key that no other is equal to isn't found behind it
+-- a key that no other is equal to isn't found after it
 pub none_later : (k : Key) (m : Bytes) → m ≡ k.items → (es : List (Key × Slot)) → AllByRecursion (λ y. eq_by_cmp key_cmp k y ≡ false) (keys_of es) → lookup (is_named m) es ≡ None
 none_later k m e [] h = refl
 none_later k m e (x ∷ es) h = ap (λ b. cond b (Some x.1) (lookup (is_named m) es)) (ap (λ n. is_named n x.0) e ∙ h.0) ∙ none_later k m e es h.1
@@ -122,7 +122,7 @@ module _ (ids : Ids) where
         ∙ sym (ap (λ b. through (cond b (Some e.1) (lookup (is_named m) es)) (written_item ids m)) f)
   ]
 
-  -- ---- names stand once
+  -- ---- names are there once
 
   one_apart : (name : Bytes) (o : Option Item) (xs : List Item) → ((item : Item) → o ≡ Some item → bytes_eq name item.name ≡ false)
       → AllByRecursion (λ y. bytes_eq name y ≡ false) (map (λ (x : Item). x.name) xs) → AllByRecursion (λ y. bytes_eq name y ≡ false) (map (λ (x : Item). x.name) (cons_option o xs))
@@ -199,7 +199,7 @@ named_at (y ∷ xs) (suc k) x apart lt is =
 pub contained_named : (xs : List Item) (x : Item) → IsDistinct bytes_eq (map (λ (x : Item). x.name) xs) → Contains xs x → named x.name xs ≡ Some x
 contained_named xs x apart h = named_at xs h.0 x apart h.1 h.2
 
--- the same where the names stand once in the sense of trees
+-- the same if the names are there once in the sense of trees
 pub once_named : (xs : List Item) → HasNamesOnce xs → (x : Item) → Contains xs x → named x.name xs ≡ Some x
 once_named xs once x h = by_place xs once x h.0 h.1 h.2
   where

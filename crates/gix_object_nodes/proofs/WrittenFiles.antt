@@ -130,7 +130,7 @@ module _ (slots : Slots) (bound : ℕ) (ok : IsForest slots bound) (ids : Ids) (
           let le : at ≤ c.0 = omega arith in
           later c.0 le to (unwritten name c.0 more (ok.within j name c.0 is) to (ids c.0) refl none)
 
-  -- no file stands below a name without an entry
+  -- no file is below a name without an entry
   pub no_entry : (rest : Path) (j : ℕ) (items : List Item) (name : Bytes) → at ≤ j → IsReached slots base j → HasEntries ids (slots j) items → named name items ≡ None → files_of_node trees slots j (name ∷ rest) ≡ None
   no_entry [] j items name from reached e none = none_in_slot [] (λ c le to empty. refl) j name from reached (slots j name) refl (sym (e name) ∙ none)
   no_entry (m ∷ rest) j items name from reached e none =

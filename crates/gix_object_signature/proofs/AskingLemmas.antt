@@ -1,4 +1,4 @@
--- What a runner was asked, from the words that it was handed.
+-- What the request to a runner was, from the words that it got.
 use Rattle.std.proofs.Common.{◌≡◌, List, ℕ, map, subst, Result}
 use Rattle.gix_object_signature.specs.Asking.{Asks, Answered, told}
 use Rattle.gix_object_signature.specs.Run.{Argument, Request, argument_of, request_of}

@@ -1,4 +1,4 @@
--- When the time of signing can't be told.
+-- When the time of signing can't be given.
 use Rattle.std.proofs.Common.{◌≡◌, ◌⊎◌, inl, inr, ℕ, ℤ, pos, List, refl, subst}
 use Rattle.std.specs.Prelude.{Option, Some, Result, Ok, Err}
 use Rattle.std.specs.Result.{result_ok}

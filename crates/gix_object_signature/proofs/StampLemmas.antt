@@ -15,7 +15,7 @@ late_day : (d : Date) → d.year <ℤ pos 1970 → epoch_day d <ℤ pos 0
 late_day d early =
     omega (arith, signed_arith, days_from_civil-day_count d.year d.month d.day, day_count-lt_year d.year d.month d.day (pos 1970) 1 1 (civil d) (omega arith) early, day_count-epoch)
 
--- no second behind the first of 1970 is of an earlier year
+-- no second after the first of 1970 is of an earlier year
 pub late_year : (moment : DateTime) → pos 0 <ℤ civil_nanos moment → pos 1970 ≤ℤ moment.date.year
 late_year moment late =
     by_lt_z moment.date.year (pos 1970)

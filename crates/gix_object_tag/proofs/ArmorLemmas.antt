@@ -19,7 +19,7 @@ feed_at text front signature other whole ends =
 one_more : (front other : List ℕ) → front ≡ other ++ 10 ∷ [] → length front ≡ length other + 1
 one_more front other ends = omega (arith, ap length ends, length-append other (10 ∷ []))
 
--- with no line feed from `past` on and below `end`, no armor begins behind `past` and up to `end`
+-- with no line feed from `past` on and below `end`, no armor begins after `past` and up to `end`
 pub none_behind : (text : List ℕ) (past end : ℕ) → ((j : ℕ) → past ≤ j → j < end → slice_index text j ≡ 10 → ⊥)
     → (front signature : List ℕ) → IsArmored text front signature → length front ≤ end → length front ≤ past
 none_behind text past end nowhere front signature armored below = by_start armored.line_begins
@@ -32,16 +32,16 @@ none_behind text past end nowhere front signature armored below = by_start armor
     by_start (inl none) = omega (arith, ap length none)
     by_start (inr ends) = by_place ends.0 ends.1 (cases_lt (length ends.0) past)
 
--- what stands behind a front of this length
+-- what follows a front of this length
 pub behind_front : (text front signature : List ℕ) (at : ℕ) → text ≡ front ++ signature → length front ≡ at → signature ≡ drop at text
 behind_front text front signature at whole is = sym (ap (drop at) whole ∙ drop_at front signature at is)
 
--- no armor begins at a place where none stands
+-- no armor begins at a place where there is none
 pub not_at : (text : List ℕ) (at : ℕ) → BeginsNoArmor (drop at text) → (front signature : List ℕ) → IsArmored text front signature → length front ≡ at → ⊥
 not_at text at none front signature armored is =
     none armored.format (subst (λ t. BeginsArmor t armored.format) (behind_front text front signature at armored.spelled is) armored.armor)
 
--- nor behind it
+-- nor after it
 pub none_from : (text : List ℕ) (at : ℕ) → BeginsNoArmor (drop (at + 1) text) → (front signature : List ℕ) → IsArmored text front signature → length front ≤ at + 1 → length front ≤ at
 none_from text at none front signature armored below = by (eq-or-lt_of_le below)
   where
@@ -49,13 +49,13 @@ none_from text at none front signature armored below = by (eq-or-lt_of_le below)
     by (inl is) = absurd (not_at text (at + 1) none front signature armored is)
     by (inr before) = omega arith
 
--- behind a line feed
+-- after a line feed
 pub line_at : (text : List ℕ) (at : ℕ) → at < length text → slice_index text at ≡ 10 → take (at + 1) text ≡ take at text ++ 10 ∷ []
 line_at text at below is =
     let next : at + 1 ≡ suc at = omega arith in
     ap (λ n. take n text) next ∙ take-suc text at 0 below ∙ ap (λ b. take at text ++ b ∷ []) is
 
--- a search backwards over what stands before `end`
+-- a search backwards over what comes before `end`
 pub nowhere_behind : (text : List ℕ) (end at : ℕ) → end ≤ length text → ((k : ℕ) → at ≤ k → k < length (take end text) → (slice_index (take end text) k == 10) ≡ true → ⊥)
     → (j : ℕ) → at ≤ j → j < end → slice_index text j ≡ 10 → ⊥
 nowhere_behind text end at within nowhere j from below is =

@@ -13,7 +13,7 @@ use Rattle.gix_object_lines.specs.NameTest.{begins}
 use Rattle.gix_object_tag.specs.Signature.{IsArmored, IsSigned, IsUnsigned}
 use Rattle.gix_object_lines.proofs.NameTests.{begins-Decides}
 
--- ---- armors at the start, and behind
+-- ---- armors at the start, and after
 
 abbrev Armored : List ℕ → Type 0
 Armored text = (format : Format) × BeginsArmor text format

@@ -1,4 +1,4 @@
--- What is left of a tag behind some of its parts.
+-- What is left of a tag after some of its parts.
 use Rattle.std.proofs.Common.{◌≡◌, ◌∙◌, ap, refl, sym, subst, ℕ, ◌<◌, Bool, true, false, ◌||◌, List, [], ◌∷◌, ◌++◌, length, take, append_assoc, Option, Some, None, arith}
 use Rattle.std.specs.Prelude.{codes, ◌≢◌}
 use Rattle.std.proofs.Math.Seq.{take-append_seam}
@@ -36,7 +36,7 @@ IsFrom kind at.Name input = IsFromName input
 IsFrom kind at.Tagger input = IsFromTagger input
 IsFrom kind at.Body input = IsBody input
 
--- the name has been told
+-- the name has come
 abbrev pub is_named : Stage → Bool
 is_named at.Target = false
 is_named at.TargetKind = false
@@ -74,7 +74,7 @@ after_tagger input None after (Some t) after' a b = absurd (a.1 (b.text ++ 10 �
 after_tagger input (Some t) after None after' a b = absurd (b.1 (a.text ++ 10 ∷ after, a.line.spelled))
 after_tagger input (Some t) after (Some t') after' a b = (one_line (codes "tagger ") input a.text after b.text after' a.line b.line).1
 
--- ---- a part behind which a tag goes on
+-- ---- a part after which a tag goes on
 
 pub step_on : (kind : hash.Kind) (stage : Stage) (input : List ℕ) (part : Part) (after : List ℕ) → IsPartAt kind stage input part after → IsFrom kind stage input → IsFrom kind (stage_after part) after
 step_on kind stage input (Target id) after is from =
@@ -98,7 +98,7 @@ step_back kind stage input (Name name) after is rest = subst (λ s. IsFrom kind 
 step_back kind stage input (Tagger tagger) after is rest = subst (λ s. IsFrom kind s input) (sym is.0) (tagger, after, is.1, rest)
 step_back kind stage input (Body message signature) after is rest = subst (λ s. IsFrom kind s input) (sym is.0) (message, signature, is.1)
 
--- where a tag goes on, a part stands
+-- if a tag goes on, a part is next
 pub has_part : (kind : hash.Kind) (stage : Stage) (input : List ℕ) → IsFrom kind stage input → (part : Part) × (rest : List ℕ) × IsPartAt kind stage input part rest
 has_part kind at.Target input h =
     let id = id_of_hex kind h.0 h.2.hex in
@@ -131,7 +131,7 @@ named_on kind stage input (Name name) after is = ap (λ s. is_named s || true) i
 named_on kind stage input (Tagger tagger) after is = ap (λ s. is_named s || false) is.0
 named_on kind stage input (Body message signature) after is = ap (λ s. is_named s || false) is.0
 
--- ---- fewer tokens come behind a part
+-- ---- fewer tokens come after a part
 
 some_left : (stage : Stage) (input : List ℕ) (n : ℕ) → input ≢ [] → ((byte : ℕ) (rest : List ℕ) → left_of stage (byte ∷ rest) ≡ n) → left_of stage input ≡ n
 some_left stage [] n some is = absurd (some refl)

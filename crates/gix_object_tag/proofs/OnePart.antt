@@ -1,4 +1,4 @@
--- One part stands at a place.
+-- One part is at a place.
 use Rattle.std.proofs.Common.{◌≡◌, ◌∙◌, refl, sym, ℕ, List, [], Option}
 use Rattle.gix_hash_id.specs.Id.{Id}
 use Rattle.gix_hash_id.specs.Views.{IsHexOfId}
@@ -13,7 +13,7 @@ use Rattle.gix_object_tag.specs.declared.tag.ref_iter.Stage.TheVariants as at
 pub one_id : (digits : List ℕ) (a b : Id) → IsHexOfId digits a → IsHexOfId digits b → a ≡ b
 one_id digits a b x y = one_reading a b (sym x.whole ∙ y.whole) (sym x.spelled ∙ y.spelled)
 
--- what stands at a place is of its kind of parts
+-- what is at a place is of its kind of parts
 module _ (kind : hash.Kind) (input rest : List ℕ) where
   pub at_target : (part : Part) → IsPartAt kind at.Target input part rest → (id : Id) × (part ≡ Target id) × ((digits : List ℕ) × SpellsTarget kind input digits rest × IsHexOfId digits id)
   at_target (Target id) h = (id, refl, (h.1.digits, h.1.spelled, h.1.id_spelled))

@@ -158,7 +158,7 @@ tagger_reads (Some tagger) after good tells other =
 
 -- ---- bodies
 
--- an armor behind the whole front begins inside the signature
+-- an armor after the whole front begins inside the signature
 inside : (front signature other rest : List ℕ) → front ++ signature ≡ other ++ rest → length front ≤ length other → (more : List ℕ) × (other ≡ front ++ more) × (signature ≡ more ++ rest)
 inside [] signature other rest e below = (other, refl, e)
 inside (x ∷ front) signature [] rest e below = absurd (omega arith)

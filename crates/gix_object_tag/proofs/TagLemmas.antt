@@ -1,4 +1,4 @@
--- The parts of a tag stand in its bytes in one way.
+-- The parts of a tag lie in its bytes in one way.
 use Rattle.std.proofs.Common.{◌≡◌, ◌∙◌, ap, refl, sym, subst, ℕ, ◌-◌, List, [], ◌∷◌, ◌++◌, length, take, length-append, append_assoc, Option, Some, None, inl, inr, arith}
 use Rattle.std.proofs.Math.Seq.{take-append_seam}
 use Rattle.std.proofs.lemmas.List.{append_cancel_left, append_cancel_right}

@@ -1,4 +1,4 @@
--- The tokens of a tag tell the parts that they are read from.
+-- The tokens of a tag are the parts that they are read from.
 use Rattle.std.proofs.Common.{◌≡◌, ◌≢◌, ◌∙◌, ap, refl, sym, subst, ℕ, true, false, List, [], ◌∷◌, ◌++◌, Option, Some, None}
 use Rattle.std.specs.Prelude.{codes}
 use Rattle.gix_hash_id.specs.Id.{Id}
@@ -14,7 +14,7 @@ use Rattle.gix_object_tag.specs.declared.tag.ref_iter.Stage.TheVariants as at
 use Rattle.gix_object_tag.proofs.Left.{IsFromTarget, IsFrom, is_named, step_on, end_named}
 use Rattle.gix_object_tag.proofs.OnePart.{at_target, at_kind, at_name, at_tagger, at_body}
 
--- the part that stands at a place of this kind and stage
+-- the part that is at a place of this kind and stage
 placed : (kind : hash.Kind) (stage : Stage) (here next : Place) (part : Part) → here.kind ≡ kind → here.stage ≡ stage → IsNext here part next → IsPartAt kind stage here.input part next.input
 placed kind stage here next part same stood is =
     subst (λ s. IsPartAt kind s here.input part next.input) stood (subst (λ k. IsPartAt k here.stage here.input part next.input) same is.1)
@@ -30,7 +30,7 @@ nothing_more : (here there : Place) (parts : List Part) → here.input ≡ [] �
 nothing_more here there [] empty reads = refl
 nothing_more here there (part ∷ parts) empty (next, is, reads) = absurd (is.0 empty)
 
--- ---- behind the tagger
+-- ---- after the tagger
 
 abbrev BodyTold : List ℕ → List Part → Type 0
 BodyTold input parts = (message : List ℕ) × (signature : Option (List ℕ)) × SpellsRest input message signature × TellsBody message signature parts
@@ -42,7 +42,7 @@ told_body here there (part ∷ more) stood (next, next_is, reads) end =
     let last = nothing_more next there more is.4 reads in
     (is.0, is.1, is.3, ABody (ap (λ ts. part ∷ ts) last ∙ ap (λ t. t ∷ []) is.2))
 
--- ---- behind the name
+-- ---- after the name
 
 abbrev TaggerTold : List ℕ → List Part → Type 0
 TaggerTold input parts =

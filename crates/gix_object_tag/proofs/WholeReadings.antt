@@ -1,4 +1,4 @@
--- Readings that end with the name told are those of tags.
+-- Readings with a name that come to the end are those of tags.
 use Rattle.std.proofs.Common.{◌≡◌, ◌∙◌, ap, refl, sym, subst, ℕ, Bool, true, false, ◌||◌, List, [], ◌∷◌}
 use Rattle.std.specs.List.{list_any}
 use Rattle.gix_hash_id.specs.declared.kind.Kind as hash

@@ -14,13 +14,13 @@ use Rattle.gix_object_tree.specs.Loose.{IsLoose, loose_text}
 use Rattle.gix_object_entries.specs.Entry.{Item, SpellsTree}
 use Rattle.gix_object_tree.specs.Object.{Value, Blob, Tree, Commit, Tag, Tells}
 
--- what stands behind one header
+-- what follows one header
 behind : (front head content rest : List ℕ) → front ≡ head → front ++ content ≡ head ++ rest → content ≡ rest
 behind front head content rest same whole =
     sym (drop-append_seam front content) ∙ ap (λ t. drop (length front) t) whole
     ∙ ap (λ f. drop (length f) (head ++ rest)) same ∙ drop-append_seam head rest
 
--- one reading of a header tells one kind and one length
+-- one reading of a header gives one kind and one length
 pub same_cut : {E : Type 0} (input : List ℕ) (r : Result (Kind × ℕ × ℕ) E) (kind other : Kind) (content rest : List ℕ) (m n : ℕ) → r ≡ Ok (kind, length content, m) → r ≡ Ok (other, length rest, n)
     → input ≡ loose_text kind content → input ≡ loose_text other rest → (kind ≡ other) × (content ≡ rest)
 same_cut input r kind other content rest m n one two is is' =

@@ -1,4 +1,4 @@
--- What a call's answer tells, from that of the call below it.
+-- What a call's result means, from that of the call below it.
 use Rattle.std.proofs.Common.{◌≡◌, refl, subst, sym, ℕ, List, Option, Some, Result, Ok, Err}
 use Rattle.std.specs.Prelude.{IsSome}
 use Rattle.gix_hash_id.specs.Id.{Id}

@@ -1,4 +1,4 @@
--- Names that stand twice in a list.
+-- Names that are twice in a list.
 use Rattle.std.proofs.Common.{◌≡◌, ◌≢◌, ◌∙◌, refl, sym, ap, subst, ℕ, zero, suc, ◌+◌, ◌<◌, ◌≤◌, Bool, true, false, cond, List, [], ◌∷◌, map, length, get_or, Option, Some, None, arith}
 use Rattle.std.proofs.lemmas.List.{length-map}
 use Rattle.std.specs.Prelude.{bytes_eq, count_by}
@@ -28,7 +28,7 @@ sorted_now f (x ∷ xs) sorted = λ k d low high.
     let short : k + 1 < length (x ∷ xs) = omega (arith, high, length-map (x ∷ xs) f) in
     (λ i. is_lt (slice_cmp nat_cmp (at f (x ∷ xs) (k + 1) d x short i) (at f (x ∷ xs) k d x (omega (arith, short)) i))) ∙ sorted k x low short
 
--- ---- how often a name stands
+-- ---- how often a name is there
 
 abbrev times : List (List ℕ) → List ℕ → ℕ
 times names name = count_by (λ other. bytes_eq other name) names
@@ -52,7 +52,7 @@ no_less low x h e = clash (sym (ap is_lt e) ∙ h)
     clash : true ≡ false → ⊥
     clash p = cc
 
--- what stands in the list isn't below
+-- what is in the list isn't below
 stands_from : (low : List ℕ) (xs : List (List ℕ)) (name : List ℕ) → AllFrom low xs → 1 ≤ times xs name → slice_cmp nat_cmp name low ≢ Less
 stands_from low [] name from some = absurd (omega (arith, some))
 stands_from low (x ∷ xs) name from some = go (bytes_eq x name) refl (λ more. stands_from low xs name (λ j d inside. from (suc j) d (omega (arith, inside))) more)
@@ -63,7 +63,7 @@ stands_from low (x ∷ xs) name from some = go (bytes_eq x name) refl (λ more. 
         subst (λ (n : List ℕ). slice_cmp nat_cmp n low ≢ Less) same (no_less low x (from 0 x (omega arith)))
     go false is rest = rest (omega (arith, some, times_other x xs name is))
 
--- what comes before all of a list doesn't stand in it
+-- what comes before all of a list isn't in it
 absent : (low : List ℕ) (xs : List (List ℕ)) (name : List ℕ) → AllFrom low xs → slice_cmp nat_cmp name low ≡ Less → times xs name ≡ 0
 absent low [] name from less = refl
 absent low (x ∷ xs) name from less = go (bytes_eq x name) refl (absent low xs name (λ j d inside. from (suc j) d (omega (arith, inside))) less)
@@ -101,7 +101,7 @@ less_than x y not_below differs = go (cmp x y) refl
     go Equal is = clash (sym (ap is_eq is) ∙ is_eq-slice_cmp x y ∙ differs)
     go Greater is = clash (sym (ap (λ o. is_lt (ordering_reverse o)) is) ∙ sym (ap is_lt (nat_list_cmp_total.antisymm y x)) ∙ not_below)
 
--- a name that comes before all of a list adds none that stands twice
+-- a name that comes before all of a list adds none that is there twice
 down : (x y : List ℕ) (rest : List (List ℕ)) → cmp x y ≡ Less → AllFrom y (y ∷ rest) → (name : List ℕ) → StandsTwice (x ∷ y ∷ rest) name → StandsTwice (y ∷ rest) name
 down x y rest less from name twice = go (bytes_eq x name) refl
   where

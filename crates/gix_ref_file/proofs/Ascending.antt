@@ -34,7 +34,7 @@ root_name path is root = by_len (length path - suffix_len inside path) refl
         not_first (b ∷ p) is first some = cc (is, begins_well b p first)
     by_len (suc (suc k)) e = absurd (omega (arith, e, ap length root, length-take-le (length path - suffix_len inside path - 1) path (omega arith)))
 
--- two names stand as their paths do
+-- two names are ordered as their paths are
 names_stand : (folder a b : List ℕ) → IsTrue (is_path a) → IsTrue (is_path b) → parent a ≡ folder → parent b ≡ folder → path_cmp a b ≡ Less → path_cmp (after_last is_slash a) (after_last is_slash b) ≡ Less
 names_stand [] a b is_a is_b in_a in_b less = (λ i. path_cmp (root_name a is_a in_a i) (root_name b is_b in_b i)) ∙ less
 names_stand (c ∷ folder) a b is_a is_b in_a in_b less =

@@ -35,7 +35,7 @@ pub cmp_behind : (front xs ys : List ℕ) → path_cmp (front ++ xs) (front ++ y
 cmp_behind [] xs ys = refl
 cmp_behind (x ∷ front) xs ys = ap (λ o. ordering_then o (path_cmp (front ++ xs) (front ++ ys))) (nat_cmp_itself x) ∙ cmp_behind front xs ys
 
--- what comes behind `sub/rest` and before `sub0` begins with `sub/`
+-- what comes after `sub/rest` and before `sub0` begins with `sub/`
 pub begins_so : (sub rest path : List ℕ) → path_cmp (sub ++ 47 ∷ rest) path ≡ Less → path_cmp (sub ++ 48 ∷ []) path ≡ Greater → (more : List ℕ) × (path ≡ sub ++ 47 ∷ more)
 begins_so sub rest [] less greater = absurd (cc (sym less ∙ nothing_first sub 47 rest))
   where
@@ -86,7 +86,7 @@ inside_len (b ∷ back) front = by_case (not (is_slash b)) (inside_len back fron
 reversed : (sub more : List ℕ) → reverse (sub ++ 47 ∷ more) ≡ reverse more ++ 47 ∷ reverse sub
 reversed sub more = reverse-append sub (47 ∷ more) ∙ ap (λ back. back ++ reverse sub) (reverse-append (47 ∷ []) more) ∙ append_assoc (reverse more) (47 ∷ []) (reverse sub)
 
--- the folder of what stands below a folder is no shorter
+-- the folder of what is below a folder is no shorter
 pub parent_behind : (sub more : List ℕ) → length sub ≤ length (parent (sub ++ 47 ∷ more))
 parent_behind sub more =
     let path = sub ++ 47 ∷ more in
@@ -122,7 +122,7 @@ path_in_folder path some =
     ∙ ap (λ k. take at path ++ 47 ∷ drop k path) behind
 
 -- ---- a folder's paths lie between its bounds
--- what stands right in a folder
+-- the children of a folder
 pub stands_within : (folder : List ℕ) (key : Key) (lo hi : Bound Key) → IsStart folder lo → IsEnd folder hi → parent key.items ≡ folder → (is_from_start key_cmp lo key ≡ true) × (is_past_end key_cmp hi key ≡ false)
 stands_within [] key Unbounded Unbounded start end is = (refl, refl)
 stands_within (b ∷ folder) key (Included first) (Excluded next) start end is =
@@ -183,7 +183,7 @@ itself path = from_is_eq (path_cmp path path) (same_path_itself path)
     from_is_eq Less same = cc
     from_is_eq Greater same = cc
 
--- q' passes a part of what q does, and of what is behind the first that q passes it leaves no name out
+-- q' passes a part of what q does, and of what is after the first that q passes it leaves no name out
 module _ (folder : List ℕ) (q q' : Pair → Bool) where
   tail_names : (e : Pair) → ((x : Pair) → key_cmp e.0 x.0 ≡ Less → q x ≡ true → (q' x ≡ true) ⊎ (name_here folder x ≡ None)) → ((x : Pair) → q' x ≡ true → q x ≡ true)
       → (xs : List Pair) → T (below_all path_cmp e.0.items (nodes_of xs)) → filter_map (name_here folder) (filter q' xs) ≡ filter_map (name_here folder) (filter q xs)
@@ -232,13 +232,13 @@ module _ (folder : List ℕ) (q q' : Pair → Bool) where
             subst (λ ys. length (filter q' xs) ≤ length ys) tails (fewer (λ y there. (part y there).0) xs),
           )
 
--- ---- behind an entry
+-- ---- after an entry
 pub when_lt : (o : Ordering) → is_lt o ≡ true → o ≡ Less
 when_lt Less h = refl
 when_lt Equal h = cc
 when_lt Greater h = cc
 
--- what is from a bound behind a path is behind the path
+-- what is from a bound after a path is after the path
 behind_less : (folder : List ℕ) (key : Key) (next : Bound Key) (x : Key) → IsBehind folder key.items next → is_from_start key_cmp next x ≡ true → key_cmp key x ≡ Less
 behind_less folder key (Excluded last) x behind from = when_lt _ (sym (ap (λ k. is_lt (path_cmp k x.items)) behind) ∙ from)
 behind_less folder key (Included next) x behind from = by_case (path_cmp next.items x.items) refl from
@@ -252,7 +252,7 @@ behind_less folder key (Included next) x behind from = by_case (path_cmp next.it
     by_case Greater is h = cc
 behind_less folder key Unbounded x behind from = absurd behind
 
--- what stands behind a path and not from the bound on isn't right in the folder
+-- what is after a path and not from the bound on isn't right in the folder
 behind_none : (folder : List ℕ) (key : Key) (next : Bound Key) (x : Key) → IsBehind folder key.items next → key_cmp key x ≡ Less → (is_from_start key_cmp next x ≡ true) ⊎ (name_in folder x.items ≡ None)
 behind_none folder key (Excluded last) x behind less = inl (ap (λ k. is_lt (path_cmp k x.items)) behind ∙ ap is_lt less)
 behind_none folder key (Included next) x behind less = by_case (path_cmp next.items x.items) refl
@@ -271,7 +271,7 @@ behind_none folder key (Included next) x behind less = by_case (path_cmp next.it
         inr (deeper found.0 found.1 (same_path (parent x.items) folder) refl)
 behind_none folder key Unbounded x behind less = absurd behind
 
--- what is behind a path that is from a bound on is so too
+-- what is after a path that is from a bound on is so too
 from_later : (lo : Bound Key) (key x : Key) → is_from_start key_cmp lo key ≡ true → key_cmp key x ≡ Less → is_from_start key_cmp lo x ≡ true
 from_later Unbounded key x from less = refl
 from_later (Included a) key x from less = ap is_le (le_lt_trans nat_list_cmp_total a.items key.items x.items from less)

@@ -1,4 +1,4 @@
--- The entries of a map against the tree that they stand for.
+-- The entries of a map against the tree that they represent.
 use Rattle.std.proofs.Common.{◌≡◌, ℕ, Bool, true, false, cond, not, ◌&&◌, ◌||◌, T, map, filter_map, List, [], ◌∷◌, Option, Some, None, Vec, refl, sym, ◌∙◌, ap, subst}
 use Rattle.std.specs.Prelude.{option_map, option_copied, is_some, IsSome, IfSome}
 use Rattle.std.specs.Borrow.{Bor, MutBor}

@@ -74,7 +74,7 @@ makes change old new r may steps =
 pub makes_none : {T : Type 0} (change : Change) (history : History) (r : Result T FileError) → IsTrue (allows history.tree change) → after change history.tree ≡ history.tree → Makes change history history r
 makes_none change history r may same = record { allowed = on_ok _ r may; made = on_ok _ r (sym same); moments = adds_nothing history }
 
--- a write where no bytes stand is an append
+-- a write where there are no bytes is an append
 onto_ok : {T E : Type 0} (P Q : Type 0) (r : Result T E) → (P → Q) → OnOk r P → OnOk r Q
 onto_ok P Q (Ok x) f p = f p
 onto_ok P Q (Err e) f p = tt
@@ -95,14 +95,14 @@ steps_to old new tree other steps same = record { made = steps.made ∙ same; ke
 length-trees : (h : History) → length (trees h) ≡ moment h + 1
 length-trees h = length-append h.past (h.tree ∷ [])
 
--- what stood while trees were added to a history is the tree before them and they
+-- the trees there were while trees were added to a history are the tree before them and they
 pub added_stood : (old new : History) (during : List Tree) → trees new ≡ trees old ++ during → stood_between new (moment old) (moment new) ≡ old.tree ∷ during
 added_stood old new during added =
     ap (drop (moment old)) (take_all (moment new + 1) (trees new) (omega (arith, length-trees new)))
     ∙ ap (drop (moment old)) (added ∙ append_assoc old.past (old.tree ∷ []) during)
     ∙ drop_at old.past (old.tree ∷ during) (moment old) refl
 
--- and they leave what stood between earlier moments
+-- and they leave the trees between earlier moments
 pub past_stays : (old new : History) (during : List Tree) (from to : ℕ) → trees new ≡ trees old ++ during → to ≤ moment old → stood_between new from to ≡ stood_between old from to
 past_stays old new during from to added early =
     ap (drop from) (ap (take (to + 1)) added ∙ take-append-le (to + 1) (trees old) during (omega (arith, length-trees old)))

@@ -29,7 +29,7 @@ pub node_is : (tree : Tree) (path : List ℕ) → IsTrue (is_path path) → node
 node_is tree [] is = absurd (root_is_no_path is)
 node_is tree (b ∷ path) is = refl
 
--- ---- the names in a folder are those of the paths that stand there
+-- ---- the names in a folder are those of the paths that are there
 abbrev pub names_in : List ℕ → List (List ℕ) → List (List ℕ)
 names_in place paths = filter_map (name_in place) paths
 
@@ -74,7 +74,7 @@ pub listed_folder : (tree : Tree) (place : List ℕ) (b : Bool) (i : ℕ) → i 
 listed_folder tree place true i below = refl
 listed_folder tree place false i below = absurd (omega (arith, below))
 
--- what a folder lists stands, and at a path
+-- what a folder lists exists, and at a path
 pub listed_stands : (tree : Tree) (place : List ℕ) (names : List (List ℕ)) (i : ℕ) → IsRooted tree → names ≡ names_at tree place → i < length names
     → IsSome (get tree (under place (get_or names i []))) × IsTrue (is_path (under place (get_or names i [])))
 listed_stands tree place names i rooted is below =

@@ -1,4 +1,4 @@
--- Trees in which each path stands in a folder, and how changes keep this.
+-- Trees in which each path is in a folder, and how changes keep this.
 use Rattle.std.proofs.Common.{◌≡◌, ◌⊎◌, inl, inr, ⊎_elim, ℕ, Bool, true, false, cond, not, ◌&&◌, ◌||◌, List, [], ◌∷◌, ◌++◌, Option, Some, None, take, refl, sym, ◌∙◌, ap, subst}
 use Rattle.std.specs.Prelude.{IsTrue, IsFalse, IsSome, is_some, Result}
 use Rattle.std.specs.List.{list_any, AllByRecursion}
@@ -16,11 +16,11 @@ both false b h = absurd (cc h)
 pub first : (a b : Bool) → IsTrue (a && b) → IsTrue a
 first a b h = (both a b h).0
 
--- a path where a file may stand is one, in a folder
+-- a path that may hold a file is one, in a folder
 path_may : (t : Tree) (p : List ℕ) → IsTrue (may_hold_file t p) → IsTrue (is_path p) × IsTrue (is_folder (node_at t (parent p)))
 path_may t p may = both _ _ (first _ _ may)
 
--- folders stay, and each path is an old one or stands in an old folder
+-- folders stay, and each path is an old one or is in an old folder
 rooted_by : (t u : Tree) → IsRooted t → ((q : List ℕ) → IsTrue (is_folder (node_at t q)) → IsTrue (is_folder (node_at u q)))
     → ((q : List ℕ) → IsSome (get u q) → IsSome (get t q) ⊎ (IsTrue (is_path q) × IsTrue (is_folder (node_at t (parent q))))) → IsRooted u
 rooted_by t u rooted stay old q there = ⊎_elim (λ was. ((rooted q was).0, stay (parent q) (rooted q was).1)) (λ new. (new.0, stay (parent q) new.1)) (old q there)
@@ -65,7 +65,7 @@ not_same t p q is isnt = by_case (same_path q p) refl
     by_case false apart = apart
     by_case true same = absurd (cc (sym is ∙ ap (λ x. is_folder (node_at t x)) (one_path q p same), isnt))
 
--- where a file stands, one may
+-- where a file is, one may be
 pub file_room : (t : Tree) (p : List ℕ) → IsRooted t → IsTrue (is_file_at t p) → IsTrue (may_hold_file t p)
 file_room t [] rooted is_file = absurd (cc is_file)
 file_room t (b ∷ p) rooted is_file =
@@ -76,12 +76,12 @@ file_room t (b ∷ p) rooted is_file =
     stands_at None h = absurd (cc h)
     stands_at (Some n) h = refl
 
--- in a folder a file may stand where no folder does
+-- in a folder a path may hold a file unless it is a folder
 pub room : (t : Tree) (p : List ℕ) → (is_path p && is_folder (node_at t (parent p))) ≡ true → not (is_folder (get t p)) ≡ true → IsTrue (may_hold_file t p)
 room t [] inside free = cc
 room t (b ∷ p) inside free = λ i. inside i && free i
 
--- the root isn't among the paths that stand
+-- the root isn't among the paths of the tree
 pub bytes_stand : (t : Tree) (p : List ℕ) → IsRooted t → bytes_of (get t p) ≡ bytes_of (node_at t p)
 bytes_stand t [] rooted = by_case (get t []) refl
   where
@@ -154,7 +154,7 @@ pub rooted_left : (change : Change) (t u : Tree) → IsRooted t → MayLeave cha
 rooted_left change t u rooted (inl same) = subst IsRooted (sym same) rooted
 rooted_left change t u rooted (inr (n, may, is)) = subst IsRooted (sym is) (rooted_after n change t rooted may)
 
--- ---- the tree that stands after a call
+-- ---- the tree after a call
 abbrev last : Tree → List Tree → Tree
 last t [] = t
 last t (u ∷ us) = last u us
@@ -171,7 +171,7 @@ last_added P [] t d during all = from t during all (inl refl)
     from x [] all so_far = so_far
     from x (y ∷ ts) all so_far = from y ts all.1 (inr all.0)
 
--- the tree that stands after it is as it was, or one that it added
+-- the tree after it is as it was, or one that it added
 pub adds_now : (P : Tree → Type 0) (old new : History) → Adds P old new → (new.tree ≡ old.tree) ⊎ P new.tree
 adds_now P old new adds =
     let now : last new.tree (trees old ++ adds.during) ≡ new.tree = ap (last new.tree) (sym adds.added) ∙ last_trees new.past new.tree new.tree in

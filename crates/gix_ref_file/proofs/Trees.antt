@@ -47,7 +47,7 @@ one_path p q same = slice_cmp-IsAntisymmetric nat_cmp-IsAntisymmetric p q (from_
     from_is_eq Less same = cc
     from_is_eq Greater same = cc
 
--- ---- where folders stand
+-- ---- where folders are
 from_and : (a b : Bool) → IsTrue (a && b) → IsTrue a × IsTrue b
 from_and true b h = (refl, h)
 from_and false b h = absurd (cc h)
@@ -59,7 +59,7 @@ from_not false h = refl
 pub no_folder : (t : Tree) (k : List ℕ) → IsTrue (may_hold_file t k) → IsFalse (is_folder (node_at t k))
 no_folder t k may = from_not _ (from_and _ _ may).1
 
--- where no folder stands, a file or nothing in its place changes no folder
+-- where there is no folder, a file or nothing in its place changes no folder
 pub folders_stay : (t u : Tree) (k : List ℕ) (left : Option Node) → IsTrue (may_hold_file t k) → IsFalse (is_folder left)
     → ((q : List ℕ) → get u q ≡ cond (same_path q k) left (get t q)) → (q : List ℕ) → is_folder (node_at u q) ≡ is_folder (node_at t q)
 folders_stay t u k left may not_folder is [] = refl
@@ -69,7 +69,7 @@ folders_stay t u k left may not_folder is (b ∷ q) = ap is_folder (is (b ∷ q)
     by_case false apart = refl
     by_case true same = not_folder ∙ sym (ap (λ p. is_folder (node_at t p)) (one_path (b ∷ q) k same) ∙ no_folder t k may)
 
--- so files may stand where they might before
+-- so files may be where they might before
 pub room_stays : (t u : Tree) → ((q : List ℕ) → is_folder (node_at u q) ≡ is_folder (node_at t q)) → (q : List ℕ) → may_hold_file u q ≡ may_hold_file t q
 room_stays t u same q = λ i. is_path q && same (parent q) i && not (same q i)
 

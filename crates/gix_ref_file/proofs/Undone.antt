@@ -26,7 +26,7 @@ steps undos later old new undo tree made kept back = record {
   kept = (λ i. trees_before (kept i) (made i)) ∙ trees_before-push undos undo tree ∙ (λ i. trees_before undos (back i) ++ back i ∷ []);
 }
 
--- ---- what stood at one path
+-- ---- what was at one path
 pub get-with_node : (t : Tree) (path : List ℕ) (node : Option Node) (q : List ℕ) → get (with_node t path node) q ≡ cond (same_path q path) node (get t q)
 get-with_node t path None q = get-removed t path q
 get-with_node t path (Some node) q = get-inserted t path node q

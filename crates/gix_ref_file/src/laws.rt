@@ -44,7 +44,8 @@ pub fn past_stays()
         → stood_between new from to ≡ stood_between old from to }
 {}
 
-/// While trees are added, there are the tree before them and they, and no others.
+/// Between the moments before and after trees are added, there are the tree before and the added
+/// ones, and no others.
 pub fn added_trees_stood()
     ensures { (old new : History) (during : List Tree) → trees new ≡ trees old ++ during
         → stood_between new (moment old) (moment new) ≡ old.tree ∷ during }

@@ -27,7 +27,7 @@ fn with_byte(alloc: Global, path: &[u8], byte: u8) -> Result<Vec<u8>, AllocError
     Ok(longer)
 }
 
-/// After a path below a folder, and after all of its subfolder if it is in one.
+/// The place after a path below a folder, and after all of its subfolder if it is in one.
 pub fn behind(alloc: Global, folder: &[u8], path: &[u8]) -> Result<Bound<Vec<u8>>, AllocError>
     ensures { IfOk result (λ next. IsBehind folder.now path.now next) }
 {

@@ -59,7 +59,7 @@ module _ (kind : Kind) (text : List ℕ) where
       ap (λ n. Some (without_peel n found)) same
       ∙ sym (ap (λ t. read t (is_full_name name) id) spaced ∙ ap (λ t. read true t id) full ∙ ap (λ t. read true true t) is)
 
--- a record, and the peeled id behind it
+-- a record, and the peeled id after it
 pub good_first : (kind : Kind) (number : ℕ) (line : List ℕ) (rest : List (List ℕ)) (r : Record) (peel : Option Id) (left : List Item) → record_line kind line ≡ Some r → HasPeel kind (next_number number) rest peel left
     → items kind number false (line ∷ rest) ≡ Good (record { name = r.name; target = r.target; peeled = peel }) ∷ left
 good_first kind number line [] r peel left is has = rw (is, has.0, has.1) refl

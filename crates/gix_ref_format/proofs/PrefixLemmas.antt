@@ -1,4 +1,4 @@
--- Names that begin so stand together among names in order.
+-- Names that begin so are together among names in order.
 use Rattle.std.proofs.Common.{◌≡◌, ◌∙◌, ap, refl, sym, subst, ℕ, zero, suc, ◌+◌, ◌<◌, ◌≤◌, Bool, true, false, cond, List, [], ◌∷◌, ◌++◌, map, take, drop, length, arith, get_or}
 use Rattle.std.specs.List.{filter, AllWithin}
 use Rattle.std.specs.List.Sorted.{IsSortedBy, IsPartitionPoint, IsPartitionedBy}
@@ -28,7 +28,7 @@ not_before [] [] = refl
 not_before [] (x ∷ rest) = refl
 not_before (x ∷ front) rest = ap (λ o. is_lt (ordering_then o (slice_cmp nat_cmp (front ++ rest) front))) (itself x) ∙ not_before front rest
 
--- what stands between the front and a name that begins with it begins with it
+-- what is between the front and a name that begins with it begins with it
 between : (front name rest : List ℕ) → is_lt (slice_cmp nat_cmp name front) ≡ false → is_lt (slice_cmp nat_cmp (front ++ rest) name) ≡ false → IsBeginningOf front name
 between [] name rest low high = (name, refl)
 between (x ∷ front) [] rest low high = cc
@@ -125,7 +125,7 @@ pub fronts_part_of : (front : List ℕ) (zs ys xs : List Entry) (n : ℕ) → ys
 fronts_part_of front zs ys xs n same zs_are order low =
     fronts_part front zs xs n (zs_are ∙ ap (drop n) same) order (subst (λ l. IsPartitionPoint (λ y. below front y ≡ true) (λ y. below front y ≡ false) l n) same low)
 
--- what stands first of those that aren't before the front are the records that begin so
+-- the first of those that aren't before the front are the records that begin so
 pub prefixed : (front : List ℕ) (zs ys xs found : List Entry) (n : ℕ) → ys ≡ xs → zs ≡ drop n ys → IsSortedBy before xs → IsPartitionPoint (λ y. below front y ≡ true) (λ y. below front y ≡ false) ys n
     → (IsPartitionedBy (has_prefix front) zs → found ≡ filter (has_prefix front) zs) → entry_records found ≡ filter (λ r. begins front r.name) (entry_records xs)
 prefixed front zs ys xs found n ys_are zs_are order low first =

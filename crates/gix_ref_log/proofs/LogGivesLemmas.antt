@@ -21,7 +21,7 @@ use Rattle.gix_ref_log.specs.declared.iter.decode.Error.{Error as DecodeError}
 use Rattle.gix_ref_log.specs.declared.iter.error.IoError.TheVariants.{Reader, Short, NoBuffer, LineTooLong}
 use Rattle.gix_ref_log.specs.declared.iter.decode.LineNumber.TheVariants.{FromEnd}
 
--- the line that stands next is given, as what it tells or as an error
+-- the line that is next is given, as what it says or as an error
 pub gives_line : (room : ℕ) (may all : Type 0) (given : ℕ) (left : List (List ℕ)) (text : List ℕ) (after : List (List ℕ)) (line : Option Line) → left ≡ text ∷ after → Fits room text after
     → IsCopied text line
     → GivesBack room may all given left (Some (ok_or line (Decode (record { line = FromEnd given })))) after
@@ -107,7 +107,7 @@ module _ (log : List ℕ) (end held : ℕ) (buffer : List ℕ) (window : IsWindo
         ap reverse (split_some log (omega (arith, all, some, ordered)) ∙ ap (slice_split is_feed) (feed_none log (sym same_feed ∙ e) ∙ sym whole) ∙ ap (λ n. slice_split is_feed (take n log)) (sym end_is)),
       )
 
--- a reader that has read the end of the log stands before all its lines
+-- a reader that has read the end of the log is before all its lines
 pub begins : (log : List ℕ) (end held kept : ℕ) (buffer : List ℕ) → IsWindow log end held buffer → end ≡ length log → held ≡ min end (length buffer) → 0 < length buffer → kept ≡ length (without_last_feed (take held buffer))
     → IsAt log (nat_eq end 0) (end - (held - kept)) kept buffer (reverse (split_lines log))
 begins log end held kept buffer window all held_is room kept_is = by_end (nat_eq end 0) refl

@@ -23,7 +23,7 @@ one_ids_cut front b a x b' a' x' c c' =
     let first = cut_once 32 b (a ++ 32 ∷ x) b' (a' ++ 32 ∷ x') (id_lacks 32 b refl c.before_is_id) (id_lacks 32 b' refl c'.before_is_id) (sym c.spelled ∙ c'.spelled) in
     (first.0, cut_once 32 a x a' x' (id_lacks 32 a refl c.after_is_id) (id_lacks 32 a' refl c'.after_is_id) first.1)
 
--- no tab stands there
+-- no tab is there
 pub front_lacks : (b a x : List ℕ) → is_id b ≡ true → is_id a ≡ true → Lacks 9 x → Lacks 9 (front_text b a x)
 front_lacks b a x b_is a_is l =
     lacks_both 9 b (32 ∷ (a ++ 32 ∷ x)) (id_lacks 9 b refl b_is)

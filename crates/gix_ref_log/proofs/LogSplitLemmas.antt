@@ -57,7 +57,7 @@ reverse_some text none =
     let d : length (slice_split is_feed text) ≡ length (is.0 ∷ is.1) = ap (λ (s : List (List ℕ)). length s) is.2 in
     omega (arith, a, b, d)
 
--- ---- where the last line feed stands
+-- ---- where the last line feed is
 
 abbrev pub IsCutLast : List ℕ → Type 0
 IsCutLast text = (front : List ℕ) × (back : List ℕ) × (text ≡ front ++ 10 ∷ back) × Lacks 10 back

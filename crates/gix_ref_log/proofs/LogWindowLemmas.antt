@@ -59,7 +59,7 @@ module _ (log : List ℕ) (end held start : ℕ) (buffer : List ℕ) (is : IsLas
           let zero_left : end - held ≡ 0 = omega (arith, all.1) in
           whole ∙ ap (λ t. early ++ (t ++ is.line)) all.0 ∙ ap (λ n. take n (take end log) ++ is.line) zero_left
 
-  -- where a line feed stands before it
+  -- if a line feed is before it
   abbrev pub before_of : ((before : List ℕ) × (is.front ≡ before ++ 10 ∷ [])) ⊎ ((is.front ≡ []) × (held ≡ end)) → 0 < start → (before : List ℕ) × (is.front ≡ before ++ 10 ∷ [])
   before_of (inl cut) some = cut
   before_of (inr all) some =
@@ -127,7 +127,7 @@ pub fits_any : (room : ℕ) (line : List ℕ) (rest : List (List ℕ)) → lengt
 fits_any room line [] less = omega (arith, less)
 fits_any room line (next ∷ rest) less = less
 
--- the line is given, and the reader stands before it
+-- the line is given, and the reader is before it
 pub goes_on : (log : List ℕ) (done : Bool) (end held₀ : ℕ) (buffer₀ : List ℕ) (left : List (List ℕ)) (held start : ℕ) (buffer text : List ℕ) (room : ℕ)
     → done ≡ false → IsAt log done end held₀ buffer₀ left → (is : IsLastLine log end held start buffer) → held ≤ end → held ≤ length buffer → length buffer ≡ room → text ≡ drop start (take held buffer) → 0 < start
     → (after : List (List ℕ)) × IsAt log false (end - (held - start + 1)) (start - 1) buffer after × (left ≡ text ∷ after) × Fits room text after

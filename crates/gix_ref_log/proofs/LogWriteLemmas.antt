@@ -38,7 +38,7 @@ module _ (b a x m : List ℕ) where
   pub all_four : line_text b a x m ++ 10 ∷ [] ≡ ((((b ++ 32 ∷ []) ++ (a ++ 32 ∷ [])) ++ x) ++ 9 ∷ (m ++ 10 ∷ [])) ++ []
   all_four = three_then_one ∙ sym (append-nil _)
 
--- ---- no tab stands in the text of a time
+-- ---- the text of a time has no tab
 
 two_lack : (n : ℕ) → n < 100 → Lacks 9 (two_digits n)
 two_lack n below = lacks_cons 9 (48 + n / 10) ((48 + n % 10) ∷ []) (λ e. omega arith) (lacks_cons 9 (48 + n % 10) [] (λ e. omega arith) refl)

@@ -1,4 +1,4 @@
--- Names that no category tells.
+-- Names without a category.
 use Rattle.std.proofs.Common.{◌≡◌, ◌∙◌, ap, sym, subst, ℕ, false, List, ◌∷◌, ◌++◌, Option, Some, None}
 use Rattle.std.specs.Prelude.{codes, MatchOption}
 use Rattle.std.proofs.lemmas.Bool.{false≢true}
@@ -12,7 +12,7 @@ use Rattle.gix_ref_name.specs.Kinds.{SharedNone, PrivateNone, MainNone, LinkedNo
 use Rattle.gix_ref_name.specs.declared.category.Category.{Category}
 use Rattle.gix_ref_name.specs.declared.category.Category.TheVariants.{Tag, LocalBranch, RemoteBranch, Note, PseudoRef, MainPseudoRef, MainRef, LinkedPseudoRef, LinkedRef, Bisect, Rewritten, WorktreePrivate}
 
--- what stands behind the name of a worktree is told by the name
+-- the name determines what follows the name of a worktree
 short_of : (name rest worktree short other short' : List ℕ) → name ≡ codes "worktrees/" ++ rest → rest ≡ worktree ++ 47 ∷ short → Lacks 47 worktree → IsOfWorktree other name short' → short' ≡ short
 short_of name rest worktree short other short' is cut lacks tells =
     let there = tells.0 in

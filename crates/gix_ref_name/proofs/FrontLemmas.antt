@@ -1,4 +1,4 @@
--- Whether a front begins a text, and what stands behind it.
+-- Whether a front begins a text, and what follows it.
 use Rattle.std.proofs.Common.{◌≡◌, ◌∙◌, ap, refl, sym, ℕ, Bool, true, false, List, ◌++◌, length, drop}
 use Rattle.std.specs.Prelude.{◌≢◌, if◌then◌else◌}
 use Rattle.std.proofs.lemmas.List.{drop_at}

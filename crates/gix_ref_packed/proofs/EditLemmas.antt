@@ -1,4 +1,4 @@
--- Lines in the order of their names, and the records that stand by them.
+-- Lines in the order of their names, and the records that they leave.
 use Rattle.std.proofs.Common.{◌≡◌, ◌∙◌, ap, refl, sym, subst, ℕ, suc, ◌+◌, ◌<◌, Bool, true, false, cond, not, ◌&&◌, ◌||◌, List, [], ◌∷◌, ◌++◌, map, length, get_or, Option, Some, None, option_map, arith, append_assoc}
 use Rattle.std.specs.Prelude.{find, bytes_eq, IfSome, option_and_then}
 use Rattle.std.specs.Option.{option_to_list}
@@ -90,13 +90,13 @@ stands n (line ∷ rest) falls rises named =
     go true is same behind = same
     go false is same behind = add line.says named.0 (less_than n line.name falls.0 is) (standing (Some line.name) rest) behind
 
--- ---- what stands for a name
+-- ---- the record of a name
 
 says_if : (b : Bool) (line : Line) (rest : Option Line) → cond b line.says (says rest) ≡ says (cond b (Some line) rest)
 says_if true line rest = refl
 says_if false line rest = refl
 
--- a line and the records behind it
+-- a line and the records after it
 added : (line : Line) (rest : List Line) (rs : List Record) (name : List ℕ) → IfSome line.says (λ r. r.name ≡ line.name) → ComesBefore line.name rs
     → (bytes_eq line.name name ≡ false → hit rs name ≡ says (line_at rest name)) → hit (option_to_list line.says ++ rs) name ≡ says (line_at (line ∷ rest) name)
 added line rest rs name named before other = go (bytes_eq line.name name) refl line.says named ∙ says_if (bytes_eq line.name name) line (line_at rest name)

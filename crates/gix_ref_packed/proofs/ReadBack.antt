@@ -162,7 +162,7 @@ module _ (kind : Kind) where
           let value : hex_digit_value (hex_character d) ≡ Some d = cc in
           absurd (differ (ap hex_digit_value (eqb-true 94 (hex_character d) is) ∙ value))
 
-  -- the next record's line tells no peeled id
+  -- the next record's line has no peeled id
   not_peeled : (r : Record) → IsRecordOf kind r → None ≡ peel_line kind (line_of r ++ 10 ∷ [])
   not_peeled r is = sym (
       ap (λ t. option_and_then (read.peel_text kind) t) (cut_is (line_of r) (lacks_of 13 r is refl refl refl))
@@ -185,7 +185,7 @@ module _ (kind : Kind) where
       again : (hex : List ℕ) → (94 ∷ (hex ++ 10 ∷ [])) ++ rest ≡ (94 ∷ hex) ++ 10 ∷ rest
       again hex = simp append_assoc
 
-  -- what stands behind a record's line
+  -- what follows a record's line
   peel_is : (r : Record) (rs : List Record) (number : ℕ) (left : List Item) → IsRecordOf kind r → AreRecordsOf kind rs
       → ((n : ℕ) → items kind n false (lines (records_text rs)) ≡ left)
       → HasPeel kind number (lines (peel_text r.peeled ++ records_text rs)) r.peeled left

@@ -93,7 +93,7 @@ word_first read word result is told = (placed (codes "refs/") word [], tag_names
 
 -- ---- the records of the tree
 
--- what the name's own file tells decides, whatever is packed
+-- what the name's own file says decides, whatever is packed
 own_file : (b : Base) (tree : Tree) (name : List ℕ) (r : RefState) → state_among b tree [] name ≡ r → (r ≡ Absent → ⊥) → ref_state b tree name ≡ r
 own_file b tree name r is some = by_full (is_full_name name) (loose_text_at b tree name) (none_without name) is
   where
@@ -120,7 +120,7 @@ told_none : (records : Option (List Record)) (name : List ℕ) → is_some (pack
 told_none None name no_key = ap (λ b. cond b (Faulty InRecords) Absent) no_key
 told_none (Some records) name no_key = ap packed_state (no_hit records (packed_key name) no_key)
 
--- a full name that no record stands for and that has no file reads as absent
+-- a full name that has no record and no file reads as absent
 pub absent_unpacked : (b : Base) (tree : Tree) (name : List ℕ) → is_some (packed_key name) ≡ false → state_among b tree [] name ≡ Absent → ref_state b tree name ≡ Absent
 absent_unpacked b tree name no_key is = by_full (is_full_name name) (loose_text_at b tree name) is
   where
@@ -134,7 +134,7 @@ same_hits : (one other : List Record) (key : Option (List ℕ)) → ((n : List �
 same_hits one other None same = refl
 same_hits one other (Some k) same = same k
 
--- the records that a buffer keeps tell what the tree's tell
+-- the records that a buffer keeps say what the tree's say
 pub kept_reads : (b : Base) (tree : Tree) (records : List Record) (name : List ℕ) → KeepsFile b.kind (packed_text_in b tree) (Some records) → state_among b tree records name ≡ ref_state b tree name
 kept_reads b tree records name keeps = by_text (packed_text_in b tree) keeps
   where

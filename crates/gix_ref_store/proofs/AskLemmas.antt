@@ -1,4 +1,4 @@
--- What names that a listing asks for have in common.
+-- What names that a listing wants have in common.
 use Rattle.std.proofs.Common.{◌≡◌, ◌∙◌, sym, ap, subst, refl, inl, inr, ◌⊎◌, ℕ, Bool, true, false, ◌&&◌, ◌||◌, List, [], ◌∷◌, ◌++◌, append-nil, append_assoc, length}
 use Rattle.std.specs.Prelude.{IsTrue, codes, bytes_eq, drop, if◌then◌else◌}
 use Rattle.std.proofs.lemmas.Slice.Eq.{bytes_eq-Decides}
@@ -30,7 +30,7 @@ within_front folder name so = by_case (or_cases (bytes_eq name folder) (is_below
     by_case (inl same) = subst (λ n. IsTrue (begins folder n)) (sym ((bytes_eq-Decides name folder).0 same)) (itself folder)
     by_case (inr below) = at_slash (or_cases (is_below folder name) (ends (codes "/") folder && begins folder name) below)
 
--- all begin with the front, and stand below `refs/`
+-- all begin with the front, and are below `refs/`
 pub asked_front : (asked : Asked) → HasFront asked.front.now (is_asked asked)
 asked_front asked name so = by_whole asked.is_whole (and_parts (fits asked name) (is_known asked.composes name) (and_parts (begins (codes "refs/") name) (fits asked name && is_known asked.composes name) so).1).0
   where
@@ -44,12 +44,12 @@ asked_refs asked name so = (and_parts (begins (codes "refs/") name) (fits asked 
 pub asked_fits : (asked : Asked) (name : List ℕ) → IsTrue (is_asked asked name) → fits asked name ≡ true
 asked_fits asked name so = (and_parts (fits asked name) (is_known asked.composes name) (and_parts (begins (codes "refs/") name) (fits asked name && is_known asked.composes name) so).1).0
 
--- what is asked for is known
+-- what is wanted is known
 pub asked_known : (asked : Asked) (name : List ℕ) → IsTrue (is_asked asked name) → known_as asked.composes name ≡ name
 asked_known asked name so =
     (bytes_eq-Decides (known_as asked.composes name) name).0 (and_parts (fits asked name) (is_known asked.composes name) (and_parts (begins (codes "refs/") name) (fits asked name && is_known asked.composes name) so).1).1
 
--- ---- where names that are asked for may stand
+-- ---- where wanted names may be
 
 or_of : (a b : Bool) → (a ≡ true) ⊎ (b ≡ true) → (a || b) ≡ true
 or_of a b (inl p) = ap (λ x. x || b) p
@@ -61,7 +61,7 @@ below_is folder path rest is =
     and_from (begins folder path) (begins (47 ∷ []) (drop (length folder) path)) (begins_some folder path (47 ∷ rest) is)
     (begins_some (47 ∷ []) (drop (length folder) path) rest (ap (drop (length folder)) is ∙ drop-append_seam folder (47 ∷ rest)))
 
--- the first of two beginnings of a text is all of the other, or a slash stands behind it
+-- the first of two beginnings of a text is all of the other, or a slash follows it
 same_or_below : (short long rest t r : List ℕ) → short ++ 47 ∷ rest ≡ long ++ r → long ≡ short ++ t → (long ≡ short) ⊎ (is_below short long ≡ true)
 same_or_below short long rest [] r e is = inl (is ∙ append-nil short)
 same_or_below short long rest (b ∷ t) r e is =
@@ -134,7 +134,7 @@ asked_leads asked path name so at = by_whole asked.is_whole (asked_fits asked na
     by_whole true h = or_of (is_within asked.front.now path) (is_below path asked.front.now) (within_leads asked.front.now path name h at)
     by_whole false h = or_of (begins asked.front.now path) (is_below path asked.front.now) (front_leads asked.front.now path name h at)
 
--- ---- what a front asks for
+-- ---- what a front wants
 pub asks_front : (asked : Asked) (front : List ℕ) (composes : Bool) → asked.front.now ≡ front → asked.is_whole ≡ false → asked.composes ≡ composes → is_asked asked ≡ is_listed composes (begins front)
 asks_front asked front composes f w c = λ i. is_listed (c i) (λ name. if w i then is_within (f i) name else begins (f i) name)
 

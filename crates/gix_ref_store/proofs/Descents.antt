@@ -10,7 +10,7 @@ use Rattle.gix_ref_file.proofs.Below.{inside, path_in_folder, parent_behind}
 use Rattle.gix_ref_file.proofs.Listings.{in_folder, names_in, found}
 use Rattle.gix_ref_file.proofs.Moved.{some_of_folder}
 
--- what stands in a folder is listed there
+-- what is in a folder is listed there
 pub is_found : (tree : Tree) (place : List ℕ) (names : List (List ℕ)) (path : List ℕ) → IsRooted tree → names ≡ names_at tree place → IsSome (get tree path) → parent path ≡ place
     → (i : ℕ) × (i < length names) × (under place (get_or names i []) ≡ path)
 is_found tree place names path rooted is there here =
@@ -42,7 +42,7 @@ folder_below place rest =
 shorter : (path : List ℕ) → 0 < length path → length (parent path) < length path
 shorter path some = omega (arith, some, length-take-le (length path - suffix_len inside path - 1) path (omega arith))
 
--- what stands at a path, or right below it in the way
+-- what is at a path, or right below it in the way
 abbrev pub IsAtOrBelow : List ℕ → List ℕ → Type 0
 IsAtOrBelow path place = (path ≡ place) ⊎ ((rest : List ℕ) × (path ≡ place ++ 47 ∷ rest))
 

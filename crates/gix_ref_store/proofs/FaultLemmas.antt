@@ -1,4 +1,4 @@
--- Texts of files that tell no target.
+-- Texts of files that name no target.
 use Rattle.std.proofs.Common.{◌≡◌, ◌∙◌, ap, ℕ, cond, List, Option, Some, None, option_map}
 use Rattle.gix_hash_id.specs.declared.kind.Kind.{Kind}
 use Rattle.gix_object_lines.specs.NameTest.{is_full_name}

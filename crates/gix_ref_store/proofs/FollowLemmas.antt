@@ -42,7 +42,7 @@ module _ (read : List ℕ → RefState) (seen : List (List ℕ)) (from name : Li
   next_is left r next after is among some named reads after_is =
       sym (goes_on left r is among some ∙ (λ i. follow read (left - 1) (sym after_is i) (sym named i) (reads i)))
 
--- the same is told of packed references that were opened
+-- the result is the same with packed references that were opened
 pub opened_told : (b : Base) (tree : Tree) (name : List ℕ) (one other : RefState) (result : Result Reference ExistingError) → one ≡ other
     → MatchResult result (λ r. (r.name ≡ name) × (one ≡ state_of r)) (OnExisting (one ≡ Absent) (ReadFault IsGiven (λ why. one ≡ Faulty why)))
     → MatchResult result (λ r. (r.name ≡ name) × (other ≡ state_of r)) (OnExisting (other ≡ Absent) (ReadFault (CantOpen b tree) (λ why. other ≡ Faulty why)))

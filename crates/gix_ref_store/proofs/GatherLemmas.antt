@@ -1,4 +1,4 @@
--- The names that a walk and records bring are all that stand.
+-- The names that a walk and records bring are all that exist.
 use Rattle.std.proofs.Common.{◌≡◌, ◌⊎◌, inl, inr, ℕ, Bool, true, false, cond, ◌&&◌, ◌||◌, List, [], ◌∷◌, ◌++◌, Some, refl, sym, ◌∙◌, ap, subst, append_assoc}
 use Rattle.std.specs.Prelude.{IsTrue, IsSome, codes, drop, bytes_eq, Result, Ok, Err, OnOk}
 use Rattle.gix_object_lines.specs.NameTest.{begins, ends, is_capitals}
@@ -26,7 +26,7 @@ gathers_all tree base asked names refs gathers name it =
     at_base [] rest = refl
     at_base (x ∷ base) rest = sym (append_assoc (x ∷ base) (47 ∷ codes "refs") (47 ∷ rest))
 
--- where they stand
+-- where they are
 place_refs : (b : Base) (rest : List ℕ) → (place b (codes "refs/" ++ rest) ≡ under b.git (codes "refs/" ++ rest)) ⊎ (place b (codes "refs/" ++ rest) ≡ under b.common (codes "refs/" ++ rest))
 place_refs b rest = by_case (is_own (codes "refs/" ++ rest)) refl
   where
@@ -48,7 +48,7 @@ both_places b tree asked names refs own shared name file full so =
 pub still_all : (tree : Tree) (base : List ℕ) (asked : List ℕ → Bool) (old new : List (List ℕ)) → Keeps old new → Gathers tree base asked old → Gathers tree base asked new
 still_all tree base asked old new keeps gathers name it = keeps name (gathers name it)
 
--- pseudo references stand in the worktree's own folder
+-- pseudo references are in the worktree's own folder
 pub own_places : (b : Base) (tree : Tree) (names : List (List ℕ)) → Gathers tree b.git is_pseudo names → GathersPlaces b tree is_pseudo names
 own_places b tree names own name file full asked =
     own name (record { file = subst (λ p. IsTrue (is_file_at tree p)) (at_own (is_capitals name) refl (and_parts (is_capitals name) (ends (codes "HEAD") name) asked).0) file; full = full; asked_for = asked })

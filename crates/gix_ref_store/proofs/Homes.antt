@@ -1,4 +1,4 @@
--- Where names stand that a worktree's front begins.
+-- Where names are that a worktree's front begins.
 use Rattle.std.proofs.Common.{◌≡◌, ◌∙◌, sym, ap, ℕ, Bool, true, false, cond, List, Option, drop}
 use Rattle.std.specs.Prelude.{codes}
 use Rattle.gix_object_lines.specs.NameTest.{begins}

@@ -1,4 +1,4 @@
--- A listing over a set of names that has all that stand.
+-- A listing over a set of names that has all that exist.
 use Rattle.std.proofs.Common.{◌≡◌, ◌≢◌, ◌⊎◌, inl, inr, ℕ, zero, suc, ◌<◌, Bool, true, false, cond, ◌||◌, List, [], ◌∷◌, length, map, Option, Some, None, refl, sym, ◌∙◌, ap, subst, arith}
 use Rattle.std.specs.Prelude.{IsTrue, IsSome, is_some}
 use Rattle.std.specs.List.{Contains, AllByRecursion, filter, slice_index_or}
@@ -15,7 +15,7 @@ use Rattle.gix_ref_store.specs.Listings.{IsListing}
 use Rattle.gix_ref_store.specs.Items.{is_there, met_by, mets_of}
 use Rattle.gix_ref_store.specs.Walks.{has, BringsAsked, GathersPlaces}
 
--- ---- names that stand
+-- ---- names that exist
 there_none : (r : RefState) → is_there r ≡ true → r ≢ Absent
 there_none Absent is e = cc
 there_none (Stands p q) is e = cc
@@ -89,7 +89,7 @@ ascends read (n ∷ names) (first, order) = by_case (is_there (read n)) (all_lat
     by_case true all rest = (all, rest)
     by_case false all rest = rest
 
--- ---- a set that has all that stand
+-- ---- a set that has all that exist
 only_asked : (asked : List ℕ → Bool) (old names : List (List ℕ)) → old ≡ [] → BringsAsked asked old names → (name : List ℕ) → IsTrue (has names name) → IsTrue (asked name)
 only_asked asked old names none brings name is = by_case (brings name is)
   where

@@ -25,7 +25,7 @@ never_unbuffered M (Io io.Short) told is = told
 never_unbuffered M (Io io.NoBuffer) told is = told
 never_unbuffered M (Io io.LineTooLong) told is = told
 
--- what is told of a reader that isn't made
+-- the error for a reader that isn't made
 pub unmade : {X : Type 0} (M U E : Type 0) (result : Result X IoError) (error : IoError) → result ≡ Err error → (IsErrOf result (io.Reader files.Memory) → ⊥)
     → (IsErrOf result (io.Reader files.Failed) → M) → (IsErrOf result io.Short → U) → (IsErrOf result io.NoBuffer → E) → (IsErrOf result io.LineTooLong → ⊥) → BackFault M U E (Io error)
 unmade M U E result (io.Reader files.Failed) is memory failed short empty long = failed is

@@ -8,7 +8,7 @@ use Rattle.gix_ref_store.specs.declared.reference.Reference.{Reference}
 use Rattle.gix_ref_store.specs.declared.store.file.find.Error.{Error}
 use Rattle.gix_ref_store.specs.declared.store.file.find.Error.TheVariants.{ReadFileContents, ReferenceCreation, PackedOpen, Memory}
 
--- the first name stands
+-- the first name exists
 pub found_first : (read : List ℕ → RefState) (name : List ℕ) (names : List (List ℕ)) (r : Reference) → TellsState name (read name) (Ok (Some r)) → Some (met_of r) ≡ first_met read (name ∷ names)
 found_first read name names r (same, reads) =
     ap (λ n. Some (record { name = n; ref_state = state_of r })) same ∙ sym (ap (λ x. met_or name x (first_met read names)) reads)

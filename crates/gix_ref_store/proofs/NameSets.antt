@@ -37,7 +37,7 @@ module _ (old new : List (List ℕ)) (added : List ℕ) (updates : (q : List ℕ
       by_case true same h = inr (sym (one_path added name same))
       by_case false apart h = inl h
 
--- names that come are the one that is asked for
+-- names that come are the one that is wanted
 pub brings_one : (asked : List ℕ → Bool) (old new : List (List ℕ)) (added : List ℕ) → IsTrue (asked added)
     → ((name : List ℕ) → IsTrue (has new name) → IsTrue (has old name) ⊎ (name ≡ added)) → BringsAsked asked old new
 brings_one asked old new added is only name in_new = by_case (only name in_new)

@@ -121,7 +121,7 @@ tag_may H M P table id (Find e) fault = fault
 tag_may H M P table id (NotFound oid) fault = tt
 tag_may H M P table id Memory fault = tt
 
--- the same is told of packed references that were opened
+-- the result is the same with packed references that were opened
 pub opened_peels : (b : Base) (tree : Tree) (one other : List ℕ → RefState) (table : Table) (r : Reference) (result : Result ObjectId Error) (P : (List ℕ → RefState) → ObjectId → Type 0) → one ≡ other
     → MatchResult result (P one) (PeelFault IsGiven one table r) → MatchResult result (P other) (PeelFault (CantOpen b tree) other table r)
 opened_peels b tree one other table r (Ok id) P same told = subst (λ read. P read id) same told

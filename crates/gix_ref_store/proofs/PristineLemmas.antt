@@ -56,7 +56,7 @@ passed_on out left after name why passed is = record {
     by_case met (inr faulty) = inr faulty
     by_case met (inl there) = by_first met (first_or first met after (subst (λ (l : List Met). Contains l met) is there))
 
--- a reference that is given stands
+-- a reference that is given exists
 pub one_stands : (read : List ℕ → RefState) (asked : List ℕ → Bool) (out left after : List Met) (r : Reference) → IsListing read asked out → Passed out left → left ≡ met_of r ∷ after → SomeStands read asked
 one_stands read asked out left after r listing passed is =
     let there = passed.here (met_of r) (subst (λ (l : List Met). Contains l (met_of r)) (sym is) (Contains-append_left (met_of r ∷ []) after (met_of r) (Contains-push [] (met_of r)))) in

@@ -70,23 +70,23 @@ some_in within name some = let n = nonempty within name some in omega (arith, ap
     nonempty [] name some = absurd (omega (arith, some))
     nonempty (f ∷ within) name some = (f, within ++ 47 ∷ name, refl)
 
--- ---- what stands at a path of the folder, and below it
--- the names asked for with files at a path of the base or below it
+-- ---- what is at a path of the folder, and below it
+-- the wanted names with files at a path of the base or below it
 abbrev pub IsGathered : Tree → List ℕ → (List ℕ → Bool) → List (List ℕ) → List ℕ → Type 0
 IsGathered tree base asked names path = (name : List ℕ) → IsAtOrBelow (under base name) path → HasFile tree base asked name → IsTrue (has names name)
 
 pub still_gathered : (tree : Tree) (base : List ℕ) (asked : List ℕ → Bool) (path : List ℕ) (old new : List (List ℕ)) → Keeps old new → IsGathered tree base asked old path → IsGathered tree base asked new path
 still_gathered tree base asked path old new keeps is name at it = keeps name (is name at it)
 
--- all that is asked for begins so
+-- all that is wanted begins so
 abbrev pub HasFront : List ℕ → (List ℕ → Bool) → Type 0
 HasFront front asked = (name : List ℕ) → IsTrue (asked name) → IsTrue (begins front name)
 
--- the test holds of each path at which a name that is asked for may stand, or below which it may
+-- the test holds of each path at which a wanted name may be, or below which it may
 abbrev pub IsLed : (List ℕ → Bool) → (List ℕ → Bool) → Type 0
 IsLed lead asked = (path name : List ℕ) → IsTrue (asked name) → IsAtOrBelow name path → IsTrue (lead path)
 
--- a folder stands above what stands
+-- a folder is above what is there
 folder_above : (tree : Tree) → IsRooted tree → (path place rest : List ℕ) → 0 < length place → path ≡ place ++ 47 ∷ rest → IsTrue (is_file_at tree path) → IsTrue (is_folder (node_at tree place))
 folder_above tree rooted path [] rest some is there = absurd (omega (arith, some))
 folder_above tree rooted path (b ∷ place) rest some is there =
@@ -216,7 +216,7 @@ one_more_there ok listed old new name k keeps before at here i below is = by_tes
         let same : get_or listed i [] ≡ name = ap (λ j. get_or listed j []) (let e : i ≡ k = omega (arith, below, ltb-false _ _ more) in e) ∙ at in
         subst (λ n. IsTrue (has new n)) (sym same) (here (subst ok same is))
 
--- a name of capitals stands in the folder itself
+-- a name of capitals is in the folder itself
 no_slash : (name : List ℕ) → IsTrue (is_capitals name) → (rest front : List ℕ) → name ≡ front ++ 47 ∷ rest → ⊥
 no_slash [] is rest [] e = cc
 no_slash [] is rest (f ∷ front) e = cc

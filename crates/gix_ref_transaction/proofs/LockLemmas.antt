@@ -1,4 +1,4 @@
--- What stands while a lock is made, filled, given back or put in its place.
+-- What there is while a lock is made, filled, removed or put in its place.
 use Rattle.std.proofs.Common.{◌≡◌, ◌≢◌, ◌⊎◌, inl, inr, refl, sym, ◌∙◌, ap, ℕ, Bool, true, false, cond, ◌&&◌, ◌||◌, List, [], ◌∷◌, take, arith, length}
 use Rattle.std.specs.Prelude.{Option, Some, None, IsTrue, IsFalse, is_some, is_none, codes, Result, Ok, Err, OnOk, IsErrOf}
 use Rattle.std.specs.List.{list_any}
@@ -65,7 +65,7 @@ renamed_put lock place old x (inr (n, may, is)) = record {
   others = λ path one other. ap (λ t. node_at t path) is ∙ others_stay (to_rename lock place) old path (two_others path lock place other one);
 }
 
--- a lock that stood isn't made
+-- a lock that exists isn't made
 pub created_held : (lock : List ℕ) (old x : Tree) → MayLeave (to_create lock []) old x → KeepsHeld lock old x
 created_held lock old x (inl same) = λ stood. ap (λ t. node_at t lock) same
 created_held lock old x (inr (n, may, is)) = λ stood. ap (λ t. node_at t lock) (is ∙ by_node (node_at old lock) refl stood)
@@ -74,7 +74,7 @@ created_held lock old x (inr (n, may, is)) = λ stood. ap (λ t. node_at t lock)
     by_node None none stood = absurd (stood none)
     by_node (Some x) some stood = ap (λ o. cond (is_some o) old (insert old lock (file (take n [])))) some
 
--- ---- what stands at a lock
+-- ---- what is at a lock
 
 pub none_of : (o : Option Node) → is_none o ≡ true → o ≡ None
 none_of None is = refl

@@ -27,7 +27,7 @@ no_fault kind (Some text) (Iter number) Fails read (items, are, bad) fails =
 no_fault kind (Some text) HeaderParsing Fails read none fails =
     let wrong : true ≡ false = sym read ∙ ap is_some (ap (option_and_then all_good) none) in absurd (cc wrong)
 
--- the error that is told is that one, or says that memory was wanting
+-- the error that is returned is that one, or says that memory was wanting
 pub told_so : (Fails : Type 0) (told : Error) (error : buffer.Error) → (told ≡ BufferOpen error) ⊎ IsShort told → Fails ⊎ IsShort (BufferOpen error) → Fails ⊎ IsShort told
 told_so Fails told error (inl same) (inl fails) = inl fails
 told_so Fails told error (inl same) (inr short) = inr (subst IsShort (sym same) short)

@@ -151,7 +151,7 @@ cleared_above path old mid new first second =
     from_second q (inl stood) = inl ((way_now path old mid first).folders q stood)
     from_second q (inr above) = inr above
 
--- ---- where no file stands below, the folder may go at last
+-- ---- if no file is below, the folder may go at last
 one_of : (p : Bytes → Bool) (ks : List Bytes) → list_any p ks ≡ true → (k : Bytes) × (list_any (same_path k) ks ≡ true) × (p k ≡ true)
 one_of p [] some = absurd (cc some)
 one_of p (k ∷ ks) some = by_case (p k) refl (one_of p ks)
@@ -218,7 +218,7 @@ module _ (place : Bytes) (old now : Tree) (names : List Bytes) (rooted : IsRoote
   pub may_go : IsTrue (allows now (to_remove_folder place))
   may_go = (λ i. place_is i && still_there (clears.others place there) i && empty i)
 
--- so a file may stand once its folders are made
+-- so a path may hold a file once its folders are made
 pub room_made : (path : Bytes) (mid new : Tree) → IsTrue (is_path path) → get mid path ≢ Some folder → FoldersAbove path mid new → HasFoldersAbove path new → IsTrue (may_hold_file new path)
 room_made path mid new whole gone above made = may_hold new path whole made (none_there path mid new above (ap is_folder (node_is mid path whole) ∙ by_node (get mid path) refl))
   where

@@ -1,4 +1,4 @@
--- Which files stand above and below a path.
+-- Which files are above and below a path.
 use Rattle.std.proofs.Common.{◌≡◌, ◌≢◌, ◌⊎◌, inl, inr, refl, sym, ◌∙◌, ap, subst, ℕ, zero, suc, ◌+◌, ◌<◌, ◌≤◌, Bool, true, false, cond, List, [], ◌∷◌, ◌++◌, length, take, get_or, arith, filter_map}
 use Rattle.std.specs.Prelude.{IsTrue, IsSome, is_some, nat_le, Option, Some, None}
 use Rattle.std.specs.List.{after_last}
@@ -13,7 +13,7 @@ use Rattle.gix_ref_file.proofs.Listings.{in_folder, found}
 use Rattle.gix_ref_way.specs.Ways.{Bytes, file_at, IsAbove, NoFileAbove, NoFileBelow}
 use Rattle.gix_ref_way.proofs.FoldersMade.{above_above, above_shorter, front_of}
 
--- ---- what stands at a path
+-- ---- what is at a path
 
 pub no_file_at : (tree : Tree) (path : Bytes) → false ≡ is_file_at tree path → file_at tree path ≡ None
 no_file_at tree path none = go (bytes_of (node_at tree path)) none
@@ -60,7 +60,7 @@ all_passed end path tree far before place above = before place above (omega (ari
 
 -- ---- two folders of one path
 
--- the shorter is the other one or stands above it
+-- the shorter is the other one or is above it
 two_fronts : (a b x y : Bytes) → a ++ 47 ∷ x ≡ b ++ 47 ∷ y → length a ≤ length b → (b ≡ a) ⊎ IsAbove a b
 two_fronts [] [] x y e short = inl refl
 two_fronts [] (c ∷ b) x y e short = inr (b, ap (λ d. d ∷ b) (first e))
@@ -84,7 +84,7 @@ not_empty : (p : Bytes) → p ≢ [] → 0 < length p
 not_empty [] some = absurd (some refl)
 not_empty (b ∷ p) some = omega arith
 
--- what a path stands below is its folder, or stands above that
+-- what a path is below is its folder, or is above that
 pub under_folder : (place path : Bytes) → place ≢ [] → IsAbove place path → (parent path ≡ place) ⊎ IsAbove place (parent path)
 under_folder place path some (rest, is) =
     let long : length place ≤ length (parent path) = subst (λ p. length place ≤ length (parent p)) (sym is) (parent_behind place rest) in
@@ -92,7 +92,7 @@ under_folder place path some (rest, is) =
 
 -- ---- below
 
--- no file stands at a path or below it
+-- no file is at a path or below it
 abbrev pub IsFreeFrom : Tree → Bytes → Type 0
 IsFreeFrom tree path = (file_at tree path ≡ None) × NoFileBelow path tree
 
@@ -134,7 +134,7 @@ module _ (tree : Tree) (rooted : IsRooted tree) (place : Bytes) (some : place �
           let over : IsAbove (parent path) path = (after_last is_slash path, path_in_folder path (omega (arith, long))) in
           behind (rest (parent path) (omega (arith, short, above_shorter (parent path) path over)) (folder_stands (parent path) beyond (rooted path there).1) beyond) over
 
-  -- what something stands below is a folder
+  -- what something is below is a folder
   pub folder_over : (path : Bytes) → IsSome (get tree path) → IsAbove place path → IsTrue (is_folder (node_at tree place))
   folder_over path there above =
       let f = first_part (length path) path (omega arith) there above in
@@ -157,7 +157,7 @@ module _ (tree : Tree) (rooted : IsRooted tree) (place : Bytes) (some : place �
         let same : under place (get_or names r.0 []) ≡ path = (λ j. under (sym here j) ((ap (λ (ns : List Bytes). get_or ns r.0 []) names_are ∙ r.2) j)) ∙ sym (in_folder path (rooted path there).0) in
         subst P same (all r.0 (subst (λ (ns : List Bytes). r.0 < length ns) (sym names_are) r.1))
 
-    -- what stands below stands at a path that is listed, or below one
+    -- what is below is at a path that is listed, or below one
     pub listed_part : (path bytes : Bytes) → IsAbove place path → file_at tree path ≡ Some bytes → (part : Bytes) × P part × ((part ≡ path) ⊎ IsAbove part path)
     listed_part path bytes above is =
         let f = first_part (length path) path (omega arith) (file_there path bytes above is) above in

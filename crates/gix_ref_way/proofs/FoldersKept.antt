@@ -81,7 +81,7 @@ while_written path bytes t x left = stay.same_stay t x (stay.while_written path 
 pub while_renamed : (from to : Bytes) (t x : Tree) → MayLeave (to_rename from to) t x → KeepsFolders t x
 while_renamed from to t x left = stay.same_stay t x (stay.while_renamed from to t x left)
 
--- a change that keeps the folders, behind others that did
+-- a change that keeps the folders, after others that did
 pub then_stay : {P : Tree → Type 0} (old mid new : History) → Adds (KeepsFolders old.tree) old mid → Adds P mid new → ((x : Tree) → P x → KeepsFolders mid.tree x) → Adds (KeepsFolders old.tree) old new
 then_stay old mid new first second keeps = keeps_joined old mid new first (adds_weaker mid new second keeps)
 

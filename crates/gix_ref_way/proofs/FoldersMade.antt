@@ -1,4 +1,4 @@
--- Folders are made where the path above allows it, and then a file may stand.
+-- Folders are made if the path above allows it, and then the path may hold a file.
 use Rattle.std.proofs.Common.{◌≡◌, ◌≢◌, ◌⊎◌, inl, inr, refl, sym, ◌∙◌, ap, subst, ℕ, ◌+◌, ◌<◌, ◌≤◌, Bool, true, false, cond, not, ◌&&◌, List, [], ◌∷◌, ◌++◌, take, length, get_or, arith, append_assoc, length-append}
 use Rattle.std.specs.Prelude.{IsTrue, IsFalse, Option, Some, None, is_none, nat_le, Result, Err}
 use Rattle.std.specs.List.{list_all, slice_split, onto_first, after_last}
@@ -63,7 +63,7 @@ shorter_fits m n k short fits = by_test (nat_le m k) refl
     by_test true h = refl
     by_test false h = grind (arith, nat_tests)
 
--- what a path stands below is a path
+-- what a path is below is a path
 pub path_above : (place path : Bytes) → IsAbove place path → IsTrue (is_path path) → IsTrue (is_path place)
 path_above place path (rest, is) whole =
     let parts = and_parts (nat_le (length path) 4096) (list_all is_component (slice_split is_slash path)) whole in
@@ -72,7 +72,7 @@ path_above place path (rest, is) whole =
     (shorter_fits (length place) (length path) 4096 (omega (arith, ap length is, length-append place (47 ∷ rest))) parts.0)
     (all_front is_component (slice_split is_slash place) (slice_split is_slash rest) (ap (list_all is_component) (sym cut) ∙ parts.1))
 
--- a path stands in the root, or below its folder
+-- a path is in the root, or below its folder
 pub in_root_or_below : (path : Bytes) → (parent path ≡ []) ⊎ IsAbove (parent path) path
 in_root_or_below path = by_case (parent path) refl
   where
@@ -107,7 +107,7 @@ may_make t k path above absent = λ i. is_none (none (node_at t k) absent i) && 
     none (Some (file bytes)) h = cc
     none (Some folder) h = cc
 
--- where no file stands, a folder or nothing does
+-- if there is no file, there is a folder or nothing
 pub not_file : (o : Option Node) (size : ℕ) → bytes_of o ≡ None → place_of o ≡ places.File size → ⊥
 not_file None size none is = cc
 not_file (Some (file bytes)) size none is = cc
@@ -169,7 +169,7 @@ stands_in_made end path place tree short above before = by_case (in_root_or_belo
     by_case (inr below) = before (parent place) (above_above (parent place) place path below above) (omega (arith, short, above_shorter (parent place) place below))
 
 -- ---- a file below them
--- a file may stand at a path whose folders stand, where no folder does
+-- a path whose folders exist may hold a file, unless it is a folder
 pub may_hold : (tree : Tree) (path : Bytes) → IsTrue (is_path path) → HasFoldersAbove path tree → IsFalse (is_folder (node_at tree path)) → IsTrue (may_hold_file tree path)
 may_hold tree path whole above none = λ i. whole i && in_folder (in_root_or_below path) i && not (none i)
   where

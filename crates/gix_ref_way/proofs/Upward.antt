@@ -1,4 +1,4 @@
--- Where the folder of a path exists, so does each that the path stands in.
+-- If the folder of a path exists, so does each that the path is in.
 use Rattle.std.proofs.Common.{◌≡◌, ◌⊎◌, inl, inr, sym, ◌∙◌, ap, subst, ℕ, zero, suc, ◌-◌, ◌<◌, ◌≤◌, Bool, true, false, List, [], ◌∷◌, ◌++◌, take, length, arith, refl}
 use Rattle.std.specs.Prelude.{IsTrue, nat_lt}
 use Rattle.std.specs.List.{suffix_len}
@@ -16,7 +16,7 @@ cut_off (suc m) [] rest far = ap (λ n. 47 ∷ take n rest) (omega arith)
 cut_off (suc m) (b ∷ place) rest far =
     ap (λ p. b ∷ p) (cut_off m place rest (omega (arith, far))) ∙ ap (λ n. b ∷ place ++ 47 ∷ take n rest) (omega arith)
 
--- what a path stands below is its folder, or above that
+-- what a path is below is its folder, or above that
 above_parent : (place path : Bytes) → IsAbove place path → (place ≡ parent path) ⊎ IsAbove place (parent path)
 above_parent place path (rest, is) = by_test (nat_lt (length place) end) refl
   where

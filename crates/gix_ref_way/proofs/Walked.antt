@@ -12,7 +12,7 @@ use Rattle.gix_ref_file.proofs.Listings.{in_folder, names_in, found}
 use Rattle.gix_ref_file.proofs.Moved.{some_of_folder}
 use Rattle.gix_ref_way.specs.Ways.{Bytes, above}
 
--- ---- what stands above
+-- ---- what is above
 
 pub parent_of_folder : (tree : Tree) (path : Bytes) → IsRooted tree → IsTrue (is_folder (node_at tree path)) → IsTrue (is_folder (node_at tree (parent path)))
 parent_of_folder tree [] rooted is = refl
@@ -36,14 +36,14 @@ empty (b ∷ path) short = absurd (omega (arith, short))
 pub above_all : (path : Bytes) → above (suc (length path)) path ≡ []
 above_all path = empty _ (omega (arith, rises (suc (length path)) path))
 
--- ---- what a walk meets, if P holds of what stands at each path
+-- ---- what a walk meets, if P holds of what is at each path
 
 module _ (tree : Tree) (rooted : IsRooted tree) (P : Bytes → Option Node → Type 0) (nothing : (path : Bytes) → P path None) where
-  -- so is all that stands below a folder
+  -- so is all that is below a folder
   abbrev pub IsBelow : Bytes → Type 0
   IsBelow place = (n : ℕ) (path : Bytes) → above (suc n) path ≡ place → P path (get tree path)
 
-  -- and what stands at its path too
+  -- and what is at its path too
   abbrev pub IsFrom : Bytes → Type 0
   IsFrom path = P path (get tree path) × IsBelow path
 
@@ -73,7 +73,7 @@ module _ (tree : Tree) (rooted : IsRooted tree) (P : Bytes → Option Node → T
   pub all_below : (place : Bytes) (names : List Bytes) → names ≡ names_at tree place → ((i : ℕ) → i < length names → IsFrom (under place (get_or names i []))) → IsBelow place
   all_below place names is all n path under = if_stands path (get tree path) (below place (child place names is all) n path under)
 
-  -- nothing stands below a file
+  -- nothing is below a file
   pub none_below_file : (path : Bytes) (size : ℕ) → place_of (node_at tree path) ≡ places.File size → IsBelow path
   none_below_file path size there n p under =
       if_stands p (get tree p) (λ stands. absurd (no_folder (node_at tree path) there (subst (λ q. IsTrue (is_folder (node_at tree q))) under (folder_above tree n p rooted stands))))

@@ -1,4 +1,4 @@
--- Where a walk by time over rows and objects stands.
+-- The state of a walk by time over rows and objects.
 use Rattle.std.proofs.Common.{◌≡◌, ℕ, ◌<◌, ◌+◌, ◌∙◌, inl, inr, sym, ap, subst, arith, List, [], ◌∷◌, ◌++◌, length, length-append, Bool, true, Some, None, Option}
 use Rattle.std.specs.Prelude.{Contains, IsTrue, not, ◌&&◌, ◌↔◌}
 use Rattle.gix_hash_id.specs.Id.{Id, id_of}

@@ -1,4 +1,4 @@
--- How many objects were asked for.
+-- How many objects were looked up.
 use Rattle.std.proofs.Common.{Option, Bool, ◌≡◌, ℕ, zero, suc, ◌+◌, ◌≤◌, List, [], ◌∷◌, ◌++◌, length, take, refl, sym, ◌∙◌, ap, subst, arith, add-one}
 use Rattle.std.specs.Prelude.{IsTrue}
 use Rattle.gix_hash_id.specs.Id.{Id}
@@ -30,7 +30,7 @@ counts_push : (rows : List Row) (xs : List ObjectId) (x : ObjectId) (a b c : ℕ
 counts_push rows [] x a b c e one = (c, subst (λ (n : ℕ). CountsOne rows x n c) e one, refl)
 counts_push rows (y ∷ ys) x a b c (mid, first, rest) one = (mid, first, counts_push rows ys x mid b c rest one)
 
--- the beginning of a longer list, and the one behind it
+-- the beginning of a longer list, and the one after it
 take_next : (xs ys : List ObjectId) (k : ℕ) (x : ObjectId) → At xs k x → ((j : ℕ) (y : ObjectId) → At xs j y → At ys j y) → take (suc k) ys ≡ take k xs ++ x ∷ []
 take_next [] ys k x a more = absurd (none_at_nil k x a)
 take_next (z ∷ xs) [] k x a more = absurd (none_at_nil 0 z (more 0 z refl))
@@ -64,7 +64,7 @@ painted_list g hidden nodes xs p w l = go (omega (arith, w.kept.read.within))
         from x (tip t k) = tip t tt
         from x (parent {x = c} r n k) = parent (from c r) n tt
 
--- nothing is asked for yet
+-- nothing is looked up yet
 pub paints_none : (honest : Type 0) (rows : List Row) (table : Table) (hidden : List ObjectId) (before : ℕ) → PaintsSome honest rows table hidden before before
 paints_none honest rows table hidden before = record {
   painted = [];
@@ -72,7 +72,7 @@ paints_none honest rows table hidden before = record {
   are_reached = λ h g told. record { each = λ x k. absurd (in_nil x k); once = λ j k x a b. absurd (none_at_nil j x a) };
 }
 
--- what was asked for at the first places of the painted commits
+-- what was looked up at the first places of the painted commits
 pub paints_some : (honest : Type 0) (rows : List Row) (table : Table) (hidden : List ObjectId) (nodes : List Node) (xs : List ObjectId) (p before after : ℕ) → CountsAll rows (take p xs) before after → IsPainted nodes xs
     → (honest → (g : Commits ObjectId) → AreTold rows table g → KeptAll (λ y. (g y).parents) hidden every (is_hidden nodes) xs p) → PaintsSome honest rows table hidden before after
 paints_some honest rows table hidden nodes xs p before after each painted walked = record {
@@ -96,7 +96,7 @@ fault_counts honest may_fail rows table id (fetch.Find error) before after f one
 fault_counts honest may_fail rows table id (fetch.ObjectDecode error) before after f one l = one f.0
 fault_counts honest may_fail rows table id fetch.Memory before after f one l = l
 
--- what is told of a walk is told of one that is the same in all that is spoken of
+-- what holds of a walk holds of one that is the same in all that is spoken of
 pub meets_moved : {P : Type 0} (accepts : P → Id → Bool) (goes : P → Id → P → Type 0) (rows rows' : List Row) (nodes nodes' : List Node) (t t' : Option Timing) (info : Info) (p q : P) (n m : ℕ) (p' : P) (n' : ℕ) → rows ≡ rows' → nodes ≡ nodes' → t ≡ t' → p ≡ q → n ≡ m → MeetsParents accepts goes rows nodes t info p n p' n' → MeetsParents accepts goes rows' nodes' t' info q m p' n'
 meets_moved {P} accepts goes rows rows' nodes nodes' t t' info p q n m p' n' same_rows same_nodes same_order same_predicate same_lookups w =
     subst (λ (k : ℕ). MeetsParents accepts goes rows' nodes' t' info q k p' n') same_lookups

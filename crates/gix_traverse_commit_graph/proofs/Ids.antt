@@ -1,4 +1,4 @@
--- The test of ids tells them apart.
+-- The test of ids distinguishes different ones.
 use Rattle.std.proofs.Common.{◌≡◌, sym, ◌∙◌, ap, true}
 use Rattle.gix_hash_id.specs.declared.object_id.ObjectId.{ObjectId}
 use Rattle.gix_hash_id.specs.Id.{id_of}

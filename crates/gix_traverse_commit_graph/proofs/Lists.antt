@@ -59,7 +59,7 @@ take_agree (x ∷ xs) (y ∷ ys) (suc k) h =
 pub three : (j k : ℕ) → (j < k) ⊎ ((j ≡ k) ⊎ (k < j))
 three j k = grind arith
 
--- a pair that is not before another is behind it or the same
+-- a pair that is not before another is after it or the same
 pub not_before : (p i q j : ℕ) → (Before p i q j → ⊥) → Before q j p i ⊎ ((p ≡ q) × (i ≡ j))
 not_before p i q j h = grind arith
 

@@ -139,7 +139,7 @@ generation_once rows row n g h = let e = greatest_once rows row.parents.items n 
 
 -- ---- places
 
--- what a loop reads stands at its place
+-- what a loop reads is at its place
 pub at_item : {I : Type 0} (xs : List I) (i : ℕ) (x : I) → i < length xs → x ≡ get_or xs i x → At xs i x
 at_item xs i x l e = slice_get-get_or xs i x l ∙ ap Some (sym e)
 
@@ -158,7 +158,7 @@ of_all P rows i below l row c =
     let lt = slice_get_within rows k row a in
     below k row (omega arith) a
 
--- ---- what the rows tell
+-- ---- what the rows say
 
 -- the first that passes, where only one can
 find_one_at : (p : Row → Bool) (xs : List Row) (row : Row) (k : ℕ) → At xs k row → p row ≡ true → ((s : Row) (j : ℕ) → At xs j s → p s ≡ true → s ≡ row) → find p xs ≡ Some row
@@ -173,7 +173,7 @@ find_one_at p (x ∷ xs) row k a h only = here (p x) refl k a (λ j b. find_one_
         let z : ⊥ = cc in absurd z
     here false e (suc k) a next = rw e (next k a)
 
--- a commit is what its row tells
+-- a commit is what its row says
 pub commit_from_row : (rows : List Row) (row : Row) (id : ObjectId) → AreRows rows → Contains rows row → row.id ≡ id → commits_of rows id ≡ commit_of (Some row)
 commit_from_row rows row id whole c e =
     let (k, a) = at_from_contains rows row c in

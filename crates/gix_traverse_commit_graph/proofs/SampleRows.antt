@@ -17,7 +17,7 @@ use Rattle.gix_traverse_commit_graph.proofs.Listing.{listed_reached}
 use Rattle.gix_traverse_commit_graph.proofs.Check.{T_from, pass_at, chosen_from_check, is_open_yes, is_open_too, is_ready_yes, is_ready_too, outranks_yes, not_from}
 use Rattle.std.proofs.lemmas.Bool.{and_from, and_parts}
 
--- numbers are told apart by their test
+-- numbers are compared by their test
 pub nat_eq_apart : TellsApart nat_eq
 nat_eq_apart = record { same = eqb-true; itself = λ x. eq-eqb x x refl }
 

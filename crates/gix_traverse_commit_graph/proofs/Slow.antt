@@ -10,7 +10,7 @@ use Rattle.gix_traverse_commit_graph.proofs.Lists.{at_one, at_from_contains, con
 use Rattle.gix_traverse_commit_graph.specs.Reading.{Read}
 use Rattle.gix_traverse_commit_graph.proofs.Frontier.{read_none, read_skip, read_push, read_next, read_all}
 
--- a test that tells ids apart
+-- a test that decides whether ids are equal
 pub record TellsApart {I : Type 0} (eq : I → I → Bool) : Type 0 where
   pub same : (x y : I) → eq x y ≡ true → x ≡ y
   pub itself : (x : I) → eq x x ≡ true

@@ -10,7 +10,7 @@ use Rattle.gix_traverse_commit_graph.proofs.Lists.{at_one, at_from_contains, con
 abbrev pub SameAt : {I : Type 0} → List I → List I → ℕ → Type 0
 SameAt {I} xs ys k = (x y : I) → At xs k x → At ys k y → x ≡ y
 
--- an element of ys that stands at k stands nowhere below k in xs
+-- an element of ys that is at k is nowhere below k in xs
 pub not_below : {I : Type 0} (S : I → Type 0) (xs ys : List I) (k l : ℕ) (y : I) → IsListOf S ys → Agree xs ys k → At ys k y → At xs l y → l < k → ⊥
 not_below S xs ys k l y hy agree ay ax lt =
     let e = agree l lt in
@@ -83,7 +83,7 @@ chosen_once {I} S Fit Comes once xs ys hx hy = same_lists S xs ys hx.list hy.lis
 
 -- ---- breadth first
 
--- a commit that an early place names stands before each commit with a later key
+-- a commit that an early place names is before each commit with a later key
 named_early : {I : Type 0} (along : I → List I) (tips : List I) (S : I → Type 0) (out : List I) → IsBreadthFirst along tips S out → (k l : ℕ) (x y : I) (p i q j : ℕ) → At out k x → IsKey along tips out x p i → Named along tips out q j y → q < p → At out l y → l < k
 named_early along tips S out h k l x y p i q j ax key named lt ay = elim (three l k) [
   | inl early ↦ early

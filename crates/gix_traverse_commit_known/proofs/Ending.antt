@@ -33,7 +33,7 @@ one b = cond b 1 0
 abbrev none_yet : Bool → ℕ
 none_yet b = cond b 0 1
 
--- how often an id stands in a list of one
+-- how often an id is in a list of one
 pub times_one : (y : ObjectId) (id : Id) → times_in (y ∷ []) id ≡ cond (id_eq id (id_of y)) 1 0
 times_one y id = let e = sum_by-cons (λ (x : ObjectId). cond (id_eq id (id_of x)) 1 0) y [] in omega (arith, e)
 

@@ -198,7 +198,7 @@ turn_taken nodes order old new pending turn w once first same = go order first
           )),
     )
 
--- the one whose turn it is, and those that wait behind it, waited
+-- the one whose turn it is, and those that wait after it, waited
 pub first_among : (order : CommitTimeOrder) (old new : List Pending) (pending : Pending) → IsFirst order old pending new → Contains old pending × ((p : Pending) → Contains new p → Contains old p)
 first_among NewestFirst old new pending (e, all) = (
   subst (λ (ps : List Pending). Contains ps pending) (sym e) (Contains-push new pending),

@@ -1,4 +1,4 @@
--- Which commits are met, and what is asked of each.
+-- Which commits are met, and for which the predicate is called.
 use Rattle.std.proofs.Common.{◌≡◌, ◌∙◌, ◌↔◌, ℕ, ◌+◌, ◌⊎◌, inl, inr, List, [], ◌∷◌, ◌++◌, suc, ap, take, append-nil, refl, sym, subst, Bool, true, false, cond}
 use Rattle.std.specs.Prelude.{Contains, filter, not}
 use Rattle.std.proofs.lemmas.List.Elements.{Contains-append_left, Contains-push, filter-append}

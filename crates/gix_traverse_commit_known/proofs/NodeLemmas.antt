@@ -49,7 +49,7 @@ find_none p (w ∷ xs) h = go (p w) refl (find_none p xs (λ y j a t. h y (suc j
     go true e next = absurd (h w 0 refl e)
     go false e next = rw e next
 
--- a node stands where its id and its marks do
+-- a node is where its id and its marks are
 pub at_nodes : (ids : List ObjectId) (ms : List Marks) (k : ℕ) (x : ObjectId) (m : Marks) → At ids k x → At ms k m → At (nodes_in ids ms) k (node x m)
 at_nodes [] ms k x m a b = absurd (none_at_nil k x a)
 at_nodes (i ∷ ids) [] k x m a b = absurd (none_at_nil k m b)
@@ -62,7 +62,7 @@ id_from_node (i ∷ ids) [] k r a = absurd (none_at_nil k r a)
 id_from_node (i ∷ ids) (n ∷ ms) zero r a = let e : node i n ≡ r = cc in ap (λ (z : Node). Some z.id) e
 id_from_node (i ∷ ids) (n ∷ ms) (suc k) r a = id_from_node ids ms k r a
 
--- what is marked of a commit stands at its number
+-- the marks of a commit are at its number
 pub marks_at : (ids : List ObjectId) (ms : List Marks) → AreNumbered ids ms → (k : ℕ) (x : ObjectId) (m : Marks) → At ids k x → At ms k m → marks_of (nodes_in ids ms) x ≡ m
 marks_at ids ms w k x m a b = ap marks_in (find_one (λ (r : Node). same_id x r.id) (nodes_in ids ms) (node x m) k here (test_from_same x x refl) only)
   where

@@ -1,4 +1,4 @@
--- Where a walk over rows and objects stands.
+-- The state of a walk over rows and objects.
 use Rattle.std.proofs.Common.{◌≡◌, ℕ, suc, ◌+◌, ◌<◌, ◌∙◌, ◌⊎◌, zero, sym, ap, refl, subst, arith, inl, inr, List, [], ◌∷◌, ◌++◌, length, length-append, take, Bool, true, false, cond, add-one, None, Option}
 use Rattle.std.specs.Prelude.{Contains, IsTrue, not, ◌&&◌, ◌↔◌}
 use Rattle.gix_hash_id.specs.Id.{Id, id_of}
@@ -30,7 +30,7 @@ use Rattle.gix_traverse_commit_graph.proofs.Turn.{at_first, next_first}
 use Rattle.std.proofs.lemmas.Bool.{and_from, and_parts}
 use Rattle.gix_traverse_commit_graph.proofs.Check.{not_from}
 
--- ---- tips are asked
+-- ---- the predicate is called for tips
 
 pub in_push : {I : Type 0} (xs : List I) (y x : I) → Contains (xs ++ y ∷ []) x → Contains xs x ⊎ (x ≡ y)
 in_push xs y x c = let (k, a) = at_from_contains (xs ++ y ∷ []) x c in elim (at_from_push xs y k x a) [ inl h ↦ inl (contains_from_at xs k x h) | inr e ↦ inr e.1 ]

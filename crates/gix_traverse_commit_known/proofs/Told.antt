@@ -1,4 +1,4 @@
--- What the readers' parts tell of a commit.
+-- What the readers' parts say of a commit.
 use Rattle.std.proofs.Common.{◌≡◌, ℕ, List, [], ◌∷◌, ◌++◌, refl, sym, ap, ◌∙◌, subst, inl, inr, Option, Some, None, Result, Ok, Err, map, take, append-nil, ℤ, pos}
 use Rattle.std.specs.Prelude.{filter_map, Contains, IfOk, unwrap_or}
 use Rattle.std.specs.Result.{result_ok}
@@ -32,7 +32,7 @@ use Rattle.gix_traverse_commit_graph.specs.declared.rows.Row.{Row}
 use Rattle.gix_traverse_commit_graph.specs.declared.parents.Parents.{Parents}
 use Rattle.gix_traverse_commit_graph.specs.declared.parents.Parents.TheVariants.{All, First}
 
--- a committer that is told has a time
+-- a committer that is given has a time
 read_committer : (here there : Place) (parts : List Part) (person : Person) → Reads here parts there → filter_map committer_told parts ≡ person ∷ [] → TellsTime person.time
 read_committer here there [] person r e = let z : ⊥ = cc in absurd z
 read_committer here there (Tree id ∷ parts) person (next, n, r) e = read_committer next there parts person r e
@@ -82,7 +82,7 @@ module _ (here mid there : Place) (xs : List ObjectId) (given : Result Token dec
       let same : map id_of xs' ≡ map id_of xs ++ id_of id ∷ [] = ap (map id_of) s ∙ map-append id_of xs (id ∷ []) in
       subst (λ (ids : List Id). TellsFront here ids there) (sym same) (front_more here mid there (map id_of xs) (id_of id ∷ []) (Parent (id_of id)) f n refl refl)
 
-  -- another part stands next
+  -- another part is next
   pub past_other : ((id : ObjectId) → t ≡ token.Tree id → ⊥) → ((id : ObjectId) → t ≡ token.Parent id → ⊥) → TellsParents here (map id_of xs)
   past_other tree parent = (mid, f, inr (part_of t, there, next, other t tree parent))
     where
@@ -98,14 +98,14 @@ module _ (here mid there : Place) (xs : List ObjectId) (given : Result Token dec
 pub past_end : (here mid after : Place) (ids : List Id) → TellsFront here ids mid → GivesToken mid None after → TellsParents here ids
 past_end here mid after ids f gives = (mid, f, inl gives.0)
 
--- the first parent's line ends what is asked for
+-- the first parent's line ends what is wanted
 pub first_parent : (here there : Place) (xs xs' : List ObjectId) (id : ObjectId) → xs ≡ [] → xs' ≡ xs ++ id ∷ [] → TellsFront here (map id_of xs') there → ReadsParents First here (map id_of xs')
 first_parent here there xs xs' id e s f =
     let same : xs' ≡ id ∷ [] = s ∙ ap (λ (zs : List ObjectId). zs ++ id ∷ []) e in
     let ids : map id_of xs' ≡ id_of id ∷ [] = ap (map id_of) same in
     inr (id_of id, ids, (there, (f.parts, f.read, f.parents ∙ ids)))
 
--- all that are told are asked for
+-- all that are given are wanted
 pub reads_all : (along : Parents) (here : Place) (xs : List ObjectId) → (along ≡ First → xs ≡ []) → TellsParents here (map id_of xs) → ReadsParents along here (map id_of xs)
 reads_all All here xs none told = told
 reads_all First here xs none told = inl (told, ap (map id_of) (none refl))
@@ -152,7 +152,7 @@ module _ (rows : List Row) (table : Table) (g : Commits ObjectId) (told : AreTol
   object_parents id content All here xs h s e r = parents_told (id_of id).kind content (g id) All xs (told.stored id content h s) (subst (λ (p : Place). ReadsParents All p (map id_of xs)) e r)
   object_parents id content First here xs h s e r = parents_told (id_of id).kind content (g id) First xs (told.stored id content h s) (subst (λ (p : Place). ReadsParents First p (map id_of xs)) e r)
 
-  -- the seconds where they are told, and else 0
+  -- the seconds if they are given, and otherwise 0
   pub object_time : (id : ObjectId) (content : List ℕ) (here : Place) (read : Result ℤ decode.Error) (time : Option ℤ) → (¬ Holds rows id) → Stands table (id_of id) kinds.Commit content → here ≡ start (id_of id).kind content
       → IfOk read (TellsSeconds here) → ((seconds : ℤ) → TellsSeconds here seconds → read ≡ Ok seconds) → time ≡ result_ok read → unwrap_or time (pos 0) ≡ (g id).time
   object_time id content here (Ok seconds) time h s e ok every same =
@@ -165,7 +165,7 @@ module _ (rows : List Row) (table : Table) (g : Commits ObjectId) (told : AreTol
       unread : (seconds : ℤ) → ◌≡◌ {A = Result ℤ decode.Error} (Err error) (Ok seconds) → ⊥
       unread seconds f = cc
 
--- want of memory is told as that, and other faults of a lookup as they are
+-- want of memory is reported as that, and other faults of a lookup as they are
 pub read_fault : (along : Parents) (honest may_fail : Type 0) (rows : List Row) (table : Table) (id : ObjectId) (e : existing_iter.Error) → (¬ Holds rows id) → KindFault honest may_fail table (id_of id) kinds.Commit e → ReadFault along honest may_fail rows table id (find_error e)
 read_fault along honest may_fail rows table id (iter_case.Find lookup.Memory) h k = tt
 read_fault along honest may_fail rows table id (iter_case.Find lookup.Failed) h k = (h, k)

@@ -80,7 +80,7 @@ both_true true q f b = sym (f refl)
 both_true false true f b = b refl
 both_true false false f b = refl
 
--- the map tells which wait
+-- the map says which wait
 pub waits_in : (w : Waiting) (p : Pending) → is_some (get pending_cmp w.turns p) ≡ list_any (eq_by_cmp pending_cmp p) (pendings w)
 waits_in w p =
     let same = btree_map_contains_key_iff pending_total pending_exact w.turns p in

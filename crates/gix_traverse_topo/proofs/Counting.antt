@@ -70,7 +70,7 @@ each_kept low keys cs P Q each f n z c l a b = f n z c l a (each n z c l a b)
 pub names_as : (low : ℕ) (keys : List ObjectId) (cs : List ℕ) (names names' : ObjectId → ℕ) → NamesAre low keys cs names → ((y : ObjectId) → names y ≡ names' y) → NamesAre low keys cs names'
 names_as low keys cs names names' (each, none) same = ((λ n x c l a b. each n x c l a b ∙ same x), (λ y out. sym (same y) ∙ none y out))
 
--- none has a number behind these
+-- none has a number after these
 pub names_none : (low : ℕ) (keys : List ObjectId) (cs : List ℕ) → length keys ≤ low → NamesAre low keys cs (λ y. 0)
 names_none low keys cs l = ((λ n x c m a b. absurd (let w = slice_get_within keys n x a in omega arith)), (λ y out. refl))
 
@@ -134,7 +134,7 @@ joined_more (Topological a) (Topological b) (ByDate c) ps p h j = absurd j
 pub at_id : (keys : List ObjectId) (n : ℕ) (x : ObjectId) → At keys n x → id_at keys n ≡ x
 at_id keys n x a = get_or_from_slice_get keys n x (Sha1 []) a
 
--- where the keys are these, a commit behind the hidden has a number
+-- if the keys are these, a commit after the hidden has a number
 pub number_in : (keys hs xs : List ObjectId) (y : ObjectId) → keys ≡ hs ++ xs → Contains xs y → (n : ℕ) × (length hs ≤ n) × At keys n y
 number_in keys hs xs y e c =
     let (k, a) = at_from_contains xs y c in
@@ -144,7 +144,7 @@ number_in keys hs xs y e c =
     behind [] xs k y a = let f : 0 + k ≡ k = omega arith in subst (λ (n : ℕ). At xs n y) (sym f) a
     behind (h ∷ hs) xs k y a = let f : suc (length hs) + k ≡ suc (length hs + k) = omega arith in subst (λ (n : ℕ). At (h ∷ (hs ++ xs)) n y) (sym f) (behind hs xs k y a)
 
--- and one with a number behind them is of the set
+-- and one with a number after them is of the set
 pub in_set : (keys hs xs : List ObjectId) (n : ℕ) (y : ObjectId) → keys ≡ hs ++ xs → length hs ≤ n → At keys n y → Contains xs y
 in_set keys hs xs n y e l a = go hs n l (subst (λ (zs : List ObjectId). At zs n y) e a)
   where

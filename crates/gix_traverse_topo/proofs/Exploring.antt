@@ -28,7 +28,7 @@ use Rattle.gix_traverse_topo.proofs.Meeting.{length_map, at_back}
 use Rattle.gix_traverse_topo.proofs.Updates.{at_within}
 use Rattle.gix_traverse_topo.proofs.Walking.{walks_all}
 
--- without parents asked for, the parents
+-- without wanted parents, the parents
 module _ (honest may_fail : Type 0) (rows : List Row) (table : Table) (ends : List ObjectId) (keys : List ObjectId) (nodes : List Node) (high : ℕ) (w : Walking honest may_fail rows table All ends [] [] high keys nodes) (full : length keys ≤ high) where
   none_twice : IsOnce {I = ObjectId} []
   none_twice j k x a b = absurd (none_at_nil j x a)
@@ -90,7 +90,7 @@ module _ (honest may_fail : Type 0) (rows : List Row) (table : Table) (ends : Li
             reached_read (fault_in keys (all_facts nodes)) g ends ((one_by_one (as_read (fault_in keys (all_facts nodes)) g) (parents_so honest may_fail rows table keys (all_facts nodes) once read yes g are) x).0 (contains_from_at keys n x a));
       }
 
--- ---- behind it what the tips reach
+-- ---- after it what the tips reach
 
 module _ (honest may_fail : Type 0) (rows : List Row) (table : Table) (tips ends : List ObjectId) (parents : Parents) (old mid : Known) (high : ℕ) (p : IsPainted honest may_fail rows table ends old) (w : Walking honest may_fail rows table parents tips old.ids.keys old.nodes.items high mid.ids.keys mid.nodes.items) (full : length mid.ids.keys ≤ high) (hidden : mid.hidden ≡ old.hidden) where
   forward : (n : ℕ) (r : Facts) → At (all_facts old.nodes.items) n r → At (all_facts mid.nodes.items) n r

@@ -1,4 +1,4 @@
--- How many objects a walk asks for.
+-- How many objects a walk looks up.
 use Rattle.std.proofs.Common.{◌≡◌, ℕ, zero, suc, ◌+◌, ◌-◌, ◌^◌, ◌<◌, ◌≤◌, ◌∙◌, List, [], ◌∷◌, ◌++◌, length, take, refl, sym, ap, subst, arith}
 use Rattle.std.specs.Prelude.{min}
 use Rattle.std.proofs.lemmas.Option.{slice_get_within}
@@ -12,7 +12,7 @@ use Rattle.gix_traverse_commit_known.proofs.Meeting.{counts_more, counts_one}
 use Rattle.gix_traverse_topo.proofs.Turns.{take_whole}
 use Rattle.gix_traverse_commit_known.proofs.Simply.{take_push}
 
--- one was asked for each time that one more was read, as far as the counter goes
+-- one was looked up each time that one more was read, as far as the counter goes
 pub record IsCountedFrom (first few count many : ℕ) : Type 0 where
   pub more : ℕ
   pub read : many ≡ few + more
@@ -42,7 +42,7 @@ take_kept {I} (x ∷ xs) (y ∷ ys) (suc k) kept l =
     let same : y ≡ x = cc in
     ap (λ (v : I). v ∷ take k ys) same ∙ ap (λ (zs : List I). x ∷ zs) (take_kept xs ys k (λ j z a. kept (suc j) z a) (omega arith))
 
--- where more commits are known behind them, those that were counted stay counted
+-- if more commits are known after them, those that were counted stay counted
 pub counts_start : (rows : List Row) (xs ys : List ObjectId) (k a b : ℕ) → ((j : ℕ) (y : ObjectId) → At xs j y → At ys j y) → k ≡ length xs → CountsAll rows xs a b → CountsAll rows (take k ys) a b
 counts_start rows xs ys k a b kept e before =
     let same : take k ys ≡ xs = take_kept xs ys k kept (omega arith) ∙ (ap (λ (n : ℕ). take n xs) e ∙ take_whole xs) in

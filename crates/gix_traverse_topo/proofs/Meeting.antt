@@ -113,7 +113,7 @@ pub map_push : {A B : Type 0} (f : A → B) (xs : List A) (x : A) → map f (xs 
 map_push f [] x = refl
 map_push f (y ∷ xs) x = ap (λ (zs : List _). f y ∷ zs) (map_push f xs x)
 
--- what stands at a place of the longer list stood there before
+-- what is at a place of the longer list was there before
 pub at_back : {I : Type 0} (xs ys : List I) → ((k : ℕ) (x : I) → At xs k x → At ys k x) → (k : ℕ) (x : I) → k < length xs → At ys k x → At xs k x
 at_back xs ys kept k x l a =
     let here = slice_get-get_or xs k x l in
@@ -135,7 +135,7 @@ reached_tip (parent {y = y} r n p) = let (k, a) = at_from_contains [] y n in abs
 pub row_met : (keys keys' names : List ObjectId) → ((way : ObjectId → List ObjectId) (tips hs xs : List ObjectId) (p : ℕ) → keys ≡ hs ++ xs → Read way tips (NotIn hs) xs p 0 → IsRow way tips xs p names → Met way tips hs keys' p) → Met (λ _. []) names keys keys' 0
 row_met keys keys' names met = met (λ _. []) names keys [] 0 (sym (append-nil keys)) (read_none (λ _. []) names (NotIn keys)) refl
 
--- no key stands twice
+-- no key is there twice
 pub met_once : (way : ObjectId → List ObjectId) (tips keys keys' : List ObjectId) (p : ℕ) → Met way tips keys keys' p → IsOnce keys → IsOnce keys'
 met_once way tips keys keys' p m once j k x a b = go (at_append_cases keys m.xs j x (subst (λ (zs : List ObjectId). At zs j x) m.keys_are a)) (at_append_cases keys m.xs k x (subst (λ (zs : List ObjectId). At zs k x) m.keys_are b))
   where

@@ -1,4 +1,4 @@
--- A walk before its first commit stands.
+-- A walk before its first commit.
 use Rattle.std.proofs.Common.{◌≡◌, ℕ, zero, suc, ◌+◌, ◌-◌, ◌<◌, ◌≤◌, ◌⊎◌, inl, inr, List, [], ◌∷◌, ◌++◌, length, refl, sym, ◌∙◌, ap, subst, arith, Some, Bool, true, false, cond, get_or}
 use Rattle.std.specs.Prelude.{Contains, ⊤, ℤ, ◌<ℤ◌, ◌↔◌, IsPermutation}
 use Rattle.std.specs.Cmp.{IsTotalOrder}
@@ -50,7 +50,7 @@ use Rattle.gix_traverse_topo.proofs.Updates.{at_within}
 pending_order : IsTotalOrder pending_cmp
 pending_order = then_total (on_total (λ (p : Pending). p.time) int_cmp_total) (on_total (λ (p : Pending). p.number.0) nat_cmp_total)
 
--- what stands later in a sorted list is newer, or as old and of no lower number
+-- what comes later in a sorted list is newer, or as old and of no lower number
 pub later_ranks : (p q : Pending) → is_lt (pending_cmp q p) ≡ false → (p.time <ℤ q.time) ⊎ ((p.time ≡ q.time) × (p.number.0 ≤ q.number.0))
 later_ranks p q e = go (int_cmp q.time p.time) refl (int_ranked q.time p.time (int_cmp q.time p.time) refl)
   where

@@ -119,7 +119,7 @@ module _ (way : ObjectId → List ObjectId) (tips : List ObjectId) (time : Objec
   popped_first TopoOrder (ByDate a) b p h r timed y c = absurd r
   popped_first TopoOrder (Topological a) (ByDate b) p h r timed y c = absurd h
 
-  -- those that wait then stand as the order wants them
+  -- those that wait then are in the order that is wanted
   pub ranks_step : (S : ObjectId → Type 0) (sorting : Sorting) (a b c : Ready) (p : Pending) (more : List Pending) → Popped a p b → Joined b more c → Ranks sorting way tips time keys before a → Waits same_id way S (Comes sorting way tips time) before (ids_of keys (waiting a)) → ((y : ObjectId) → Contains (ids_of keys more) y → Contains (way (id_at keys p.number.0)) y) → Rising (way (id_at keys p.number.0)) (ids_of keys more) → Ranks sorting way tips time keys (before ++ id_at keys p.number.0 ∷ []) c
   ranks_step S DateOrder (ByDate a) (ByDate b) (ByDate c) p more (h, i) (j, k) heap w some up = k (i heap).0
   ranks_step S TopoOrder (Topological a) (Topological b) (Topological c) p more e j ranked w some up =

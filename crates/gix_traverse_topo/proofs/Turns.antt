@@ -34,7 +34,7 @@ times_at p [] k x a e = let z : ⊥ = cc in absurd z
 times_at p (z ∷ zs) zero x a e = let f : z ≡ x = cc in let g : p z ≡ true = ap p f ∙ e in rw g (omega arith)
 times_at p (z ∷ zs) (suc k) x a e = let r = times_at p zs k x a e in omega arith
 
--- where one is counted, it stands somewhere
+-- if one is counted, it is somewhere
 pub at_times : {I : Type 0} (p : I → Bool) (xs : List I) → 1 ≤ times p xs → (k : ℕ) × (x : I) × At xs k x × (p x ≡ true)
 at_times p [] l = absurd (omega arith)
 at_times {I} p (z ∷ zs) l = go (p z) refl (λ m. at_times p zs m)

@@ -40,7 +40,7 @@ none_named : (way : ObjectId → List ObjectId) (y : ObjectId) (xs : List Object
 none_named way y [] = refl
 none_named way y (x ∷ xs) = refl
 
--- behind the same keys the longer list has the shorter one's at their places
+-- after the same keys the longer list has the shorter one's at their places
 behind_kept : (keys keys' keys'' xs ys : List ObjectId) → ((k : ℕ) (x : ObjectId) → At keys' k x → At keys'' k x) → keys' ≡ keys ++ xs → keys'' ≡ keys ++ ys → (k : ℕ) (x : ObjectId) → At xs k x → At ys k x
 behind_kept keys keys' keys'' xs ys kept e f k x a = at_length_append keys ys k x (subst (λ (zs : List ObjectId). At zs (length keys + k) x) f (kept (length keys + k) x (subst (λ (zs : List ObjectId). At zs (length keys + k) x) (sym e) (at_behind keys))))
   where
@@ -48,7 +48,7 @@ behind_kept keys keys' keys'' xs ys kept e f k x a = at_length_append keys ys k 
     at_behind [] = let g : 0 + k ≡ k = omega arith in subst (λ (n : ℕ). At xs n x) (sym g) a
     at_behind (h ∷ hs) = let g : suc (length hs) + k ≡ suc (length hs + k) = omega arith in subst (λ (n : ℕ). At (h ∷ (hs ++ xs)) n x) (sym g) (at_behind hs)
 
--- the names that one more commit gives are counted behind those of the commits before it
+-- the names that one more commit gives are counted after those of the commits before it
 named_next : (way : ObjectId → List ObjectId) (xs ys : List ObjectId) (p : ℕ) (id : ObjectId) (row : List ObjectId) → take (suc p) ys ≡ take p xs ++ id ∷ [] → way id ≡ row → (y : ObjectId) → names_of same_id way y (take p xs) + times (same_id y) row ≡ names_of same_id way y (take (suc p) ys)
 named_next way xs ys p id row e f y =
     let pushed : names_of same_id way y (take p xs ++ id ∷ []) ≡ names_of same_id way y (take p xs) + times (same_id y) (way id) = total_push (λ c. times (same_id y) (way c)) (take p xs) id in

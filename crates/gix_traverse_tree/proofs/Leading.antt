@@ -1,4 +1,4 @@
--- Where names lead, by the numbers of what begins the paths, and how many trees are asked for.
+-- Where names lead, by the numbers of what begins the paths, and how many trees are looked up.
 use Rattle.std.proofs.Common.{◌≡◌, ◌≢◌, ◌∙◌, refl, sym, ap, subst, ℕ, zero, suc, ◌<◌, ◌≤◌, ◌⊎◌, inl, inr, Bool, true, false, List, [], ◌∷◌, ◌++◌, length, map, Option, Some, None, arith}
 use Rattle.std.specs.Prelude.{option_map, Contains}
 use Rattle.std.specs.Bool.{MatchBool}
@@ -164,7 +164,7 @@ module _ (H : Type 0) (table : Table) where
           (so.0, subst (λ o. Follows H table o path (told_at so.0 found end)) known_root so.1)
 
       module _ (paths : List Path) (used : (i n : ℕ) (name : Name) → numbers_of folders i name ≡ Some n → (front : Path) × Way (numbers_of folders) 0 front i × BeginsOne paths front) where
-        -- a tree that is asked for
+        -- a tree that is looked up
         pub record Above (n : ℕ) (answer : Answer) : Type 0 where
           pub front : Path
           pub way : Way (numbers_of folders) 0 front n

@@ -175,7 +175,7 @@ module _ (old new : List Folder) (at : ℕ) (name : Name) (numbered : IsNumbered
     added = added;
   }
 
--- the new number is that of a folder behind the others
+-- the new number is that of a folder after the others
 pub named_pushed : (old mid : List Folder) (last : Folder) (at number : ℕ) (name : Name) → IsNumbered old → at < length old → numbers_of old at name ≡ None → length mid ≡ length old → number ≡ length old
     → numbers_of mid at name ≡ Some number → ((i : ℕ) (other : Name) → ((i ≡ at) → (other ≡ name) → ⊥) → numbers_of mid i other ≡ numbers_of old i other) → ((other : Name) → number_in last other ≡ None)
     → NumbersName at name number old (mid ++ last ∷ [])

@@ -60,7 +60,7 @@ all_head P x xs (p, h) = p
 pub all_tail : {A : Type 0} (P : A → Type 0) (x : A) (xs : List A) → AllByRecursion P (x ∷ xs) → AllByRecursion P xs
 all_tail P x xs (p, h) = h
 
--- what holds of the calls at an entry: of the name that is told, of the visit, and of all behind
+-- what holds of the calls at an entry: of the name that is pushed, of the visit, and of all after
 pub record OfEntry (P : Call → Type 0) (item : Item) (answer : Bool) (more : List Call) : Type 0 where
   pub name : P (push item.name)
   pub visit : P (visit_of item (Continue answer))
@@ -69,7 +69,7 @@ pub record OfEntry (P : Call → Type 0) (item : Item) (answer : Bool) (more : L
 pub of_entry : (P : Call → Type 0) (item : Item) (answer : Bool) (more : List Call) → AllByRecursion P (shown item (Continue answer) ++ more) → OfEntry P item answer more
 of_entry P item answer more (p, (q, h)) = record { name = p; visit = q; rest = h }
 
--- ---- where a recorder stands
+-- ---- the state of a recorder
 
 -- in a folder, below which these paths are queued
 abbrev pub StandsIn : Option Location → List Bytes → Bytes → List Bytes → Bytes → Type 0
@@ -83,7 +83,7 @@ StandsBefore (Some Path) above folder queue path = queue ≡ above ++ folder ∷
 StandsBefore (Some FileName) above folder queue path = ⊤
 StandsBefore None above folder queue path = path ≡ []
 
--- what came of some calls: these entries were added, and the recorder stands so
+-- what came of some calls: these entries were added, and the recorder's state is this
 pub record Came (Stands : List Bytes → Bytes → Type 0) (location : Option Location) (entries found : List Recorded) (after : Recording) : Type 0 where
   pub queue : List Bytes
   pub path : Bytes
@@ -122,7 +122,7 @@ resumed (Some FileName) above folder queue path entries e = record
 resumed None above folder queue path entries e = record
     { queue = queue; path = path; is = ap (λ (es : List Recorded). state None queue path es) (sym (append-nil entries)); stands = e }
 
--- an entry is told, shown and left
+-- an entry is pushed, shown and left
 abbrev pub past : Item → Bool → List Call
 past item answer = shown item (Continue answer) ++ (pop ∷ [])
 
@@ -159,7 +159,7 @@ passed None above folder queue path entries item answer named e = record {
   stands = e;
 }
 
--- below an entry the folder that it stands in is queued, and then its own
+-- below an entry the folder that it is in is queued, and then its own
 pub entered : (location : Option Location) (above : List Bytes) (folder : Bytes) (queue : List Bytes) (path : Bytes) (entries : List Recorded) (item : Item)
     → StandsIn location above folder queue path
     → Came (StandsBefore location (above ++ folder ∷ []) (folder_in folder item)) location entries [] (after_calls (state location queue path entries) (entering item))

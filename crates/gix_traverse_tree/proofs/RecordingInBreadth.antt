@@ -29,7 +29,7 @@ folder_paths folders = map (λ (f : Folder). f.0) folders
 abbrev folder_ids : List Folder → List Id
 folder_ids folders = map (λ (f : Folder). f.1) folders
 
--- a tree's folder is queued behind the others
+-- a tree's folder is queued after the others
 queued : (location : Option Location) (above : List Bytes) (folder : Bytes) (queue : List Bytes) (path : Bytes) (entries : List Recorded) (item : Item)
     → IsName item.name → StandsIn location above folder queue path
     → Came (StandsIn location (above ++ folder_in folder item ∷ []) folder) location entries [] (after_calls (state location queue path entries) (push_back item.name ∷ pop ∷ []))
@@ -47,7 +47,7 @@ queued (Some FileName) above folder queue path entries item named stands = recor
 queued None above folder queue path entries item named e = record
     { queue = queue; path = path; is = ap (λ (es : List Recorded). state None queue path es) (sym (append-nil entries)); stands = e }
 
--- what came of a tree's entries: the folders among them are queued behind the others
+-- what came of a tree's entries: the folders among them are queued after the others
 record CameListed (location : Option Location) (above : List Bytes) (folder : Bytes) (ids : Kind) (content : List ℕ) (below : List Id) (entries : List Recorded) (after : Recording) : Type 0 where
   pub found : List Recorded
   pub folders : List Folder
@@ -167,7 +167,7 @@ tree_ids_under_root : (ids : List Id) → tree_ids (map under_root ids) ≡ ids
 tree_ids_under_root [] = refl
 tree_ids_under_root (id ∷ ids) = ap (λ (is : List Id). id ∷ is) (tree_ids_under_root ids)
 
--- what came of a level: the folders below are queued, and their entries come behind those of all that were queued before
+-- what came of a level: the folders below are queued, and their entries come after those of all that were queued before
 record CameLevel (H : Type 0) (table : Table) (location : Option Location) (folders others : List Folder) (deeper : List Tree) (entries : List Recorded) (after : Recording) : Type 0 where
   pub found : List Recorded
   pub next : List Folder

@@ -1,4 +1,4 @@
--- The names of a folder, told from the entries of its tree.
+-- The names of a folder, recorded from the entries of its tree.
 use Rattle.std.proofs.Common.{◌≡◌, ◌∙◌, refl, sym, ap, subst, ℕ, ◌<◌, inl, inr, true, false, cond, List, [], ◌∷◌, ◌++◌, length, Option, Some, None, Ok, Err, bytes_eq}
 use Rattle.std.specs.Prelude.{option_map}
 use Rattle.std.proofs.lemmas.List.Elements.{All-push, All-nil}
@@ -50,7 +50,7 @@ finds_named ids content name items spelled = finds ids content content name [] i
 
 -- ---- a whole tree
 
--- what is told of the entries before the place
+-- what is recorded of the entries before the place
 pub record Told (from now : Place) (folder : Folder) (old new : List (Option Answer)) : Type 0 where
   pub items : List Item
   pub kind : now.kind ≡ from.kind

@@ -54,7 +54,7 @@ length_one : {A : Type 0} (xs : List A) (y : A) → length (xs ++ y ∷ []) ≡ 
 length_one [] y = refl
 length_one (x ∷ xs) y = ap suc (length_one xs y)
 
--- trees put behind the others stand where these ended, under the tree
+-- trees put after the others are where these ended, under the tree
 pub stand_added : (nodes : List Node) (number : ℕ) (tree : Tree) (added : List ObjectId) → IsWayUp nodes (Some number) (tree.id ∷ tree.above) → StandFrom (nodes ++ map (node_under (Some number)) added) (length nodes) (map (under tree) (map id_of added))
 stand_added nodes number tree [] way = tt
 stand_added nodes number tree (x ∷ added) way =

@@ -12,7 +12,7 @@ line_more input value rest line after further so_far cut lacks spaced =
     so_far ∙ ap (λ t. folded value ++ t) (cut ∙ ap (λ t. line ++ 10 ∷ t) spaced ∙ ap (λ t. t ++ 10 ∷ (32 ∷ further)) (sym (folded_same line lacks)) ∙ sym (append_assoc (folded line) (10 ∷ (32 ∷ [])) further) ∙ ap (λ t. t ++ further) (sym (folded_more line (10 ∷ []))))
     ∙ sym (append_assoc (folded value) (folded (line ++ 10 ∷ [])) further) ∙ ap (λ t. t ++ further) (sym (folded_more value (line ++ 10 ∷ [])))
 
--- the whole value, and the rest behind it
+-- the whole value, and the rest after it
 value_whole : (input value rest line after : List ℕ) → input ≡ folded value ++ rest → rest ≡ line ++ 10 ∷ after → input ≡ (folded value ++ line) ++ 10 ∷ after
 value_whole input value rest line after so_far cut = so_far ∙ ap (λ t. folded value ++ t) cut ∙ sym (append_assoc (folded value) line (10 ∷ after))
 

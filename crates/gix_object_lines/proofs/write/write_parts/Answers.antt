@@ -9,7 +9,7 @@ use Rattle.gix_object_lines.proofs.write.write_parts.Goals as goal
 abbrev all_bytes : List (Bor (List ℕ)) → List ℕ
 all_bytes parts = flat_map {X = Bor (List ℕ)} {A = ℕ} (λ part. part.now) parts
 
--- a part stands between those before and those behind
+-- a part is between those before and those after
 whole_is : (parts before behind : List (Bor (List ℕ))) (part : Bor (List ℕ)) → parts ≡ before ++ part ∷ behind → all_bytes parts ≡ (all_bytes before ++ part.now) ++ all_bytes behind
 whole_is parts before behind part cut =
     ap all_bytes cut

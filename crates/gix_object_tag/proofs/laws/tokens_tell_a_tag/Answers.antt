@@ -14,12 +14,12 @@ now : (named tells later : Bool) → named ≡ false → later ≡ tells → lat
 now true tells later e is = absurd cc
 now false tells later e is = is
 
--- whether the name has been told, behind a step
+-- whether the name has come, after a step
 named_behind : (here next : Place) (part : Part) (named later : Bool) → IsNext here part next → named ≡ is_named here.stage → later ≡ (named || tells_name part) → later ≡ is_named next.stage
 named_behind here next part named later step is told =
     told ∙ ap (λ n. n || tells_name part) is ∙ named_on here.kind here.stage here.input part next.input step.1 ∙ ap is_named (sym step.2)
 
--- what is left of a tag behind a step
+-- what is left of a tag after a step
 on_behind : (kind : _) (here next : Place) (part : Part) → here.kind ≡ kind → IsNext here part next → IsFrom kind here.stage here.input → IsFrom kind next.stage next.input
 on_behind kind here next part same step from =
     subst (λ s. IsFrom kind s next.input) (sym step.2)

@@ -6,7 +6,7 @@ use Rattle.gix_object_signature.specs.Armor.{BeginsArmor, BeginsNoArmor}
 use Rattle.gix_object_tag.proofs.ArmorLemmas.{none_behind, none_from, not_at, line_at, signed_at, nowhere_behind}
 use Rattle.gix_object_tag.proofs.signature.split_signature.Goals as goal
 
--- all that stands behind a place
+-- all that follows a place
 all_behind : (text : List ℕ) (at : ℕ) → take (length text - at) (drop at text) ≡ drop at text
 all_behind text at = take_all (length text - at) (drop at text) (omega (arith, length-drop at text))
 

@@ -12,7 +12,7 @@ use Rattle.gix_ref_way.proofs.way.+clear_way.Given as goal
 abbrev pub decreases-clear_way : goal.decreases-clear_way
 decreases-clear_way g l = 4096 - length l.place.now
 
--- folders below the place went, and at what is listed so far none stands
+-- folders below the place went, and there is none at what is listed so far
 abbrev pub invariant-loop-name : goal.invariant-loop-name
 invariant-loop-name g l =
     let history = g.F.Files.history in

@@ -8,7 +8,7 @@ use Rattle.gix_object_lines.specs.declared.lines.time.Time.{Time}
 use Rattle.gix_object_lines.proofs.TimeTests.{tells_time-Decides}
 use Rattle.gix_object_lines.proofs.lines.time.tells_time.Goals as goal
 
--- a time is read where one is told
+-- a time is read if there is one
 read_where_told : {E : Type 0} (text : List ℕ) (r : Result Time E) → IfOk r (SpellsTime text) → ((time : Time) → SpellsTime text time → r ≡ Ok time) → Decides (is_ok r) (TellsTime text)
 read_where_told text (Ok time) read every = (λ _. (time, read), λ _. refl)
 read_where_told text (Err e) read every = (λ no. absurd cc, λ told. let same = every told.0 told.1 in absurd cc)

@@ -2,7 +2,7 @@ use Rattle.std.proofs.Common.{◌≡◌, length}
 use Rattle.gix_object_signature.specs.SshVerdict.{holds}
 use Rattle.gix_object_signature.proofs.verify.ssh_verdict.holds.Given as goal
 
--- it stands in the whole exactly if it stands in what is left
+-- it is in the whole exactly if it is in what is left
 abbrev pub invariant-places : goal.invariant-places
 invariant-places l = holds l.part l.rest ≡ holds l.part l.text
 

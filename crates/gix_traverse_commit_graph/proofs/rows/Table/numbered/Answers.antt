@@ -7,7 +7,7 @@ use Rattle.gix_traverse_commit_graph.specs.declared.rows.Row.{Row}
 use Rattle.gix_traverse_commit_graph.proofs.RowLemmas.{at_item, numbers_push}
 use Rattle.gix_traverse_commit_graph.proofs.rows.Table.numbered.Goals as goal
 
--- a row whose commit has a number stands behind another of that commit
+-- a row whose commit has a number is after another of that commit
 twice : (rows xs : List Row) (n : ℕ) (m : NumberMap) (row : Row) (o : Option ℕ) → xs ≡ rows → NumbersBelow xs n m → At xs n row → o ≡ get same_id m row.id → is_some o ≡ true → (j : ℕ) × (k : ℕ) × (r : Row) × (s : Row) × (j < k) × At rows j r × At rows k s × (r.id ≡ row.id) × (s.id ≡ row.id)
 twice rows xs n m row None e h here got some = let z : ⊥ = cc in absurd z
 twice rows xs n m row (Some j) e h here got some =

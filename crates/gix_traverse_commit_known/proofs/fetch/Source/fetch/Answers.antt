@@ -41,7 +41,7 @@ returns-clause-time g c = λ honest commits told.
     object_time (rows_of c.args.self.now.rows) (g.F.Lookup.table c.args.self.now.objects) commits told c.args.id.now c.load.new.buffer.items (place_of c.from_bytes-reader.result) c.seconds.result c.ok.result
     (subst (λ (o : Option (List Row)). Holds (rows_of o) c.args.id.now → ⊥) c.as_ref.ensures.value c.in_default.ensures.none) (c.in_ok-load.ensures.stood honest) (begun (place_of c.from_bytes-reader.result) c.kind.result (id_of c.args.id.now).kind c.as_slice-2.result.now c.load.new.buffer.items c.from_bytes-reader.ensures c.kind.ensures c.as_slice-2.ensures.value) c.seconds.ensures.told c.seconds.ensures.every c.ok.ensures.value
 
--- the parents that are asked for are parents
+-- the parents that are wanted are parents
 asked_in : (along : Parents) (ps : List ObjectId) (x : ObjectId) → Contains (asked along ps) x → Contains ps x
 asked_in All ps x c = c
 asked_in First ps x c =

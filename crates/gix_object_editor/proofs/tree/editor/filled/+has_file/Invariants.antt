@@ -7,7 +7,7 @@ use Rattle.gix_object_editor.proofs.tree.editor.filled.+has_file.Given as goal
 abbrev pub decreases-has_file : goal.decreases-has_file
 decreases-has_file l = length l.nodes.now - l.at.0
 
--- those that are left stand in the tree; where they have no file, the tree has none
+-- those that are left are in the tree; where they have no file, the tree has none
 abbrev pub invariant-loop-slot : goal.invariant-loop-slot
 invariant-loop-slot l = record {
   next : (goal.iterator-loop-slot).can_next l.slot-iterator;

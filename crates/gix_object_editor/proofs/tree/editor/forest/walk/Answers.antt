@@ -104,7 +104,7 @@ returns-in_default-clause-asked_all g c = λ honest trees has more lt.
     walk_ends (g.S.Lookup.table c.args.store.now) trees (slots_of c.names.nodes.items) (slots_of c.open.new.nodes.items) c.names.at.0 c.args.path.now c.names.depth _ more _ c.args.lookups.now c.names.lookups c.open.new.lookups
     c.names-test.true (c.names.invariant.asked honest trees has more) c.in_ok-child.field-0 c.in_default.is (c.in_ok-child.ensures.asked honest trees has)
 
--- ---- what stands at the end
+-- ---- what is at the end
 
 pub returns-in_default-clause-blocked : goal.returns-in_default-clause-blocked
 returns-in_default-clause-blocked g c = λ lt.

@@ -3,7 +3,7 @@ use Rattle.gix_ref_store.specs.Items.{left_in}
 use Rattle.gix_ref_store.proofs.PristineLemmas.{Passed}
 use Rattle.gix_ref_store.proofs.store.file.Store.has_loose.Given as goal
 
--- what was passed by tells no target
+-- what was skipped has no target
 abbrev pub invariant-loop-item : goal.invariant-loop-item
 invariant-loop-item g l =
     (goal.iterator-loop-item g).can_next l.references × (goal.iterator-loop-item g).is_finite l.references

@@ -4,7 +4,7 @@ use Rattle.gix_ref_store.specs.Peels.{LeadsOver}
 use Rattle.gix_ref_store.proofs.PeelLemmas.{AreApart}
 use Rattle.gix_ref_store.proofs.store.file.peel.object_named.Given as goal
 
--- tags lead to where the walk stands, and no two of them have one id
+-- tags lead to where the walk is, and no two of them have one id
 abbrev pub invariant-tags : goal.invariant-tags
 invariant-tags g l =
     (g.T.Lookup.is_honest l.objects → LeadsOver (g.T.Lookup.table l.objects) (id_of l.fn.id) (map id_of l.tags.items) (id_of l.end))

@@ -230,7 +230,7 @@ folder_below-requires-clause-stopped g c = λ more.
     let some : i < length path = omega arith in
     subst (λ n. IsFolderAt (slots_of c.walk.new.nodes.items) c.in_ok-at.at.0 n None) (sym (ap (λ p. get_or (names p) 0 []) cut ∙ first_left path i some)) (c.in_ok-at.ensures.stopped lt)
 
--- ---- what was asked for
+-- ---- what was looked up
 
 pub returns-in_err-at-clause-asked : goal.returns-in_err-at-clause-asked
 returns-in_err-at-clause-asked g c =
@@ -456,7 +456,7 @@ returns-in_ok-made-in-None-clause-changed g c = λ tree.
           ]
     ])
 
--- ---- where nothing stands
+-- ---- if nothing is there
 
 pub returns-in-Some-clause-nothing : goal.returns-in-Some-clause-nothing
 returns-in-Some-clause-nothing g c = λ honest trees has none.

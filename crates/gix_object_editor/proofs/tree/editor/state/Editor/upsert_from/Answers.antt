@@ -226,7 +226,7 @@ returns-clause-each g c = λ honest has down fit each.
 pub returns-in_err-at-clause-each : goal.returns-in_err-at-clause-each
 returns-in_err-at-clause-each g c = λ honest has down fit each. c.in_err-at.ensures.each honest has down each
 
--- ---- the entry stands already
+-- ---- the entry is there already
 
 pub returns-then-stands_already-clause-put : goal.returns-then-stands_already-clause-put
 returns-then-stands_already-clause-put g c = λ way w honest trees has q.
@@ -262,7 +262,7 @@ returns-then-stands_already-clause-each g c = λ honest has down fit each. c.in_
 pub returns-then-stands_already-clause-asked : goal.returns-then-stands_already-clause-asked
 returns-then-stands_already-clause-asked g c = λ honest trees has. through_asked (g.S.Lookup.table c.args.self.now.store) trees (slots_of c.args.self.now.nodes.items) (slots_of c.walk.new.nodes.items) c.args.from.0 c.in_ok-at.at.0 c.args.path.now c.in_ok-at.depth c.args.self.now.lookups c.walk.new.lookups c.walk.new.lookups c.in_ok-at.ensures.within.1 (c.in_ok-at.ensures.asked honest trees has) (c.in_ok-at.ensures.asked_all honest trees has)
 
--- ---- what was asked for
+-- ---- what was looked up
 
 pub returns-in_err-at-clause-asked : goal.returns-in_err-at-clause-asked
 returns-in_err-at-clause-asked g c =
