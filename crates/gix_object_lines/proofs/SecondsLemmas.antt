@@ -21,7 +21,7 @@ pub seconds_no_plus : (ds : List ℕ) (z : ℤ) → SpellsSeconds (43 ∷ ds) z 
 seconds_no_plus ds z (Since numeral is) = let high = digit_from_value 43 numeral.1.0 in omega arith
 seconds_no_plus ds z (Before digits spelled numeral is) = let signs : ◌≡◌ {A = ℕ} 43 45 = ap (λ t. get_or t 0 0) spelled in absurd (omega arith)
 
--- the digits of a number below zero are at most 2 ^ 63
+-- the amount of a number below zero is at most 2 ^ 63
 fits_below : (n : ℕ) → FitsSigned w64 (neg_ℤ (pos n)) → n ≤ 2 ^ 63
 fits_below zero fits = omega arith
 fits_below (suc n) fits = omega (arith, fits.sfits)

@@ -50,7 +50,7 @@ pub enum Place {
 /// tree doesn't allow returns `Failed` and changes nothing. A change that is stopped or fails
 /// leaves all as before or as after it, and of what it was to write any beginning. Each call
 /// returns `Memory` if memory was refused, and may return `Failed` if the storage failed: a change
-/// then counts it in `failures`, and a reading does so only if `reading_may_fail`. A change that
+/// is then counted in `failures`, and a reading fails only if `reading_may_fail`. A change that
 /// returns `Memory` has counted nothing.
 pub trait Files {
     /// The current tree, and the earlier ones.
