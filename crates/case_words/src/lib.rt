@@ -1,4 +1,4 @@
-//! What programs of cases share: words of a line, the page of an answer, files that words change and read, objects in memory.
+//! What programs of cases share: words of a line, a page of results, files and objects in memory.
 #![tactic(auto)]
 
 mod bytes;

@@ -115,7 +115,8 @@ impl Page {
         self.bytes(bytes);
     }
 
-    /// Adds bytes as a text: `\n` for a line feed, `\\` for a backslash, and `\x` and two digits for what isn't printable ASCII.
+    /// Adds bytes as a text: `\n` for a line feed, `\\` for a backslash, and `\x` and two digits
+    /// for what isn't printable ASCII.
     pub fn escaped(&mut self, bytes: &[u8]) {
         for byte in bytes {
             self.escaped_byte(*byte);

@@ -1,4 +1,4 @@
-//! Object ids, prefixes, digests, streams, after the crate `gix-hash` 0.26: its parts' public items under that crate's names.
+//! Object ids, prefixes, digests and streams: the public items of `gix-hash` 0.26 by its names.
 #![tactic(auto)]
 
 /// Why a text is no id.

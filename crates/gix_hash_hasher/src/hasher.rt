@@ -26,7 +26,8 @@ pub fn hasher(kind: Kind) -> Hasher
 }
 
 impl Hasher {
-    /// Feeds these bytes. All bytes that a hasher is fed are at most 2^61 - 1, as FIPS 180-4 allows.
+    /// Feeds these bytes. All bytes that a hasher is fed are at most 2^61 - 1, as FIPS 180-4
+    /// allows.
     pub fn update(&mut self, bytes: &[u8])
         ensures { (kind : Kind) (fed : List ℕ) → HasFed self.old kind fed
             → HasFed self.new kind (fed ++ bytes.now) }

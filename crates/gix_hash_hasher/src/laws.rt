@@ -1,4 +1,6 @@
-//! Laws of digests and of pieces of streams: each is the contract of a function that makes the calls it names, if any.
+//! Laws of digests and of pieces of streams, each the contract of a function.
+//!
+//! The function makes the calls that its law names, if any.
 
 ghost use Rattle.std.specs.Prelude.{◌≡◌, sum};
 ghost use Rattle.std.specs.List.{flat_map};

@@ -1,5 +1,5 @@
--- The two hash functions of Git's object names, and how long their digests are (FIPS 180-4, section 1;
--- Git's "hash-function-transition": object names are the hexadecimal digits of a digest).
+-- The two hash functions of Git's object names, and how long their digests are (FIPS 180-4, section
+-- 1; Git's "hash-function-transition": object names are the hexadecimal digits of a digest).
 use Rattle.std.specs.Prelude.{ℕ, List, ◌∷◌, [], codes, Option, Some, None, ◌==◌, if◌then◌else◌, nat_le}
 use Rattle.gix_hash_id.specs.declared.kind.Kind.{Kind}
 use Rattle.gix_hash_id.specs.declared.kind.Kind.TheVariants.{Sha1, Sha256}

@@ -1,4 +1,5 @@
--- The laws of the equality and order of ids, for every type whose values are ids or their beginnings.
+-- The laws of the equality and order of ids, for every type whose values are ids or their
+-- beginnings.
 use Rattle.std.specs.Prelude.{ℕ, ◌≡◌, ◌&&◌, List, [], ◌∷◌, Some, IsTrue, Bool, nat_eq}
 use Rattle.std.proofs.Common.{refl, sym, ap, ◌∙◌, arith, nat_cmp, eqb-true}
 use Rattle.std.proofs.lemmas.Bool.{and_parts}

@@ -1,4 +1,6 @@
-//! Laws of ids, views and their spellings: each is the contract of a function that makes the calls it names, if any.
+//! Laws of ids, views and their spellings, each the contract of a function.
+//!
+//! The function makes the calls that its law names, if any.
 
 ghost use Rattle.std.specs.Prelude.{◌≡◌, ◌↔◌, ℕ, List, length, IsTrue, ◌<◌, slice_index, IsOkAnd};
 ghost use Rattle.std.specs.declared.cmp.Ordering.TheVariants.{Less, Greater};
@@ -30,8 +32,8 @@ pub fn ids_are_equal(one: &ObjectId, other: &ObjectId) -> bool
     one == other
 }
 
-/// Views are equal exactly if they show one id, and so exactly if their lower-case hexadecimal texts
-/// are equal.
+/// Views are equal exactly if they show one id, and so exactly if their lower-case hexadecimal
+/// texts are equal.
 pub fn views_are_equal(one: oid<'_>, other: oid<'_>) -> bool
     ensures ids { IsTrue result ↔ (viewed_id one.entry ≡ viewed_id other.entry) }
     ensures texts { IsTrue result
@@ -57,7 +59,8 @@ pub fn order_of_ids(one: &ObjectId, other: &ObjectId) -> Ordering
     one.cmp(other)
 }
 
-/// Views are ordered by their digits alone, a shorter beginning first: in one kind as their ids are.
+/// Views are ordered by their digits alone, a shorter beginning first: in one kind as their ids
+/// are.
 pub fn order_of_views(one: oid<'_>, other: oid<'_>) -> Ordering
     ensures digits { result
         ≡ digits_cmp (viewed_id one.entry).digits (viewed_id other.entry).digits }

@@ -134,7 +134,8 @@ impl ObjectId {
         }
     }
 
-    /// The id's bytes, each of two digits, for writing: the id is then that of the bytes left there.
+    /// The id's bytes, each of two digits, for writing: the id is then that of the bytes left
+    /// there.
     pub fn as_mut_slice(&mut self) -> &mut [u8]
         ensures* writes_back { sem 𝓛 (LendsBytes self.entry result) }
         ensures bytes { IsBytesOf result.now (id_of self.old) }

@@ -46,7 +46,8 @@ suc_cmp n m =
       ]
     ]
 
--- digits with zeros after the first n and m compare by all, and then by n and m, as the first n and m do
+-- digits with zeros after the first n and m compare by all, and then by n and m, as the first n and
+-- m do
 pad_cmp : (xs ys : List ℕ) (n m k : ℕ) → length xs ≡ k → length ys ≡ k → n ≤ k → m ≤ k
     → drop n xs ≡ replicate (k - n) 0 → drop m ys ≡ replicate (k - m) 0
     → ordering_then (digits_cmp xs ys) (nat_cmp n m) ≡ digits_cmp (take n xs) (take m ys)

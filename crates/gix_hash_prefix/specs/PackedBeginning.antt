@@ -1,5 +1,5 @@
--- How the code keeps the beginning of an id: digits two to a byte, and zeros after the last. No contract
--- speaks of it.
+-- How the code keeps the beginning of an id: digits two to a byte, and zeros after the last. No
+-- contract speaks of it.
 use Rattle.std.specs.Prelude.{ℕ, ◌≡◌, ◌-◌, ◌≤◌, List, ◌++◌, length, take, drop, replicate}
 use Rattle.std.proofs.Common.{ap, ◌∙◌, arith, sym, length-take}
 use Rattle.std.proofs.lemmas.List.{take-append-drop}

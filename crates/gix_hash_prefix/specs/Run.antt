@@ -32,7 +32,8 @@ IsMatchingRun ids prefix first past =
 abbrev pub against : Id → ObjectId → Ordering
 against prefix id = digits_cmp prefix.digits (take (length prefix.digits) (id_of id).digits)
 
--- the prefix compares as greater before `first`, as equal from there up to `past`, and as less from `past` on
+-- the prefix compares as greater before `first`, as equal from there up to `past`, and as less from
+-- `past` on
 pub record FallsAt (ids : List ObjectId) (prefix : Id) (first past : ℕ) : Type 0 where
   pub greater : (i : ℕ) (id : ObjectId) → i < first
       → against prefix (slice_index_or ids i id) ≡ Greater
@@ -41,7 +42,8 @@ pub record FallsAt (ids : List ObjectId) (prefix : Id) (first past : ℕ) : Type
   pub less : (i : ℕ) (id : ObjectId) → past ≤ i → i < length ids
       → against prefix (slice_index_or ids i id) ≡ Less
 
--- the count is at most twice the number of binary digits of n: n has at most k exactly if n is below 2 ^ k
+-- the count is at most twice the number of binary digits of n: n has at most k exactly if n is
+-- below 2 ^ k
 abbrev pub IsWithinTwiceDigits : ℕ → ℕ → Type 0
 IsWithinTwiceDigits count n = (k : ℕ) → n < 2 ^ k → count ≤ 2 * k
 

@@ -1,4 +1,6 @@
-//! Laws of prefixes, change ids and their spellings: each is the contract of a function that makes the calls it names, if any.
+//! Laws of prefixes, change ids and their spellings, each the contract of a function.
+//!
+//! The function makes the calls that its law names, if any.
 
 ghost use Rattle.std.specs.Prelude.{◌≡◌, ◌≤◌, ◌↔◌, ◌⊎◌, ℕ, length, take, IsTrue, ◌<◌, Some, IfOk, IsOkAnd};
 ghost use Rattle.std.specs.declared.cmp.Ordering.TheVariants.{Less, Equal, Greater};
@@ -54,7 +56,8 @@ pub fn equal_is_beginning(prefix: &Prefix, id: &ObjectId)
         ↔ IsBeginningOf prefix.now.digits (id_of id.now).digits }
 {}
 
-/// Over a list of ids that ascend and have enough digits `Prefix::cmp_oid` is first greater, then equal, then less.
+/// Over a list of ids that ascend and have enough digits `Prefix::cmp_oid` is first greater, then
+/// equal, then less.
 pub fn comparisons_fall(ids: &[ObjectId], prefix: &Prefix)
     requires ascending { IsAscending ids.now }
     requires enough { HasEnoughDigits ids.now prefix.now }
@@ -64,8 +67,8 @@ pub fn comparisons_fall(ids: &[ObjectId], prefix: &Prefix)
     let _run = prefix_run(ids, prefix);
 }
 
-/// Of two prefixes the one begins all that the other begins, or they begin nothing in common: so the
-/// ids of one kind that two prefixes of that kind begin are nested or disjoint.
+/// Of two prefixes the one begins all that the other begins, or they begin nothing in common: so
+/// the ids of one kind that two prefixes of that kind begin are nested or disjoint.
 pub fn matches_nest_or_are_disjoint(one: &Prefix, other: &Prefix)
     ensures { BeginsAllOf one.now.digits other.now.digits
         ⊎ (BeginsAllOf other.now.digits one.now.digits
@@ -94,8 +97,8 @@ pub fn text_of_change_id_is_read(text: &[u8], id: &ChangeId) -> Result<ChangeId,
     ChangeId::from_reverse_hex(text)
 }
 
-/// The text of a prefix of at least one digit is read as its digits, in the kind of the shortest ids
-/// that have so many: as the prefix itself exactly if that is its kind.
+/// The text of a prefix of at least one digit is read as its digits, in the kind of the shortest
+/// ids that have so many: as the prefix itself exactly if that is its kind.
 pub fn printed_prefix_reads_back(prefix: &Prefix) -> Result<Prefix, from_hex::Error>
     requires { 1 ≤ length prefix.now.digits }
     ensures digits { IsOkAnd result (λ read. read.digits ≡ prefix.now.digits) }

@@ -1,4 +1,4 @@
-//! Prefixes of object ids, their runs in sorted lists, and change ids, after the crate `gix-hash` 0.26.
+//! Prefixes of ids, their runs in sorted lists, and change ids, after the crate `gix-hash` 0.26.
 #![tactic(auto)]
 
 mod change_id;

@@ -32,8 +32,8 @@ fn reverse_digit(letter: u8) -> Option<u8>
     }
 }
 
-/// The hexadecimal text, with zeros after it, of the digits that a text of at most 64 reverse digits
-/// spells: `None` if a character is no reverse digit.
+/// The hexadecimal text, with zeros after it, of the digits that a text of at most 64 reverse
+/// digits spells: `None` if a character is no reverse digit.
 pub(crate) fn hex_from_reverse(letters: &[u8]) -> Option<[u8; 64]>
     requires { length letters.now ≤ 64 }
     ensures { MatchOption result (Any (λ c. reverse_digit_value c ≡ None) letters.now)

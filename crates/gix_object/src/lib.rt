@@ -1,4 +1,4 @@
-//! Git's objects, after the crate `gix-object` 0.64: the public items of its parts, under the names of that crate.
+//! Git's objects: the public items of the crate `gix-object` 0.64 by its names.
 #![tactic(auto)]
 
 /// Commits.

@@ -1,4 +1,4 @@
-//! Cases of `gix_object_commit`, `gix_object_commit_lines`, `gix_object_commit_tokens` and `gix_object_hash`.
+//! Cases of the crates `gix_object_commit`, its lines and tokens, and `gix_object_hash`.
 
 mod edits;
 mod fields;
@@ -45,8 +45,8 @@ fn put_of_commit<'a>(
     }
 }
 
-// The length and the id of what is written of a commit that owns its parts, and whether one that was given is the same as one
-// that was lent.
+// The length and the id of what is written of a commit that owns its parts, and whether one that
+// was given is the same as one that was lent.
 fn put_owned(alloc: Global, kind: gix_hash::Kind, commit: CommitRef<'_>, page: &mut Page) {
     let Ok(lent) = commit.to_owned() else {
         return page.text("not owned");

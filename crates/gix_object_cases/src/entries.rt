@@ -41,7 +41,8 @@ fn put_order(case: &Case, page: &mut Page) {
     ));
 }
 
-// The kind, the length and the id of what is written of a tree; or why it isn't, and how many bytes were written.
+// The kind, the length and the id of what is written of a tree; or why it isn't, and how many bytes
+// were written.
 fn show_written<T: WriteTo>(alloc: Global, kind: gix_hash::Kind, tree: &T, page: &mut Page) {
     let mut content = Vec::new(alloc);
     if let Err(error) = tree.write_to(&mut content) {
@@ -62,7 +63,8 @@ fn show_written<T: WriteTo>(alloc: Global, kind: gix_hash::Kind, tree: &T, page:
     page.put(digest.try_finalize());
 }
 
-// The tree that a content spells: its entries, whether it is well-formed, and what is written of it.
+// The tree that a content spells: its entries, whether it is well-formed, and what is written of
+// it.
 fn put_tree(alloc: Global, case: &Case, page: &mut Page) {
     let tree = match TreeRef::from_bytes(alloc, case.text(0), case.kind) {
         Ok(tree) => tree,
@@ -83,7 +85,8 @@ fn read_owned(alloc: Global, case: &Case) -> Option<Tree> {
     tree.into_owned().ok()
 }
 
-// The tree that owns the entries of a content: the same, and whether a copy that is lent is like it.
+// The tree that owns the entries of a content: the same, and whether a copy that is lent is like
+// it.
 fn put_owned(alloc: Global, case: &Case, page: &mut Page) {
     let Some(tree) = read_owned(alloc, case) else {
         return page.text("not owned");
@@ -112,7 +115,8 @@ fn make(alloc: Global, case: &Case) -> Result<Tree, AllocError> {
     Ok(tree)
 }
 
-// A tree of files of these names and the null id: whether it is well-formed, and what is written of it.
+// A tree of files of these names and the null id: whether it is well-formed, and what is written of
+// it.
 fn put_made(alloc: Global, case: &Case, page: &mut Page) {
     let Ok(tree) = make(alloc, case) else {
         return page.text("not made");

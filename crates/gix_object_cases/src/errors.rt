@@ -1,4 +1,4 @@
-//! What errors and headers print, for users and for those who debug, and writers that are interrupted.
+//! What errors and headers print, and writers that are interrupted.
 
 use case_words::{Case, Page};
 use gix_object_lines::write::{FilenameError, TagNameError, write_bytes};

@@ -60,7 +60,8 @@ own_author_pieces commit = own_person_piece (codes "author") commit.author ∷ [
 abbrev pub own_committer_pieces : Commit → List Piece
 own_committer_pieces commit = own_person_piece (codes "committer") commit.committer ∷ []
 
--- all before the further headers, of which the first may not be named as the line for the encoding is
+-- all before the further headers, of which the first may not be named as the line for the encoding
+-- is
 abbrev pub own_front_pieces : List Field → Commit → List Piece
 own_front_pieces headers commit =
     id_pieces (own_parts commit)

@@ -1,4 +1,5 @@
--- Signing a commit (Git's commit.c: `commit_tree_extended`, `sign_with_header`; builtin/commit.c: `exclude_gpgsig`).
+-- Signing a commit (Git's commit.c: `commit_tree_extended`, `sign_with_header`; builtin/commit.c:
+-- `exclude_gpgsig`).
 use Rattle.std.specs.Prelude.{ℕ, nat_eq, Bool, not, ◌||◌, ◌≡◌, List, [], ◌∷◌, ◌++◌, filter, Option, None, Some, Result, Ok, Err}
 use Rattle.std.specs.Cmp.Lexicographic.{pointwise}
 use Rattle.gix_hash_id.specs.Id.{id_of}
@@ -40,7 +41,8 @@ unsigned_fault commit = cause_of (own_refusal_with (unsigned commit.extra_header
 
 -- ---- the header of the signature
 
--- named for the hash function of the commit's ids; the line feed that ends the header ends the signature's last line too
+-- named for the hash function of the commit's ids; the line feed that ends the header ends the
+-- signature's last line too
 abbrev pub signature_header : Commit → List ℕ → ExtraHeader
 signature_header commit signature =
     record { name = signature_name (id_of commit.tree).kind; value = without_last_feed signature }

@@ -1,5 +1,5 @@
--- Commits that are read, and written again without a refusal (git-fast-import, "author": name and email hold neither LT, GT nor LF;
--- "encoding" names one).
+-- Commits that are read, and written again without a refusal (git-fast-import, "author": name and
+-- email hold neither LT, GT nor LF; "encoding" names one).
 use Rattle.std.specs.Prelude.{◌≢◌, [], Some}
 use Rattle.gix_object_lines.specs.Actor.{IsPlain}
 use Rattle.gix_object_lines.specs.Person.{Person}

@@ -14,8 +14,8 @@ pub mod signing;
 use gix_hash::Kind;
 pub use gix_object_commit_lines::laws::one_commit;
 
-/// What is written of parts of which none is refused spells these parts; so it is read back to them. Nothing is done: the
-/// contract is the law.
+/// What is written of parts of which none is refused spells these parts; so it is read back to
+/// them. Nothing is done: the contract is the law.
 pub fn written_is_read()
     ensures { (parts : Parts) → commit_refusal parts ≡ None
         → SpellsCommit (length parts.tree) (commit_text parts) parts }
@@ -30,8 +30,9 @@ pub fn ids_read_are_ids(_input: &[u8], _hash_kind: Kind)
         → IsTrue (list_all is_id parts.parents) }
 {}
 
-/// A commit that was read is written without a refusal, unless a name or an email holds `<` or `>`, or its encoding has no
-/// name; what is written are the bytes that it was read from, since they spell it. Nothing is done: the contract is the law.
+/// A commit that was read is written without a refusal, unless a name or an email holds `<` or `>`,
+/// or its encoding has no name; what is written are the bytes that it was read from, since they
+/// spell it. Nothing is done: the contract is the law.
 pub fn read_is_written(_input: &[u8], _hash_kind: Kind)
     ensures accepted { (parts : Parts) → SpellsCommit (hex_len _hash_kind) _input.now parts
         → IsWritable parts → commit_refusal parts ≡ None }

@@ -1,6 +1,7 @@
--- The content of a commit (git-hash-object, `-t commit`; git-fast-import, "commit"; Git User Manual, "Commit Object"): lines for
--- the tree and the parents, for who made the change and who committed it, perhaps one for the message's encoding, further
--- headers, an empty line and the message. A header's value of several lines has a space before each line but the first
+-- The content of a commit (git-hash-object, `-t commit`; git-fast-import, "commit"; Git User
+-- Manual, "Commit Object"): lines for the tree and the parents, for who made the change and who
+-- committed it, perhaps one for the message's encoding, further headers, an empty line and the
+-- message. A header's value of several lines has a space before each line but the first
 -- (gitformat-signature, "commit signatures").
 use Rattle.std.specs.Prelude.{ℕ, Bool, false, ◌≡◌, ◌≢◌, ◌==◌, ◌&&◌, List, [], ◌∷◌, ◌++◌, codes, flat_map, if◌then◌else◌, Option, None, Some, All, IfSome}
 use Rattle.gix_object_lines.specs.Bytes.{Lacks}

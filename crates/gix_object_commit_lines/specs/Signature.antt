@@ -1,4 +1,5 @@
--- The headers that hold signatures (Git's hash-function-transition, "Signed Commits"; gitformat-signature).
+-- The headers that hold signatures (Git's hash-function-transition, "Signed Commits";
+-- gitformat-signature).
 use Rattle.std.specs.Prelude.{ℕ, List, codes}
 use Rattle.gix_hash_id.specs.declared.kind.Kind.{Kind}
 use Rattle.gix_hash_id.specs.declared.kind.Kind.TheVariants.{Sha1, Sha256}

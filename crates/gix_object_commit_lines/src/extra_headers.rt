@@ -110,7 +110,8 @@ impl<'h, 'a> ExtraHeaders<'h, 'a> {
         }
     }
 
-    /// The signature over the commit with SHA-1 ids: the value of the first header of the name `gpgsig`.
+    /// The signature over the commit with SHA-1 ids: the value of the first header of the name
+    /// `gpgsig`.
     pub fn pgp_signature(&self) -> Option<BStr<'a>>
         ensures { option_map bstr_bytes result
             ≡ first_value (codes "gpgsig") (headers_of self.now) }

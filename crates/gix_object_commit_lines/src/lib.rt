@@ -1,4 +1,4 @@
-//! What bytes spell a commit, after the crate `gix-object` 0.64: its lines for actors, the encoding and further headers.
+//! The lines of a commit: actors, the encoding and further headers, after `gix-object` 0.64.
 #![tactic(auto)]
 
 pub mod encoding;

@@ -314,7 +314,8 @@ message_ends kind stage input (Encoding name) rest is e = absurd cc
 message_ends kind stage input (Header field) rest is e = absurd cc
 message_ends kind stage input (Message message) rest is e = is.2
 
--- what is read so far is the beginning of a commit exactly where the rest goes on as one, and after the message is nothing
+-- what is read so far is the beginning of a commit exactly where the rest goes on as one, and after
+-- the message is nothing
 pub record IsReadSoFar (kind : Kind) (input : List ℕ) (stage : Stage) (rest : List ℕ) (whole : Bool) : Type 0 where
   pub on : IsCommit kind input → IsLeft kind stage rest whole
   pub back : IsLeft kind stage rest whole → IsCommit kind input

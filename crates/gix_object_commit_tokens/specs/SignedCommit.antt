@@ -1,5 +1,6 @@
--- A commit's signature and what it signs (gitformat-signature, "commit signatures"; Git's hash-function-transition, "Signed
--- Commits"): its first header of the signature's name, and the commit without that header.
+-- A commit's signature and what it signs (gitformat-signature, "commit signatures"; Git's
+-- hash-function-transition, "Signed Commits"): its first header of the signature's name, and the
+-- commit without that header.
 use Rattle.std.specs.Prelude.{ℕ, ◌≡◌, List, [], ◌++◌, Option, None, Some, if◌then◌else◌}
 use Rattle.gix_hash_id.specs.declared.kind.Kind.{Kind}
 use Rattle.bstr.specs.BStr.{bstr_bytes}

@@ -43,7 +43,8 @@ is_message (Encoding name) = false
 is_message (Header field) = false
 is_message (Message message) = true
 
--- from here the reader gives parts without an error, and the last of them is a message, with which the input ends
+-- from here the reader gives parts without an error, and the last of them is a message, with which
+-- the input ends
 abbrev pub ReadsToMessage : Place → Type 0
 ReadsToMessage here =
     (parts : List Part) × (message : List ℕ) × (there : Place)

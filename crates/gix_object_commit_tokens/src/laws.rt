@@ -36,8 +36,8 @@ pub fn tokens_tell_a_commit(input: &[u8], hash_kind: Kind) -> bool
     whole
 }
 
-/// The tokens of a commit are its parts, each once and in their order: the reader gives them up to the input's end, and no others.
-/// Nothing is done: the contract is the law.
+/// The tokens of a commit are its parts, each once and in their order: the reader gives them up to
+/// the input's end, and no others. Nothing is done: the contract is the law.
 pub fn tokens_are_the_parts(_input: &[u8], _hash_kind: Kind)
     ensures given { (parts : Parts) → SpellsCommit (hex_len _hash_kind) _input.now parts
         → (tokens : List Part) × (there : Place)

@@ -148,7 +148,8 @@ module _ (trees : Trees) (slots new : Slots) (bound : ℕ) (ok : IsForest slots 
       by_case (Some rest) e =
           here q rest e ∙ ap (λ o. through o (files_of_slot trees new rest)) stands ∙ entry rest ∙ sym (below_put (leaf_in s) [] q rest e)
 
-  -- a tree that is put into the slot, with one entry alone at the end of its names, where there was no folder
+  -- a tree that is put into the slot, with one entry alone at the end of its names, where there was
+  -- no folder
   pub lays : (c : ℕ) (leaf : Leaf) (next : Bytes) (more : Path) → child_of (new j name) ≡ Some c
       → ((m : Bytes) (rest : Path) → files_of_node trees new c (m ∷ rest) ≡ put_at trees leaf (behind (next ∷ more) (m ∷ rest)) None)
       → ((m : Bytes) (rest : Path) → through (slots j name) (files_of_slot trees slots (m ∷ rest)) ≡ None)

@@ -27,7 +27,8 @@ abbrev pub ids_from : {A : Type 0} → Option A → (A → List Id) → List Id
 ids_from None ids = []
 ids_from (Some a) ids = ids a
 
--- the trees into which names lead from an entry: its own, and of each name the one that the entry of that name leads to
+-- the trees into which names lead from an entry: its own, and of each name the one that the entry
+-- of that name leads to
 abbrev pub trees_into : Trees → Path → Leaf → List Id
 trees_into trees [] leaf = if leads_on leaf then leaf.id ∷ [] else []
 trees_into trees (name ∷ rest) leaf =

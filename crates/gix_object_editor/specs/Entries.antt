@@ -25,7 +25,8 @@ EachHas has slots = (i : ℕ) (name : Bytes) (s : Slot) → slots i name ≡ Som
 abbrev pub ItemsHave : Property → List Item → Type 0
 ItemsHave has items = All (λ item. has item.name (leaf_of item) ≡ true) items
 
--- a tree's entry passes the property down to each entry of the well-formed tree that is stored under its id
+-- a tree's entry passes the property down to each entry of the well-formed tree that is stored
+-- under its id
 abbrev pub PassesDown : Table → Property → Type 0
 PassesDown table has =
     (name : Bytes) (leaf : Leaf) (content : List ℕ) (items : List Item) → has name leaf ≡ true

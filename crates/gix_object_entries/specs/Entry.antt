@@ -1,5 +1,5 @@
--- A tree's content: entries one after another, each a mode, a space, a name, a zero byte and an id's raw bytes (Pro Git,
--- "Tree Objects"; git-mktree).
+-- A tree's content: entries one after another, each a mode, a space, a name, a zero byte and an
+-- id's raw bytes (Pro Git, "Tree Objects"; git-mktree).
 use Rattle.std.specs.Prelude.{ℕ, ◌≡◌, ◌<◌, ◌⊎◌, List, [], ◌∷◌, ◌++◌, length}
 use Rattle.bstr.specs.BStr.{bstr_bytes}
 use Rattle.gix_hash_id.specs.Id.{Id, id_of}

@@ -1,4 +1,5 @@
--- Modes of a tree's entries (Git's git-fast-import and git-ls-tree name the five that Git writes), and their octal texts.
+-- Modes of a tree's entries (Git's git-fast-import and git-ls-tree name the five that Git writes),
+-- and their octal texts.
 use Rattle.std.specs.Prelude.{ℕ, ◌≡◌, ◌<◌, ◌≤◌, ◌⊎◌, ◌/◌, ◌%◌, ◌==◌, Bool, List, codes, if◌then◌else◌}
 use Rattle.gix_object_entries.specs.declared.tree.mode.EntryKind.{EntryKind}
 use Rattle.gix_object_entries.specs.declared.tree.mode.EntryKind.TheVariants as kinds

@@ -16,7 +16,8 @@ mode_of mode = record { value = mode.value; padded = mode.padded }
 abbrev pub mode_text : Mode → List ℕ
 mode_text mode = if mode.padded then 48 ∷ digits 8 false mode.value else digits 8 false mode.value
 
--- at most seven octal digits spell the mode's number; of zeros before it one before a tree's is kept
+-- at most seven octal digits spell the mode's number; of zeros before it one before a tree's is
+-- kept
 pub record SpellsMode (text : List ℕ) (mode : Mode) : Type 0 where
   pub numeral : IsNumeral 8 text
   pub short : length text ≤ 7

@@ -1,5 +1,5 @@
--- Git's order of entries: by the bytes of their names, a tree's name as if `/` followed it (git-mktree sorts so); and then by
--- mode, name and id.
+-- Git's order of entries: by the bytes of their names, a tree's name as if `/` followed it
+-- (git-mktree sorts so); and then by mode, name and id.
 use Rattle.std.specs.Prelude.{ℕ, Bool, List, [], ◌∷◌, ◌++◌, if◌then◌else◌}
 use Rattle.std.specs.declared.cmp.Ordering.{Ordering}
 use Rattle.std.specs.Ordering.{nat_cmp, bool_cmp, on, then_cmp}

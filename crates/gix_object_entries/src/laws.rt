@@ -1,4 +1,6 @@
-//! Laws of trees, their entries and modes: each is the contract of a function that makes the calls whose promises it has.
+//! Laws of trees, their entries and modes, each the contract of a function.
+//!
+//! The function makes the calls whose promises its law has.
 
 ghost use Rattle.std.specs.Prelude.{◌≡◌, ◌↔◌, List, None, IsTrue, map, []};
 ghost use Rattle.std.specs.List.{All};

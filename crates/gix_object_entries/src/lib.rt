@@ -1,4 +1,4 @@
-//! Git's trees: their entries, read whole or one by one, and written, after the crate `gix-object` 0.64.
+//! Git's trees: their entries, read whole or one by one, and written, after `gix-object` 0.64.
 #![tactic(auto)]
 
 pub mod laws;

@@ -1,4 +1,5 @@
--- Objects of a kind that must exist, as the values that their contents spell, and why they aren't given.
+-- Objects of a kind that must exist, as the values that their contents spell, and why they aren't
+-- given.
 use Rattle.std.specs.Prelude.{ℕ, ◌≡◌, List, map}
 use Rattle.gix_hash_id.specs.Id.{Id, id_of}
 use Rattle.gix_hash_id.specs.declared.kind.Kind as hash

@@ -12,8 +12,8 @@ use gix_object_tree::Data;
 
 /// Gives objects.
 pub trait Find: FindInto {
-    /// Returns the object of this id, whose content the buffer holds; `None` if there is none. Ids in the content are of the same
-    /// hash function. The errors are those of `find_into`.
+    /// Returns the object of this id, whose content the buffer holds; `None` if there is none. Ids
+    /// in the content are of the same hash function. The errors are those of `find_into`.
     fn try_find<'a>(&self, id: oid<'_>, buffer: &'a mut Vec<u8>) -> Result<Option<Data<'a>>, Error>
         ensures object { Self.is_honest self.now → IfOk result (λ found.
             option_map object_of found ≡ Self.table self.now (viewed_id id.entry)) }

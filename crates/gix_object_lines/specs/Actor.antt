@@ -1,6 +1,6 @@
--- Who made an object, and when, in one line: `<name> <<email>> <time>` (git-fast-import, "author": `SP <name> SP LT <email> GT
--- SP <when>`, where name and email hold neither LT, GT nor LF). Readers take further `<` and `>`: the email is all between the
--- line's first `<` and its last `>`.
+-- Who made an object, and when, in one line: `<name> <<email>> <time>` (git-fast-import, "author":
+-- `SP <name> SP LT <email> GT SP <when>`, where name and email hold neither LT, GT nor LF). Readers
+-- take further `<` and `>`: the email is all between the line's first `<` and its last `>`.
 use Rattle.std.specs.Prelude.{ℕ, ◌≡◌, List, ◌++◌, codes}
 use Rattle.gix_object_lines.specs.Bytes.{Lacks}
 use Rattle.gix_object_lines.specs.Time.{SpellsTime, IsSpellableOffset, time_text}

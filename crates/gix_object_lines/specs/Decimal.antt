@@ -1,4 +1,5 @@
--- Decimal numbers as Git writes them: digits without a leading zero. The texts themselves are std's `decimal`.
+-- Decimal numbers as Git writes them: digits without a leading zero. The texts themselves are std's
+-- `decimal`.
 use Rattle.std.specs.Prelude.{ℕ, ◌^◌, ◌<◌, ◌≢◌, List, decimal}
 
 -- the text spells no number below 2 ^ 64

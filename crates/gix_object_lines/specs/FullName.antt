@@ -1,5 +1,6 @@
--- Full names of references: names as git-check-ref-format takes them without `--allow-onelevel`, and those of one component
--- that Git keeps beside `refs`, as HEAD and FETCH_HEAD (gitglossary, "pseudoref": capital letters and underscores).
+-- Full names of references: names as git-check-ref-format takes them without `--allow-onelevel`,
+-- and those of one component that Git keeps beside `refs`, as HEAD and FETCH_HEAD (gitglossary,
+-- "pseudoref": capital letters and underscores).
 use Rattle.std.specs.Prelude.{ℕ, ◌≡◌, ◌≤◌, ◌⊎◌, List, All, Contains}
 use Rattle.gix_object_lines.specs.PartialName.{IsPartialName}
 

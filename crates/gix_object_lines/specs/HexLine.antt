@@ -1,5 +1,5 @@
--- A line of a word, a space and an id in hexadecimal, as `tree`, `parent` and `object` begin it in commits and tags (Git
--- User Manual, "Commit Object" and "Tag Object"; git-mktag).
+-- A line of a word, a space and an id in hexadecimal, as `tree`, `parent` and `object` begin it in
+-- commits and tags (Git User Manual, "Commit Object" and "Tag Object"; git-mktag).
 use Rattle.std.specs.Prelude.{ℕ, ◌≡◌, ◌≢◌, ◌==◌, Bool, ◌&&◌, ◌||◌, List, [], ◌∷◌, ◌++◌, length, IsTrue}
 use Rattle.std.specs.List.{list_all}
 use Rattle.std.specs.Char.{is_ascii_hexdigit}

@@ -1,4 +1,5 @@
--- The kinds of objects and the words that name them (Git's gitglossary, "object type"; git-hash-object, `-t <type>`).
+-- The kinds of objects and the words that name them (Git's gitglossary, "object type";
+-- git-hash-object, `-t <type>`).
 use Rattle.std.specs.Prelude.{ℕ, List, codes, ◌≢◌}
 use Rattle.gix_object_lines.specs.declared.kind.Kind.{Kind}
 use Rattle.gix_object_lines.specs.declared.kind.Kind.TheVariants.{Tree, Blob, Commit, Tag}

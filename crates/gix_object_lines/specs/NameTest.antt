@@ -1,5 +1,5 @@
--- The rules of names as tests, which compute. The contracts of `lines::is_partial_name` and `lines::is_full_name` say that
--- the tests are the rules in `PartialName` and `FullName`.
+-- The rules of names as tests, which compute. The contracts of `lines::is_partial_name` and
+-- `lines::is_full_name` say that the tests are the rules in `PartialName` and `FullName`.
 use Rattle.std.specs.Prelude.{ℕ, Bool, not, ◌&&◌, ◌||◌, ◌==◌, nat_eq, nat_lt, nat_le, List, [], ◌∷◌, codes}
 use Rattle.std.specs.List.{list_any, list_all, starts_with, ends_with}
 use Rattle.std.specs.Str.{bytes_eq}

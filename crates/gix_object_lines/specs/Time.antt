@@ -1,6 +1,7 @@
--- A time as Git spells it: the seconds since 1970-01-01 in coordinated universal time, a space, and how far local time is
--- ahead of it, as a sign, two digits of hours and two of minutes (git-fast-import, "Date formats", `raw`; the date formats of
--- git-commit-tree, "Git internal format").
+-- A time as Git spells it: the seconds since 1970-01-01 in coordinated universal time, a space, and
+-- how far local time is ahead of it, as a sign, two digits of hours and two of minutes
+-- (git-fast-import, "Date formats", `raw`; the date formats of git-commit-tree, "Git internal
+-- format").
 use Rattle.std.specs.Prelude.{ℕ, ℤ, pos, negsuc, neg_ℤ, suc, ◌≡◌, ◌+◌, ◌*◌, ◌/◌, ◌%◌, ◌<◌, List, [], ◌∷◌, ◌++◌, FitsSigned, unsigned_abs}
 use Rattle.std.specs.Fmt.{signed_decimal}
 use Rattle.std.specs.Int.{w64}
@@ -17,7 +18,8 @@ pub data SpellsSeconds (text : List ℕ) (seconds : ℤ) : Type 0 where
 abbrev pub two_digits : ℕ → List ℕ
 two_digits n = (48 + n / 10) ∷ (48 + n % 10) ∷ []
 
--- `+` or `-`, two digits of hours and two of minutes, any four: `+0060` is an hour. `-0000` is zero seconds.
+-- `+` or `-`, two digits of hours and two of minutes, any four: `+0060` is an hour. `-0000` is zero
+-- seconds.
 pub data SpellsOffset (text : List ℕ) (offset : ℤ) : Type 0 where
   Ahead : (hours minutes : ℕ) → hours < 100 → minutes < 100
       → text ≡ 43 ∷ two_digits hours ++ two_digits minutes

@@ -1,4 +1,6 @@
-//! Decimal numbers, as headers have them. A time's may be negative and begin with zeros: `lines` reads them.
+//! Decimal numbers of headers.
+//!
+//! A time's may be negative and begin with zeros: `lines` reads them.
 
 ghost use Rattle.std.specs.Prelude.{◌≡◌, ◌<◌, decimal, MatchOption};
 ghost use Rattle.gix_object_lines.specs.Decimal.{IsNoUnsigned};

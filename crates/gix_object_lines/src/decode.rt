@@ -27,8 +27,8 @@ pub enum Error {
     /// has a line feed.
     #[error("a name, an email between angle brackets and a time were expected")]
     InvalidActor,
-    /// The text, or what follows an actor's email, isn't seconds of 64 bits, a space, a sign, two digits of hours and two of
-    /// minutes.
+    /// The text, or what follows an actor's email, isn't seconds of 64 bits, a space, a sign, two
+    /// digits of hours and two of minutes.
     #[error("seconds and an offset were expected")]
     InvalidTime,
     /// No memory is left.
@@ -39,7 +39,8 @@ pub enum Error {
 /// Why bytes don't begin with the header of an object.
 #[derive(Debug, Clone, Copy, PartialEq, Eq, Error)]
 pub enum LooseHeaderDecodeError {
-    /// The size isn't a decimal number without a leading zero, of at most 18,446,744,073,709,551,615.
+    /// The size isn't a decimal number without a leading zero, of at most
+    /// 18,446,744,073,709,551,615.
     #[error("the object's size is no number")]
     ParseIntegerError,
     /// The kind isn't followed by a space, or the size not by a zero byte.

@@ -1,4 +1,4 @@
-//! What all of Git's objects share, after the crate `gix-object` 0.64: kinds, headers, numbers, lines and how they are written.
+//! Kinds, headers, numbers and lines of Git's objects, after the crate `gix-object` 0.64.
 #![tactic(auto)]
 
 mod byte_string;

@@ -1,4 +1,4 @@
-//! The lines that commits, tags and logs share: who did something and when, and the names of references.
+//! Lines that commits, tags and logs share: who did something and when, and names of references.
 
 mod actor;
 mod digits;

@@ -21,8 +21,8 @@ pub trait WriteTo {
     /// The kind of the object.
     ghost object_kind: { Self → Kind };
 
-    /// Writes the content. A value that is refused leaves exactly the parts before the refused one; a writer that fails
-    /// has taken a beginning of what was to be written.
+    /// Writes the content. A value that is refused leaves exactly the parts before the refused one;
+    /// a writer that fails has taken a beginning of what was to be written.
     fn write_to<W: io::Write>(&self, out: &mut W) -> Result<(), Error>
         ensures { Writes (W.contents out.old) (W.contents out.new) (text self.now)
             (refusal self.now) result };

@@ -1,4 +1,5 @@
--- Entries by their paths: from tree to tree, each under the id that an entry of the one before names.
+-- Entries by their paths: from tree to tree, each under the id that an entry of the one before
+-- names.
 use Rattle.std.specs.Prelude.{ℕ, ◌≡◌, ◌≢◌, ◌==◌, ◌⊎◌, ⊤, not, IsTrue, List, [], ◌∷◌, ◌++◌, length, filter, Option, None, Some}
 use Rattle.std.specs.Bool.{MatchBool}
 use Rattle.std.specs.List.{All, slice_split}

@@ -40,7 +40,8 @@ pub fn content_of<'a, T: FindInto>(
     Ok(buffer.as_slice())
 }
 
-/// Returns a reader of the entries of the tree of this id, which the buffer holds. The errors are those of `content_of`.
+/// Returns a reader of the entries of the tree of this id, which the buffer holds. The errors are
+/// those of `content_of`.
 pub fn entries_of<'a, T: FindInto>(
     objects: &T,
     id: oid<'_>,

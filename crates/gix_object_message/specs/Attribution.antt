@@ -1,5 +1,5 @@
--- Trailers that name people, by their tokens, letter case aside (git-commit, `--signoff`, has the first; the others are words that
--- projects write in the same way).
+-- Trailers that name people, by their tokens, letter case aside (git-commit, `--signoff`, has the
+-- first; the others are words that projects write in the same way).
 use Rattle.std.specs.Prelude.{ℕ, Bool, ◌||◌, List, codes}
 use Rattle.std.specs.Str.{str_eq_ignore_ascii_case}
 

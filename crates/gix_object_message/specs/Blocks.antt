@@ -1,4 +1,5 @@
--- Message blocks (this port's): a run of paragraphs without trailers, perhaps none, with the trailer paragraphs that follow.
+-- Message blocks (this port's): a run of paragraphs without trailers, perhaps none, with the
+-- trailer paragraphs that follow.
 use Rattle.std.specs.Prelude.{ℕ, ◌≡◌, ◌≢◌, ⊤, Bool, true, false, List, [], ◌∷◌, ◌++◌, if◌then◌else◌}
 use Rattle.std.specs.List.{concat}
 use Rattle.gix_object_message.specs.Paragraphs.{paragraphs_of, is_trailer_paragraph}
@@ -52,7 +53,8 @@ abbrev pub StopsKind : Bool → List (List ℕ) → Type 0
 StopsKind trailers [] = ⊤
 StopsKind trailers (paragraph ∷ paragraphs) = is_trailer_paragraph paragraph ≢ trailers
 
--- a run of paragraphs without trailers, perhaps none, and all trailer paragraphs that follow; only the last block may have none
+-- a run of paragraphs without trailers, perhaps none, and all trailer paragraphs that follow; only
+-- the last block may have none
 pub record IsFirstBlock (paragraphs : List (List ℕ)) (block : Block)
     (rest : List (List ℕ)) : Type 0 where
   pub plain : List (List ℕ)

@@ -1,5 +1,5 @@
--- The paragraphs of a body, and its trailer part (git-interpret-trailers: the group of lines at the end, preceded by an empty
--- line; that its first line decides is this port's).
+-- The paragraphs of a body, and its trailer part (git-interpret-trailers: the group of lines at the
+-- end, preceded by an empty line; that its first line decides is this port's).
 use Rattle.std.specs.Prelude.{ℕ, Bool, false, not, ◌&&◌, List, [], ◌∷◌, if◌then◌else◌}
 use Rattle.gix_object_message.specs.Lines.{onto_first, lines_of, is_empty_line}
 use Rattle.gix_object_message.specs.Trailer.{is_trailer_line}

@@ -16,7 +16,8 @@ IsLastParagraph text last =
     (front : List ℕ) × (text ≡ front ++ last)
     × (trailer_part text ≡ (if is_trailer_paragraph last then last else []))
 
--- the text is a run of paragraphs of one kind, which is these bytes, and this rest, which goes on with another kind
+-- the text is a run of paragraphs of one kind, which is these bytes, and this rest, which goes on
+-- with another kind
 abbrev pub IsRun : Bool → List ℕ → List ℕ → List ℕ → Type 0
 IsRun trailers text front rest =
     (run : List (List ℕ)) × (front ≡ concat run) × (text ≡ concat run ++ rest)

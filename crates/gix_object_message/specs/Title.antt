@@ -1,5 +1,5 @@
--- The title of a message, its body and its summary (git-commit, "DISCUSSION": the text up to the first blank line is the title,
--- and what follows is the body; git-log, `%s` and `%b`).
+-- The title of a message, its body and its summary (git-commit, "DISCUSSION": the text up to the
+-- first blank line is the title, and what follows is the body; git-log, `%s` and `%b`).
 use Rattle.std.specs.Prelude.{ℕ, ◌≡◌, ◌≢◌, ◌≤◌, ◌⊎◌, ◌||◌, List, [], ◌∷◌, ◌++◌, Option, Some, None, length, drop, map, if◌then◌else◌}
 use Rattle.std.specs.List.{join_with_byte}
 use Rattle.gix_object_message.specs.Lines.{lines_of, begins_with}
@@ -58,6 +58,7 @@ PartsMessage message title rest = IsFirstBreak message title rest ⊎ IsAllTitle
 
 -- ---- in one line
 
--- the title in one line: without white space at its ends, its lines each without white space at their end, one space between
+-- the title in one line: without white space at its ends, its lines each without white space at
+-- their end, one space between
 abbrev pub summary_of : List ℕ → List ℕ
 summary_of title = join_with_byte 32 (map trim_end (lines_of (trim title)))

@@ -4,7 +4,8 @@ use crate::runs::split_run;
 use crate::trailers::Trailers;
 use bstr::BStr;
 
-/// A run of paragraphs without trailers, perhaps none, and the trailer paragraphs that follow, perhaps none.
+/// A run of paragraphs without trailers, perhaps none, and the trailer paragraphs that follow,
+/// perhaps none.
 #[derive(Debug, Clone, Copy, PartialEq, Eq)]
 pub struct MessageBlock<'a> {
     /// The paragraphs without trailers.

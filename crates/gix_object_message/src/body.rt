@@ -62,8 +62,9 @@ impl<'a> BodyRef<'a> {
         Trailers::new(self.trailer)
     }
 
-    /// The blocks of the whole body, in order: each a run of paragraphs without trailers, perhaps none, and the trailer
-    /// paragraphs that follow. Their messages and trailer bytes, in order, are the body.
+    /// The blocks of the whole body, in order: each a run of paragraphs without trailers, perhaps
+    /// none, and the trailer paragraphs that follow. Their messages and trailer bytes, in order,
+    /// are the body.
     pub fn message_blocks(self) -> MessageBlocks<'a>
         ensures blocks { blocks_left result ≡ blocks_of (body_text self.entry) }
         ensures parted { AreBlocks (paragraphs_of (body_text self.entry)) (blocks_left result) }

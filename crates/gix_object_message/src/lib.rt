@@ -1,4 +1,4 @@
-//! Messages of commits and tags, after the crate `gix-object` 0.64: title, body and summary, paragraphs, trailers and blocks.
+//! Messages of commits and tags, their titles, trailers and blocks, after `gix-object` 0.64.
 #![tactic(auto)]
 
 mod blocks;

@@ -31,7 +31,8 @@ pub struct MessageRef<'a> {
 }
 
 impl<'a> MessageRef<'a> {
-    /// Any bytes are a message. The title ends before the first LF LF or CR LF CR LF, and the body is what follows.
+    /// Any bytes are a message. The title ends before the first LF LF or CR LF CR LF, and the body
+    /// is what follows.
     pub fn from_bytes(message: &'a [u8]) -> MessageRef<'a>
         ensures title { bstr_bytes result.title ≡ title_of message.now }
         ensures body { option_map bstr_bytes result.body ≡ body_of message.now }

@@ -55,7 +55,8 @@ impl<'a> Trailers<'a> {
         self.select(Wanted::Attribution)
     }
 
-    /// Those that name an author: whose token is `Signed-off-by` or `Co-authored-by`, letter case aside.
+    /// Those that name an author: whose token is `Signed-off-by` or `Co-authored-by`, letter case
+    /// aside.
     pub fn authors(self) -> SelectedTrailers<'a>
         ensures { selected_left result
             ≡ filter (λ trailer. spec.is_author trailer.token) (trailers_left self.entry) }

@@ -33,7 +33,8 @@ abbrev pub IsOneFrom : Slots → ℕ → Ids → ℕ → HandedOut → Type 0
 IsOneFrom slots bound ids at tree = (j : ℕ) × (at ≤ j) × (j < bound) × LeadsTo slots tree.path j []
     × HasEntries ids (slots j) tree.items
 
--- the opened trees from this number on to which the tree at the end of these names leads are handed out
+-- the opened trees from this number on to which the tree at the end of these names leads are handed
+-- out
 pub record IsHandedOutFrom (slots : Slots) (base : Path) (bound : ℕ) (ids : Ids)
     (handed : List HandedOut) (at : ℕ) : Type 0 where
   pub in_order : EachBehind (IsHandedOut slots) [] handed

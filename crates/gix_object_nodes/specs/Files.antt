@@ -1,6 +1,6 @@
--- The files that a tree unfolds to, as a map from paths to mode and id, and edits of it (Git's glossary, "tree object"; Pro Git,
--- "Tree Objects"). Trees are followed in a table of trees by their ids. Each path is followed to its own end, so that a cycle of
--- trees does no harm.
+-- The files that a tree unfolds to, as a map from paths to mode and id, and edits of it (Git's
+-- glossary, "tree object"; Pro Git, "Tree Objects"). Trees are followed in a table of trees by
+-- their ids. Each path is followed to its own end, so that a cycle of trees does no harm.
 use Rattle.std.specs.Prelude.{ℕ, ◌≡◌, ◌≢◌, ◌&&◌, not, Bool, List, [], ◌∷◌, ◌++◌, Option, Some, None, is_some, bytes_eq, if◌then◌else◌}
 use Rattle.std.specs.List.{All}
 use Rattle.gix_hash_id.specs.Id.{Id, null_id}
@@ -29,7 +29,8 @@ FileMap = Path → Option Leaf
 abbrev pub Trees : Type 0
 Trees = Id → Option (List Item)
 
--- the table without trees: over it an entry that isn't null is a file, unless a tree was opened for it
+-- the table without trees: over it an entry that isn't null is a file, unless a tree was opened for
+-- it
 abbrev pub no_trees : Trees
 no_trees id = None
 
@@ -116,8 +117,8 @@ abbrev pub put_at : Trees → Leaf → Option Path → Option Leaf → Option Le
 put_at trees leaf (Some rest) old = files_of_entry trees rest leaf
 put_at trees leaf None old = old
 
--- all at or below the path, and each file above it, is taken out, and what the entry has comes there: itself, or the files of the
--- tree that it leads to
+-- all at or below the path, and each file above it, is taken out, and what the entry has comes
+-- there: itself, or the files of the tree that it leads to
 abbrev pub put : Trees → Path → Leaf → FileMap → FileMap
 put trees p leaf files q = put_at trees leaf (behind p q)
     (if is_some (behind q p) then None else files q)

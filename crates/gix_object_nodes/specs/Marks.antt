@@ -1,4 +1,5 @@
--- Which opened trees edits changed, and what the others still are: the trees that their entries name.
+-- Which opened trees edits changed, and what the others still are: the trees that their entries
+-- name.
 use Rattle.std.specs.Prelude.{ℕ, zero, suc, ◌≡◌, ◌≢◌, ◌<◌, ◌≤◌, ◌+◌, ◌⊎◌, ◌++◌, ◌||◌, nat_le, Bool, true, false, List, [], ◌∷◌, Option, Some, None, ⊤, if◌then◌else◌}
 use Rattle.gix_hash_id.specs.Id.{id_of}
 use Rattle.gix_object_nodes.specs.declared.node.Node.{Node}
@@ -71,7 +72,8 @@ pub record AreMarkedUp (slots : Slots) (was now : Marks) (at bound : ℕ) : Type
   pub only : (way : Path) → Way slots way at → (j : ℕ) → (now j).changed ≡ true
       → ((was j).changed ≡ true) ⊎ IsOnWay slots way j
 
--- the slot is that of a folder that was made and into which nothing was put: it has the null id, and no edit changed it
+-- the slot is that of a folder that was made and into which nothing was put: it has the null id,
+-- and no edit changed it
 abbrev pub IsMade : Marks → Slot → Type 0
 IsMade marks s = (c : ℕ) × (child_of (Some s) ≡ Some c) × (is_null (id_of s.oid) ≡ true)
     × ((marks c).changed ≡ false)
@@ -127,7 +129,8 @@ slots_if shows slots name = through (slots name) (λ s. Some (slot_if shows s))
 abbrev pub changed_in : List Node → ℕ → Bool
 changed_in nodes c = (marks_of nodes c).changed
 
--- the tree is changed, or has no greater number, as the one from which trees are written and those that it lies in
+-- the tree is changed, or has no greater number, as the one from which trees are written and those
+-- that it lies in
 abbrev pub is_due : Marks → ℕ → ℕ → Bool
 is_due marks from c = (marks c).changed || nat_le c from
 

@@ -90,7 +90,8 @@ module _ {F E : Type 0} (calls : Mut F (Bor Tree × Unit {0}) (Result ObjectId E
       × CalledAt calls before shown (Ok oid) after
       × (map own_item shown.entries.items ≡ tree.items) × (id_of oid ≡ tree.id)
 
-  -- trees at the path or below it, which are due from this number down, are handed out one after another
+  -- trees at the path or below it, which are due from this number down, are handed out one after
+  -- another
   pub record HandsOutSome (nodes : List Node) (from : ℕ) (path : Path) (out : F)
       (handed : List HandedOut) (after : F) : Type 0 where
     pub calls_made : FoldsTo HandsOut out handed after

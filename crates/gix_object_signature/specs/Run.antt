@@ -25,7 +25,8 @@ argument_of (FileToSign bytes) = ToSign (bstr_bytes bytes)
 abbrev pub request_of : List Word → List ℕ → Request
 request_of words input = record { words = map argument_of words; input = input }
 
--- the runner, called with words and an input that make the request, gives the result, and is what follows then
+-- the runner, called with words and an input that make the request, gives the result, and is what
+-- follows then
 pub record Answers {F R : Type 0} (calls : Mut F (Bor (List Word) × (Bor (List ℕ) × Unit {0})) R)
     (before : F) (request : Request) (result : R) (after : F) : Type 0 where
   pub words : Bor (List Word)

@@ -12,7 +12,8 @@ use Rattle.gix_object_signature.specs.declared.verify.trust.TrustLevel.TheVarian
 
 -- ---- the line
 
--- the line without the white space at its end; it is ASCII's, with form feeds, which are none to Git
+-- the line without the white space at its end; it is ASCII's, with form feeds, which are none to
+-- Git
 unfoldable pub without_space_behind : List ℕ → List ℕ
 without_space_behind line = take (length line - suffix_len is_ascii_whitespace line) line
 

@@ -1,4 +1,5 @@
--- Levels of trust in a key's owner (git-config, `gpg.minTrustLevel`; GnuPG, doc/DETAILS, `TRUST_..`).
+-- Levels of trust in a key's owner (git-config, `gpg.minTrustLevel`; GnuPG, doc/DETAILS,
+-- `TRUST_..`).
 use Rattle.std.specs.Prelude.{ℕ, ◌≡◌, List, codes, map}
 use Rattle.std.specs.Char.{to_ascii_lowercase}
 use Rattle.gix_object_signature.specs.declared.verify.trust.TrustLevel.{TrustLevel}

@@ -1,4 +1,4 @@
-//! Signatures of Git's objects, after the crate `gix-object` 0.64: formats, the bytes that are signed, signing and verifying.
+//! Signatures of Git's objects: formats, signing and verifying, after `gix-object` 0.64.
 #![tactic(auto)]
 
 mod format;

@@ -52,7 +52,8 @@ pub enum RunError {
     Memory,
 }
 
-/// Runs the program that the first word names, with this standard input, by the runner: see the module.
+/// Runs the program that the first word names, with this standard input, by the runner: see the
+/// module.
 pub(crate) fn run<F: FnMut(&[Word<'_>], &[u8]) -> Result<Answer, RunError>>(
     words: &[Word<'_>],
     input: &[u8],

@@ -46,7 +46,8 @@ pub enum Options<'a> {
         /// The path of the file of keys that are revoked (`gpg.ssh.revocationFile`), if there is
         /// one. Git passes none if the file is missing; here the caller tests that.
         revoked_keys: Option<BStr<'a>>,
-        /// The level at which its key must be trusted at least (`gpg.minTrustLevel`): `Fully` is that of a principal's key.
+        /// The level at which its key must be trusted at least (`gpg.minTrustLevel`): `Fully` is
+        /// that of a principal's key.
         minimum_trust: TrustLevel,
     },
 }

@@ -16,7 +16,8 @@ abbrev pub has_later_armor : List ℕ → Bool
 has_later_armor [] = false
 has_later_armor (byte ∷ rest) = (byte == 10 && begins_armor rest) || has_later_armor rest
 
--- no line of a message without a signature begins with an armor; a signature begins with one, and no later line of it does
+-- no line of a message without a signature begins with an armor; a signature begins with one, and
+-- no later line of it does
 abbrev pub is_whole_body : List ℕ → Option (List ℕ) → Bool
 is_whole_body message None = not (begins_armor message || has_later_armor message)
 is_whole_body message (Some signature) = begins_armor signature && not (has_later_armor signature)

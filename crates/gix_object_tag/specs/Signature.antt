@@ -1,5 +1,5 @@
--- Where a signature begins in a text: at the last line that an armor begins (git-tag, `--sign`; gitformat-signature, "Tag
--- signatures").
+-- Where a signature begins in a text: at the last line that an armor begins (git-tag, `--sign`;
+-- gitformat-signature, "Tag signatures").
 use Rattle.std.specs.Prelude.{ℕ, ⊤, ◌≡◌, ◌≤◌, ◌⊎◌, List, [], ◌∷◌, ◌++◌, length, Option, None, Some}
 use Rattle.gix_object_lines.specs.PartialName.{EndsWith}
 use Rattle.bstr.specs.BStr.{bstr_bytes}

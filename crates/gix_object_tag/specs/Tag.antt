@@ -1,5 +1,5 @@
--- A tag's content (git-mktag: `object <hash>`, `type <type>`, `tag <tag>`, `tagger <tagger>`, an empty line and the message;
--- gitformat-signature: a signature in armor ends the message).
+-- A tag's content (git-mktag: `object <hash>`, `type <type>`, `tag <tag>`, `tagger <tagger>`, an
+-- empty line and the message; gitformat-signature: a signature in armor ends the message).
 use Rattle.std.specs.Prelude.{ℕ, ◌≡◌, ◌≢◌, ◌⊎◌, List, [], ◌∷◌, ◌++◌, codes, Option, None, Some}
 use Rattle.gix_hash_id.specs.Kind.{hex_len}
 use Rattle.gix_hash_id.specs.declared.kind.Kind as hash

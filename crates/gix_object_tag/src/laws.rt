@@ -40,8 +40,9 @@ pub fn body_test_is_the_rule()
         → IsTrue (is_whole_body message signature) ↔ IsWholeBody message signature }
 {}
 
-/// What is written of parts of which none is refused spells these parts, in a repository whose ids have as many digits as
-/// their target; so it is read back to them. Nothing is done: the contract is the law.
+/// What is written of parts of which none is refused spells these parts, in a repository whose ids
+/// have as many digits as their target; so it is read back to them. Nothing is done: the contract
+/// is the law.
 pub fn written_is_read(_hash_kind: gix_hash::Kind)
     ensures { (parts : Parts) → cause_of (tag_refusal parts (is_bad_tagger parts.tagger)) ≡ None
         → length parts.target ≡ hex_len _hash_kind → SpellsTag _hash_kind (tag_text parts) parts }

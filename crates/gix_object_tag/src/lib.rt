@@ -1,4 +1,4 @@
-//! Git's tags, after the crate `gix-object` 0.64: reading whole or token by token, writing, owning, signing.
+//! Git's tags: read whole or token by token, written, owned and signed, after `gix-object` 0.64.
 #![tactic(auto)]
 
 pub mod laws;

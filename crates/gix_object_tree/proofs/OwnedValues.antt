@@ -1,4 +1,5 @@
--- An object that owns the parts of a value has that value, where its texts are those that are written.
+-- An object that owns the parts of a value has that value, where its texts are those that are
+-- written.
 use Rattle.std.proofs.Common.{◌≡◌, ◌∙◌, ap, refl, sym, ℕ, List, [], ◌∷◌, map, Option, Some, None}
 use Rattle.std.specs.Prelude.{All, IfSome}
 use Rattle.std.specs.List.{AllZip}

@@ -1,4 +1,5 @@
--- What is written of an object, after its header, is a loose object with its value; and what is read is written to the same bytes.
+-- What is written of an object, after its header, is a loose object with its value; and what is
+-- read is written to the same bytes.
 use Rattle.std.proofs.Common.{◌≡◌, ◌∙◌, ap, refl, sym, subst, Bool, false, List, ◌∷◌, ℕ, length, map, None}
 use Rattle.std.specs.Prelude.{◌≢◌, []}
 use Rattle.gix_hash_id.specs.Id.{id_of}

@@ -32,8 +32,8 @@ HasOwnIds ids (object.Tree own) = tree.HasIds ids (map own_item own.entries.item
 HasOwnIds ids (object.Commit commit) = (id_of commit.tree).kind ≡ ids
 HasOwnIds ids (object.Tag tag) = (id_of tag.target).kind ≡ ids
 
--- no part is one that is read and never written: a commit's actors are plain and its encoding has a name; a tag's name is one that
--- Git makes, and its tagger plain
+-- no part is one that is read and never written: a commit's actors are plain and its encoding has a
+-- name; a tag's name is one that Git makes, and its tagger plain
 abbrev pub IsWritable : Value → Type 0
 IsWritable (Blob bytes) = ⊤
 IsWritable (Tree items) = ⊤

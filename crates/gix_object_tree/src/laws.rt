@@ -1,4 +1,6 @@
-//! Laws of loose objects: the contract is the law. The functions call the laws of trees, commits and tags, and do nothing else.
+//! Laws of loose objects, each the contract of a function.
+//!
+//! The functions call the laws of trees, commits and tags, and do nothing else.
 
 ghost use Rattle.std.specs.Prelude.{◌≡◌, ℕ, List, None};
 ghost use Rattle.gix_object_lines.specs.declared.kind.Kind.{Kind};

@@ -17,8 +17,8 @@ pub record Puts (old new : Table) (id : Id) (object : Object) : Type 0 where
 abbrev pub IsAsBefore : Table → Table → Type 0
 IsAsBefore old new = (id : Id) → new id ≡ old id
 
--- why an object isn't kept under an id: the store, which may fail, did, and holds the object or doesn't; the object can't be had; or
--- no memory is left
+-- why an object isn't kept under an id: the store, which may fail, did, and holds the object or
+-- doesn't; the object can't be had; or no memory is left
 abbrev pub KeepFault : Type 0 → Type 0 → Type 0 → Table → Table → Id → Object → Error → Type 0
 KeepFault unread honest may_refuse old new id object Failed =
     may_refuse × (honest → IsAsBefore old new ⊎ Puts old new id object)

@@ -26,8 +26,8 @@ UnreadFault left left_after size Failed = ⊥
 UnreadFault left left_after size Read = GivesFewer left left_after size
 UnreadFault left left_after size Memory = GivesAtMost left left_after size
 
--- the stream's next bytes are an object's content, which is handed to the store under its id; or they aren't read, and the store
--- is as before
+-- the stream's next bytes are an object's content, which is handed to the store under its id; or
+-- they aren't read, and the store is as before
 pub data KeepsNext (left left_after : Option (List ℕ)) (size : ℕ) (kind : Kind) (id : List ℕ → Id)
     (honest may_refuse : Type 0) (old new : Table) (result : Result ObjectId Error) : Type 0 where
   Handed : (content : List ℕ) → IsNext left left_after size content

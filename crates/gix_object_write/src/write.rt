@@ -11,7 +11,8 @@ pub enum Error {
     /// What keeps the objects failed.
     #[error("the object couldn't be kept")]
     Failed,
-    /// The object's bytes can't be had: the stream failed or ended early, or the value has no written form.
+    /// The object's bytes can't be had: the stream failed or ended early, or the value has no
+    /// written form.
     #[error("the object's bytes couldn't be read")]
     Read,
     /// No memory is left.

@@ -1,4 +1,4 @@
-//! References and their logs, after the crate `gix-ref` 0.67: the public items of its parts, under the names of that crate.
+//! References and their logs: the public items of the crate `gix-ref` 0.67 by its names.
 #![tactic(auto)]
 
 /// Names that rules may complete, and why bytes are no name.

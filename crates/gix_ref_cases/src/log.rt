@@ -41,7 +41,8 @@ fn put_forward(log: &[u8], page: &mut Page) {
     }
 }
 
-// The same from the end, through a buffer of so many bytes; an error that ends the walk by its text.
+// The same from the end, through a buffer of so many bytes; an error that ends the walk by its
+// text.
 fn put_reverse<R: ReadAt + Drop>(alloc: Global, log: R, size: usize, page: &mut Page) {
     match Vec::from_elem(alloc, 0, size) {
         Ok(mut buffer) => put_by(alloc, log, buffer.as_mut_slice(), page),

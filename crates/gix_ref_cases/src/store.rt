@@ -39,8 +39,8 @@ fn read_line(line: &str) -> Option<Line<'_>> {
     })
 }
 
-// The store of a line's files: of the root, with `+` one that knows names by their composed characters, or of the worktree with its
-// folder.
+// The store of a line's files: of the root, with `+` one that knows names by their composed
+// characters, or of the worktree with its folder.
 fn store_of(alloc: Global, line: &Line<'_>) -> Option<Store<MemoryFiles>> {
     let files = files::read(alloc, line.files)?;
     let root = Vec::new(alloc);

@@ -1,5 +1,6 @@
--- Edits of symbolic references, split: the log of the reference that is named, and the same change of the one that it leads to
--- (git-update-ref(1): without `--no-deref` the reference that a symbolic one points to is changed).
+-- Edits of symbolic references, split: the log of the reference that is named, and the same change
+-- of the one that it leads to (git-update-ref(1): without `--no-deref` the reference that a
+-- symbolic one points to is changed).
 use Rattle.std.specs.Prelude.{ℕ, zero, suc, ◌≡◌, ◌≢◌, ⊤, ◌+◌, ◌++◌, Bool, true, false, is_some, if◌then◌else◌, List, [], ◌∷◌, map, Option, Some, None}
 use Rattle.std.specs.List.{filter_map}
 use Rattle.gix_ref_name.specs.Targets.{Points, ToObject, ToName}

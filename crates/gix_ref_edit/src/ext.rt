@@ -45,8 +45,8 @@ pub trait RefEditsExt {
     /// The edits.
     ghost edits: { Self → List RefEdit };
 
-    /// Tests that each name has one edit. The error has the least name, by its bytes, that has several, or says that no memory is
-    /// left. It compares about as often as a sort does.
+    /// Tests that each name has one edit. The error has the least name, by its bytes, that has
+    /// several, or says that no memory is left. It compares about as often as a sort does.
     fn assure_one_name_has_one_edit(&self, alloc: Global) -> Result<(), TwiceError>
         ensures once { OnOk result (names.AllOnce (names.names_of (edits self.now))) }
         ensures twice { IfErr result (names.TwiceFault (names.names_of (edits self.now))) };

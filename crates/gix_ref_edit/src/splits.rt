@@ -1,4 +1,4 @@
-//! Edits of symbolic references, split into one of the log and one of the reference that it leads to.
+//! Edits of symbolic references, split into one of the log and one of the next reference.
 
 ghost use Rattle.std.specs.Prelude.{◌≡◌, ⊤, ℕ, ◌++◌, ◌∷◌, [], List, Option, map, is_some, option_map, if◌then◌else◌, IfOk, OnOk, IfErr, IsErrOf};
 ghost use Rattle.std.specs.Option.{option_to_list};
@@ -176,7 +176,8 @@ fn hops<F: FindTarget>(
     Ok(found)
 }
 
-// The edits that these lead to, and on over so many rounds; and for each of these and those is added whether it leads on.
+// The edits that these lead to, and on over so many rounds; and for each of these and those is
+// added whether it leads on.
 pub(crate) fn further<F: FindTarget>(
     alloc: Global,
     finder: &F,

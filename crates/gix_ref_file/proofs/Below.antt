@@ -183,7 +183,8 @@ itself path = from_is_eq (path_cmp path path) (same_path_itself path)
     from_is_eq Less same = cc
     from_is_eq Greater same = cc
 
--- q' passes a part of what q does, and of what is after the first that q passes it leaves no name out
+-- q' passes a part of what q does, and of what is after the first that q passes it leaves no name
+-- out
 module _ (folder : List ℕ) (q q' : Pair → Bool) where
   tail_names : (e : Pair) → ((x : Pair) → key_cmp e.0 x.0 ≡ Less → q x ≡ true → (q' x ≡ true) ⊎ (name_here folder x ≡ None)) → ((x : Pair) → q' x ≡ true → q x ≡ true)
       → (xs : List Pair) → T (below_all path_cmp e.0.items (nodes_of xs)) → filter_map (name_here folder) (filter q' xs) ≡ filter_map (name_here folder) (filter q xs)

@@ -69,7 +69,8 @@ cut n (to_remove_file path) = to_remove_file path
 cut n (to_make_folder path) = to_make_folder path
 cut n (to_remove_folder path) = to_remove_folder path
 
--- what a change leaves, that is made, fails or is stopped: the tree as it was, or as after any beginning of the bytes
+-- what a change leaves, that is made, fails or is stopped: the tree as it was, or as after any
+-- beginning of the bytes
 abbrev pub MayLeave : Change → Tree → Tree → Type 0
 MayLeave change old new =
     (new ≡ old) ⊎ ((n : ℕ) × IsTrue (allows old change) × (new ≡ after (cut n change) old))

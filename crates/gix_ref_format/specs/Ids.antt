@@ -1,4 +1,5 @@
--- Ids as texts spell them: hexadecimal digits of either letter case (Git's glossary, "object name").
+-- Ids as texts spell them: hexadecimal digits of either letter case (Git's glossary, "object
+-- name").
 use Rattle.std.specs.Prelude.{ℕ, unwrap_or, is_some, List, length, map, ◌==◌, if◌then◌else◌, Option, Some, None, option_map}
 use Rattle.std.specs.List.{list_all}
 use Rattle.hex.specs.Hex.{hex_digit_value}

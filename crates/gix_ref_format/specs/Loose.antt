@@ -1,5 +1,5 @@
--- The text of a reference's own file: an object's id in hexadecimal and a line feed, or `ref: `, a full name and a line feed
--- (gitrepository-layout, "refs" and "HEAD"; git-symbolic-ref).
+-- The text of a reference's own file: an object's id in hexadecimal and a line feed, or `ref: `, a
+-- full name and a line feed (gitrepository-layout, "refs" and "HEAD"; git-symbolic-ref).
 use Rattle.std.specs.Prelude.{ℕ, ◌==◌, Bool, true, ◌||◌, List, [], ◌∷◌, ◌++◌, take, drop, codes, if◌then◌else◌, Option, Some, None, option_map, IsTrue, IsFalse, ◌≡◌}
 use Rattle.gix_hash_id.specs.Id.{Id}
 use Rattle.gix_hash_id.specs.Kind.{hex_len}

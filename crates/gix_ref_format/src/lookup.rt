@@ -1,4 +1,4 @@
-//! Names as they are looked up: which of them no rule completes, and which of them each worktree has of its own.
+//! Names as they are looked up: which no rule completes, and which each worktree has of its own.
 
 ghost use Rattle.std.specs.Prelude.{◌≡◌, Some, option_map};
 ghost use Rattle.gix_ref_format.specs.Lookup as spec;

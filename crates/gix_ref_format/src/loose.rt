@@ -142,7 +142,8 @@ fn is_space(byte: u8) -> bool
     byte == b' ' || byte == b'\t' || byte == b'\n' || byte == b'\r'
 }
 
-/// Appends the text of a loose file of this target: an id in lower-case digits or `ref: ` and the name, and a line feed.
+/// Appends the text of a loose file of this target: an id in lower-case digits or `ref: ` and the
+/// name, and a line feed.
 pub fn write(target: TargetRef<'_>, out: &mut Vec<u8>) -> Result<(), AllocError>
     ensures { OnOk result
         (out.new.items ≡ out.old.items ++ loose_text (target_ref_view target.entry)) }

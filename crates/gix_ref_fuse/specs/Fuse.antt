@@ -24,7 +24,8 @@ failed_in failures fuse = min (own_failures fuse + failures (inner fuse)) (2 ^ 6
 abbrev pub last_change : {F : Type 0} → Fuse F → ℕ
 last_change fuse = fuse.calls
 
--- the number of the call that fails, or 0; how much it leaves of what it was to write, or nothing; and whether later calls do nothing
+-- the number of the call that fails, or 0; how much it leaves of what it was to write, or nothing;
+-- and whether later calls do nothing
 pub record Plan : Type 0 where
   pub chosen : ℕ
   pub kept : Option ℕ

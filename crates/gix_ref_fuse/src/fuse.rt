@@ -8,11 +8,13 @@ use gix_ref_file::{FileError, Files, Place};
 use std::alloc::Global;
 use std::cell::Cell;
 
-/// Files whose calls, readings and changes alike, are counted from 1 on. From a chosen call on nothing is done any more, as
-/// after a stop of the process, or that one call fails and the later ones go through.
+/// Files whose calls, readings and changes alike, are counted from 1 on. From a chosen call on
+/// nothing is done any more, as after a stop of the process, or that one call fails and the later
+/// ones go through.
 ///
-/// At the chosen call a reading returns `Failed`. So does a change, which leaves nothing, or of the bytes that it was to write
-/// the first so many; a change without bytes is then made whole. It returns `Memory` if memory was refused on the way.
+/// At the chosen call a reading returns `Failed`. So does a change, which leaves nothing, or of the
+/// bytes that it was to write the first so many; a change without bytes is then made whole. It
+/// returns `Memory` if memory was refused on the way.
 #[derive(Drop)]
 pub struct Fuse<F: Files> {
     files: F,
@@ -37,8 +39,9 @@ pub enum Turn {
 }
 
 impl<F: Files> Fuse<F> {
-    /// Stops at the call of this number: it and all later ones return `Failed`. It leaves the first `kept` bytes of what it was
-    /// to write, or nothing at `None`; the later ones leave nothing. At 0 no call stops.
+    /// Stops at the call of this number: it and all later ones return `Failed`. It leaves the first
+    /// `kept` bytes of what it was to write, or nothing at `None`; the later ones leave nothing. At
+    /// 0 no call stops.
     pub fn stopping_at(files: F, call: u64, kept: Option<usize>) -> Self
         ensures plan { plan_of result ≡ stop_at call kept }
         ensures calls { last_change result ≡ 0 }
@@ -48,8 +51,8 @@ impl<F: Files> Fuse<F> {
         Fuse::new(files, call, kept, true)
     }
 
-    /// Fails at the call of this number, which leaves the first `kept` bytes of what it was to write, or nothing at `None`. The
-    /// later calls go through. At 0 no call fails.
+    /// Fails at the call of this number, which leaves the first `kept` bytes of what it was to
+    /// write, or nothing at `None`. The later calls go through. At 0 no call fails.
     pub fn failing_at(files: F, call: u64, kept: Option<usize>) -> Self
         ensures plan { plan_of result ≡ fail_at call kept }
         ensures calls { last_change result ≡ 0 }

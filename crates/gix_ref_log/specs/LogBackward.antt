@@ -13,14 +13,15 @@ use Rattle.gix_ref_log.specs.declared.iter.error.Error.TheVariants.{Io, Decode, 
 use Rattle.gix_ref_log.specs.declared.iter.error.IoError.TheVariants.{Reader, Short, NoBuffer, LineTooLong}
 use Rattle.gix_ref_log.specs.declared.iter.decode.LineNumber.TheVariants.{FromEnd}
 
--- The lines that are left, the next first: those of the log's bytes before `end`, the last of them first, and none at the
--- end. The buffer begins with the last of these bytes.
+-- The lines that are left, the next first: those of the log's bytes before `end`, the last of them
+-- first, and none at the end. The buffer begins with the last of these bytes.
 abbrev pub IsAt : List ℕ → Bool → ℕ → ℕ → List ℕ → List (List ℕ) → Type 0
 IsAt log is_done end held buffer left =
     MatchBool is_done (left ≡ [])
     (IsWindow log end held buffer × (left ≡ reverse (slice_split is_feed (take end log))))
 
--- a buffer of so many bytes has room for the line and one line feed, and for the log's first line alone
+-- a buffer of so many bytes has room for the line and one line feed, and for the log's first line
+-- alone
 abbrev pub Fits : ℕ → List ℕ → List (List ℕ) → Type 0
 Fits room line [] = length line ≤ room
 Fits room line (next ∷ rest) = length line < room

@@ -38,7 +38,8 @@ IsWritable line =
     Lacks 10 line.message
     × IsSpellable line.signature.name line.signature.email line.signature.time
 
--- All of the line was written; or a beginning of it, since the writer failed; or nothing, since the line has no text.
+-- All of the line was written; or a beginning of it, since the writer failed; or nothing, since the
+-- line has no text.
 abbrev pub WritesLogLine : {U : Type 0} → Option (List ℕ) → Option (List ℕ) → Line
     → Result U Error → Type 0
 WritesLogLine old new line (Ok _) = IsWritable line × Appends old new (written_text line ++ 10 ∷ [])

@@ -1,4 +1,5 @@
--- Categories of full names, by their beginnings (gitrepository-layout, "refs"; git-worktree, "Refs").
+-- Categories of full names, by their beginnings (gitrepository-layout, "refs"; git-worktree,
+-- "Refs").
 use Rattle.std.specs.Prelude.{ℕ, ◌≡◌, ◌⊎◌, Bool, true, false, List, [], ◌∷◌, ◌++◌, codes, IsTrue}
 use Rattle.bstr.specs.BStr.{bstr_bytes}
 use Rattle.gix_object_lines.specs.Bytes.{IsBeginningOf, Lacks}

@@ -1,4 +1,5 @@
--- Namespaces (gitnamespaces: `GIT_NAMESPACE=foo/bar` stores references below `refs/namespaces/foo/refs/namespaces/bar/`).
+-- Namespaces (gitnamespaces: `GIT_NAMESPACE=foo/bar` stores references below
+-- `refs/namespaces/foo/refs/namespaces/bar/`).
 use Rattle.std.specs.Prelude.{ℕ, ◌==◌, List, ◌++◌, codes, if◌then◌else◌}
 use Rattle.std.specs.List.{flat_map, slice_split}
 use Rattle.gix_object_lines.specs.NameTest.{is_full_name}

@@ -8,8 +8,8 @@ use std::alloc::{AllocError, Global};
 use std::str;
 use unicode_normalization::to_nfc;
 
-/// The bytes with their characters composed, in Unicode's form C; composed again they are the same. Bytes that are no UTF-8 stay as they
-/// are.
+/// The bytes with their characters composed, in Unicode's form C; composed again they are the same.
+/// Bytes that are no UTF-8 stay as they are.
 pub fn precompose_unicode(alloc: Global, bytes: &[u8]) -> Result<ByteString, AllocError>
     ensures value { IfOk result (λ text. text ≡ composed bytes.now) }
     ensures stays { IfOk result (λ text. composed text ≡ text) }

@@ -1,4 +1,4 @@
-//! Names of references, after the crate `gix-ref` 0.67: full and partial ones, categories, namespaces, targets.
+//! Names of references: full and partial ones, categories, namespaces, after `gix-ref` 0.67.
 #![tactic(auto)]
 
 mod category;

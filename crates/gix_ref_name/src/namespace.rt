@@ -12,7 +12,8 @@ use gix_object_lines::cut::split_once;
 use std::alloc::{AllocError, Global};
 use std::marker::Model;
 
-/// The front that all names of a namespace have, as `refs/namespaces/foo/`. Contracts see the list of its bytes.
+/// The front that all names of a namespace have, as `refs/namespaces/foo/`. Contracts see the list
+/// of its bytes.
 #[derive(Debug, Drop, PartialEq, Eq, PartialOrd, Ord, Hash)]
 pub struct Namespace {
     bytes: ByteString,

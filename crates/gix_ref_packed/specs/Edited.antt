@@ -1,5 +1,5 @@
--- Records of `packed-refs` under edits: a record for each name that is written, none for one that is removed, and all others as they
--- were.
+-- Records of `packed-refs` under edits: a record for each name that is written, none for one that
+-- is removed, and all others as they were.
 use Rattle.std.specs.Prelude.{ℕ, ◌≡◌, Bool, false, List, [], ◌∷◌, ◌++◌, map, find, bytes_eq, Option, Some, None, if◌then◌else◌}
 use Rattle.std.specs.Option.{option_to_list}
 use Rattle.std.specs.Ordering.{nat_cmp, is_lt}

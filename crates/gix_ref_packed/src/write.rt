@@ -10,7 +10,8 @@ use gix_hash::{Kind, ObjectId};
 use gix_ref_format::packed::Reference;
 use std::alloc::{AllocError, Global};
 
-/// The text of a file of these records in their order, which is to ascend by name: the header and each record's lines.
+/// The text of a file of these records in their order, which is to ascend by name: the header and
+/// each record's lines.
 pub fn packed_text(alloc: Global, records: &[Reference<'_>]) -> Result<Vec<u8>, AllocError>
     ensures { IfOk result (λ text. text.items ≡ spec.packed_text (map record_of records.now)) }
 {

@@ -6,7 +6,8 @@ use Rattle.gix_hash_id.specs.declared.kind.Kind.{Kind}
 use Rattle.gix_object_lines.specs.NameTest.{begins, is_capitals}
 use Rattle.gix_ref_format.specs.Lookup.{is_own, behind_slash}
 
--- the hash function of a repository, the folder of a worktree of it, and the folder that its worktrees share
+-- the hash function of a repository, the folder of a worktree of it, and the folder that its
+-- worktrees share
 pub record Base : Type 0 where
   pub kind : Kind
   pub git : List ℕ

@@ -1,5 +1,5 @@
--- What a full name reads as in a tree of files: its own file wins over a packed record (gitrepository-layout, "refs" and
--- "packed-refs").
+-- What a full name reads as in a tree of files: its own file wins over a packed record
+-- (gitrepository-layout, "refs" and "packed-refs").
 use Rattle.std.specs.Prelude.{ℕ, ◌≡◌, is_some, List, [], ◌∷◌, if◌then◌else◌, Option, Some, None}
 use Rattle.gix_hash_id.specs.Id.{Id}
 use Rattle.gix_hash_id.specs.declared.kind.Kind.{Kind}

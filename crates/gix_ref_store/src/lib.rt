@@ -1,4 +1,4 @@
-//! References as files hold them: what they read as, how they are found, and their logs, after the crate `gix-ref` 0.67.
+//! References as files hold them, how they are found, and their logs, after `gix-ref` 0.67.
 #![tactic(auto)]
 
 mod options;

@@ -23,8 +23,8 @@ pub struct Options {
     pub write_reflog: WriteReflog,
     /// The hash function of its ids.
     pub object_hash: Kind,
-    /// Whether names are known with their characters composed, as on file systems that take them apart: those that are looked up,
-    /// and those that listings give.
+    /// Whether names are known with their characters composed, as on file systems that take them
+    /// apart: those that are looked up, and those that listings give.
     pub precompose_unicode: bool,
 }
 

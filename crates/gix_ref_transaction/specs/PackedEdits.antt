@@ -24,7 +24,8 @@ IsRead kind (Some text) = IsSome (packed_records kind text)
 abbrev pub IsReadAt : Kind → List ℕ → Tree → Type 0
 IsReadAt kind place tree = IsRead kind (bytes_of (node_at tree place))
 
--- The transaction is of the file at this place: it has its records, and holds its lock, which is empty.
+-- The transaction is of the file at this place: it has its records, and holds its lock, which is
+-- empty.
 pub record IsBegun (kind : Kind) (place : List ℕ) (old new : Tree) (t : Transaction) : Type 0 where
   pub here : place_of t ≡ place
   pub of_kind : t.kind ≡ kind

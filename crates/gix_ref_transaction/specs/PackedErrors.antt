@@ -1,4 +1,5 @@
--- Which errors of transactions of `packed-refs` say that memory was wanting, and those of files as theirs.
+-- Which errors of transactions of `packed-refs` say that memory was wanting, and those of files as
+-- theirs.
 use Rattle.gix_ref_file.specs.declared.files.FileError as files
 use Rattle.gix_ref_file.specs.declared.files.FileError.TheVariants as file_case
 use Rattle.gix_ref_format.specs.declared.packed.buffer.Error.TheVariants as open_case

@@ -1,4 +1,4 @@
-//! Transactions of `packed-refs`: its lock is held, its new text is written there, and the lock is put in its place.
+//! Transactions of `packed-refs`: a held lock gets the new text and is then put in its place.
 
 ghost use Rattle.std.specs.Prelude.{◌≡◌, ◌≢◌, ◌≤◌, ◌⊎◌, [], true, false, Some, None, Err, map, option_map, IfOk, IfErr, OnOk, IsTrue};
 ghost use Rattle.gix_ref_file.specs.Tree.{node_at, bytes_at};
@@ -122,7 +122,8 @@ impl From<FileError> for CommitError {
     }
 }
 
-/// A change of `packed-refs` on its way: its lock is held until it is committed or rolled back, one of which must be done.
+/// A change of `packed-refs` on its way: its lock is held until it is committed or rolled back, one
+/// of which must be done.
 #[derive(Debug)]
 pub struct Transaction {
     pub(crate) lock: Lock,

@@ -144,7 +144,8 @@ module _ (path : Bytes) (paths : List Bytes) (old new : Tree) (held : may_hold_f
   stays : may_hold_file new path ≡ true
   stays = both (is_path path) (is_folder (node_at new (parent path))) (not (is_folder (node_at new path))) more.0 (parent_at (parent path) refl more.1) (own_at path refl parts.1)
 
--- A path that may hold a file still may, if none of the paths for whose sake folders came and went is above it or below it.
+-- A path that may hold a file still may, if none of the paths for whose sake folders came and went
+-- is above it or below it.
 pub room_stays : (path : Bytes) (paths : List Bytes) (old new : Tree) → IsTrue (may_hold_file old path) → FoldersOnlyOf paths old new
     → ((other : Bytes) → Contains paths other → (¬ IsAbove other path) × (¬ IsAbove path other)) → IsTrue (may_hold_file new path)
 room_stays path paths old new held only apart = stays path paths old new held only apart

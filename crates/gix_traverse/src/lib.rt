@@ -1,4 +1,4 @@
-//! Walks over commits and trees, after the crate `gix-traverse` 0.61: its parts' public items under that crate's names.
+//! Walks over commits and trees: the public items of the crate `gix-traverse` 0.61 by its names.
 #![tactic(auto)]
 
 /// Walks over commits.

@@ -108,8 +108,8 @@ fn put_breadth(alloc: Global, history: &History, word: &[&str], page: &mut Page)
     Some(())
 }
 
-// A walk of `Simple`: along which parents, the tips, the hidden commits, how it is made or in which order by time it goes, what is shown
-// of its commits, and its cutoff.
+// A walk of `Simple`: along which parents, the tips, the hidden commits, how it is made or in which
+// order by time it goes, what is shown of its commits, and its cutoff.
 fn put_given(alloc: Global, history: &History, word: &[&str], page: &mut Page) -> Option<()> {
     let order = *word.get(4)?;
     let seconds = match word.get(6) {

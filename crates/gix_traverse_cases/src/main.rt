@@ -1,4 +1,4 @@
-//! Answers cases of the crates below the face `gix_traverse`, a line each: a family and a case of it.
+//! Answers cases of the crates below `gix_traverse`, a line each: a family and a case of it.
 #![tactic(auto)]
 
 mod copies;

@@ -119,8 +119,8 @@ abbrev pub IsMetWith : {F P : Type 0} → (P → Id → Bool) → Simple F P →
 IsMetWith accepts before parents x =
     IsFresh before.known.nodes parents x × (accepts before.predicate (id_of x) ≡ true)
 
--- by time a commit comes whose turn it is, and its parents that are met with it and accepted wait then, also those whose lookups
--- fail; no other that waits is lost
+-- by time a commit comes whose turn it is, and its parents that are met with it and accepted wait
+-- then, also those whose lookups fail; no other that waits is lost
 pub record ComesInTurn {F P : Type 0} (accepts : P → Id → Bool) (may_fail : Type 0)
     (g : Commits ObjectId) (before : Simple F P) (info : Info) (after : Simple F P) : Type 0 where
   pub others : List Turn
@@ -222,7 +222,8 @@ pub record FailsUnbegun {F P : Type 0} (honest may_fail : Type 0) (table : Table
   pub counts : CountsUnbegun honest (rows_of before.source.rows) table a.hidden
       before.source.lookups after.source.lookups error
 
--- why the first call gives no commit: one that the hidden commits reach isn't read, or the one whose turn it is
+-- why the first call gives no commit: one that the hidden commits reach isn't read, or the one
+-- whose turn it is
 abbrev pub FailsFirst : {F P : Type 0} → (P → Id → Bool) → Type 0 → Type 0 → Table → List Id → Asked
     → Simple F P → Error → Simple F P → Type 0
 FailsFirst accepts honest may_fail table ids a before error after =

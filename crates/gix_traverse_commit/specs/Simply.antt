@@ -138,8 +138,8 @@ pub record IsPaintedFor {F P : Type 0} (accepts : P → Id → Bool) (g : Commit
   pub empty : walk.known.queue ≡ []
   pub none_waits : turns_of walk.known ≡ []
 
--- a walk that has begun and given this list, of commits that have a row or are among these ids: the list with its queue has
--- all that the list's parents name
+-- a walk that has begun and given this list, of commits that have a row or are among these ids: the
+-- list with its queue has all that the list's parents name
 pub record IsGoing {F P : Type 0} (accepts : P → Id → Bool) (ids : List Id) (g : Commits ObjectId)
     (a : Asked) (listed : List ObjectId) (walk : Simple F P) : Type 0 where
   pub begun : walk.begun ≡ true

@@ -46,11 +46,12 @@ use gix_traverse_commit_known::meet::ask_tips;
 use gix_traverse_commit_known::{Accept, All};
 use std::alloc::Global;
 
-/// A walk over the commits that some tips reach, past none that the predicate refuses or a hidden commit reaches, each once.
+/// A walk over the commits that some tips reach, past none that the predicate refuses or a hidden
+/// commit reaches, each once.
 ///
-/// In breadth order first the tips come in their order, without repeats, then the parents of what came, in their order. In an
-/// order by time the newest, or the oldest, of the tips and of the parents of what came is next. With `Parents::First` a walk
-/// goes in breadth order.
+/// In breadth order first the tips come in their order, without repeats, then the parents of what
+/// came, in their order. In an order by time the newest, or the oldest, of the tips and of the
+/// parents of what came is next. With `Parents::First` a walk goes in breadth order.
 ///
 /// After an error it gives nothing more.
 #[derive(Drop)]
@@ -188,8 +189,8 @@ impl<F: FindInto + Drop, P: Accept + Drop> Simple<F, P> {
         self
     }
 
-    /// The same walk without these commits and all that they reach, in place of those that were hidden before. It is never refused.
-    /// After the first commit this begins the rest anew.
+    /// The same walk without these commits and all that they reach, in place of those that were
+    /// hidden before. It is never refused. After the first commit this begins the rest anew.
     pub fn hide(mut self, tips: Vec<ObjectId>) -> Result<Simple<F, P>, Error>
         ensures source { IfOk result (λ walk. source_of walk ≡ source_of self) }
         ensures unasked { IfOk result (λ walk. predicate_of walk ≡ predicate_of self) }

@@ -20,7 +20,8 @@ abbrev pub Named : {I : Type 0} → (I → List I) → List I → List I → ℕ
 Named along tips out zero i x = At tips i x
 Named {I} along tips out (suc j) i x = (child : I) × At out j child × At (along child) i x
 
--- of the places that name x, the first: a tip's index, or the earliest child's place and the first index there
+-- of the places that name x, the first: a tip's index, or the earliest child's place and the first
+-- index there
 pub record IsKey {I : Type 0} (along : I → List I) (tips out : List I) (x : I)
     (p i : ℕ) : Type 0 where
   pub named : Named along tips out p i x

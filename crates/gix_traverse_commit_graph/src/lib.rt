@@ -1,4 +1,4 @@
-//! Rows of commits, what a walk over commits lists and in which order, and the walk in breadth order over rows.
+//! Rows of commits, the lists and orders of walks over commits, and the walk over rows.
 #![tactic(auto)]
 
 mod info;

@@ -63,7 +63,8 @@ pub record AreAsked (accepts : Id → Bool) (tips : List ObjectId) (nodes : List
       → accepts (id_of x) ≡ true
   pub unpainted : IsUnpainted nodes
 
--- the walk goes to no commit that the predicate refuses, and of those that weren't met to each that it accepts
+-- the walk goes to no commit that the predicate refuses, and of those that weren't met to each that
+-- it accepts
 pub record AcceptsAs (accepts : Id → Bool) (nodes : List Node) (a : Asked) : Type 0 where
   pub given : (x : ObjectId) → a.accepts (id_of x) ≡ true → accepts (id_of x) ≡ true
   pub unmet : (x : ObjectId) → is_met nodes x ≡ false → accepts (id_of x) ≡ a.accepts (id_of x)

@@ -63,7 +63,8 @@ FindFault honest may_fail table id (iter_case.ObjectKind oid actual expected) =
     KindFault honest may_fail table (id_of id) kinds.Commit
     (iter_case.ObjectKind oid actual expected)
 
--- why a commit isn't read along these parents: it has no row, and its object isn't found or is no commit, or its lines aren't a commit's
+-- why a commit isn't read along these parents: it has no row, and its object isn't found or is no
+-- commit, or its lines aren't a commit's
 abbrev pub ReadFault : Parents → Type 0 → Type 0 → List Row → Table → ObjectId → FetchError → Type 0
 ReadFault along honest may_fail rows table id (fault.Find error) =
     (¬ Holds rows id) × FindFault honest may_fail table id error

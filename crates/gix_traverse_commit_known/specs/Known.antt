@@ -9,8 +9,8 @@ use Rattle.gix_traverse_commit_known.specs.declared.nodes.Number.{Number}
 use Rattle.gix_traverse_commit_known.specs.declared.waiting.Pending.{Pending}
 use Rattle.gix_traverse_commit_known.specs.declared.waiting.Turn.{Turn}
 
--- the nodes, the ids of what is queued, in the order in which it was queued, and by their numbers those that wait, and those that
--- were queued to wait, in their order
+-- the nodes, the ids of what is queued, in the order in which it was queued, and by their numbers
+-- those that wait, and those that were queued to wait, in their order
 pub record KnownCommits : Type 0 where
   pub nodes : List Node
   pub queue : List ObjectId

@@ -37,7 +37,8 @@ WaitsAsCounted may_fail since g turns x =
     (time : ℤ) × CountsAs may_fail g x time
     × (in_time since time ≡ true → Contains turns (record { time = time; id = x }))
 
--- each of these commits waits now, unless the cutoff keeps it out, beside all that waited, and no other
+-- each of these commits waits now, unless the cutoff keeps it out, beside all that waited, and no
+-- other
 pub record LetsWait (may_fail : Type 0) (since : Option ℤ) (g : Commits ObjectId)
     (S : ObjectId → Type 0) (old new : List Turn) : Type 0 where
   pub stay : (t : Turn) → Contains old t → Contains new t
@@ -71,7 +72,8 @@ abbrev pub keep_since : Option ℤ → Commits ObjectId → (ObjectId → Bool) 
 keep_since since g hides accepts x =
     not (hides x) && (accepts (id_of x) && in_time since (g x).time)
 
--- these were named so far, and of them those that are kept are listed or wait; what is met and kept is listed or waits
+-- these were named so far, and of them those that are kept are listed or wait; what is met and kept
+-- is listed or waits
 pub record IsMetSoFar (g : Commits ObjectId) (keep has : ObjectId → Bool)
     (named : ObjectId → Type 0) (listed : List ObjectId) (turns : List Turn) : Type 0 where
   pub timed : (t : Turn) → Contains turns t → t.time ≡ (g t.id).time
@@ -80,7 +82,8 @@ pub record IsMetSoFar (g : Commits ObjectId) (keep has : ObjectId → Bool)
   pub met : (x : ObjectId) → has x ≡ true → keep x ≡ true → Contains listed x ⊎ Waits turns x
   pub known : (x : ObjectId) → Contains listed x ⊎ Waits turns x → has x ≡ true
 
--- the list so far: each commit is reached and was open at its place, and may come before the others that were
+-- the list so far: each commit is reached and was open at its place, and may come before the others
+-- that were
 pub record IsChosenSoFar (along : ObjectId → List ObjectId) (tips : List ObjectId)
     (keep : ObjectId → Bool) (Comes : List ObjectId → ObjectId → ObjectId → Type 0)
     (listed : List ObjectId) : Type 0 where

@@ -32,7 +32,8 @@ impl Turn {
     }
 }
 
-/// A commit that waits, by its number. The older is the less, and of one time the one that was met first.
+/// A commit that waits, by its number. The older is the less, and of one time the one that was met
+/// first.
 #[derive(Debug, Clone, Copy, PartialEq, Eq, PartialOrd, Ord)]
 pub struct Pending {
     /// Its committer's seconds.
@@ -54,7 +55,8 @@ impl Pending {
     }
 }
 
-/// The commits that wait, and the order in which commits were queued: also of those whose turn has come since.
+/// The commits that wait, and the order in which commits were queued: also of those whose turn has
+/// come since.
 #[derive(Drop)]
 pub struct Waiting {
     turns: BTreeMap<Pending, usize>,

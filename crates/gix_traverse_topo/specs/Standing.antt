@@ -192,7 +192,8 @@ abbrev pub NoneReachesItself : Commits ObjectId → WalkRequest ObjectId → Typ
 NoneReachesItself g q =
     (x : ObjectId) → Listed g q x → Reached (λ y. (g y).parents) (λ _. ⊤) (g x).parents x → ⊥
 
--- a commit as far as it was read: one that wasn't, for some fault, counts as one without parents, of time 0
+-- a commit as far as it was read: one that wasn't, for some fault, counts as one without parents,
+-- of time 0
 abbrev pub read_so : Option Error → Commit ObjectId → Commit ObjectId
 read_so None commit = commit
 read_so (Some fault) commit = record { parents = []; time = pos 0 }

@@ -54,7 +54,8 @@ pub(crate) struct Node {
     pub names: usize,
 }
 
-/// The commits that a walk knows: first those that the ends reach, then those that the tips reach past none of these.
+/// The commits that a walk knows: first those that the ends reach, then those that the tips reach
+/// past none of these.
 #[derive(Drop)]
 pub(crate) struct Known {
     /// Their ids. A commit's number is its place here.
@@ -303,8 +304,8 @@ impl Known {
         Ok(())
     }
 
-    /// Numbers and reads all that the tips reach and that isn't known yet, and counts how often these name each as a parent that
-    /// the walk goes along.
+    /// Numbers and reads all that the tips reach and that isn't known yet, and counts how often
+    /// these name each as a parent that the walk goes along.
     pub fn walk<F: FindInto>(
         &mut self,
         source: &mut Source<F>,

@@ -1,4 +1,4 @@
-//! Walks over commits in which each comes after all its children, after the module `commit::topo` of the crate `gix-traverse` 0.61.
+//! Walks over commits, children before parents, after `commit::topo` of `gix-traverse` 0.61.
 #![tactic(auto)]
 
 mod error;

@@ -8,7 +8,8 @@ use crate::known::Number;
 use std::alloc::{AllocError, AllocFailed};
 use std::collections::BinaryHeap;
 
-/// A commit that waits for its turn. The newer is the greater, and of one time the one with the greater number.
+/// A commit that waits for its turn. The newer is the greater, and of one time the one with the
+/// greater number.
 #[derive(Debug, Clone, Copy, PartialEq, Eq, PartialOrd, Ord)]
 pub(crate) struct Pending {
     /// Its committer's seconds.

@@ -167,7 +167,8 @@ tree_ids_under_root : (ids : List Id) → tree_ids (map under_root ids) ≡ ids
 tree_ids_under_root [] = refl
 tree_ids_under_root (id ∷ ids) = ap (λ (is : List Id). id ∷ is) (tree_ids_under_root ids)
 
--- what came of a level: the folders below are queued, and their entries come after those of all that were queued before
+-- what came of a level: the folders below are queued, and their entries come after those of all
+-- that were queued before
 record CameLevel (H : Type 0) (table : Table) (location : Option Location) (folders others : List Folder) (deeper : List Tree) (entries : List Recorded) (after : Recording) : Type 0 where
   pub found : List Recorded
   pub next : List Folder

@@ -1,4 +1,5 @@
--- The walk in breadth order: the entries of the root, then of the trees that lie in it, then of those that lie in these.
+-- The walk in breadth order: the entries of the root, then of the trees that lie in it, then of
+-- those that lie in these.
 use Rattle.std.specs.Prelude.{ℕ, ◌≢◌, Bool, List, [], ◌∷◌, ◌++◌, map, if◌then◌else◌}
 use Rattle.std.specs.declared.ops.ControlFlow.TheVariants.{Continue, Break}
 use Rattle.gix_hash_id.specs.Id.{Id}

@@ -24,7 +24,8 @@ behind_last item = if is_tree item then pop ∷ [] else []
 abbrev pub entering : Item → List Call
 entering item = push_back [] ∷ push_back item.name ∷ []
 
--- the calls from a place on to the end of the tree; `above` are the trees that it lies in, the nearest first
+-- the calls from a place on to the end of the tree; `above` are the trees that it lies in, the
+-- nearest first
 pub data InDepth (H M : Type 0) (table : Table) : List Id → Place → List Call → End → Type 0 where
   tree : {above : List Id} {id : Id} {content : List ℕ} {calls : List Call} {end : End}
       → IsRead H table above id content → InDepth H M table above (inside id content) calls end

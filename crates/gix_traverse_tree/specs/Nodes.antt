@@ -1,4 +1,5 @@
--- The trees that a walk in breadth order has queued, each with the number of the one that it lies in.
+-- The trees that a walk in breadth order has queued, each with the number of the one that it lies
+-- in.
 use Rattle.std.specs.Prelude.{ℕ, suc, ◌≡◌, ◌+◌, ◌<◌, ◌⊎◌, ⊤, true, List, [], ◌∷◌, ◌++◌, Option, Some, None, IfSome, map, length, slice_get}
 use Rattle.std.specs.List.{IsDistinct}
 use Rattle.gix_hash_id.specs.Id.{Id, id_of}

@@ -104,7 +104,8 @@ RecordsInDepth H table id old new =
     × InOrder H table (recording_of old).location id.kind [] content found
     × ((recording_of new).entries ≡ (recording_of old).entries ++ found)
 
--- the entries of a tree of this content were added, then those of the trees among them, level by level
+-- the entries of a tree of this content were added, then those of the trees among them, level by
+-- level
 abbrev pub RecordsInBreadth : Type 0 → Table → Kind → List ℕ → Recorder → Recorder → Type 0
 RecordsInBreadth H table ids content old new = (here more : List Recorded) × (folders : List Folder)
     × Listed (recording_of old).location ids [] content here folders

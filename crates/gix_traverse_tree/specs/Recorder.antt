@@ -58,7 +58,8 @@ where_whole old new = pick old.location where
   pick (Some FileName) = old
   pick None = old
 
--- a whole path grows by the name, a file's name takes the place of the last, and nothing is tracked of none
+-- a whole path grows by the name, a file's name takes the place of the last, and nothing is tracked
+-- of none
 abbrev pub path_with : Option Location → Bytes → Bytes → Bytes
 path_with (Some Path) path name = joined path name
 path_with (Some FileName) path name = name

@@ -20,7 +20,8 @@ use gix_object_lines::decode;
 use gix_object_lookup::FindInto;
 use std::alloc::{AllocError, Global};
 
-/// What looking at several paths keeps. Several calls may use one after another, which saves memory.
+/// What looking at several paths keeps. Several calls may use one after another, which saves
+/// memory.
 #[derive(Drop)]
 pub struct EntriesState {
     content: Vec<u8>,

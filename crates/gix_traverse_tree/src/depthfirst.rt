@@ -30,7 +30,8 @@ struct Open {
     offset: usize,
 }
 
-/// What came of a look at the next entry: none is left, the walk goes past it or below it, or the delegate ended the walk.
+/// What came of a look at the next entry: none is left, the walk goes past it or below it, or the
+/// delegate ended the walk.
 #[derive(Clone, Copy)]
 enum Step {
     Left,

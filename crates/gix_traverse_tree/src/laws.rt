@@ -13,7 +13,8 @@ ghost use Rattle.gix_traverse_tree.specs.declared.recorder.Recorder.{Recorder};
 
 use gix_object_lookup::FindInto;
 
-/// What a whole walk in depth order has a recorder record: each entry with its path, then what lies in it.
+/// What a whole walk in depth order has a recorder record: each entry with its path, then what lies
+/// in it.
 pub fn records_in_depth<F: FindInto>(objects: &F)
     ensures { (id : Id) (calls : List Call) (old new : Recorder)
         → InDepth (F.is_honest objects.now) (F.may_fail objects.now) (F.table objects.now) []
@@ -23,8 +24,8 @@ pub fn records_in_depth<F: FindInto>(objects: &F)
     let _ = objects;
 }
 
-/// What a whole walk in breadth order has a recorder record: the entries of the root with their paths, then those of the trees
-/// among them, level by level.
+/// What a whole walk in breadth order has a recorder record: the entries of the root with their
+/// paths, then those of the trees among them, level by level.
 pub fn records_in_breadth<F: FindInto>(objects: &F)
     ensures { (ids : Kind) (content : List ℕ) (calls : List Call) (old new : Recorder)
         → InBreadth (F.is_honest objects.now) (F.may_fail objects.now)

@@ -52,7 +52,8 @@ pub enum Location {
 pub struct Entry {
     /// What is named.
     pub mode: EntryMode,
-    /// The path as far as it was tracked: the whole one from the root, the entry's name, or nothing.
+    /// The path as far as it was tracked: the whole one from the root, the entry's name, or
+    /// nothing.
     pub filepath: ByteString,
     /// The id of the object that is named.
     pub oid: ObjectId,

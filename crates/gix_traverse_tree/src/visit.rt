@@ -6,8 +6,8 @@ ghost use Rattle.gix_traverse_tree.specs.declared.visit.Error.TheVariants.{Memor
 use std::alloc::{AllocError, AllocFailed};
 use std::ops::ControlFlow;
 
-/// What a walk does after an entry: `Break` ends it; of a tree, `Continue(true)` also walks what lies in it, and `Continue(false)`
-/// passes by.
+/// What a walk does after an entry: `Break` ends it; of a tree, `Continue(true)` also walks what
+/// lies in it, and `Continue(false)` passes by.
 pub type Action = ControlFlow<(), bool>;
 
 /// Why a delegate fails.

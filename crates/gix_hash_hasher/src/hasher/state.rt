@@ -3,7 +3,8 @@
 use sha1::Sha1;
 use sha2::Sha256;
 
-/// A digest that is being computed: `hasher` makes one, `update` feeds it, and `try_finalize` ends it.
+/// A digest that is being computed: `hasher` makes one, `update` feeds it, and `try_finalize` ends
+/// it.
 #[derive(Drop)]
 pub struct Hasher {
     pub(crate) state: State,

@@ -95,8 +95,9 @@ fn keep_in<W: Write>(alloc: Global, store: &mut W, case: &Case, page: &mut Page)
     keep_stream(alloc, store, kind, content, size.saturating_add(1), page);
 }
 
-/// The ids that a store of nothing, one that fails and `Never` keep an object under by each call; then the kind and the length of
-/// what the first holds under the object's own id and under the null one.
+/// The ids that a store of nothing, one that fails and `Never` keep an object under by each call;
+/// then the kind and the length of what the first holds under the object's own id and under the
+/// null one.
 pub fn keep(alloc: Global, case: &Case, page: &mut Page) {
     let Some(mut store) = Store::new(alloc, case.kind, &[]) else {
         return page.text("no store");

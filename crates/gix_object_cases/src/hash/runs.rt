@@ -5,7 +5,8 @@ use case_words::{Page, text_of};
 use gix_hash::{ObjectId, Prefix, Run, can_run, prefix_run};
 use std::alloc::Global;
 
-/// Sets the list to the ids of the fields, of which an empty one is none, and adds how many they are.
+/// Sets the list to the ids of the fields, of which an empty one is none, and adds how many they
+/// are.
 pub fn set(
     alloc: Global,
     list: &mut Vec<ObjectId>,
@@ -23,8 +24,8 @@ pub fn set(
     Some(())
 }
 
-/// Where the run of a text's prefix begins and ends in the list, and whether the comparisons stayed within twice the binary digits of
-/// the list's length.
+/// Where the run of a text's prefix begins and ends in the list, and whether the comparisons stayed
+/// within twice the binary digits of the list's length.
 pub fn find(list: &[ObjectId], fields: &[Vec<u8>], page: &mut Page) -> Option<()> {
     let [text] = fields else {
         return None;

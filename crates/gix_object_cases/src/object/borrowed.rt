@@ -7,7 +7,8 @@ use gix_object_lines::Kind;
 use gix_object_tree::ObjectRef;
 use std::alloc::Global;
 
-/// An object's kind, the length and the id of what is written of it, and what it lends as each kind.
+/// An object's kind, the length and the id of what is written of it, and what it lends as each
+/// kind.
 pub fn show(alloc: Global, hash_kind: gix_hash::Kind, object: &ObjectRef<'_>, page: &mut Page) {
     page.put_between("", ObjectRef::kind(object), ": ");
     show_object(alloc, hash_kind, object, page);

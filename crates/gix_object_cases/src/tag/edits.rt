@@ -7,7 +7,8 @@ use gix_object_lines::lines::ActorRef;
 use gix_object_tag::TagRef;
 use std::alloc::Global;
 
-/// Adds what is written of the tag with the part that the operation names, and of the tag that owns its parts.
+/// Adds what is written of the tag with the part that the operation names, and of the tag that owns
+/// its parts.
 pub fn change(alloc: Global, operation: &str, tag: TagRef<'_>, case: &Case, page: &mut Page) {
     match changed(operation, tag, case) {
         Some(tag) => show_both(alloc, tag, page),

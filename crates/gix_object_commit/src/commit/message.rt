@@ -76,7 +76,8 @@ impl<'a> CommitRef<'a> {
         self.message_trailers().assisted_by()
     }
 
-    /// The trailers that name an author: whose token is `Signed-off-by` or `Co-authored-by`, letter case aside.
+    /// The trailers that name an author: whose token is `Signed-off-by` or `Co-authored-by`, letter
+    /// case aside.
     pub fn author_trailers(&self) -> SelectedTrailers<'a>
         ensures { selected_left result
             ≡ filter (λ trailer. is_author trailer.token)

@@ -52,7 +52,8 @@ impl WriteTo for Commit {
     }
 }
 
-/// Writes the lines before the further headers, of which the first may be named as the line for the encoding is.
+/// Writes the lines before the further headers, of which the first may be named as the line for the
+/// encoding is.
 pub(crate) fn write_own_front<W: io::Write>(
     commit: &Commit,
     is_encoding_first: bool,

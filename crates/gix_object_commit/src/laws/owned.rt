@@ -17,8 +17,8 @@ fn seconds_fit(time: Time)
     let _seconds = time.seconds;
 }
 
-/// What is written of a commit that isn't refused spells its parts, with ids of its tree's kind; so it is read back to them.
-/// The contract is the law.
+/// What is written of a commit that isn't refused spells its parts, with ids of its tree's kind; so
+/// it is read back to them. The contract is the law.
 pub fn owned_written_is_read(commit: &Commit)
     ensures { own_refusal commit.now ≡ None
         → SpellsCommit (hex_len (id_of commit.now.tree).kind) (commit_text (own_parts commit.now))

@@ -6,16 +6,16 @@ ghost use Rattle.gix_object_commit.specs.OwnedText.{own_field, own_parts, own_re
 ghost use Rattle.gix_object_commit.specs.Signing.{IsSignedBy, IsWithHeaders, signature_header, unsigned, unsigned_fault, unsigned_text};
 ghost use Rattle.gix_object_commit.specs.declared.commit.owned.Commit.{Commit};
 
-/// What is signed of a commit is what `write_to` writes of it without the headers of signatures. Nothing is done: the contract
-/// is the law.
+/// What is signed of a commit is what `write_to` writes of it without the headers of signatures.
+/// Nothing is done: the contract is the law.
 pub fn what_is_signed_is_written()
     ensures { (commit bare : Commit)
         → IsWithHeaders commit (unsigned commit.extra_headers.items) bare
         → commit_text (own_parts bare) ≡ unsigned_text commit }
 {}
 
-/// A commit that was signed is signed over the same text again, so the signature in it signs it without its signature. Nothing
-/// is done: the contract is the law.
+/// A commit that was signed is signed over the same text again, so the signature in it signs it
+/// without its signature. Nothing is done: the contract is the law.
 pub fn signed_over_the_same_text()
     ensures { (commit signed : Commit) (signature : List ℕ) → IsSignedBy signature commit signed
         → unsigned_text signed ≡ unsigned_text commit }

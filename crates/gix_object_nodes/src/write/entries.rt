@@ -17,7 +17,8 @@ use gix_object_entries::tree::{Entry, EntryKind, EntryMode};
 use gix_object_lines::ByteString;
 use std::alloc::{AllocError, Global};
 
-/// The tree of an opened one's entries, in Git's order. Folders that edits changed have these ids of their trees.
+/// The tree of an opened one's entries, in Git's order. Folders that edits changed have these ids
+/// of their trees.
 pub fn tree_of(
     node: &Node,
     nodes: &[Node],

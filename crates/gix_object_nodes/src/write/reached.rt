@@ -10,7 +10,8 @@ use crate::changed::changed_child;
 use crate::node::{Node, NodeId};
 use std::alloc::{AllocError, Global};
 
-/// Which changed trees this one leads down to, by their numbers, and itself. An edit may have cut off others.
+/// Which changed trees this one leads down to, by their numbers, and itself. An edit may have cut
+/// off others.
 pub(crate) fn reached(nodes: &[Node], from: NodeId, alloc: Global) -> Result<Vec<bool>, AllocError>
     requires forest { IsForest (slots_of nodes.now) (length nodes.now) }
     requires within { from.0 < length nodes.now }

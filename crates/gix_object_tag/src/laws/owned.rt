@@ -12,8 +12,8 @@ use crate::Tag;
 use gix_hash::laws::printed_id_reads_back;
 use gix_object_lines::lines::Actor;
 
-/// What is written of a tag that isn't refused spells its parts, with ids of its target's kind; so it is read back to them.
-/// The contract is the law.
+/// What is written of a tag that isn't refused spells its parts, with ids of its target's kind; so
+/// it is read back to them. The contract is the law.
 pub fn owned_written_is_read(tag: &Tag)
     ensures { cause_of (tag_refusal (own_parts tag.now) (is_bad_actor tag.now.tagger)) ≡ None
         → SpellsTag (id_of tag.now.target).kind (tag_text (own_parts tag.now)) (own_parts tag.now) }

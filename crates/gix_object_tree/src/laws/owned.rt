@@ -40,8 +40,8 @@ pub fn owned_object_keeps_its_value(_bytes: &[u8], _hash_kind: gix_hash::Kind)
     lower_case_is_written();
 }
 
-/// So it is written to the bytes that it was read from, unless it is a tree with further zeros before a mode, or a tag with an
-/// empty message.
+/// So it is written to the bytes that it was read from, unless it is a tree with further zeros
+/// before a mode, or a tag with an empty message.
 pub fn owned_object_is_written_back(bytes: &[u8], hash_kind: gix_hash::Kind)
     ensures { (value : Value) (object : owned.Object) → (is : IsLoose hash_kind bytes.now value)
         → IsOwned value object → IsKeptWhole value

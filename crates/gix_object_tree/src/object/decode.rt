@@ -47,8 +47,8 @@ impl<'a> ObjectRef<'a> {
 
     /// The object of this kind that the content spells, its ids of this hash function.
     ///
-    /// Any bytes are a blob. The errors of a tree, a commit and a tag are those of their readers, `Memory` only a tree's or a
-    /// commit's.
+    /// Any bytes are a blob. The errors of a tree, a commit and a tag are those of their readers,
+    /// `Memory` only a tree's or a commit's.
     pub fn from_bytes(
         alloc: Global,
         kind: Kind,

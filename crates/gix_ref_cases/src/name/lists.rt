@@ -162,7 +162,8 @@ fn show_twice(error: &TwiceError, page: &mut Page) {
     }
 }
 
-/// The edit of the word and the name, whether its `try_clone` is equal to it, and whether that of the next word and name is.
+/// The edit of the word and the name, whether its `try_clone` is equal to it, and whether that of
+/// the next word and name is.
 pub fn copied(alloc: Global, word: &[u8], name: &[u8], page: &mut Page) -> Option<()> {
     let edit = read_edit(alloc, text_of(word)?, text_of(name)?)?;
     compare(&edit, &read_edit(alloc, "move", "HEAD")?, page)

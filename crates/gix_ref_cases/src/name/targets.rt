@@ -16,7 +16,8 @@ pub fn read(alloc: Global, text: &[u8]) -> Option<Target> {
     }
 }
 
-/// The id taken out, by the call and by the conversion, or the target that comes back; and the view's own copy.
+/// The id taken out, by the call and by the conversion, or the target that comes back; and the
+/// view's own copy.
 pub fn taken(alloc: Global, text: &[u8], page: &mut Page) -> Option<()> {
     let target = read(alloc, text)?;
     show_taken(target.try_clone().ok()?.try_into_id(), page);

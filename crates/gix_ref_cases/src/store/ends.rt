@@ -107,7 +107,8 @@ fn show_id(peeled: Result<ObjectId, peel::Error>, page: &mut Page) -> bool {
     false
 }
 
-// A mark for each line of a reference's log, from its beginning, from its end, and from its beginning again.
+// A mark for each line of a reference's log, from its beginning, from its end, and from its
+// beginning again.
 fn lines(alloc: Global, store: &Store<MemoryFiles>, reference: &Reference, page: &mut Page) {
     let mut log = reference.log_iter(alloc, store);
     mark_all(log.all(alloc), page);

@@ -73,8 +73,8 @@ fn list_by_platform(
     }
 }
 
-/// Adds the references of a listing, or of `force_refresh_packed_buffer` whether the packed ones can be opened; or that the operation is
-/// none.
+/// Adds the references of a listing, or of `force_refresh_packed_buffer` whether the packed ones
+/// can be opened; or that the operation is none.
 pub fn list(
     alloc: Global,
     store: &Store<MemoryFiles>,

@@ -9,7 +9,8 @@ use gix_ref_store::store::file::Store;
 use gix_ref_store::{Options, Reference};
 use std::alloc::Global;
 
-/// Adds the name of a word's reference without the front of this namespace, and the reference once the front is taken off.
+/// Adds the name of a word's reference without the front of this namespace, and the reference once
+/// the front is taken off.
 pub fn strip(alloc: Global, store: &Store<MemoryFiles>, word: &str, space: &str, page: &mut Page) {
     let Ok(name) = PartialNameRef::new(word.as_bytes()) else {
         return page.text("no name");

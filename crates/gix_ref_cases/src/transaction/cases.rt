@@ -91,7 +91,8 @@ fn read_fuse(text: &str) -> Option<(&str, u64, Option<usize>)> {
     }
 }
 
-/// The files with the call of which the text speaks: nothing, or `stop` or `fail`, its number and how many bytes it leaves.
+/// The files with the call of which the text speaks: nothing, or `stop` or `fail`, its number and
+/// how many bytes it leaves.
 pub fn fused(files: MemoryFiles, text: &[u8]) -> Option<Fuse<MemoryFiles>> {
     if text.is_empty() {
         return Some(Fuse::failing_at(files, 0, None));

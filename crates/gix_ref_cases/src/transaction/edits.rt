@@ -6,7 +6,8 @@ use gix_ref_name::FullName;
 use gix_ref_transaction::packed::RecordEdit;
 use std::alloc::Global;
 
-/// The edits of lines `drop <name>`, `write <hex> <name>` and `write <hex> <name> <hex of the peeled id>`.
+/// The edits of lines `drop <name>`, `write <hex> <name>` and
+/// `write <hex> <name> <hex of the peeled id>`.
 pub fn read_edits(alloc: Global, text: &[u8]) -> Option<Vec<RecordEdit>> {
     let mut edits = Vec::new(alloc);
     for line in text_of(text)?.lines() {

@@ -1,4 +1,6 @@
-//! The changes of a tree in memory, each with a record of how to undo it. All room is made before anything changes.
+//! The changes of a tree in memory, each with a record of how to undo it.
+//!
+//! All room is made before anything changes.
 ghost use Rattle.std.specs.Prelude.{◌≡◌, not, IsSome, IfOk, OnOk, OnErr, IsTrue, IsFalse};
 ghost use Rattle.std.specs.FinMap as map;
 ghost use Rattle.gix_ref_file.specs.Tree.{file, same_path, is_folder, IsRooted};

@@ -53,7 +53,8 @@ pub(crate) struct Entry {
     pub(crate) object: Option<ObjectId>,
 }
 
-/// The bytes of `packed-refs`, and its records in the order of their names, whatever order the file has.
+/// The bytes of `packed-refs`, and its records in the order of their names, whatever order the file
+/// has.
 #[derive(Debug, Drop)]
 pub struct Buffer {
     pub(crate) bytes: Vec<u8>,

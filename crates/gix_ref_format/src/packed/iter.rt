@@ -33,8 +33,8 @@ pub enum Error<'a> {
     },
 }
 
-/// The records of `packed-refs` in their order, read one by one from its bytes, and an error for each bad line, after which it
-/// goes on. It takes no memory.
+/// The records of `packed-refs` in their order, read one by one from its bytes, and an error for
+/// each bad line, after which it goes on. It takes no memory.
 #[derive(Debug, Clone, Copy)]
 pub struct Iter<'a> {
     rest: &'a [u8],

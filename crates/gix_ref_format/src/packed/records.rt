@@ -29,7 +29,8 @@ impl Buffer {
         }
     }
 
-    /// The records whose names begin with this prefix, ascending by name. It searches for them, and walks over no others.
+    /// The records whose names begin with this prefix, ascending by name. It searches for them, and
+    /// walks over no others.
     pub fn iter_prefixed(&self, prefix: &[u8]) -> Records<'_>
         ensures { records_left result
             ≡ filter (λ r. spec.begins prefix.now r.name) (kept self.now) }

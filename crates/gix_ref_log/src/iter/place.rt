@@ -56,8 +56,9 @@ fn line_start(bytes: &[u8], is_all: bool) -> Option<usize>
     }
 }
 
-/// Puts the log's last bytes before `end` into the buffer, as many as it has room for, and returns how many. `Short` if the
-/// reading gives fewer: what the buffer held is never taken for bytes of the log.
+/// Puts the log's last bytes before `end` into the buffer, as many as it has room for, and returns
+/// how many. `Short` if the reading gives fewer: what the buffer held is never taken for bytes of
+/// the log.
 pub(crate) fn read_before<R: ReadAt>(log: &R, end: u64, buffer: &mut [u8]) -> Result<usize, IoError>
     ensures held { IfOk result (λ held. held ≡ min end (length buffer.old)) }
     ensures len { length buffer.new ≡ length buffer.old }

@@ -12,8 +12,8 @@ use gix_object_lines::cut::{lacks, split_once};
 use gix_object_lines::hex_line::is_id;
 use gix_object_lines::lines::read_actor;
 
-/// Why a text is no line of a log: it isn't two ids' hexadecimal digits, an actor and a time, with one space between, and
-/// then nothing or a tab and a message in the line.
+/// Why a text is no line of a log: it isn't two ids' hexadecimal digits, an actor and a time, with
+/// one space between, and then nothing or a tab and a message in the line.
 #[derive(Debug, Clone, Copy, PartialEq, Eq, thiserror::Error)]
 #[error("the text is no line of a reference's log")]
 pub struct Error;

@@ -24,7 +24,8 @@ pub enum Error {
     /// The writer failed. Over memory: a growth was refused.
     #[error("the writer failed")]
     Writer(io::Error),
-    /// The name or the email holds `<`, `>` or a line feed, or the offset isn't whole minutes below 100 hours.
+    /// The name or the email holds `<`, `>` or a line feed, or the offset isn't whole minutes below
+    /// 100 hours.
     #[error("the signature has no spelling")]
     Unspellable,
     /// The message holds a line feed, which would end the line.

@@ -15,7 +15,8 @@ use gix_object_lines::ByteString;
 use std::alloc::{AllocError, Global};
 
 impl Category<'_> {
-    /// What begins all names of the category. For linked worktrees it ends before the worktree's name.
+    /// What begins all names of the category. For linked worktrees it ends before the worktree's
+    /// name.
     pub fn prefix(&self) -> BStr<'static>
         ensures { bstr_bytes result ≡ spec.prefix_text self.now }
     {

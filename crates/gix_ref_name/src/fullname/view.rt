@@ -6,7 +6,8 @@ ghost use Rattle.gix_object_lines.specs.NameTest.{is_full_name};
 
 use bstr::BStr;
 
-/// A view of the bytes of a full name, as `refs/heads/main` or `HEAD`. Views are ordered by their bytes.
+/// A view of the bytes of a full name, as `refs/heads/main` or `HEAD`. Views are ordered by their
+/// bytes.
 #[derive(Debug, Clone, Copy, PartialEq, Eq, PartialOrd, Ord, Hash)]
 pub struct FullNameRef<'a> {
     pub(crate) bytes: BStr<'a>,

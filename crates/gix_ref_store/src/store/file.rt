@@ -74,7 +74,8 @@ impl<F: Files> Store<F> {
         self.git_dir.as_slice()
     }
 
-    /// The folder that all worktrees share, as a store of a linked worktree was given it; `None` of any other store.
+    /// The folder that all worktrees share, as a store of a linked worktree was given it; `None` of
+    /// any other store.
     pub fn common_dir(&self) -> Option<&[u8]>
         ensures { option_map (λ folder. folder.now) result
             ≡ option_map (λ folder. folder.items) self.now.common_dir }

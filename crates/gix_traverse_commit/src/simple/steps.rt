@@ -101,7 +101,8 @@ impl<F: FindInto + Drop, P: Accept + Drop> Simple<F, P> {
         Ok(())
     }
 
-    // Makes tips of what is queued, in its order, and takes the hidden marks away. A walk that has not begun has nothing queued.
+    // Makes tips of what is queued, in its order, and takes the hidden marks away. A walk that has
+    // not begun has nothing queued.
     pub(crate) fn gather(&mut self) -> Result<(), AllocError>
         ensures source { self.new.source ≡ self.old.source }
         ensures predicate { self.new.predicate ≡ self.old.predicate }

@@ -303,7 +303,8 @@ fn await_parent<F: FindInto, P: Accept>(
     Ok(())
 }
 
-/// Lets the parents of a commit wait that were not met, are not hidden, are accepted and are no older than the cutoff.
+/// Lets the parents of a commit wait that were not met, are not hidden, are accepted and are no
+/// older than the cutoff.
 pub fn await_parents<F: FindInto, P: Accept>(
     source: &mut Source<F>,
     known: &mut Known,

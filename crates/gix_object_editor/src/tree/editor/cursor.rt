@@ -252,7 +252,8 @@ impl<'c, S: FindInto> Cursor<'c, S> {
         self.editor.remove_leaf_from(alloc, self.at, path)
     }
 
-    /// Puts an entry of this kind and id at the path, which begins at the cursor, as `Editor::upsert` does.
+    /// Puts an entry of this kind and id at the path, which begins at the cursor, as
+    /// `Editor::upsert` does.
     pub fn upsert(
         &mut self,
         alloc: Global,
@@ -347,7 +348,8 @@ impl<'c, S: FindInto> Cursor<'c, S> {
         self.editor.upsert_from(alloc, self.at, path, kind, id)
     }
 
-    /// Grafts what is stored under this id at the path, which begins at the cursor, as `Editor::graft` does.
+    /// Grafts what is stored under this id at the path, which begins at the cursor, as
+    /// `Editor::graft` does.
     pub fn graft(
         &mut self,
         alloc: Global,

@@ -125,8 +125,8 @@ pub(crate) fn open<S: FindInto>(
     Ok(Some(attach(nodes, alloc, at, name, slot, tree)?))
 }
 
-/// The opened tree in which a path's walk down from one ends, and how many names lead there. What is left is one name alone, or begins
-/// with that of no folder.
+/// The opened tree in which a path's walk down from one ends, and how many names lead there. What
+/// is left is one name alone, or begins with that of no folder.
 pub(crate) fn walk<S: FindInto>(
     store: &S,
     nodes: &mut Vec<Node>,

@@ -149,7 +149,8 @@ pub(crate) fn make_folders(
     Ok(end)
 }
 
-// Puts an entry below more than one name. Without memory there may be more trees, to which none leads.
+// Puts an entry below more than one name. Without memory there may be more trees, to which none
+// leads.
 fn hang(
     nodes: &mut Vec<Node>,
     alloc: Global,

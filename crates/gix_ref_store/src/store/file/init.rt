@@ -15,7 +15,8 @@ use thiserror::Error;
 /// Why no store is of a folder.
 #[derive(Debug, Clone, Copy, PartialEq, Eq, Error)]
 pub enum FolderError {
-    /// A folder is neither the root, which is empty, nor a path: at most 4,096 bytes, components with slashes between.
+    /// A folder is neither the root, which is empty, nor a path: at most 4,096 bytes, components
+    /// with slashes between.
     #[error("a folder of the repository has no clean path")]
     NoPath,
     /// One of the folders lies in the `refs` or `logs` of the other.
@@ -78,8 +79,8 @@ impl<F: Files> Store<F> {
         }
     }
 
-    /// The store of a linked worktree, whose own folder is the first, with the usual options. Refused as
-    /// `for_linked_worktree_opts` is.
+    /// The store of a linked worktree, whose own folder is the first, with the usual options.
+    /// Refused as `for_linked_worktree_opts` is.
     pub fn for_linked_worktree(
         files: F,
         git_dir: Vec<u8>,
