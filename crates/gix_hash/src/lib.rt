@@ -1,4 +1,4 @@
-//! Object ids, prefixes, digests and streams: the public items of `gix-hash` 0.26 by its names.
+//! Object ids, prefixes and digests: its parts' public items under `gix-hash` 0.26's names.
 #![tactic(auto)]
 
 /// Why a text is no id.

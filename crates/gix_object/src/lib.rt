@@ -1,4 +1,4 @@
-//! Git's objects: the public items of the crate `gix-object` 0.64 by its names.
+//! Git's objects: its parts' public items under the names of the crate `gix-object` 0.64.
 #![tactic(auto)]
 
 /// Commits.

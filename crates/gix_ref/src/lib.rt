@@ -1,4 +1,4 @@
-//! References and their logs: the public items of the crate `gix-ref` 0.67 by its names.
+//! References and their logs: its parts' public items under the names of `gix-ref` 0.67.
 #![tactic(auto)]
 
 /// Names that rules may complete, and why bytes are no name.

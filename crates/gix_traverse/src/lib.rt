@@ -1,4 +1,4 @@
-//! Walks over commits and trees: the public items of the crate `gix-traverse` 0.61 by its names.
+//! Walks over commits and trees: its parts' public items under `gix-traverse` 0.61's names.
 #![tactic(auto)]
 
 /// Walks over commits.
