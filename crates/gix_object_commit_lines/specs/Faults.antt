@@ -107,7 +107,7 @@ pub record HasHeader (input : List ℕ) : Type 0 where
   pub some : AreHeaders input rest
   pub one : some.fields ≢ []
 
--- all before it is read
+-- memory is taken for a second parent or for a header, and all before it is read
 pub data TakesMemory (hex_len : ℕ) (input : List ℕ) : Type 0 where
   ForParents : (rest : List ℕ) → IsBehindTree hex_len input rest → HasTwoParents hex_len rest
       → TakesMemory hex_len input

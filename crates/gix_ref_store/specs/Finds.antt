@@ -99,7 +99,7 @@ TellsState name ref_state (Err (PackedOpen error)) = ⊥
 TellsState name ref_state (Err ReadFileContents) = Unit {0}
 TellsState name ref_state (Err Memory) = Unit {0}
 
--- the result for a file of its own, whatever it is if there is none
+-- the result for a name's own file, whatever the records say if there is none
 abbrev pub TellsFile : Kind → Option (List ℕ) → Result (Option Target) Error → Type 0
 TellsFile kind text (Ok None) = (other : RefState) → read_by kind text other ≡ other
 TellsFile kind text (Ok (Some target)) =
