@@ -58,7 +58,7 @@ joined lists = flat_map (λ list. list.items) lists
 abbrev pub AreOfKind : Kind → IdSet → Type 0
 AreOfKind kind ids = (id : Id) → IsTrue (contains_key ids id) → id.kind ≡ kind
 
--- the id comes before the other, where both are of one kind
+-- the id comes before the other, if both are of one kind
 abbrev pub ComesBefore : ObjectId → ObjectId → Type 0
 ComesBefore id other =
     (id_of id).kind ≡ (id_of other).kind

@@ -1,4 +1,4 @@
--- The set that lists of ids keep, the room in them, and the ids that a reader of them is still to give.
+-- The set that lists of ids keep, the room in them, and the ids that an iterator of them has left.
 use Rattle.std.specs.Prelude.{◌≡◌, ◌<◌, ℕ, List, [], ◌∷◌, ◌++◌, Vec, take, length, vec_len, vec_capacity}
 use Rattle.std.specs.List.{slice_index_or}
 use Rattle.std.specs.declared.alloc.Global.{Global}
@@ -12,7 +12,7 @@ use Rattle.history_objects.specs.declared.ids.IdIter.{IdIter}
 abbrev pub kept : Ids → IdSet
 kept ids = set_of (joined ids.lists.items)
 
--- the list of this byte stands, and has room for one id more
+-- the list of this byte exists, and has room for one id more
 pub record HasRoomAt (byte : ℕ) (lists : List (Vec ObjectId Global)) : Type 0 where
   pub stands : byte < length lists
   pub free : (list : Vec ObjectId Global)

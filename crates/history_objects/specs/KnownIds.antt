@@ -7,7 +7,7 @@ use Rattle.gix_ref_file.specs.Tree.{Tree}
 use Rattle.history_model.specs.Places.{file_at, object_place}
 use Rattle.history_texts.specs.ObjectTexts.{object_in}
 
--- an object stands at the place of each of these ids, which are of the kind
+-- an object is stored at the place of each of these ids, which are of the kind
 abbrev pub AreStanding : Kind → Tree → List ObjectId → Type 0
 AreStanding kind tree ids = (id : ObjectId) → Contains ids id
     → ((id_of id).kind ≡ kind)

@@ -1,4 +1,4 @@
--- A store of objects as a map: what stands under the ids that it knows.
+-- A store of objects as a map: the objects that are stored under the ids that it knows.
 use Rattle.std.specs.Prelude.{Option, None, IsTrue, IsSome, option_and_then, if◌then◌else◌}
 use Rattle.std.specs.FinMap.{contains_key}
 use Rattle.gix_hash_id.specs.Id.{Id}
@@ -11,7 +11,7 @@ use Rattle.history_objects.specs.Ids.{AreOfKind}
 use Rattle.history_texts.specs.ObjectTexts.{object_in}
 use Rattle.history_objects.specs.declared.objects.Objects.{Objects}
 
--- the object whose text stands at the id's place
+-- the object whose text is stored at the id's place
 abbrev pub object_at : Tree → Id → Option Object
 object_at tree id = option_and_then object_in (file_at tree (object_place id))
 
@@ -21,7 +21,7 @@ table_of history objects id =
     if contains_key (ids_of_objects objects) id
     then object_at (history (files_of_objects objects)).tree id else None
 
--- The files are honest, and an object stands under each id that is known, which is of the store's kind.
+-- The files are honest, and an object is stored under each known id, which is of the store's kind.
 pub record HoldsKnown {F : Type 0} (IsHonest : F → Type 0) (history : F → History)
     (objects : Objects F) : Type 0 where
   pub honest : IsHonest (files_of_objects objects)

@@ -1,4 +1,4 @@
--- What the objects part is of which a store is opened.
+-- What the objects part of a store that is opened holds.
 use Rattle.std.specs.Prelude.{◌≡◌}
 use Rattle.std.specs.FinMap.{contains_key}
 use Rattle.gix_hash_id.specs.Id.{Id}
@@ -9,8 +9,8 @@ use Rattle.history_steps.specs.TreeHalves.{HoldsValues}
 use Rattle.history_survey.specs.Opened.{IsSoundStore}
 use Rattle.history_objects.specs.Ids.{IdSet}
 
--- The tree has the files of values that are a whole store in written form and no other, no folders but those of objects, and these
--- are the ids of the values.
+-- The tree has the files of values that are a whole store in written form, and no others, no
+-- folders but those of objects, and these are the ids of the values.
 pub record IsOpened (kind : Kind) (tree : Tree) (ids : IdSet) : Type 0 where
   pub values : Values
   pub holds : HoldsValues kind tree values

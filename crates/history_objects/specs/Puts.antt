@@ -18,11 +18,12 @@ use Rattle.history_objects.specs.declared.objects.PutMadeError.TheVariants as ma
 use Rattle.history_objects.specs.declared.put.PutError.{PutError}
 use Rattle.history_objects.specs.declared.put.PutError.TheVariants.{TooLarge, Malformed, Missing, IdTaken, File, Memory}
 
--- an object of this id stands in the table, and is of this kind
+-- an object of this id is stored in the table, and is of this kind
 abbrev pub IsStoredAs : Table → Naming → Type 0
 IsStoredAs table naming = kind_at table naming.0 ≡ Some naming.1
 
--- the content is within the limit and in written form, and each object that it names is stored in the right kind
+-- the content is within the limit and in written form, and each object that it names is stored in
+-- the right kind
 pub record Fits (digests : Kind) (table : Table) (kind : ObjectKind)
     (content : Bytes) : Type 0 where
   pub within : length content ≤ max_content
@@ -39,7 +40,7 @@ pub record IsFirstMissing (table : Table) (named : List Naming) (id : Id) : Type
   pub stored : All (IsStoredAs table) before
   pub missing : ¬ IsStoredAs table (id, kind)
 
--- why some named objects are refused: one is missing, or it couldn't be read whether it is
+-- why some named objects are refused: one is missing, or reading failed
 abbrev pub IsGap : Table → List Naming → PutError → Type 0
 IsGap table named TooLarge = ⊥
 IsGap table named Malformed = ⊥
@@ -48,7 +49,8 @@ IsGap table named (IdTaken id) = ⊥
 IsGap table named File = ⊤
 IsGap table named Memory = ⊤
 
--- the content is within the limit and in written form, and this is the first object that it names and that is missing
+-- the content is within the limit and in written form, and this is the first object that it names
+-- and that isn't stored in the right kind
 pub record NamesMissing (digests : Kind) (table : Table) (kind : ObjectKind) (content : Bytes)
     (id : Id) : Type 0 where
   pub within : length content ≤ max_content

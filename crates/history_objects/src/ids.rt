@@ -6,7 +6,7 @@ use crate::prefixes::{Hit, Lookup, are_of_kind, hit_of};
 use gix_hash::{Kind, ObjectId, Prefix, prefix_run};
 use std::alloc::{AllocError, Global};
 
-/// The answer where no list is searched.
+/// The result if no list is searched.
 const NOTHING: Lookup = Lookup {
     hit: Hit::Absent,
     calls: 0,
@@ -29,7 +29,7 @@ impl Ids {
     ghost use Rattle.history_objects.specs.Prefixes.{CanName, IsHit};
     ghost use Rattle.gix_hash_prefix.specs.Run.{IsWithinTwiceDigits};
 
-    /// A set without ids.
+    /// Returns a set without ids.
     pub fn new(alloc: Global) -> Self
         ensures { kept result ≡ empty }
     {
@@ -38,7 +38,8 @@ impl Ids {
         }
     }
 
-    /// Makes room for an id, so that to insert it takes no memory. The ids stay, also where memory is refused.
+    /// Makes room for an id, so that to insert it takes no memory. Fails only if memory runs out.
+    /// The set stays as it was, also after an error.
     pub fn make_room(&mut self, alloc: Global, id: &ObjectId) -> Result<(), AllocError>
         ensures ids { kept self.new ≡ kept self.old }
         ensures room { OnOk result (HasRoom self.new (id_of id.now)) }
@@ -48,7 +49,7 @@ impl Ids {
         self.lists[byte].reserve(1)
     }
 
-    // Makes empty lists until there are so many.
+    // Makes empty lists until there are so many. Fails only if memory runs out.
     fn make_lists(&mut self, alloc: Global, count: usize) -> Result<(), AllocError>
         ensures ids { kept self.new ≡ kept self.old }
         ensures enough { OnOk result (count ≤ length self.new.lists.items) }
@@ -73,7 +74,7 @@ impl Ids {
         }
     }
 
-    /// Whether an id is in the set, found by a binary search of one list.
+    /// Returns whether an id is in the set. It is found by a binary search of one list.
     pub fn contains(&self, id: &ObjectId) -> bool
         ensures { result ≡ contains_key (kept self.now) (id_of id.now) }
     {
@@ -83,8 +84,9 @@ impl Ids {
         }
     }
 
-    /// Which id a prefix names. One list is searched, and `cmp_oid` is called at most twice as often as the number of ids has
-    /// binary digits. The ids are of the kind that is told; where others stand in that list it isn't searched.
+    /// Returns which id a prefix names. One list is searched, and `cmp_oid` is called at most twice
+    /// as often as the number of ids has binary digits. The ids must be of the given kind: a list
+    /// with others isn't searched.
     pub fn lookup(&self, kind: Kind, prefix: &Prefix) -> Lookup
         requires { CanName kind prefix.now }
         ensures hit { AreOfKind kind (kept self.now)
@@ -105,7 +107,7 @@ impl Ids {
         }
     }
 
-    /// The ids; those of one kind ascend.
+    /// Returns the ids; those of one kind ascend.
     pub fn iter(&self) -> IdIter<'_>
         ensures ids { (id : Id) → contains_key (kept self.now) id ≡ is_one_of (left result) id }
         ensures ascending { IsAscending (left result) }

@@ -1,4 +1,4 @@
-//! The store of objects: each is one file in Git's format, under its id, and the ids of all are known.
+//! The store of objects: each is one file in Git's format, under its id; the ids of all are known.
 #![tactic(auto)]
 
 mod ids;

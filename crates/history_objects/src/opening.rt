@@ -13,7 +13,7 @@ use history_survey::whole_ids;
 use history_texts::OpenError;
 use std::alloc::Global;
 
-/// Why objects aren't opened, and their part, as it was handed in.
+/// Why objects aren't opened, and their part, as it was given.
 #[derive(Drop)]
 pub struct ObjectsRefusal<F: Files> {
     pub error: OpenError,
@@ -21,11 +21,12 @@ pub struct ObjectsRefusal<F: Files> {
 }
 
 impl<F: Files> Objects<F> {
-    /// Opens the objects of a part that is whole: each file is an object's, in written form and under its own id, all that an object names
-    /// is stored, and none reaches itself. So is a part without files. No file is changed. Each object is read once.
+    /// Opens the objects of a part that is whole: each file is an object's, in written form and
+    /// under its own id, all that an object names is stored, and none reaches itself. A part
+    /// without files is whole. No file is changed. Each object is read once.
     ///
-    /// Else the error of the refusal is a cause that holds of the part, which is handed back: `File` where a call of the files failed,
-    /// `Memory` where a growth was refused.
+    /// Otherwise the refusal returns the part, with an error that holds of it: `File` if a call of
+    /// the files failed, `Memory` if no memory is left, and else a cause.
     pub fn open(alloc: Global, files: F, kind: Kind) -> Result<Objects<F>, ObjectsRefusal<F>>
         ensures files { IfOk result (λ objects. (files_of_objects objects ≡ files)
             × (kind_of_objects objects ≡ kind)) }
@@ -43,7 +44,7 @@ impl<F: Files> Objects<F> {
     }
 }
 
-// The store of a part that has the objects of these ids.
+// Returns the store of a part that holds the objects of these ids.
 fn open_ids<F: Files>(
     alloc: Global,
     files: F,

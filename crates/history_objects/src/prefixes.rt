@@ -28,7 +28,7 @@ pub struct Lookup {
     pub calls: usize,
 }
 
-/// What a run of these ids comes to.
+/// Returns which id a run of these ids makes a prefix name.
 pub(crate) fn hit_of(ids: &[ObjectId], run: Run) -> Hit
     requires first { run.first ≤ run.past }
     requires past { run.past ≤ length ids.now }
@@ -41,7 +41,8 @@ pub(crate) fn hit_of(ids: &[ObjectId], run: Run) -> Hit
     }
 }
 
-/// Whether ids that ascend are all of this kind: where the first and the last are, those between them are too.
+/// Returns whether ids that ascend are all of this kind: if the first and the last are, those
+/// between them are too.
 pub(crate) fn are_of_kind(ids: &[ObjectId], kind: Kind) -> bool
     requires { IsTrue (is_sorted by_id (marked ids.now)) }
     ensures { IsTrue result ↔ All (λ id. (id_of id).kind ≡ kind) ids.now }

@@ -1,4 +1,4 @@
-//! Putting contents as objects: in written form, and naming none but what is stored.
+//! Putting contents as objects: in written form, and naming only what is stored.
 ghost use Rattle.std.specs.Prelude.{◌≡◌, ◌↔◌, ◌<◌, ◌≤◌, ◌⊎◌, Some, length, map, IfErr, IfOk, IsErrOf, IsFalse, IsTrue, OnErr, OnOk};
 ghost use Rattle.std.specs.List.{All};
 ghost use Rattle.gix_hash_id.specs.Id.{id_of};
@@ -25,7 +25,7 @@ use history_model::limits::MAX_CONTENT;
 use history_texts::{Named, NewObject, named_by};
 use std::alloc::{AllocError, Global};
 
-/// Why a content isn't put as an object. The ids that are known are then as before.
+/// Why a content isn't put as an object. The known ids are then as before.
 #[derive(Clone, Copy, PartialEq, Eq, Debug, thiserror::Error)]
 pub enum PutError {
     /// The content has more than 16,777,216 bytes. No file is changed.
@@ -34,16 +34,18 @@ pub enum PutError {
     /// The content isn't in the written form of a tree, a commit or a tag. No file is changed.
     #[error("the content isn't in written form")]
     Malformed,
-    /// The first object that the content names and that isn't stored in the right kind. No file is changed.
+    /// The first object that the content names and that isn't stored in the right kind. No file is
+    /// changed.
     #[error("an object that is named isn't stored")]
     Missing(ObjectId),
-    /// The id is null, is the empty tree's and the object isn't, or names other bytes. No file is changed.
+    /// The id is null, or is the empty tree's but the object isn't the empty tree, or has a file of
+    /// other bytes at its place. No file is changed.
     #[error("the id is taken")]
     IdTaken(ObjectId),
-    /// A call of the files failed. The object's file, its folder or an unfinished file may stand.
+    /// A call of the files failed. The object's file, its folder or an unfinished file may exist.
     #[error("a call of the files failed")]
     File,
-    /// A growth was refused. The object's file, its folder or an unfinished file may stand.
+    /// No memory is left. The object's file, its folder or an unfinished file may exist.
     #[error("a growth was refused")]
     Memory,
 }
@@ -80,13 +82,18 @@ impl From<PutMadeError> for PutError {
 }
 
 impl<F: Files> Objects<F> {
-    /// Puts a content as an object of this kind, and answers its id. Where the object stands already no file is changed.
+    /// Puts a content as an object of this kind, and returns its id. If the object is stored
+    /// already, no file is changed.
     ///
-    /// The content must be in written form: of a tree in Git's order, each name once, with the modes of files, programs, links and
-    /// folders that aren't empty; of a commit or a tag with whole actors, ids in lower case and nothing further, the tag of a commit,
-    /// within the limits that commands have for parents, names, titles and messages.
-    /// All that it names must be stored: the tree of a commit and its parents, the blobs and trees of a tree, the commit of a tag.
-    /// Else the error is the first of `TooLarge`, `Malformed`, `Missing`, `IdTaken` that has its cause, or a fault.
+    /// The content must be in written form: of a tree in Git's order, each name once, with the
+    /// modes of files, programs, links and folders that aren't empty; of a commit or a tag with
+    /// whole actors, ids in lower case and nothing further, the tag of a commit, within the limits
+    /// that commands have for parents, names, titles and messages. All that it names must be
+    /// stored: the tree of a commit and its parents, the blobs and trees of a tree, the commit of a
+    /// tag.
+    ///
+    /// Otherwise the error is the first of `TooLarge`, `Malformed`, `Missing`, `IdTaken` that has
+    /// its cause, `File` if a call of the files failed, or `Memory` if no memory is left.
     pub fn put(
         &mut self,
         alloc: Global,
@@ -99,7 +106,7 @@ impl<F: Files> Objects<F> {
         ensures id { IfOk result (λ id.
             id_of id ≡ object_id (kind_of_objects self.old) kind content.items) }
 
-        // The map of objects gains this one, where it isn't there; else it stays.
+        // The map of objects gains this one, if it isn't there; otherwise it is as before.
         ensures holds { HoldsKnown F.is_honest F.history self.old
             → HoldsKnown F.is_honest F.history self.new }
         ensures added { HoldsKnown F.is_honest F.history self.old
@@ -110,7 +117,8 @@ impl<F: Files> Objects<F> {
             → OnErr result (IsAsBefore (table_of F.history self.old)
             (table_of F.history self.new)) }
 
-        // What is put is in written form and names what is stored, and each error has its cause, where those before it have none.
+        // What is put is in written form and names only what is stored; each error has its cause,
+        // and those before it have none.
         ensures fits { HoldsKnown F.is_honest F.history self.old
             → OnOk result (Fits (kind_of_objects self.old) (table_of F.history self.old) kind
             content.items) }
@@ -123,7 +131,7 @@ impl<F: Files> Objects<F> {
             ¬ IsIdTaken (object_id (kind_of_objects self.old) kind content.items) kind
             content.items old) }
 
-        // The object's file is there, and each other file as before; nothing is left unfinished.
+        // The object's file is there, and each other file is as before; nothing is left unfinished.
         ensures stored { Achieves F.is_honest F.history
             (files_of_objects self.old) (files_of_objects self.new) result
             (HoldsFile (object_place (object_id (kind_of_objects self.old) kind content.items))
@@ -148,7 +156,7 @@ impl<F: Files> Objects<F> {
             → OnErr result (KeepsFiles (F.history (files_of_objects self.old)).tree
             (F.history (files_of_objects self.new)).tree) }
 
-        // In a part of objects a call of the files fails only of itself.
+        // In an objects part, `File` is returned only if a call of the files failed by itself.
         ensures later { F.failures (files_of_objects self.old)
             ≤ F.failures (files_of_objects self.new) }
         ensures unfailed { OnOk result (F.failures (files_of_objects self.new)
@@ -166,7 +174,7 @@ impl<F: Files> Objects<F> {
         Ok(object.id)
     }
 
-    // Answers `Ok` where the content may be put.
+    // Returns `Ok` if the content may be put, as `put` says; otherwise an error of its causes.
     fn check(&self, alloc: Global, kind: ObjectKind, content: &[u8]) -> Result<(), PutError>
         ensures fits { HoldsKnown F.is_honest F.history self.now
             → OnOk result (Fits (kind_of_objects self.now) (table_of F.history self.now) kind
@@ -186,7 +194,8 @@ impl<F: Files> Objects<F> {
         }
     }
 
-    // Answers `Ok` where each of these is stored.
+    // Returns `Ok` if each of these is stored in its kind, and else `Missing` with the first that
+    // isn't; or a fault.
     fn refuse_missing(&self, named: &[Named]) -> Result<(), PutError>
         ensures stored { HoldsKnown F.is_honest F.history self.now
             → OnOk result (All (IsStoredAs (table_of F.history self.now))
@@ -204,7 +213,7 @@ impl<F: Files> Objects<F> {
         Ok(())
     }
 
-    // Whether the object is stored, in its kind.
+    // Returns whether the object is stored, in its kind.
     fn is_stored(&self, object: Named) -> Result<bool, find::Error>
         ensures told { HoldsKnown F.is_honest F.history self.now
             → IfOk result (λ is. IsTrue is

@@ -1,4 +1,4 @@
-//! Looking stored objects up: of the ids that are known alone.
+//! Looking stored objects up: only those of known ids.
 ghost use Rattle.std.specs.Prelude.{◌≡◌, option_map};
 ghost use Rattle.std.specs.FinMap.{keys};
 ghost use Rattle.gix_object_lookup.specs.Table.{content_or_none};
@@ -72,12 +72,13 @@ fn find_fault(error: FileError) -> find::Error
     }
 }
 
-// Takes the header off an object's text, and tells the object's kind; of a text that is no object's nothing stays.
+// Takes the header off an object's text, and returns the object's kind; a text that is no object's
+// is cleared.
 fn take_header(text: &mut Vec<u8>) -> Option<ObjectKind>
     ensures kind { result ≡ option_map (λ object. object.kind) (object_in text.old.items) }
     ensures content { text.new.items ≡ content_or_none (object_in text.old.items) }
 {
-    // The text has as many bytes as a header can tell.
+    // The text has no more bytes than a header can say.
     let _length = text.len();
     match parse_header(text) {
         Some((kind, start)) => {
