@@ -19,9 +19,9 @@ use Rattle.history_texts.specs.declared.open_error.OpenError.{OpenError}
 use Rattle.history_texts.specs.declared.open_error.NamedBy.TheVariants.{Object}
 use Rattle.history_texts.specs.declared.open_error.OpenError.TheVariants.{Stray, Unfinished, BadObject, WrongId, TooLarge, BadTree, BadTime, BadTag, Missing, WrongKind, Cycle, IdReserved, File, Memory}
 
--- ---- what stands at a place
+-- ---- what is stored at a place
 
--- a file of this text stands at the path, which is the place of this id
+-- a file of this text is at the path, which is the place of this id
 pub record HasFile (kind : Kind) (tree : Tree) (path : Bytes) (id : Id) (text : Bytes) : Type 0 where
   pub formed : IsTrue (is_id kind id)
   pub place : path ≡ object_place id
@@ -33,14 +33,15 @@ IsTooLong text = (max_content < length text)
     × ((object : ObjectKind) (content : Bytes) → length content ≤ max_content
     → text ≢ object_text object content)
 
--- The content is in no written form of its kind, and neither tells a time before 1970 nor is a tag of something other than a
--- commit, which have causes of their own.
+-- The content isn't in the written form of its kind, and neither says a time before 1970 nor is a
+-- tag of something other than a commit: these have causes of their own.
 pub record IsElseMalformed (kind : Kind) (object : ObjectKind) (content : Bytes) : Type 0 where
   pub malformed : IsMalformed kind object content
   pub since : ¬ IsBefore1970 kind object content
   pub of_commit : object ≡ kinds.Tag → ¬ IsTagOfOther content
 
--- the text is no object's, or that of a commit or a tag in no written form, without another cause
+-- the text is no object's, or that of a commit or a tag that isn't in written form, without another
+-- cause
 pub data IsBadText (kind : Kind) (text : Bytes) : Type 0 where
   no_object : IsNoObject text → IsBadText kind text
   no_commit : (content : Bytes) → text ≡ object_text kinds.Commit content
@@ -55,7 +56,8 @@ pub record IsOther (kind : Kind) (id : Id) (text : Bytes) : Type 0 where
   pub text_is : text ≡ object_text object content
   pub other : id ≢ object_id kind object content
 
--- the path is the place of no object, nor of an unfinished one; or a folder that isn't one of objects stands there
+-- the path is the place of no object and not the unfinished file's; or it is a folder that isn't
+-- one of objects
 pub data IsStray (kind : Kind) (tree : Tree) (path : Bytes) : Type 0 where
   stray_file : (text : Bytes) → file_at tree path ≡ Some text → path ≢ unfinished_place
       → ((id : Id) → IsTrue (is_id kind id) → path ≢ object_place id) → IsStray kind tree path
@@ -79,7 +81,7 @@ pub data Leads (kind : Kind) (tree : Tree) : Id → Id → Type 0 where
   by_way_of : {from to : Id} (mid : Id) → Leads kind tree from mid → Leads kind tree mid to
       → Leads kind tree from to
 
--- the entry stands in the tree of this id
+-- the entry is in the tree of this id
 pub record HasEntry (kind : Kind) (tree : Tree) (id : Id) (item : Item) : Type 0 where
   pub content : Bytes
   pub stands : HasObject kind tree id kinds.Tree content
@@ -93,7 +95,7 @@ pub data HasPath (kind : Kind) (tree : Tree) : Id → Bytes → Type 0 where
   deeper : {id : Id} (item : Item) (rest : Bytes) → HasEntry kind tree id item
       → HasPath kind tree item.id rest → HasPath kind tree id (item.name ++ 47 ∷ rest)
 
--- the tree is in no written form, or a path below it is too long
+-- the tree isn't in written form, or a path below it is too long
 pub data IsBadTree (kind : Kind) (tree : Tree) (id : Id) : Type 0 where
   malformed : (content : Bytes) → HasObject kind tree id kinds.Tree content
       → IsMalformed kind kinds.Tree content → IsBadTree kind tree id
@@ -102,12 +104,12 @@ pub data IsBadTree (kind : Kind) (tree : Tree) (id : Id) : Type 0 where
 
 -- ---- the causes
 
--- a file stands at the path, an id's place, and this holds of its text
+-- a file is at the path, an id's place, and this holds of its text
 abbrev pub HasText : Kind → Tree → Bytes → (Id → Bytes → Type 0) → Type 0
 HasText kind tree path What =
     (id : Id) × (text : Bytes) × HasFile kind tree path id text × What id text
 
--- the commit or the tag of this id tells a time before 1970
+-- the commit or the tag of this id says a time before 1970
 abbrev pub HasBadTime : Kind → Tree → Id → Type 0
 HasBadTime kind tree id = (object : ObjectKind) × (content : Bytes)
     × HasObject kind tree id object content × IsBefore1970 kind object content
@@ -117,12 +119,12 @@ abbrev pub HasBadTag : Kind → Tree → Id → Type 0
 HasBadTag kind tree id =
     (content : Bytes) × HasObject kind tree id kinds.Tag content × IsTagOfOther content
 
--- an object stands under the null id, or another than the empty tree under that one's
+-- an object is stored under the null id, or another than the empty tree under the empty tree's id
 abbrev pub HasReserved : Kind → Tree → Type 0
 HasReserved kind tree = (id : Id) × (object : ObjectKind) × (content : Bytes)
     × HasObject kind tree id object content × IsTrue (is_reserved id object content)
 
--- the object is named, and stands in another kind
+-- the object is named, and is stored in another kind
 abbrev pub HasWrongKind : Kind → Tree → Id → Id → Type 0
 HasWrongKind kind tree id by =
     (as_kind other : ObjectKind) × (content : Bytes) × Names kind tree by id as_kind

@@ -1,4 +1,5 @@
--- What an object's content says of others: their ids, their kinds, and how long their names in it are.
+-- What an object's content says of others: their ids, their kinds, and how long their names in it
+-- are.
 use Rattle.std.specs.Prelude.{◌≡◌, ◌+◌, ◌≤◌, ℕ, zero, suc, List, length, map, Some, IsTrue}
 use Rattle.std.specs.List.{AllByRecursion}
 use Rattle.std.specs.FinMap.{get, contains_key}
@@ -12,7 +13,8 @@ use Rattle.history_model.specs.Objects.{Value, StoredCommit, StoredTag, StoredBy
 use Rattle.history_model.specs.Repository.{Values}
 use Rattle.history_texts.specs.Written.{IsWrittenTree, NamesObjects, Naming, entry_kind}
 
--- an object that is named, the kind that it must be of, and the length of the name that a tree gives it
+-- an object that is named, the kind that it must be of, and the length of the name that a tree
+-- gives it
 pub record Link : Type 0 where
   pub id : Id
   pub kind : ObjectKind
@@ -58,7 +60,8 @@ IsWithin most name (StoredCommit commit) = name ≤ most
 IsWithin most name (StoredTag tag) = name ≤ most
 IsWithin most name (StoredBytes bytes) = name ≤ most
 
--- how long the longest path is that a name makes with what it names, which has paths of at most so many bytes: none, if it is no folder
+-- how long the longest path is that a name makes with what it names: the second number is the
+-- length of the longest path in that, zero if there is none
 abbrev pub reach_of : ℕ → ℕ → ℕ
 reach_of name zero = name
 reach_of name (suc longest) = name + 1 + suc longest

@@ -1,4 +1,4 @@
--- The objects that stand below a folder, by the places of their files.
+-- The objects that are stored below a folder, by the places of their files.
 use Rattle.std.specs.Prelude.{◌≡◌, ◌≢◌, ⊤, ℕ, suc, List, ◌++◌, Contains, Option, Some, None, IsTrue}
 use Rattle.std.specs.FinMap.{get}
 use Rattle.gix_hash_id.specs.Id.{Id, id_of}
@@ -16,19 +16,20 @@ use Rattle.history_texts.specs.declared.open_error.OpenError.TheVariants.{Stray,
 abbrev pub IsPlaceIn : List ObjectId → Bytes → Type 0
 IsPlaceIn ids path = (id : ObjectId) × Contains ids id × (path ≡ object_place (id_of id))
 
--- what stands at a path is the file of one of these ids, a folder of objects, or nothing
+-- what is at a path is the file of one of these ids, a folder of objects, or nothing
 abbrev pub IsListedAt : List ObjectId → Bytes → Option Node → Type 0
 IsListedAt ids path None = ⊤
 IsListedAt ids path (Some (file bytes)) = IsPlaceIn ids path
 IsListedAt ids path (Some folder) = IsTrue (is_object_folder path)
 
--- a file stands at the place of the id, which is one of the kind
+-- a file is at the place of the id, which is one of the kind
 pub record HasObjectFile (kind : Kind) (tree : Tree) (id : ObjectId) : Type 0 where
   pub formed : IsTrue (is_id kind (id_of id))
   pub text : Bytes
   pub stands : file_at tree (object_place (id_of id)) ≡ Some text
 
--- All files below the folder are of these ids, some of which came last, and all folders are of objects.
+-- All files below the folder are of these ids, some of which came last, and all folders are of
+-- objects.
 pub record Gathers (kind : Kind) (tree : Tree) (place : Bytes) (old new : List ObjectId)
     : Type 0 where
   pub more : List ObjectId
@@ -37,7 +38,7 @@ pub record Gathers (kind : Kind) (tree : Tree) (place : Bytes) (old new : List O
   pub all : (n : ℕ) (path : Bytes) → above (suc n) path ≡ place
       → IsListedAt new path (get tree path)
 
--- the path is the place of no object: it is the unfinished one's, or a stray
+-- the path is the place of no object: it is the unfinished file's, or a stray
 abbrev pub IsNoPlace : Kind → Bytes → OpenError → Type 0
 IsNoPlace kind path (Stray other) = (other.items ≡ path) × (path ≢ unfinished_place)
     × ((id : Id) → IsTrue (is_id kind id) → path ≢ object_place id)

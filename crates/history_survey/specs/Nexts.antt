@@ -1,4 +1,4 @@
--- The values of a tree, object after object: one is stored where all that it names is.
+-- The values of a tree, object after object: one is stored if all that it names is.
 use Rattle.std.specs.Prelude.{◌≡◌, ◌≤◌, ℕ, List, length, Some, None, IsFalse}
 use Rattle.std.specs.FinMap.{get, insert}
 use Rattle.gix_hash_id.specs.Id.{Id}
@@ -14,7 +14,8 @@ use Rattle.history_texts.specs.ObjectTexts.{is_reserved, object_id}
 use Rattle.history_survey.specs.Links.{AreReady, Link, LinksObjects, PathsWithin}
 use Rattle.history_survey.specs.Opened.{AreInTree}
 
--- The object's text stands at its own place, within the limit; the id isn't reserved, and the content is in written form with these links.
+-- The object's text is at its own place, within the limit; the id isn't reserved, and the content
+-- is in written form with these links.
 pub record IsObject (kind : Kind) (tree : Tree) (id : Id) (object : ObjectKind) (content : Bytes)
     (links : List Link) : Type 0 where
   pub own : id ≡ object_id kind object content
@@ -23,7 +24,8 @@ pub record IsObject (kind : Kind) (tree : Tree) (id : Id) (object : ObjectKind) 
   pub within : length content ≤ max_content
   pub linked : LinksObjects kind object content links
 
--- a value of this kind, none of whose paths is longer than this, is stored under the id with the others
+-- a value of this kind, none of whose paths is longer than this, is stored under the id with the
+-- others
 pub record IsStoredNext (kind : Kind) (tree : Tree) (values : Values) (id : Id) (object : ObjectKind)
     (most : ℕ) : Type 0 where
   pub value : Value

@@ -19,13 +19,13 @@ pub record IsSoundStore (kind : Kind) (values : Values) : Type 0 where
   pub whole : IsWholeStore (store_of kind values)
   pub written : (id : Id) (value : Value) → get values id ≡ Some value → IsWrittenValue kind value
 
--- such values, each of whose texts stands at its place
+-- such values, each with its text at its place
 pub record AreInTree (kind : Kind) (tree : Tree) (values : Values) : Type 0 where
   pub sound : IsSoundStore kind values
   pub texts : (id : Id) (value : Value) → get values id ≡ Some value
       → file_at tree (object_place id) ≡ Some (value_text kind value)
 
--- What is whole is so beside any names.
+-- A whole store stays whole with any names.
 abbrev pub StaysWhole : Type 0
 StaysWhole = (r : Repository) (names : FinMap by_bytes Reference) (branch : Bytes) → IsWholeStore r
     → IsWholeStore (record r { names = names; branch = branch })

@@ -20,7 +20,7 @@ pub record IsSame (old new : Frame) : Type 0 where
   pub kind : new.kind ≡ old.kind
   pub links : new.links ≡ old.links
 
--- One link more is passed. In a tree the path that it makes counts.
+-- One link more is passed. In a tree the path that it makes counts too.
 pub record IsPassed (old new : Frame) (link : Link) (done : Done) : Type 0 where
   pub same : IsSame old new
   pub next : new.next ≡ old.next + 1

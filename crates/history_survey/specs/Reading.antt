@@ -14,12 +14,12 @@ use Rattle.history_survey.specs.Nexts.{IsObject}
 use Rattle.history_survey.specs.Surveying.{links_of}
 use Rattle.history_survey.specs.declared.reading.Found.{Found}
 
--- a file stands at the place of the id
+-- a file is at the place of the id
 abbrev pub IsFileFor : Kind → Tree → Id → Type 0
 IsFileFor kind tree id = IsTrue (is_id kind id)
     × ((text : Bytes) × (file_at tree (object_place id) ≡ Some text))
 
--- the object that stands at the id's place is of this kind, and has these links
+-- the object that is stored at the id's place is of this kind, and has these links
 pub record IsRead (kind : Kind) (tree : Tree) (id : Id) (found : Found) : Type 0 where
   pub content : Bytes
   pub object : IsObject kind tree id found.kind content (links_of found.links.items)

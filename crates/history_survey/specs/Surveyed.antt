@@ -18,7 +18,7 @@ use Rattle.history_texts.specs.declared.open_error.OpenError.TheVariants.{Cycle,
 use Rattle.history_survey.specs.declared.order.Frame.{Frame}
 use Rattle.history_survey.specs.declared.order.Survey.{Survey}
 
--- the survey stands with these open objects, the last one first
+-- the survey has come so far, with these open objects, the last one first
 abbrev pub StandsOver : Kind → Tree → List ObjectId → Survey → List Frame → Option ObjectId
     → Type 0
 StandsOver kind tree ids survey frames due =
@@ -36,7 +36,7 @@ left_of survey = length survey.unmet.keys
 abbrev pub is_open : List Frame → Id → Bool
 is_open frames id = list_any (λ (frame : Frame). id_eq id (id_of frame.id)) frames
 
--- what is wrong where an object names one that is neither done nor to come
+-- what is wrong if an object names one that is neither done nor to come
 abbrev pub IsLacking : List Frame → ObjectId → ObjectId → OpenError → Type 0
 IsLacking frames by id (Cycle other) =
     (other ≡ id) × ((id_of by ≡ id_of id) ⊎ (is_open frames (id_of id) ≡ true))

@@ -1,4 +1,5 @@
--- How far a survey has come: what it has done holds values of the tree, and what is open leads to what comes next.
+-- How far a survey has come: what it has done holds values of the tree, and what is open leads to
+-- what comes next.
 use Rattle.std.specs.Prelude.{◌≡◌, ◌≢◌, ◌⊎◌, ◌≤◌, ℕ, List, [], ◌∷◌, length, map, take, Contains, Option, Some, None, is_some, IsTrue, IsFalse}
 use Rattle.std.specs.declared.cmp.Ordering.{Ordering}
 use Rattle.std.specs.BTreeMap.{BTreeMap}
@@ -27,7 +28,8 @@ use Rattle.history_survey.specs.declared.reading.Link as own
 
 -- ---- what is listed
 
--- Each file stands at the place of one of these ids, and each folder is one of objects; at the place of each id stands a file.
+-- Each file is at the place of one of these ids, and each folder is one of objects; at the place of
+-- each id there is a file.
 pub record AreListed (kind : Kind) (tree : Tree) (ids : List ObjectId) : Type 0 where
   pub formed : (id : ObjectId) → Contains ids id → IsTrue (is_id kind (id_of id))
   pub stand : (id : ObjectId) → Contains ids id
@@ -61,7 +63,7 @@ abbrev pub Reaches : Kind → Tree → Id → ℕ → Type 0
 Reaches kind tree id n =
     (n ≡ 0) ⊎ ((path : Bytes) × HasPath kind tree id path × (length path ≡ n))
 
--- the value that is stored under the id, of the kind and the paths that were noted
+-- the value that is stored under the id, of the kind and with the paths that were noted
 pub record IsDone (kind : Kind) (tree : Tree) (values : Values) (id : Id) (done : Done)
     : Type 0 where
   pub value : Value
@@ -120,7 +122,8 @@ IsSomewhere unmet done frames due id =
     ⊎ ((next : ObjectId) × (due ≡ Some next) × (id_of next ≡ id_of id))
     ⊎ IsAmong (id_of id) frames ⊎ IsTrue (is_some (maps.get by_id done id))
 
--- The survey stands: what is done is stored in values of the tree; each listed object is somewhere.
+-- The survey has come so far: what is done is stored in values of the tree; each listed object is
+-- somewhere.
 pub record Stands (kind : Kind) (tree : Tree) (ids : List ObjectId) (unmet : Unmet) (done : Dones)
     (frames : List Frame) (due : Option ObjectId) : Type 0 where
   pub values : Values

@@ -8,7 +8,7 @@ pub fn nexts_are_stored()
     ensures { NextsAreStored }
 {}
 
-/// A store that is whole is so beside any names.
+/// A whole store stays whole with any names.
 pub fn stays_whole()
     ensures { StaysWhole }
 {}

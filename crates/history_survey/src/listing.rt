@@ -13,7 +13,9 @@ use gix_ref_file::{Files, Place};
 use history_texts::{OpenError, Part, UNFINISHED, object_place, parse_lower_hex};
 use std::alloc::{AllocError, Global};
 
-/// The ids at whose places files stand, where no other files stand and no folders but those of objects.
+/// Returns the ids whose places have files. Otherwise the error is `Stray` for another file or a
+/// folder that isn't one of objects, `Unfinished` for the unfinished file, `File` if a call of the
+/// files failed, or `Memory` if no memory is left.
 pub(crate) fn list_objects<F: Files>(
     alloc: Global,
     files: &F,
@@ -29,7 +31,7 @@ pub(crate) fn list_objects<F: Files>(
     Ok(ids)
 }
 
-// Puts in the ids at whose places files stand below a folder.
+// Adds the ids whose places have files below a folder. The errors are those of `list_objects`.
 fn gather<F: Files>(
     alloc: Global,
     files: &F,
@@ -61,7 +63,8 @@ fn gather<F: Files>(
     Ok(())
 }
 
-// The id at whose place a file stands.
+// Returns the id whose place the path is. Otherwise the error is `Unfinished` or `Stray`, with the
+// path, or no memory is left.
 fn id_of_file(alloc: Global, kind: Kind, path: Vec<u8>) -> Result<ObjectId, OpenError>
     ensures placed { IfOk result (λ id. IsTrue (is_id kind (id_of id))
         × (path.items ≡ object_place (id_of id))) }
@@ -76,7 +79,7 @@ fn id_of_file(alloc: Global, kind: Kind, path: Vec<u8>) -> Result<ObjectId, Open
     Err(OpenError::Stray(path))
 }
 
-// The id of this kind that the path is the place of.
+// Returns the id of this kind whose place the path is; `None` if there is no such id.
 fn placed_id(alloc: Global, kind: Kind, path: &[u8]) -> Result<Option<ObjectId>, AllocError>
     ensures { IfOk result (λ found. MatchOption found
         ((id : Id) → IsTrue (is_id kind id) → path.now ≢ object_place id)

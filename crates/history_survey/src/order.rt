@@ -19,14 +19,16 @@ use history_texts::{NamedBy, OpenError};
 use std::alloc::{AllocError, Global};
 use std::collections::{BTreeMap, BTreeSet};
 
-/// What is noted of an object all of whose links are noted: its kind, and how long the longest path below it is, if it is a tree.
+/// What is noted of an object all of whose links are noted: its kind, and how long the longest path
+/// below it is, if it is a tree.
 #[derive(Clone, Copy)]
 pub(crate) struct Done {
     pub(crate) kind: ObjectKind,
     pub(crate) longest: usize,
 }
 
-/// An object that was read. The links before `next` are done, and `longest` is how long the longest path by these is.
+/// An object that was read. The links before `next` are done, and `longest` is how long the longest
+/// path by these is.
 #[derive(Drop)]
 pub(crate) struct Frame {
     pub(crate) id: ObjectId,
@@ -37,7 +39,8 @@ pub(crate) struct Frame {
 }
 
 impl Frame {
-    // Goes past a link that is done, or tells what is wrong with it.
+    // Goes past a link that is done, or returns what is wrong with it: its kind, or a path that is
+    // too long.
     fn pass(&mut self, link: Link, done: Done) -> Result<(), OpenError>
         requires { self.old.next < length self.old.links.items }
         ensures same { IsSame self.old self.new }
@@ -59,7 +62,8 @@ impl Frame {
     }
 }
 
-// How long the longest path is that a name makes with what it names, of which this is the longest one.
+// Returns how long the longest path is that a name makes with what it names, which has a longest
+// path of this length.
 fn path_length(name: usize, longest: usize) -> usize
     ensures { IsReach (reach_of name longest) result }
 {
@@ -70,8 +74,8 @@ fn path_length(name: usize, longest: usize) -> usize
     }
 }
 
-/// The objects that are still to come, those that were read and wait for what they name, each named by the one before it, and
-/// those that are done.
+/// The objects that are still to come, those that were read and wait for what they name, each named
+/// by the one before it, and those that are done.
 #[derive(Drop)]
 pub(crate) struct Survey {
     unmet: BTreeSet<ObjectId>,
@@ -80,7 +84,7 @@ pub(crate) struct Survey {
 }
 
 impl Survey {
-    /// The survey of objects of which none has come.
+    /// Returns the survey of these objects, none of which has come. Fails only if memory runs out.
     pub(crate) fn new(alloc: Global, ids: &[ObjectId]) -> Result<Survey, AllocError>
         ensures { (kind : Kind) (tree : Tree) → AreListed kind tree ids.now
             → IfOk result (λ survey. StandsAt kind tree ids.now survey None) }
@@ -96,7 +100,8 @@ impl Survey {
         })
     }
 
-    /// Notes all objects that can be noted, and gives the one that is to be read next; `None` where all are noted.
+    /// Notes all objects that can be noted, and returns the one that is to be read next; `None` if
+    /// all are noted. An error is a flaw of the part.
     pub(crate) fn next(&mut self) -> Result<Option<ObjectId>, OpenError>
         ensures stands { (kind : Kind) (tree : Tree) (ids : List ObjectId)
             → StandsAt kind tree ids self.old None
@@ -124,7 +129,8 @@ impl Survey {
         Ok(self.unmet.pop_first())
     }
 
-    // Goes past the links of an object that are done, and gives the first that is to come.
+    // Goes past the links of an object that are done, and returns the first that is to come; `None`
+    // if all are done. An error is a flaw of the part.
     fn advance(&mut self, frame: &mut Frame) -> Result<Option<ObjectId>, OpenError>
         ensures stands { (kind : Kind) (tree : Tree) (ids : List ObjectId)
             → StandsOver kind tree ids self.old (frame.old ∷ reverse self.old.waiting.items) None
@@ -153,7 +159,8 @@ impl Survey {
         Ok(None)
     }
 
-    // What is wrong where an object is named that is neither done nor to come: it is open itself, or isn't listed.
+    // Returns what is wrong if an object is named that is neither done nor to come: `Cycle` if it
+    // is open itself, and else `Missing`.
     fn lacking(&self, by: ObjectId, id: ObjectId) -> OpenError
         ensures { IsLacking self.now.waiting.items by id result }
     {
@@ -170,7 +177,7 @@ impl Survey {
         self.waiting.iter().any(|frame| *id == frame.id)
     }
 
-    /// Reads an object, which is then open.
+    /// Reads an object, which is then open. The errors are those of `read_object`.
     pub(crate) fn enter<F: Files>(
         &mut self,
         alloc: Global,
@@ -200,7 +207,8 @@ impl Survey {
 
 /// Reads the objects of these ids, each once, and each after all that it names.
 ///
-/// Its `Ok` says that they are whole; else it names a flaw of the part.
+/// Returns `Ok` only if they are whole; otherwise the error is a flaw of the part, or no memory is
+/// left.
 pub(crate) fn survey_objects<F: Files>(
     alloc: Global,
     files: &F,

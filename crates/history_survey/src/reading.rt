@@ -26,10 +26,12 @@ use history_texts::{
 };
 use std::alloc::{AllocError, Global};
 
-/// The most bytes that the header of a content within the limit has: a kind, a space, eight digits and a zero byte.
+/// The most bytes that the header of a content within the limit has: a kind, a space, eight digits
+/// and a zero byte.
 const MAX_HEADER: u64 = 16;
 
-/// An object that another one names: its id, the kind that it must be of, and the length of the name that a tree gives it.
+/// An object that another one names: its id, the kind that it must be of, and the length of the
+/// name that a tree gives it.
 #[derive(Clone, Copy)]
 pub(crate) struct Link {
     pub(crate) id: ObjectId,
@@ -44,8 +46,8 @@ pub(crate) struct Found {
     pub(crate) links: Vec<Link>,
 }
 
-/// Reads the object at an id's place, where a file stands: once, whole. It is refused where it isn't the text of an object in
-/// written form, within the limits and of this id.
+/// Reads the object at an id's place, where a file must be: once, whole. It is refused if it isn't
+/// the text of an object in written form, within the limits and of this id.
 pub(crate) fn read_object<F: Files>(
     alloc: Global,
     files: &F,
@@ -70,7 +72,8 @@ pub(crate) fn read_object<F: Files>(
     found_in(alloc, kind, id, place, &text)
 }
 
-// What a text at an id's place is.
+// Returns what the text at an id's place says of an object; otherwise the error is a flaw of the
+// text, or no memory is left.
 fn found_in(
     alloc: Global,
     kind: Kind,
@@ -105,7 +108,7 @@ fn found_in(
     }
 }
 
-// What is wrong where a content isn't in the written form of its kind.
+// Returns what is wrong with a content that isn't in the written form of its kind.
 fn malformed(
     alloc: Global,
     kind: Kind,
@@ -130,7 +133,7 @@ fn malformed(
     Ok(OpenError::BadObject(place))
 }
 
-// The digest of a text.
+// Returns the digest of a text.
 fn digest_of(kind: Kind, text: &[u8]) -> ObjectId
     ensures { id_of result ≡ digest kind text.now }
 {
@@ -139,7 +142,7 @@ fn digest_of(kind: Kind, text: &[u8]) -> ObjectId
     hasher.try_finalize()
 }
 
-// Whether no object, or none but the empty tree, has this id.
+// Returns whether no object, or none but the empty tree, has this id.
 fn is_reserved(kind: Kind, id: &ObjectId, object: ObjectKind, content: &[u8]) -> bool
     ensures { result ≡ is_reserved_in kind (id_of id.now) object content.now }
 {
@@ -153,7 +156,7 @@ fn is_empty_tree(object: ObjectKind, content: &[u8]) -> bool
     matches!(object, ObjectKind::Tree) && content.is_empty()
 }
 
-// The objects that a content of this kind names; `None` where it isn't in written form.
+// Returns the objects that a content of this kind names; `None` if it isn't in written form.
 fn links_in(
     alloc: Global,
     kind: Kind,
@@ -186,7 +189,7 @@ fn plain_links(alloc: Global, named: &[Named]) -> Result<Vec<Link>, AllocError>
     Ok(links)
 }
 
-// The objects that a tree's content names; `None` where it isn't in written form.
+// Returns the objects that a tree's content names; `None` if it isn't in written form.
 fn tree_links(alloc: Global, kind: Kind, content: &[u8]) -> Result<Option<Vec<Link>>, AllocError>
     ensures { IfOk result (λ found. MatchOption found (IsMalformed kind kinds.Tree content.now)
         (λ links. LinksByTree kind content.now (links_of links.items))) }

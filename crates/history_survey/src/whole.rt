@@ -10,11 +10,12 @@ use gix_ref_file::Files;
 use history_texts::OpenError;
 use std::alloc::Global;
 
-/// The ids of the objects of a part that is whole: each file is an object's, in written form and under its own id, all that an object
-/// names is stored, and none reaches itself. No file is changed. Each object is read once.
+/// Returns the ids of the objects of a part that is whole: each file is an object's, in written
+/// form and under its own id, all that an object names is stored, and none reaches itself. No file
+/// is changed. Each object is read once.
 ///
-/// Else the error is a cause that holds of the part. It is `File` where a call of the files failed, and `Memory` where a growth was
-/// refused.
+/// Otherwise the error holds of the part: `File` if a call of the files failed, `Memory` if no
+/// memory is left, and else a cause.
 pub fn whole_ids<F: Files>(alloc: Global, files: &F, kind: Kind) -> Result<Vec<ObjectId>, OpenError>
     ensures whole { F.is_honest files.now
         → IfOk result (λ ids. IsWholePart kind (F.history files.now).tree ids.items) }
