@@ -31,6 +31,6 @@ abbrev pub IsOpenCause : Type 0 → Kind → Pair → OpenError → Type 0
 IsOpenCause MayFail kind pair error =
     IsObjectsFlaw MayFail kind pair.objects error ⊎ IsNamesCause MayFail kind pair error
 
--- a call of the files failed, or memory was refused
+-- a call of the files failed, or no memory is left
 abbrev pub IsOpenFault : OpenError → Type 0
 IsOpenFault error = (error ≡ File) ⊎ (error ≡ Memory)

@@ -18,7 +18,7 @@ names_part repository = files_of_names repository.names
 abbrev pub known_ids : {F : Type 0} → Repository F → IdSet
 known_ids repository = ids_of_objects repository.objects
 
--- the rows that it keeps of its commits, where it has any
+-- the rows that it keeps of its commits, if it has any
 abbrev pub rows_in : {F : Type 0} → Repository F → Option (List Row)
 rows_in repository = repository.rows
 

@@ -21,13 +21,13 @@ abbrev pub file_fault : FileError → Fault
 file_fault file.Failed = File
 file_fault file.Memory = Memory
 
--- In a whole store each tree that is read stands.
+-- In a whole store each tree that is read exists.
 abbrev pub read_fault : ReadError → Fault
 read_fault read.Failed = File
 read_fault (read.Broken oid) = File
 read_fault read.Memory = Memory
 
--- In a whole store each commit that a walk comes to stands.
+-- In a whole store each commit that a walk comes to exists.
 abbrev pub walk_fault : WalkError → Fault
 walk_fault walk.Failed = File
 walk_fault walk.Broken = File

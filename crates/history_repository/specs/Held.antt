@@ -14,12 +14,12 @@ held_id held = id_of held.id
 abbrev pub held_commit : Held → Id
 held_commit held = id_of held.commit
 
--- the commit of the tag that is held; none where a commit is
+-- the commit of the tag that is held; none if a commit is held
 abbrev pub tagged_commit : Held → Option Id
 tagged_commit held =
     if id_eq (held_id held) (held_commit held) then None else Some (held_commit held)
 
--- the id that the name holds, and the commit that it stands for
+-- the id that the name holds, and the commit that it peels to
 pub record IsHeld (r : plain.Repository) (name : Bytes) (held : Option Held) : Type 0 where
   pub id : option_map held_id held ≡ id_at r name
   pub commit : option_map held_commit held ≡ name_commit r name

@@ -10,7 +10,7 @@ use Rattle.history_model.specs.Repository.{Values}
 
 -- ---- rows that agree with what is stored
 
--- the row tells its commit as it is stored
+-- the row says of its commit what is stored
 pub record TellsRow (kind : Kind) (values : Values) (row : Row) : Type 0 where
   pub commit : CommitValue
   pub stored : get values (id_of row.id) ≡ Some (StoredCommit commit)
@@ -18,7 +18,7 @@ pub record TellsRow (kind : Kind) (values : Values) (row : Row) : Type 0 where
   pub parents : map id_of row.parents.items ≡ commit.parents
   pub time : row.time ≡ pos (commit.committer).seconds
 
--- the rows make a graph, and each tells a stored commit
+-- the rows make a graph, and each says what is stored of its commit
 pub record AgreeRows (kind : Kind) (values : Values) (rows : List Row) : Type 0 where
   pub told : (row : Row) → Contains rows row → TellsRow kind values row
   pub graph : AreRows rows

@@ -1,4 +1,4 @@
--- What a word was read as, the commit that it stands for, and why words that were read stand for none.
+-- What a word was read as, the commit that it means, and why words that were read mean none.
 use Rattle.std.specs.Prelude.{◌≡◌, Bool, true, false, List, Option, Some, None, Result, Ok, Err, IsTrue, find, ok_or, if◌then◌else◌}
 use Rattle.std.specs.FinMap.{get}
 use Rattle.history_model.specs.Bytes.{Bytes}
@@ -20,14 +20,14 @@ use Rattle.gix_hash_id.specs.Order.{id_eq}
 use Rattle.history_model.specs.Words as model
 use Rattle.history_repository.specs.declared.words.LookedUp.TheVariants as looked
 
--- the commit that a word of this meaning stands for, or why it stands for none
+-- the commit that a word of this meaning means, or why it means none
 abbrev pub stands_for : Repository → model.WordMeaning → Result Id Cause
 stands_for r (model.ReadsAs id) = ok_or (peeled r id) NotACommit
 stands_for r model.Unborn = Err UnbornHead
 stands_for r model.Unknown = Err UnknownWord
 stands_for r model.Ambiguous = Err AmbiguousWord
 
--- the commit that a word stands for, or why it stands for none
+-- the commit that a word means, or why it means none
 abbrev pub commit_or_cause : Repository → Bytes → Result Id Cause
 commit_or_cause r word = stands_for r (word_meaning r word)
 
@@ -39,7 +39,7 @@ meaning_of Unborn = Err UnbornHead
 meaning_of Unknown = Err UnknownWord
 meaning_of Ambiguous = Err AmbiguousWord
 
--- a word of this meaning stands for the object of this id, which is stored
+-- a word of this meaning means the object of this id, which is stored
 pub record ReadsAsStored (r : Repository) (meaning : model.WordMeaning) (id : Id) : Type 0 where
   pub reads : meaning ≡ model.ReadsAs id
   pub value : Value
@@ -60,7 +60,7 @@ commit_in Unborn = None
 commit_in Unknown = None
 commit_in Ambiguous = None
 
--- whether a word stands for no commit for this cause
+-- whether a word means no commit for this cause
 abbrev pub is_unknown_word : Result Id Cause → Bool
 is_unknown_word (Err UnknownWord) = true
 is_unknown_word _ = false
@@ -82,17 +82,18 @@ pub record SpellsPrefix (kind : Kind) (word : Bytes) (prefix : Id) : Type 0 wher
   pub short : IsTrue (is_short_id kind word)
   pub digits : IsHexOf word prefix.digits
 
--- the first that stands of the names that the word may mean, with the id that it holds
+-- the first existing name of those that the word may mean, with the id that it holds
 pub record IsFirst (r : Repository) (word : Bytes) (standing : Standing) : Type 0 where
   pub first : find (stands r) (candidates word) ≡ Some standing.name.items
   pub holds : id_at r standing.name.items ≡ Some (id_of standing.id)
 
--- the same, or none stands
+-- the same, or none exists
 abbrev pub IsFirstStanding : Repository → Bytes → Option Standing → Type 0
 IsFirstStanding r word (Some standing) = IsFirst r word standing
 IsFirstStanding r word None = find (stands r) (candidates word) ≡ None
 
--- why one of the words that stand so stands for no commit: a cause of any comes before the next cause of all
+-- why one of the words of these meanings means no commit: a cause of any word comes before the next
+-- cause of all words
 abbrev pub words_cause : List (Result Id Cause) → Option Cause
 words_cause words =
     if list_any is_unknown_word words then Some UnknownWord
@@ -100,7 +101,7 @@ words_cause words =
     else if list_any is_unborn_head words then Some UnbornHead
     else if list_any is_not_a_commit words then Some NotACommit else None
 
--- whether a word that stands so stands for this commit
+-- whether a word of this meaning means this commit
 abbrev pub reads_as : Id → Result Id Cause → Option Cause
 reads_as id (Ok other) = if id_eq id other then None else Some NotExpected
 reads_as id (Err cause) = Some NotExpected

@@ -1,4 +1,4 @@
--- What was read of an object, and of the commit that it stands for.
+-- What was read of an object, and of the commit that it peels to.
 use Rattle.std.specs.Prelude.{◌≡◌, ⊤, Option, Some, None, MatchOption}
 use Rattle.std.specs.FinMap.{get}
 use Rattle.gix_hash_id.specs.Id.{Id, id_of}
@@ -25,7 +25,7 @@ abbrev pub HasContent : Repository → MeantCommit → Type 0
 HasContent r meant =
     MatchOption meant.content ⊤ (λ content. IsContentOf r (id_of meant.id) content.items)
 
--- the commit that the object of an id stands for; none where it stands for none
+-- the commit that the object of an id peels to; none if it peels to none
 abbrev pub IsMeantBy : Repository → Id → Option MeantCommit → Type 0
 IsMeantBy r id (Some meant) = (peeled r id ≡ Some (id_of meant.id)) × HasContent r meant
 IsMeantBy r id None = peeled r id ≡ None

@@ -12,7 +12,8 @@ use Rattle.history_repository.specs.Held.{held_commit, held_id}
 use Rattle.history_repository.specs.declared.shown.Shown.{Shown}
 use Rattle.history_model.specs.Repository as plain
 
--- why names can't be asked of a folder: it is neither that of all names nor a name that a repository may hold
+-- why a folder's names can't be listed: it is neither that of all names nor a name that a
+-- repository may hold
 abbrev pub folder_cause : Bytes → Option Cause
 folder_cause folder = if bytes_eq folder (codes "refs") then None else form_cause folder
 
@@ -34,6 +35,6 @@ told_name r named = record {
   name = named.name.items;
 }
 
--- each of the ids stands for a commit
+-- each of the ids peels to a commit
 abbrev pub ArePeeled : plain.Repository → List NamedId → Type 0
 ArePeeled r names = AllByRecursion (λ (named : NamedId). IsSome (peeled r (id_of named.id))) names

@@ -11,12 +11,13 @@ use Rattle.history_objects.specs.Face.{ids_of_objects}
 use Rattle.history_names.specs.Packing.{KeepsRecords}
 use Rattle.history_repository.specs.declared.folder.OpenedFolder.{OpenedFolder}
 
--- the trees that stand in two parts
+-- the trees of two parts
 abbrev pub trees_of : {F : Type 0} → (F → History) → F → F → Pair
 trees_of history objects names =
     record { objects = (history objects).tree; names = (history names).tree }
 
--- The pair stands, whole, for this repository; the branch and the ids that are kept are its own, and the records those of `packed-refs`.
+-- The pair represents this whole repository; the branch and the ids that are kept are its own, and
+-- the records those of `packed-refs`.
 pub record IsOpenedAs {F : Type 0} (kind : Kind) (pair : Pair) (opened : OpenedFolder F)
     (r : Repository) : Type 0 where
   pub stands : StandsWhole kind pair r

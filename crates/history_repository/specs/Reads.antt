@@ -1,4 +1,5 @@
--- What reading of a repository gives: a fault, what a word stands for, the reply of a command that changes nothing.
+-- What reading of a repository gives: a fault, what a word means, the reply of a command that
+-- changes nothing.
 use Rattle.std.specs.Prelude.{◌≡◌, ⊤, ℕ, Some, None, Result, Ok, Err, Vec}
 use Rattle.std.specs.declared.alloc.Global.{Global}
 use Rattle.history_model.specs.Bytes.{Bytes}
@@ -18,7 +19,8 @@ use Rattle.history_model.specs.Replies as replies
 
 -- ---- faults
 
--- Why a reading has no result: memory may run out at any time, a call of the files fails only where readings may fail.
+-- Why a reading has no result: memory may run out at any time, a call of the files fails only if
+-- readings may fail.
 abbrev pub IsReadingFault : Type 0 → Stopped → Type 0
 IsReadingFault MayFail (Refused cause) = ⊥
 IsReadingFault MayFail (Fault Memory) = ⊤
@@ -32,7 +34,8 @@ GivesMeant MayFail IsMeant (Err stopped) = IsReadingFault MayFail stopped
 
 -- ---- words
 
--- the word stands for this commit, of which no content but its own was read, or for none, for this cause
+-- the word means this commit, of which no content but its own was read; or it means none, for this
+-- cause
 abbrev pub ReadsMeant : Type 0 → plain.Repository → Bytes → Result MeantCommit Stopped → Type 0
 ReadsMeant MayFail r word (Ok meant) =
     (commit_or_cause r word ≡ Ok (id_of meant.id)) × HasContent r meant
@@ -41,7 +44,8 @@ ReadsMeant MayFail r word (Err (Fault fault)) = IsReadingFault MayFail (Fault fa
 
 -- ---- commands
 
--- A command that changes nothing is answered, refused for the first cause that holds, or met a fault.
+-- A command that changes nothing returns its reply, is refused for the first cause that holds, or
+-- met a fault.
 abbrev pub OnlyAnswers : Type 0 → plain.Repository → orders.Command
     → Result (Vec ℕ Global) Stopped → Type 0
 OnlyAnswers MayFail r order (Ok text) =

@@ -1,4 +1,4 @@
--- The plain repository that a repository with its files stands for.
+-- The plain repository that a repository with its files represents.
 use Rattle.std.specs.Prelude.{◌≡◌}
 use Rattle.gix_ref_file.specs.History.{History}
 use Rattle.history_model.specs.Places.{Pair}
@@ -15,7 +15,7 @@ use Rattle.history_objects.specs.Face.{kind_of_objects}
 use Rattle.history_names.specs.Packing.{KeepsRecords}
 use Rattle.history_model.specs.Repository as plain
 
--- the two trees that stand
+-- the two trees of its parts
 abbrev pub pair_of : {F : Type 0} → (F → History) → Repository F → Pair
 pair_of history repository =
     record {
@@ -24,8 +24,8 @@ pair_of history repository =
       names = (history (names_part repository)).tree;
     }
 
--- Both parts are honest files, and the pair that stands is that of this plain repository, which is whole and in its written form;
--- what is kept in memory is its own.
+-- Both parts are honest files, and the pair of their trees represents this plain repository, which
+-- is whole and in its written form; what is kept in memory is its own.
 pub record Stands {F : Type 0} (IsHonest : F → Type 0) (history : F → History)
     (repository : Repository F) (r : plain.Repository) : Type 0 where
   pub honest_objects : IsHonest (objects_part repository)
@@ -38,10 +38,11 @@ pub record Stands {F : Type 0} (IsHonest : F → Type 0) (history : F → Histor
   pub known : (id : Id) → contains_key (known_ids repository) id ≡ contains_key r.objects id
   -- the records that are kept are those of `packed-refs`
   pub records : KeepsRecords repository.names (pair_of history repository).names
-  -- the rows that are kept tell stored commits, as they are stored
+  -- the rows that are kept say what is stored of their commits
   pub rows : AgreeRows r.kind r.objects (rows_of (rows_in repository))
 
--- What recovery makes of the two trees that stand is the pair of this plain repository, which is whole and in its written form.
+-- What recovery makes of the two trees represents this plain repository, which is whole and in its
+-- written form.
 abbrev pub RecoversTo : {F : Type 0} → (F → History) → Repository F → plain.Repository → Type 0
 RecoversTo history repository r =
     StandsWhole r.kind (recovered r.kind (pair_of history repository)) r

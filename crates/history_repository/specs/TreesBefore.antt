@@ -9,7 +9,7 @@ use Rattle.history_model.specs.Repository as plain
 
 -- ---- what they come to
 
--- the tree of the first of these commits; none where there is none
+-- the tree of the first of these commits; none if there are no commits
 abbrev pub IsTreeBefore : plain.Repository → List Id → Option ObjectId → Type 0
 IsTreeBefore r [] tree = tree ≡ None
 IsTreeBefore r (id ∷ ids) None = ⊥

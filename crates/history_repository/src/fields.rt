@@ -9,7 +9,7 @@ ghost use Rattle.history_repository.specs.Fields.{kept_bytes};
 
 use history_word::Field;
 
-/// Whether the path is none: over the limit, or with a zero byte or an empty name.
+/// Returns whether the path is invalid: over the limit, or with a zero byte or an empty name.
 pub fn is_bad_path(path: &Field) -> bool
     ensures { (bytes : Bytes) → Keeps max_path path.now bytes → result ≡ is_bad_path bytes }
 {
@@ -20,7 +20,7 @@ pub fn is_bad_path(path: &Field) -> bool
     }
 }
 
-/// Whether the field is over its limit.
+/// Returns whether the field is over its limit.
 pub fn is_too_long(field: &Field) -> bool
     ensures { (limit : ℕ) (bytes : Bytes) → Keeps limit field.now bytes
         → result ≡ nat_lt limit (length bytes) }
@@ -28,7 +28,7 @@ pub fn is_too_long(field: &Field) -> bool
     matches!(field, Field::TooLong(_))
 }
 
-/// The bytes that are kept: all of a whole field, else the first 1,025.
+/// Returns the bytes that are kept: all of a whole field, else the first 1,025.
 pub fn kept(field: &Field) -> &[u8]
     ensures { result.now ≡ kept_bytes field.now }
 {
@@ -37,7 +37,7 @@ pub fn kept(field: &Field) -> &[u8]
     }
 }
 
-/// The bytes that are kept, as [`kept`].
+/// Returns the bytes that are kept, as [`kept`] does.
 pub fn into_kept(field: Field) -> Vec<u8>
     ensures { result.items ≡ kept_bytes field }
 {

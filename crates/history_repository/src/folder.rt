@@ -32,12 +32,13 @@ pub struct OpenedFolder<F: Files> {
     pub branch: Vec<u8>,
 }
 
-/// Opens a folder whose two parts are those of one repository of this kind: whole, in written form and within the limits, with no
-/// file and no folder besides, whoever wrote them. No file is changed; each object is read once, and once more for each name that holds
-/// it; `packed-refs` is read twice, once to be kept.
+/// Opens a folder whose two parts are those of one repository of this kind: whole, in written form
+/// and within the limits, with no file and no folder besides, whoever wrote them. No file is
+/// changed; each object is read once, and once more for each name that holds it; `packed-refs` is
+/// read twice, once to be kept.
 ///
-/// Else the refusal names a cause that holds of the parts, and hands both back. The objects are surveyed before the names, so a
-/// cause of the names comes only over whole objects.
+/// Otherwise the refusal names a cause that holds of the parts, and returns both. The objects are
+/// surveyed before the names, so a cause of the names comes only if the objects are whole.
 pub fn open_folder<F: Files>(
     alloc: Global,
     objects: F,
@@ -48,16 +49,16 @@ pub fn open_folder<F: Files>(
         × (files_of_names opened.names ≡ names)) }
     ensures kinds { IfOk result (λ opened. (kind_of_objects opened.objects ≡ kind)
         × (kind_of_names opened.names ≡ kind)) }
-    // The two parts are a repository's, whole.
+    // The two parts represent a whole repository.
     ensures stands { F.is_honest objects → F.is_honest names → IfOk result (λ opened.
         (r : Repository) × IsOpenedAs kind (trees_of F.history objects names) opened r) }
-    // Whichever repository they stand for, what is opened is that one.
+    // Whichever repository they represent, what is opened is that one.
     ensures same { (r : Repository) → F.is_honest objects → F.is_honest names
         → StandsWhole kind (trees_of F.history objects names) r
         → IfOk result (λ opened. IsOpenedAs kind (trees_of F.history objects names) opened r) }
     ensures refused { F.is_honest objects → F.is_honest names → IfErr result (λ refusal.
         IsOpenCause F.reading_may_fail kind (trees_of F.history objects names) refusal.error) }
-    // A repository's parts are refused for a fault alone.
+    // A repository's parts are refused only for a fault.
     ensures accepted { (r : Repository) → F.is_honest objects → F.is_honest names
         → StandsWhole kind (trees_of F.history objects names) r
         → IfErr result (λ refusal. IsOpenFault refusal.error) }
@@ -122,7 +123,8 @@ fn open_names<F: Files>(
     }
 }
 
-// Surveys the names, and keeps the records of those that are packed: HEAD's branch, or why they aren't a repository's.
+// Surveys the names, and keeps the records of those that are packed. Returns HEAD's branch, or why
+// the names aren't a repository's.
 fn read_names<F: Files>(
     alloc: Global,
     names: &mut Names<F>,
@@ -152,7 +154,7 @@ fn read_names<F: Files>(
         Ok(()) => Ok(branch),
         Err(packed::Error::Memory) => Err(NamesError::Memory),
         Err(packed::Error::Io) => Err(NamesError::File),
-        // What was surveyed can be read: the file changed meanwhile.
+        // What was surveyed can be parsed: the file changed meanwhile.
         Err(packed::Error::Iter { .. }) => Err(NamesError::File),
         Err(packed::Error::HeaderParsing) => Err(NamesError::File),
     }

@@ -17,7 +17,7 @@ use gix_ref_file::Files;
 use history_model::Fault;
 use std::alloc::Global;
 
-/// The id that a name holds, and the commit that it stands for: that of a tag, else the id itself.
+/// The id that a name holds, and the commit that it peels to: that of a tag, else the id itself.
 #[derive(Clone, Copy)]
 pub struct Held {
     pub id: ObjectId,
@@ -25,14 +25,14 @@ pub struct Held {
 }
 
 impl Held {
-    /// Whether the id is a tag's.
+    /// Returns whether the id is a tag's.
     pub fn is_tag(self) -> bool
         ensures { result ≡ not (id_eq (held_id self) (held_commit self)) }
     {
         self.id != self.commit
     }
 
-    /// The commit of the tag that is held; none where a commit is.
+    /// Returns the commit of the tag that is held; `None` if a commit is held.
     pub fn tagged(self) -> Option<ObjectId>
         ensures { option_map id_of result ≡ tagged_commit self }
     {
@@ -44,21 +44,21 @@ impl Held {
     }
 }
 
-/// The commit that a name stands for, where it stands.
+/// Returns the commit that a name peels to, if the name exists.
 pub fn commit_held(held: Option<Held>) -> Option<ObjectId>
     ensures { option_map id_of result ≡ option_map held_commit held }
 {
     Some(held?.commit)
 }
 
-/// The id that a name holds, where it stands.
+/// Returns the id that a name holds, if the name exists.
 pub fn id_held(held: Option<Held>) -> Option<ObjectId>
     ensures { option_map id_of result ≡ option_map held_id held }
 {
     Some(held?.id)
 }
 
-/// The id before a name's move: the null id, where it doesn't stand.
+/// Returns the id before a name's move: the null id, if the name doesn't exist.
 pub fn id_before(held: Option<Held>, kind: Kind) -> ObjectId
     ensures { id_of result ≡ unwrap_or (option_map held_id held) (null_id kind) }
 {
@@ -68,7 +68,8 @@ pub fn id_before(held: Option<Held>, kind: Kind) -> ObjectId
     }
 }
 
-/// What a name holds, where it stands.
+/// Returns what a name holds; `None` if the name doesn't exist. It is a fault if a call of the
+/// files failed, or if no memory is left.
 pub fn read_held<F: Files>(
     repository: &Repository<F>,
     alloc: Global,
@@ -81,7 +82,7 @@ pub fn read_held<F: Files>(
     let Some(id) = repository.names.find(alloc, name)? else {
         return Ok(None);
     };
-    // In a whole repository each name stands for a commit.
+    // In a whole repository each name peels to a commit.
     let commit = peeled(repository, alloc, id)?.ok_or(Fault::File)?;
     Ok(Some(Held { id, commit }))
 }

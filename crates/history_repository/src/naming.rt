@@ -7,7 +7,7 @@ ghost use Rattle.history_repository.specs.NameForms.{form_cause};
 use history_model::Cause;
 use history_store::is_name;
 
-/// Whether the name belongs to one working tree.
+/// Returns whether the name belongs to one working tree.
 pub fn is_private(name: &[u8]) -> bool
     ensures { result ≡ is_private name.now }
 {
@@ -16,7 +16,7 @@ pub fn is_private(name: &[u8]) -> bool
         || name.starts_with(b"refs/rewritten/")
 }
 
-/// Tests that a repository may hold the name.
+/// Tests that a repository may hold the name. Otherwise returns the cause.
 pub fn test_name(name: &[u8]) -> Result<(), Cause>
     ensures { MatchResult result (λ _. form_cause name.now ≡ None)
         (λ cause. form_cause name.now ≡ Some cause) }

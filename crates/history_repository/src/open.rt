@@ -18,12 +18,14 @@ use gix_ref_file::Files;
 use std::alloc::Global;
 
 impl<F: Files> Repository<F> {
-    /// Opens a folder whose two parts are those of one repository with ids of this kind: whole, in written form and within the limits,
-    /// with no file and no folder besides. So are those that `create` and `run` leave, and, where a
-    /// call stopped or failed, `recover` behind it. No file is changed.
+    /// Opens a folder whose two parts are those of one repository with ids of this kind: whole, in
+    /// written form and within the limits, with no file and no folder besides. So are those that
+    /// `create` and `run` leave, and those that `recover` leaves after a call that stopped or
+    /// failed. No file is changed.
     ///
-    /// Else the refusal names a cause that holds of them, and hands both parts back. The objects are surveyed before the names.
-    /// `File` comes where a call of the files failed, `Memory` where a growth was refused.
+    /// Otherwise the refusal names a cause that holds of the parts, and returns both. The objects
+    /// are surveyed before the names. The error is `File` if a call of the files failed, and
+    /// `Memory` if no memory is left.
     pub fn open(
         alloc: Global,
         objects: F,
@@ -33,11 +35,11 @@ impl<F: Files> Repository<F> {
         ensures ok { IfOk result (λ opened. (objects_part opened ≡ objects)
             × (names_part opened ≡ names) × (has_failed opened ≡ false)
             × (rows_in opened ≡ None)) }
-        // What is opened stands for a repository of this kind, whole and in its written form.
+        // What is opened represents a repository of this kind, whole and in its written form.
         ensures stands { F.is_honest objects → F.is_honest names
             → IfOk result (λ opened. (r : plain.Repository) × (r.kind ≡ kind)
             × Stands F.is_honest F.history opened r) }
-        // Whichever repository the two parts stand for, it is that one.
+        // Whichever repository the two parts represent, it is that one.
         ensures same { (r : plain.Repository) → F.is_honest objects → F.is_honest names
             → StandsWhole kind (trees_of F.history objects names) r
             → IfOk result (λ opened. Stands F.is_honest F.history opened r) }
@@ -48,7 +50,7 @@ impl<F: Files> Repository<F> {
         ensures refused { F.is_honest objects → F.is_honest names → IfErr result (λ refusal.
             IsOpenCause F.reading_may_fail kind (trees_of F.history objects names)
             refusal.error) }
-        // A repository's parts are refused for a fault alone.
+        // A repository's parts are refused only for a fault.
         ensures accepted { (r : plain.Repository) → F.is_honest objects → F.is_honest names
             → StandsWhole kind (trees_of F.history objects names) r
             → IfErr result (λ refusal. IsOpenFault refusal.error) }

@@ -3,7 +3,7 @@
 use gix_ref_file::Files;
 use history_texts::OpenError;
 
-/// Why a folder isn't opened, and its two parts, as they were handed in.
+/// Why a folder isn't opened, and its two parts, as they were given.
 #[derive(Drop)]
 pub struct OpenRefusal<F: Files> {
     pub error: OpenError,

@@ -7,12 +7,13 @@ use gix_ref_file::Files;
 use gix_traverse_commit_graph::Graph;
 use history_store::{Names, Objects};
 
-/// A repository over two file trees: one holds the objects, the other HEAD, the names and their logs.
+/// A repository over two file trees: one holds the objects, the other HEAD, the names and their
+/// logs.
 #[derive(Drop)]
 pub struct Repository<F: Files> {
     pub objects: Objects<F>,
     pub names: Names<F>,
-    /// The name that HEAD stands for.
+    /// The name that HEAD holds.
     pub branch: Vec<u8>,
     /// The rows that the last `ok index` counted.
     pub rows: Option<Graph>,
@@ -20,7 +21,7 @@ pub struct Repository<F: Files> {
 }
 
 impl<F: Files> Repository<F> {
-    /// Gives back the objects part and the names part, as they stand.
+    /// Returns the objects part and the names part, with their files as they are.
     pub fn into_parts(self) -> (F, F)
         ensures objects { result.0 ≡ objects_part self }
         ensures names { result.1 ≡ names_part self }
@@ -28,15 +29,17 @@ impl<F: Files> Repository<F> {
         (self.objects.into_files(), self.names.into_files())
     }
 
-    /// The rows of the commits that the last `ok index` counted; none before the first. It takes no memory.
+    /// Returns the rows of the commits that the last `ok index` counted; `None` before the first.
+    /// It takes no memory.
     pub fn rows(&self) -> Option<&Graph>
         ensures { option_map (λ rows. rows.now) result ≡ rows_in self.now }
     {
         self.rows.as_ref()
     }
 
-    /// Whether a command that changes files met a fault. The files then hold what a stop may leave, and `run`
-    /// acts on no further command: the parts are to be recovered and opened again.
+    /// Returns whether a command that changes files met a fault. The files then hold what a stop
+    /// may leave, and `run` acts on no further command: the parts are to be recovered and opened
+    /// again.
     pub fn has_failed(&self) -> bool
         ensures { result ≡ has_failed self.now }
     {

@@ -1,4 +1,4 @@
-//! Names that stand, with what they hold.
+//! Existing names, with what they hold.
 
 ghost use Rattle.std.specs.Prelude.{◌≡◌, map};
 ghost use Rattle.history_repository.specs.NamesShown.{ArePeeled, shown_name, told_name};
@@ -18,14 +18,15 @@ use std::alloc::Global;
 /// The folder of all names.
 pub const ALL_NAMES: &[u8] = b"refs";
 
-/// A name that stands, and what it holds.
+/// An existing name, and what it holds.
 #[derive(Drop)]
 pub struct Shown {
     pub name: Vec<u8>,
     pub held: Held,
 }
 
-/// The names with what they hold.
+/// Returns the names with what they hold. It is a fault if a call of the files failed, or if no
+/// memory is left.
 pub fn read_shown<F: Files>(
     repository: &Repository<F>,
     alloc: Global,

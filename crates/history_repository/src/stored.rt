@@ -23,9 +23,11 @@ use history_model::Fault;
 use history_store::{Object, commit_tree, tag_target};
 use std::alloc::Global;
 
-// In a whole repository each id that is read names an object of its kind, so only a failed call leads to `fault File`.
+// In a whole repository each id that is read names an object of its kind, so only a failed call
+// leads to `fault File`.
 
-/// The content of a stored object.
+/// Returns the content of a stored object. It is a fault if a call of the files failed, or if no
+/// memory is left.
 pub fn content<F: Files>(
     repository: &Repository<F>,
     alloc: Global,
@@ -43,7 +45,7 @@ pub fn content<F: Files>(
     }
 }
 
-/// A stored object.
+/// Returns a stored object. The faults are those of `content`.
 fn read_object<F: Files>(
     repository: &Repository<F>,
     alloc: Global,
@@ -56,7 +58,7 @@ fn read_object<F: Files>(
     Ok(repository.objects.read(alloc, id)?.ok_or(Fault::File)?)
 }
 
-/// The commit that a tag of this content is of.
+/// Returns the commit that a tag of this content is of.
 fn tagged<F: Files>(repository: &Repository<F>, content: &[u8]) -> Result<ObjectId, Stopped>
     ensures { (r : plain.Repository) (id : Id) (tag : TagValue)
         → Stands F.is_honest F.history repository.now r
@@ -66,16 +68,16 @@ fn tagged<F: Files>(repository: &Repository<F>, content: &[u8]) -> Result<Object
     Ok(tag_target(repository.objects.kind(), content).ok_or(Fault::File)?)
 }
 
-/// A commit that a word or a name means: its id, and its content, if the object that was read is the commit itself. Of a tag's
-/// commit no content was read.
+/// A commit that a word or a name means: its id, and its content, if the object that was read is
+/// the commit itself. Of a tag's commit no content was read.
 #[derive(Drop)]
 pub struct MeantCommit {
     pub id: ObjectId,
     pub content: Option<Vec<u8>>,
 }
 
-/// The commit that a stored object stands for: a commit for itself, a tag for the one that it is of; `None` of another object. One
-/// object is read.
+/// Returns the commit that a stored object peels to: a commit itself, a tag's commit; `None` of
+/// another object. One object is read. The faults are those of `content`.
 pub(crate) fn read_meant<F: Files>(
     repository: &Repository<F>,
     alloc: Global,
@@ -100,7 +102,7 @@ pub(crate) fn read_meant<F: Files>(
     }
 }
 
-/// The commit that a stored object stands for, as `read_meant` reads it.
+/// Returns the commit that a stored object peels to, as `read_meant` does.
 pub(crate) fn peeled<F: Files>(
     repository: &Repository<F>,
     alloc: Global,
@@ -117,7 +119,8 @@ pub(crate) fn peeled<F: Files>(
     }
 }
 
-/// The root of a commit of this content: the id of its tree, which its first line names. Nothing behind that line is taken apart.
+/// Returns the root of a commit of this content: the id of its tree, which its first line names.
+/// Nothing after that line is parsed.
 fn root_in<F: Files>(repository: &Repository<F>, content: &[u8]) -> Result<ObjectId, Stopped>
     ensures { (r : plain.Repository) (id : Id) (value : CommitValue)
         → Stands F.is_honest F.history repository.now r
@@ -128,7 +131,7 @@ fn root_in<F: Files>(repository: &Repository<F>, content: &[u8]) -> Result<Objec
     Ok(commit_tree(repository.objects.kind(), content).ok_or(Fault::File)?)
 }
 
-/// The root of a stored commit, whose content is read.
+/// Returns the root of a stored commit, whose content is read. The faults are those of `content`.
 pub fn root_of<F: Files>(
     repository: &Repository<F>,
     alloc: Global,
@@ -144,7 +147,8 @@ pub fn root_of<F: Files>(
     root_in(repository, &content)
 }
 
-/// The root of a commit that is meant. Its content is read only if it wasn't read before.
+/// Returns the root of a commit that is meant. Its content is read only if it wasn't read before.
+/// The faults are those of `content`.
 pub fn root_meant<F: Files>(
     repository: &Repository<F>,
     alloc: Global,
@@ -162,7 +166,8 @@ pub fn root_meant<F: Files>(
     }
 }
 
-/// The tree of a commit's first parent; `None` without one.
+/// Returns the tree of the first of these parents; `None` without parents. The faults are those of
+/// `content`.
 pub fn tree_before<F: Files>(
     repository: &Repository<F>,
     alloc: Global,
@@ -178,8 +183,9 @@ pub fn tree_before<F: Files>(
     }
 }
 
-/// What stands at a path below a stored tree: a file's kind and id, or a folder's id, or nothing. The trees on the path are read, and
-/// no other; it is a fault where a call of the files failed, or where no memory is left.
+/// Returns what is at a path below a stored tree: a file's kind and id, or a folder's id, or
+/// nothing. Only the trees on the path are read. It is a fault if a call of the files failed, or if
+/// no memory is left.
 pub fn found_below<F: Files>(
     repository: &Repository<F>,
     alloc: Global,

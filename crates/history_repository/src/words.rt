@@ -1,4 +1,4 @@
-//! What a word of a command stands for.
+//! What a word of a command means.
 
 ghost use Rattle.std.specs.Prelude.{◌≡◌, ◌++◌, ◌&&◌, not, Some, None, Ok, Err, IfOk, IsFalse, MatchOption, MatchResult, map};
 ghost use Rattle.std.specs.List.{list_any};
@@ -32,11 +32,11 @@ pub enum WordMeaning {
     Commit(ObjectId),
     /// The id of an object that is neither a commit nor a tag of one.
     NoCommit,
-    /// HEAD, whose branch doesn't stand.
+    /// HEAD, whose branch doesn't exist.
     Unborn,
-    /// No candidate stands, and no stored object's id begins with the word.
+    /// No candidate exists, and no stored object's id begins with the word.
     Unknown,
-    /// No candidate stands, and several ids begin with the word.
+    /// No candidate exists, and several ids begin with the word.
     Ambiguous,
 }
 
@@ -45,22 +45,22 @@ pub enum WordMeaning {
 enum LookedUp {
     /// The object that its name holds, or whose id alone begins with it.
     Object(ObjectId),
-    /// HEAD, whose branch doesn't stand.
+    /// HEAD, whose branch doesn't exist.
     Unborn,
-    /// No candidate stands, and no stored object's id begins with the word.
+    /// No candidate exists, and no stored object's id begins with the word.
     Unknown,
-    /// No candidate stands, and several ids begin with the word.
+    /// No candidate exists, and several ids begin with the word.
     Ambiguous,
 }
 
-/// A name that stands, and the id that it holds.
+/// An existing name, and the id that it holds.
 #[derive(Drop)]
 pub struct Standing {
     pub name: Vec<u8>,
     pub id: ObjectId,
 }
 
-/// What stands before and behind a word in the names that it may mean, in the order of the search.
+/// What is before and after a word in the names that it may mean, in the order of the search.
 const CANDIDATES: [(&[u8], &[u8]); 6] = [
     (b"", b""),
     (REFS, b""),
@@ -70,7 +70,7 @@ const CANDIDATES: [(&[u8], &[u8]); 6] = [
     (b"refs/remotes/", b"/HEAD"),
 ];
 
-/// The three texts, one behind the other.
+/// Returns the three texts in one. Fails only if memory runs out.
 fn joined(alloc: Global, front: &[u8], word: &[u8], back: &[u8]) -> Result<Vec<u8>, AllocError>
     ensures { IfOk result (λ name. name.items ≡ front.now ++ word.now ++ back.now) }
 {
@@ -80,14 +80,15 @@ fn joined(alloc: Global, front: &[u8], word: &[u8], back: &[u8]) -> Result<Vec<u
     Ok(name)
 }
 
-/// Whether a word may mean this name.
+/// Returns whether a word may mean this name.
 fn is_candidate(name: &[u8]) -> bool
     ensures { result ≡ (begins refs_front name.now && not (is_private name.now)) }
 {
     name.starts_with(REFS) && !is_private(name)
 }
 
-/// The prefix that a short id spells: 4 hexadecimal digits at least, in any letter case, and no more than an id of the kind has.
+/// Returns the prefix that a short id spells: 4 hexadecimal digits at least, in any letter case,
+/// and no more than an id of the kind has. `None` of another word.
 fn short_id(kind: Kind, word: &[u8]) -> Option<Prefix>
     ensures { MatchOption result (IsFalse (is_short_id kind word.now))
         (SpellsPrefix kind word.now) }
@@ -105,7 +106,8 @@ fn short_id(kind: Kind, word: &[u8]) -> Option<Prefix>
 }
 
 impl WordMeaning {
-    /// Tests that the word reads as the commit that its name stands for.
+    /// Tests that the word means this commit, which its name peels to. Otherwise returns
+    /// `NotExpected`.
     pub fn test(self, held: ObjectId) -> Result<(), Cause>
         ensures { MatchResult result (λ _. reads_as (id_of held) (meaning_of self) ≡ None)
             (λ cause. reads_as (id_of held) (meaning_of self) ≡ Some cause) }
@@ -125,7 +127,7 @@ impl WordMeaning {
         }
     }
 
-    /// The commit that the word stands for.
+    /// Returns the commit that the word means; `None` if it means none.
     pub fn id(self) -> Option<ObjectId>
         ensures { result ≡ commit_in self }
     {
@@ -162,7 +164,7 @@ impl WordMeaning {
         matches!(self, WordMeaning::NoCommit)
     }
 
-    /// The commit, where there is one; else why there is none.
+    /// Returns the commit, if there is one; otherwise why there is none.
     pub fn commit(self) -> Result<ObjectId, Cause>
         ensures { MatchResult result (λ id. meaning_of self ≡ Ok (id_of id))
             (λ cause. meaning_of self ≡ Err cause) }
@@ -201,8 +203,9 @@ fn have_no_commit(meanings: &[WordMeaning]) -> bool
     meanings.iter().any(|meaning| meaning.is_no_commit())
 }
 
-/// Tests that the words of a command stand for commits, which are told in two lists. Of the causes of all of them the first is
-/// told: `UnknownWord`, `AmbiguousWord`, `UnbornHead`, `NotACommit`.
+/// Tests that the words of a command, given in two lists, mean commits. Otherwise returns the first
+/// of these causes that any of them has: `UnknownWord`, `AmbiguousWord`, `UnbornHead`,
+/// `NotACommit`.
 pub fn test_all(some: &[WordMeaning], others: &[WordMeaning]) -> Result<(), Cause>
     ensures { MatchResult result
         (λ _. words_cause (map meaning_of some.now ++ map meaning_of others.now) ≡ None)
@@ -224,7 +227,8 @@ pub fn test_all(some: &[WordMeaning], others: &[WordMeaning]) -> Result<(), Caus
     Ok(())
 }
 
-/// The first that stands of the names that a word may mean.
+/// Returns the first existing name of those that a word may mean; `None` if none exists. It is a
+/// fault if a call of the files failed, or if no memory is left.
 pub fn first_standing<F: Files>(
     repository: &Repository<F>,
     alloc: Global,
@@ -244,8 +248,9 @@ pub fn first_standing<F: Files>(
     Ok(None)
 }
 
-/// What a word means: HEAD its branch, another word the first candidate that stands, and else the stored object whose id alone
-/// begins with it. No object is read.
+/// Returns what a word means: of HEAD what its branch holds; of another word what the first
+/// existing candidate holds, and else the stored object whose id alone begins with it. No object is
+/// read. The faults are those of `first_standing`.
 fn look_up<F: Files>(
     repository: &Repository<F>,
     alloc: Global,
@@ -266,7 +271,8 @@ fn look_up<F: Files>(
     }
 }
 
-/// What a word means that is no name: the stored object whose id alone begins with it, where it is a short id.
+/// Returns what a word means that is no name: the stored object whose id alone begins with it, if
+/// it is a short id.
 fn look_up_id<F: Files>(repository: &Repository<F>, word: &[u8]) -> LookedUp
     ensures { (r : plain.Repository) → Stands F.is_honest F.history repository.now r
         → IsLookedUp r (id_meaning r word.now) result }
@@ -281,7 +287,7 @@ fn look_up_id<F: Files>(repository: &Repository<F>, word: &[u8]) -> LookedUp
     }
 }
 
-/// What a word stands for, once its object is read.
+/// Returns what a word means, once its object is read. The faults are those of `first_standing`.
 pub fn read_word<F: Files>(
     repository: &Repository<F>,
     alloc: Global,
@@ -299,7 +305,8 @@ pub fn read_word<F: Files>(
     }
 }
 
-/// What the id of a stored object stands for: a commit for itself, a tag for its commit, another object for none.
+/// Returns what the id of a stored object means: a commit itself, a tag its commit, another object
+/// none.
 fn read_stored<F: Files>(
     repository: &Repository<F>,
     alloc: Global,
@@ -316,7 +323,11 @@ fn read_stored<F: Files>(
     })
 }
 
-/// The commit that a word stands for, with its content, unless a tag stands between them. One object is read.
+/// Returns the commit that a word means, with its content unless the word means a tag of it. One
+/// object is read.
+///
+/// It is refused with the cause if the word means no commit; the faults are those of
+/// `first_standing`.
 pub fn read_commit_of<F: Files>(
     repository: &Repository<F>,
     alloc: Global,
