@@ -1,4 +1,4 @@
--- What is asked for, and which lists answer it.
+-- A request for commits, and which lists are right for it.
 use Rattle.std.specs.Prelude.{true, ℤ, List, Option, None}
 use Rattle.gix_hash_id.specs.declared.object_id.ObjectId.{ObjectId}
 use Rattle.gix_object_lookup.specs.Table.{Table}
@@ -20,7 +20,7 @@ parents_in (Oldest since) = All
 parents_in (Date parents) = parents
 parents_in (Topological parents) = parents
 
--- the cutoff, where there is one
+-- the cutoff, if there is one
 abbrev pub since_in : Order → Option ℤ
 since_in (Breadth parents) = None
 since_in (Newest since) = since
@@ -41,7 +41,7 @@ walk_from order tips hidden = record {
 abbrev pub request_of : Request → WalkRequest ObjectId
 request_of request = walk_from request.order request.tips.items request.hidden.items
 
--- the list answers the walk in this order
+-- the list is right for the request in this order
 abbrev pub IsInOrder : {I : Type 0} → Order → Commits I → WalkRequest I → List I → Type 0
 IsInOrder (Breadth parents) g q ids = InBreadth g q ids
 IsInOrder (Newest since) g q ids = ByNewest g q ids
@@ -49,6 +49,7 @@ IsInOrder (Oldest since) g q ids = ByOldest g q ids
 IsInOrder (Date parents) g q ids = InDate g q ids
 IsInOrder (Topological parents) g q ids = InTopological g q ids
 
--- it holds of each commits that the rows tell, and else the table, where the store answers by it
+-- If the store is honest, this holds of each graph of commits that agrees with the rows, and with
+-- the table for commits without a row.
 abbrev pub OverTable : Type 0 → List Row → Table → (Commits ObjectId → Type 0) → Type 0
 OverTable honest rows table P = honest → (g : Commits ObjectId) → AreTold rows table g → P g

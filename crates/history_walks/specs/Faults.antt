@@ -1,4 +1,4 @@
--- Why commits aren't listed: `may_fail` says whether a store's lookups may fail.
+-- Why commits aren't listed: `may_fail` says that a store's lookups may fail.
 use Rattle.std.specs.Prelude.{ℕ, ◌⊎◌, ⊤, List}
 use Rattle.gix_hash_id.specs.Id.{id_of}
 use Rattle.gix_hash_id.specs.declared.object_id.ObjectId.{ObjectId}
@@ -54,7 +54,8 @@ as_sorted sorted.Memory = Memory
 
 -- ---- their causes
 
--- no commit stands under the id; or one whose first lines aren't a commit's, or that tells no committer's time
+-- no commit is stored under the id; or one whose first lines aren't a commit's, or that says no
+-- committer's time
 pub data IsUnread (table : Table) (id : ObjectId) : Type 0 where
   absent : IsNoCommit table (id_of id) → IsUnread table id
   lines : (content : List ℕ) (error : decode.Error) → Stands table (id_of id) kinds.Commit content
@@ -66,7 +67,8 @@ pub data IsUnread (table : Table) (id : ObjectId) : Type 0 where
 abbrev pub IsMet : Commits ObjectId → List ObjectId → List ObjectId → ObjectId → Type 0
 IsMet g tips hidden x = ReachedFrom g tips x ⊎ ReachedFrom g hidden x
 
--- why no list is given: of a commit that is come to and has no row the lookup failed, or it isn't read; or no memory was left
+-- why no list is returned: of a commit that the walk comes to and that has no row, the lookup
+-- failed or it can't be read; or no memory is left
 abbrev pub WalkFault : Type 0 → List Row → Table → Commits ObjectId → List ObjectId → List ObjectId
     → WalkError → Type 0
 WalkFault may_fail rows table g tips hidden Failed =

@@ -27,7 +27,8 @@ table_of contents id =
 abbrev pub ids_of : Contents → List Id
 ids_of contents = map id_of (keys contents)
 
--- Of a table's commits some are kept: they stand in the table as they are kept, and each of these without a row is among them.
+-- Of a table's commits some are kept: they are in the table as they are kept, and each wanted
+-- commit without a row is among them.
 pub record AreKept (rows : List Row) (table kept : Table)
     (IsWanted : ObjectId → Type 0) : Type 0 where
   pub stand : (x : ObjectId) (content : List ℕ) → Stands kept (id_of x) kinds.Commit content

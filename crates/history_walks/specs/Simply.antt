@@ -1,4 +1,4 @@
--- What a walk in breadth order or by time is asked for.
+-- A request for a walk in breadth order or by time.
 use Rattle.std.specs.Prelude.{true, List}
 use Rattle.gix_hash_id.specs.declared.object_id.ObjectId.{ObjectId}
 use Rattle.gix_traverse_commit_known.specs.Asked.{Asked}

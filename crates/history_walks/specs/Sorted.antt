@@ -1,4 +1,4 @@
--- Why a walk ends early in which each commit comes after its children.
+-- Why a walk ends early whose commits each come after their children.
 use Rattle.std.specs.Prelude.{◌≡◌, ◌⊎◌, List, Option, Some}
 use Rattle.gix_hash_id.specs.declared.object_id.ObjectId.{ObjectId}
 use Rattle.gix_traverse_commit_graph.specs.Commits.{Commits, Listed}
@@ -9,7 +9,7 @@ use Rattle.history_walks.specs.Faults.{as_sorted}
 use Rattle.history_walks.specs.declared.error.WalkError.{WalkError}
 use Rattle.history_walks.specs.declared.error.WalkError.TheVariants.{Memory}
 
--- a commit of the walk has this fault; or no memory was left
+-- a commit of the walk has this fault; or no memory is left
 abbrev pub StopsSorted : (ObjectId → Option Error) → Commits ObjectId → List ObjectId → List ObjectId
     → Parents → WalkError → Type 0
 StopsSorted faults g tips ends parents error = (error ≡ Memory)

@@ -1,4 +1,4 @@
--- What is told of commits.
+-- What is said of commits.
 use Rattle.std.specs.Prelude.{◌≡◌, ⊤, pos, List, [], ◌∷◌, Some, map, Contains}
 use Rattle.gix_hash_id.specs.Id.{Id, id_of}
 use Rattle.gix_hash_id.specs.declared.object_id.ObjectId.{ObjectId}
@@ -6,7 +6,7 @@ use Rattle.history_model.specs.Objects.{CommitValue, folder_id}
 use Rattle.history_model.specs.Repository.{Repository, HoldsCommit, commit_at}
 use Rattle.history_walks.specs.declared.told.Told.{Told}
 
--- this is told of a stored commit, as it is stored
+-- this is said of a stored commit, as it is stored
 pub record TellsStored (r : Repository) (told : Told) : Type 0 where
   pub commit : CommitValue
   pub stored : commit_at r (id_of told.id) ≡ Some commit
@@ -18,14 +18,14 @@ pub record TellsStored (r : Repository) (told : Told) : Type 0 where
 abbrev pub IsTold : List Told → ObjectId → Type 0
 IsTold commits id = (told : Told) × Contains commits told × (told.id ≡ id)
 
--- the parents of each are told behind it, and no commit is told twice
+-- the parents of each come after it, and no commit comes twice
 abbrev pub AreInOrder : List Told → Type 0
 AreInOrder [] = ⊤
 AreInOrder (told ∷ behind) =
     ((parent : ObjectId) → Contains told.parents.items parent → IsTold behind parent)
     × (¬ IsTold behind told.id) × AreInOrder behind
 
--- all stored commits are told, as they are stored, each before its parents
+-- all stored commits are here, as they are stored, each before its parents
 pub record AreAllTold (r : Repository) (commits : List Told) : Type 0 where
   pub stored : (told : Told) → Contains commits told → TellsStored r told
   pub every : (id : Id) → HoldsCommit r id

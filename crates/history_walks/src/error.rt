@@ -15,7 +15,7 @@ pub enum WalkError {
     /// The store failed to look a commit up.
     #[error("a commit couldn't be looked up")]
     Failed,
-    /// A commit that is come to doesn't stand, or can't be read.
+    /// A commit that the walk comes to isn't stored, or can't be read.
     #[error("a commit doesn't stand, or can't be read")]
     Broken,
     /// No memory is left.

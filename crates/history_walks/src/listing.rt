@@ -24,12 +24,12 @@ pub enum Order {
     Breadth(Parents),
     /// The newest of the tips and of the parents of what came is next.
     Newest {
-        /// The seconds since 1970 of the oldest commit that is listed, where there is such a bound.
+        /// The seconds since 1970 of the oldest commit that is listed, if there is such a bound.
         since: Option<i64>,
     },
     /// The oldest of these is next.
     Oldest {
-        /// The seconds since 1970 of the oldest commit that is listed, where there is such a bound.
+        /// The seconds since 1970 of the oldest commit that is listed, if there is such a bound.
         since: Option<i64>,
     },
     /// The newest commit whose children are all listed is next.
@@ -49,10 +49,11 @@ pub struct Request {
     pub hidden: Vec<ObjectId>,
 }
 
-/// The commits that are asked for, in their order, each once. Where a commit has a row, the store isn't asked for it.
+/// Returns the requested commits, in their order, each once. A commit that has a row isn't looked
+/// up in the store.
 ///
-/// It is `Failed` where a lookup failed, `Broken` where a commit that the tips or the hidden commits reach has no row and doesn't stand
-/// or can't be read, and `Memory` where no memory is left.
+/// The error is `Failed` if a lookup failed, `Broken` if a commit that the tips or the hidden
+/// commits reach has no row and isn't stored or can't be read, and `Memory` if no memory is left.
 pub fn list_commits<S: FindInto>(
     alloc: Global,
     store: &S,
@@ -102,7 +103,7 @@ pub fn list_commits<S: FindInto>(
     }
 }
 
-// The order by time with this cutoff, where there is one.
+// Returns the order by time with this cutoff, if there is one.
 fn by_time(order: CommitTimeOrder, since: Option<i64>) -> Sorting
     ensures { timing_of AllParents result ≡ Some (record { order = order; since = since }) }
 {

@@ -17,17 +17,18 @@ use gix_traverse_commit::{All, Graph, Simple};
 use std::alloc::Global;
 use std::collections::BTreeMap;
 
-/// The contents of commits, under their ids. Their lookups don't fail, but for want of memory.
+/// The contents of commits, under their ids. A lookup of one fails only if memory runs out.
 #[derive(Drop)]
 pub(crate) struct ReadCommits {
     contents: BTreeMap<ObjectId, Vec<u8>>,
 }
 
 impl ReadCommits {
-    /// All commits without rows that the tips or the hidden commits reach, each read once from the store.
+    /// Returns all commits without rows that the tips or the hidden commits reach, each read once
+    /// from the store.
     ///
-    /// It is `Failed` where a lookup failed, `Broken` where one of these commits doesn't stand or can't be read, and `Memory` where
-    /// no memory is left.
+    /// The error is `Failed` if a lookup failed, `Broken` if one of these commits isn't stored or
+    /// can't be read, and `Memory` if no memory is left.
     pub(crate) fn reached<S: FindInto>(
         alloc: Global,
         store: &S,
@@ -48,7 +49,7 @@ impl ReadCommits {
     }
 }
 
-// All commits of a walk that have no row.
+// Returns all commits of a walk that have no row. The errors are those of `reached`.
 fn read_all<F: FindInto + Drop>(
     alloc: Global,
     mut walk: Simple<F, All>,

@@ -1,4 +1,4 @@
-//! Rows, each made behind those of its parents.
+//! Rows, each made after those of its parents.
 
 ghost use Rattle.std.specs.Prelude.{◌≡◌, IfOk, fold, map, max, unwrap_or};
 ghost use Rattle.std.specs.HashMap.{get};
@@ -15,7 +15,7 @@ use gix_traverse_commit_graph::{GENERATION_LIMIT, Row};
 use std::alloc::{AllocError, Global};
 use std::collections::HashMap;
 
-/// The greatest of the generations of these commits, and 0 where there is none.
+/// Returns the greatest of the generations of these commits, and 0 if there are none.
 fn greatest(generations: &HashMap<ObjectId, u64>, parents: &[ObjectId]) -> u64
     ensures { result ≡ fold max 0
         (map (λ parent. unwrap_or (get same_id generations.now parent) 0) parents.now) }
@@ -29,10 +29,10 @@ fn greatest(generations: &HashMap<ObjectId, u64>, parents: &[ObjectId]) -> u64
     greatest
 }
 
-/// The rows of a repository's commits, of which all are told, each before its parents. A commit whose longest way along parents has more
-/// than [`GENERATION_LIMIT`] commits has no row.
+/// Returns the rows of a repository's commits: all of them are given, each before its parents. A
+/// commit whose longest way along parents has more than [`GENERATION_LIMIT`] commits has no row.
 ///
-/// It is an error where there is no memory for them.
+/// Fails only if memory runs out.
 pub fn rows_of(alloc: Global, mut commits: Vec<Told>) -> Result<Vec<Row>, AllocError>
     ensures rows { (r : Repository) → AreAllTold r commits.items
         → IfOk result (λ rows. AreTheRows (model.rows_of r) rows.items) }

@@ -17,7 +17,7 @@ use gix_traverse_commit::simple::Sorting;
 use gix_traverse_commit::{All, Graph, Parents, Simple};
 use std::alloc::{AllocError, Global};
 
-// The same rows once more.
+// Returns the same rows again.
 fn copied(rows: &Option<Graph>) -> Result<Option<Graph>, AllocError>
     ensures { IfOk result (λ copy. copy ≡ rows.now) }
 {
@@ -27,10 +27,10 @@ fn copied(rows: &Option<Graph>) -> Result<Option<Graph>, AllocError>
     }
 }
 
-/// All commits that a walk by time gives.
+/// Returns all commits of a walk by time.
 ///
-/// Where a lookup fails, such a walk takes a commit for one of time 0 and goes on. So it goes over commits that were read before.
-/// The errors are those of `list_commits`.
+/// If a lookup fails, such a walk takes the commit's time for 0 and goes on. So it goes over
+/// commits that were read before. The errors are those of `list_commits`.
 pub(crate) fn listed_by_time<S: FindInto>(
     alloc: Global,
     store: &S,
@@ -50,7 +50,7 @@ pub(crate) fn listed_by_time<S: FindInto>(
     listed(alloc, commits, rows, tips, hidden, Parents::All, sorting)
 }
 
-/// All commits that a walk in this order gives.
+/// Returns all commits of a walk in this order. The errors are those of `list_commits`.
 pub(crate) fn listed<F: FindInto + Drop>(
     alloc: Global,
     store: F,
@@ -76,7 +76,7 @@ pub(crate) fn listed<F: FindInto + Drop>(
     given(alloc, walk.sorting(sorting)?)
 }
 
-// All commits of a walk.
+// Returns all commits of a walk. The errors are those of `list_commits`.
 fn given<F: FindInto + Drop>(
     alloc: Global,
     walk: Simple<F, All>,

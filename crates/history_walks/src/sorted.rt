@@ -22,7 +22,8 @@ use gix_traverse_commit::{All, Graph, Parents};
 use gix_traverse_topo::{Builder, Sorting, Topo};
 use std::alloc::Global;
 
-/// All commits that a walk gives in which each comes after its children.
+/// Returns all commits of a walk whose commits each come after their children. The errors are those
+/// of `list_commits`.
 pub(crate) fn listed<S: FindInto>(
     alloc: Global,
     store: &S,
@@ -44,7 +45,7 @@ pub(crate) fn listed<S: FindInto>(
     given(alloc, builder.parents(parents).sorting(sorting).build()?)
 }
 
-// All commits of a walk.
+// Returns all commits of a walk. The errors are those of `list_commits`.
 fn given(alloc: Global, walk: Topo<All>) -> Result<Vec<ObjectId>, WalkError>
     ensures lists { (sorting : Sorting) (rows : List Row) (faults : ObjectId → Option Error)
         (g : Commits ObjectId) (tips ends : List ObjectId)

@@ -1,9 +1,9 @@
-//! What is told of a commit.
+//! What is said of a commit.
 
 use gix_hash::ObjectId;
 use gix_traverse_commit_graph::ParentIds;
 
-/// What is told of a stored commit, of which its row is made.
+/// What a stored commit says, of which its row is made.
 #[derive(Drop)]
 pub struct Told {
     /// The commit's id.
