@@ -12,7 +12,7 @@ pub record AreTheCommits (r : Repository) (ids : List ObjectId) : Type 0 where
   pub hold : AllHold r ids
   pub every : (id : Id) → HoldsCommit r id → (x : ObjectId) × Contains ids x × (id_of x ≡ id)
 
--- this is told of the commits, in their order
+-- these are what the commits say, in their order
 pub record AreToldOf (r : Repository) (ids : List ObjectId) (told : List Told) : Type 0 where
   pub same : map (λ (t : Told). t.id) told ≡ ids
   pub stored : (t : Told) → Contains told t → TellsStored r t

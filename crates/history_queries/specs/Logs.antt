@@ -18,7 +18,7 @@ use Rattle.history_model.specs.Commands as model
 use Rattle.history_walks.specs.declared.listing.Order as walks
 use Rattle.history_walks.specs.declared.listing.Order.TheVariants as walk
 
--- what the words of tips stand for, and then those of hidden commits
+-- what the words of tips mean, and then those of hidden commits
 abbrev pub meanings_in : Ends → List (Result Id Cause)
 meanings_in ends = map meaning_of ends.tips.items ++ map meaning_of ends.hidden.items
 
@@ -29,7 +29,7 @@ pub record AreEnds (r : Repository) (items : List model.LogItem) (ends : Ends) :
   pub hidden : map meaning_of ends.hidden.items
       ≡ map (commit_or_cause r) (filter_map hidden_word items)
 
--- why the words of an order tell no cutoff
+-- why the words of an order give no cutoff
 abbrev pub since_cause : model.Order → Option Cause
 since_cause order =
     if list_any (λ word. not (is_seconds word)) (since_words order) then Some BadTime else None
@@ -40,7 +40,7 @@ order_cause order first hides =
     if list_any (λ word. not (is_seconds word)) (since_words order) then Some BadTime
     else if first && wants_all_parents order hides then Some OrderWithParents else None
 
--- the cutoff of an order, where it has one
+-- the cutoff of an order, if it has one
 abbrev pub IsSince : model.Order → Option ℤ → Type 0
 IsSince (model.NewestSince word) since = since ≡ Some (pos (digits_value word))
 IsSince (model.OldestSince word) since = since ≡ Some (pos (digits_value word))

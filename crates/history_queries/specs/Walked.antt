@@ -17,19 +17,20 @@ use Rattle.history_repository.specs.declared.stopped.Stopped.TheVariants.{Refuse
 abbrev pub AllHold : Repository → List ObjectId → Type 0
 AllHold r ids = (x : ObjectId) → Contains ids x → HoldsCommit r (id_of x)
 
--- the list answers the request, over the commits of the repository
+-- the list is right for the request, over the commits of the repository
 abbrev pub IsLogged : Repository → Request → Vec ObjectId Global → Type 0
 IsLogged r request ids =
     IsInOrder request.order (commits_of r)
     (walk_from request.order (map id_of request.tips.items) (map id_of request.hidden.items))
     (map id_of ids.items)
 
--- a walk that a log asks for, over stored commits
+-- a walk that a log requests, over stored commits
 pub record IsWalkOf (r : Repository) (order : LogCommand) (ids : List ObjectId) : Type 0 where
   pub walk : IsWalk order.order (commits_of r) (walk_request r order) (map id_of ids)
   pub hold : AllHold r ids
 
--- A log of which no cause holds is walked; or it is refused for the first cause that holds, or met a fault.
+-- A log of which no cause holds is walked; or it is refused for the first cause that holds, or met
+-- a fault.
 abbrev pub Walks : Type 0 → Repository → LogCommand → Result (Vec ObjectId Global) Stopped → Type 0
 Walks MayFail r order (Ok ids) =
     (first_cause r (Log order) ≡ None) × IsWalkOf r order ids.items

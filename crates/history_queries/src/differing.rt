@@ -22,7 +22,7 @@ use history_files::{EntriesState, Found, entries_at};
 use history_repository::{Repository, Stopped};
 use std::alloc::{AllocError, Global};
 
-// Nothing at each of so many paths.
+// Returns nothing at each of so many paths. Fails only if memory runs out.
 fn nothing_at(alloc: Global, paths: usize) -> Result<Vec<Option<Found>>, AllocError>
     ensures { IfOk result (λ found. found.items ≡ replicate paths None) }
 {
@@ -31,8 +31,8 @@ fn nothing_at(alloc: Global, paths: usize) -> Result<Vec<Option<Found>>, AllocEr
     Ok(found)
 }
 
-/// What stands at each of some paths below a stored tree, in their order. The trees on the paths are read, each once, and no
-/// other.
+/// Returns what is at each of some paths below a stored tree, in their order. Only the trees on the
+/// paths are read, each once. The faults are those of `see`.
 fn found_each<F: Files>(
     repository: &Repository<F>,
     alloc: Global,
@@ -56,17 +56,18 @@ struct Seen {
     found: Vec<Option<Found>>,
 }
 
-/// Whether a commit differs at some paths from its first parent, and what was seen of that, if there is one.
+/// Whether a commit differs at some paths from its first parent, and what was seen of that, if
+/// there is one.
 #[derive(Drop)]
 struct Compared {
     differs: bool,
     before: Option<Seen>,
 }
 
-/// The parents of a stored commit, and what it has at some paths.
+/// Returns the parents of a stored commit, and what it has at some paths.
 ///
-/// Its content is read, unless it has a row, and the trees on the paths, each once. It is a fault where a call of the files failed,
-/// or where no memory is left.
+/// Its content is read, unless it has a row, and the trees on the paths, each once. It is a fault
+/// if a call of the files failed, or if no memory is left.
 fn see<F: Files>(
     repository: &Repository<F>,
     alloc: Global,
@@ -87,7 +88,7 @@ fn see<F: Files>(
     })
 }
 
-/// The same of a commit that may be the one that was seen last: then nothing is read.
+/// Returns the same of a commit that may be the one that was seen last: then nothing is read.
 fn see_next<F: Files>(
     repository: &Repository<F>,
     alloc: Global,
@@ -108,9 +109,10 @@ fn see_next<F: Files>(
     see(repository, alloc, id, paths, state)
 }
 
-/// Whether what a commit has at some paths isn't what its first parent has there.
+/// Returns whether what a commit has at some paths isn't what its first parent has there.
 ///
-/// The first parent is seen, if there is one. It is a fault where a call of the files failed, or where no memory is left.
+/// The first parent is seen, if there is one. It is a fault if a call of the files failed, or if no
+/// memory is left.
 fn compare<F: Files>(
     repository: &Repository<F>,
     alloc: Global,
@@ -136,11 +138,12 @@ fn compare<F: Files>(
     })
 }
 
-/// Those of some commits that differ at some paths from their first parents, in their order.
+/// Returns those of some commits that differ at some paths from their first parents, in their
+/// order.
 ///
-/// The commits are stored. Of each, its content is read, unless it has a row, and the trees on the paths; and of its first parent the
-/// same, unless it is the commit that comes next, which is then read once. It is a fault where a call of the files failed, or where no
-/// memory is left.
+/// The commits are stored. Of each, its content is read, unless it has a row, and the trees on the
+/// paths; and of its first parent the same, unless it is the commit that comes next, which is then
+/// read once. It is a fault if a call of the files failed, or if no memory is left.
 pub(crate) fn differing<F: Files>(
     repository: &Repository<F>,
     alloc: Global,

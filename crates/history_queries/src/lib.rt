@@ -1,4 +1,5 @@
-//! The replies to the commands that change no file: `names`, `files`, `past`, `log` and `show`, and the rows that `index` keeps.
+//! The replies to the commands that change no file, and the rows that `index` keeps.
+//! The commands are `names`, `files`, `past`, `log` and `show`.
 #![tactic(auto)]
 
 mod differing;

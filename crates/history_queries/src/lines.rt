@@ -8,7 +8,7 @@ ghost use Rattle.history_model.specs.Spelling as spelling;
 use history_model::FileKind;
 use std::alloc::AllocError;
 
-/// The word for a file's kind.
+/// Returns the word for a file's kind.
 pub(crate) fn kind_word(kind: FileKind) -> &'static [u8]
     ensures { result.now ≡ spelling.kind_word kind }
 {
@@ -19,7 +19,7 @@ pub(crate) fn kind_word(kind: FileKind) -> &'static [u8]
     }
 }
 
-/// Appends words, each behind a space.
+/// Appends words, each after a space. Fails only if memory runs out.
 fn more_words(text: &mut Vec<u8>, words: &[&[u8]]) -> Result<(), AllocError>
     ensures { OnOk result (text.new.items
         ≡ text.old.items ++ flat_map (λ word. 32 ∷ word.now) words.now) }
@@ -31,7 +31,7 @@ fn more_words(text: &mut Vec<u8>, words: &[&[u8]]) -> Result<(), AllocError>
     Ok(())
 }
 
-/// Appends a line of words, with one space between and an LF.
+/// Appends a line of words, with one space between and an LF. Fails only if memory runs out.
 pub fn line(text: &mut Vec<u8>, words: &[&[u8]]) -> Result<(), AllocError>
     ensures { OnOk result (text.new.items
         ≡ text.old.items ++ part_text (Line (map (λ word. word.now) words.now))) }
@@ -44,7 +44,7 @@ pub fn line(text: &mut Vec<u8>, words: &[&[u8]]) -> Result<(), AllocError>
     Ok(())
 }
 
-/// Appends a field: its bytes and an LF.
+/// Appends a field: its bytes and an LF. Fails only if memory runs out.
 pub(crate) fn field(text: &mut Vec<u8>, bytes: &[u8]) -> Result<(), AllocError>
     ensures { OnOk result (text.new.items ≡ text.old.items ++ part_text (Field bytes.now)) }
 {

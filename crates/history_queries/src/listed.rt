@@ -16,7 +16,8 @@ use history_repository::{ALL_NAMES, Repository, Shown, Stopped, read_shown, test
 use history_store::hex_digits;
 use std::alloc::{AllocError, Global};
 
-/// Tests that the folder is that of all names, or a name that a repository may hold.
+/// Tests that the folder is that of all names, or a name that a repository may hold. Otherwise
+/// returns `BadName` or `PrivateName`.
 fn test_folder(folder: &[u8]) -> Result<(), Cause>
     ensures { MatchResult result (λ _. folder_cause folder.now ≡ None)
         (λ cause. folder_cause folder.now ≡ Some cause) }
@@ -27,7 +28,7 @@ fn test_folder(folder: &[u8]) -> Result<(), Cause>
     test_name(folder)
 }
 
-/// The text that lists names.
+/// Returns the text that lists names.
 fn names_text(alloc: Global, branch: &[u8], names: &[Shown]) -> Result<Vec<u8>, AllocError>
     ensures { IfOk result
         (λ text. text.items ≡ reply_text (NamesAre branch.now (map shown_name names.now))) }
@@ -53,7 +54,11 @@ fn names_text(alloc: Global, branch: &[u8], names: &[Shown]) -> Result<Vec<u8>, 
     Ok(text)
 }
 
-/// The reply to `names`: the names that stand, or those below a folder, ascending by their bytes, and HEAD's branch.
+/// Returns the reply to `names`: the existing names, or those below a folder, ascending by their
+/// bytes, and HEAD's branch.
+///
+/// It is refused with `BadName` or `PrivateName` if the folder is no name that a repository may
+/// hold. It is a fault if a call of the files failed, or if no memory is left.
 pub fn list_names<F: Files>(
     repository: &Repository<F>,
     alloc: Global,

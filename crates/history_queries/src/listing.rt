@@ -17,7 +17,7 @@ use history_repository::{Repository, Stopped, read_commit_of, root_meant};
 use history_store::hex_digits;
 use std::alloc::{AllocError, Global};
 
-/// The text that lists files.
+/// Returns the text that lists files.
 fn files_text(alloc: Global, files: &[File]) -> Result<Vec<u8>, AllocError>
     ensures { IfOk result (λ text. text.items ≡ reply_text (FilesAre (map line_of files.now))) }
 {
@@ -47,7 +47,11 @@ fn files_text(alloc: Global, files: &[File]) -> Result<Vec<u8>, AllocError>
     Ok(text)
 }
 
-/// The reply to `files`: the files of the commit that the word stands for, their paths ascending.
+/// Returns the reply to `files`: the files of the commit that the word means, their paths
+/// ascending.
+///
+/// It is refused with `UnknownWord`, `AmbiguousWord`, `UnbornHead` or `NotACommit` if the word
+/// means no commit. It is a fault if a call of the files failed, or if no memory is left.
 pub fn list_files<F: Files>(
     repository: &Repository<F>,
     alloc: Global,

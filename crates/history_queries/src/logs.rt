@@ -38,7 +38,7 @@ struct Ends {
 }
 
 impl Ends {
-    /// Tests that the words stand for commits.
+    /// Tests that the words mean commits. Otherwise returns the cause, as `test_all` does.
     fn test(&self) -> Result<(), Cause>
         ensures { MatchResult result (λ _. words_cause (meanings_in self.now) ≡ None)
             (λ cause. words_cause (meanings_in self.now) ≡ Some cause) }
@@ -47,7 +47,7 @@ impl Ends {
     }
 }
 
-/// The commits that words read as.
+/// Returns the commits that words mean.
 fn ids_of(alloc: Global, words: &[WordMeaning]) -> Result<Vec<ObjectId>, AllocError>
     ensures { IfOk result (λ ids. ids.items ≡ filter_map commit_in words.now) }
 {
@@ -56,7 +56,8 @@ fn ids_of(alloc: Global, words: &[WordMeaning]) -> Result<Vec<ObjectId>, AllocEr
     Ok(ids)
 }
 
-/// The seconds of an order's cutoff, where it has one; `BadTime` where its word isn't a number of seconds.
+/// Returns the seconds of an order's cutoff, if it has one; `BadTime` if its word isn't a number of
+/// seconds.
 fn since_of(order: &Order) -> Result<Option<i64>, Cause>
     ensures { (line : model.Order) → IsOrder order.now line → MatchResult result
         (λ since. (since_cause line ≡ None) × IsSince line since)
@@ -71,7 +72,7 @@ fn since_of(order: &Order) -> Result<Option<i64>, Cause>
     }
 }
 
-/// Whether all parents of a commit must be followed in this order.
+/// Returns whether all parents of a commit must be followed in this order.
 fn wants_all_parents(order: &Order, hides: bool) -> bool
     ensures { (line : model.Order) → IsOrder order.now line
         → result ≡ wants_all_parents line hides }
@@ -83,8 +84,8 @@ fn wants_all_parents(order: &Order, hides: bool) -> bool
     }
 }
 
-/// The order of a walk. It is `BadTime` where the cutoff isn't a number of seconds, else `OrderWithParents` where the first
-/// parents alone are to be followed in an order that wants all.
+/// Returns the order of a walk. The error is `BadTime` if the cutoff isn't a number of seconds, and
+/// else `OrderWithParents` if only first parents are to be followed in an order that wants all.
 fn order_of(order: &Order, first_parents: bool, hides: bool) -> Result<walks::Order, Cause>
     ensures { (line : model.Order) → IsOrder order.now line → MatchResult result
         (λ walk. (order_cause line first_parents hides ≡ None)
@@ -109,14 +110,14 @@ fn order_of(order: &Order, first_parents: bool, hides: bool) -> Result<walks::Or
     })
 }
 
-/// Whether one of the paths that a log tells is none.
+/// Returns whether one of a log's paths is invalid.
 fn tells_bad_path(paths: &[Field]) -> bool
     ensures { (told : List Bytes) → ArePaths paths.now told → result ≡ list_any is_bad_path told }
 {
     paths.iter().any(|path| is_bad_path(path))
 }
 
-/// The bytes that are kept of each of some fields.
+/// Returns the bytes that are kept of each of some fields.
 fn kept_each<'a>(alloc: Global, fields: &'a [Field]) -> Result<Vec<&'a [u8]>, AllocError>
     ensures { IfOk result (λ each. map (λ bytes. bytes.now) each.items
         ≡ map kept_bytes fields.now) }
@@ -130,7 +131,7 @@ fn kept_each<'a>(alloc: Global, fields: &'a [Field]) -> Result<Vec<&'a [u8]>, Al
     Ok(each)
 }
 
-/// The text that lists commits.
+/// Returns the text that lists commits.
 fn log_text(alloc: Global, ids: &[ObjectId]) -> Result<Vec<u8>, AllocError>
     ensures { IfOk result (λ text. text.items ≡ reply_text (LogIs (map id_of ids.now))) }
 {
@@ -151,9 +152,11 @@ fn log_text(alloc: Global, ids: &[ObjectId]) -> Result<Vec<u8>, AllocError>
     Ok(text)
 }
 
-/// What the words of a log's items read as: those of the tips, and those of the hidden commits.
+/// Returns what the words of a log's items read as: those of the tips, and those of the hidden
+/// commits.
 ///
-/// All of the words are read, and none is refused. It is a fault where a call of the files failed, or where no memory is left.
+/// All of the words are read, and none is refused. It is a fault if a call of the files failed, or
+/// if no memory is left.
 fn read_ends<F: Files>(
     repository: &Repository<F>,
     alloc: Global,
@@ -174,12 +177,14 @@ fn read_ends<F: Files>(
     Ok(Ends { tips, hidden })
 }
 
-/// The commits of a log's walk, which its paths don't tell: those that its tips reach and no hidden one reaches, in its order.
+/// Returns the commits of a log's walk, whatever its paths: those that its tips reach and no hidden
+/// one reaches, in its order.
 ///
-/// It is refused, and the first of these that holds is told: `UnknownWord`, `AmbiguousWord`, `UnbornHead` or `NotACommit` where a
-/// word stands for no commit, `BadPath` where a path is none, `BadTime` where the cutoff isn't a number of seconds, and
-/// `OrderWithParents` where the first parents alone are to be followed in an order that wants all. It is a fault where a call of
-/// the files failed, or where no memory is left.
+/// It is refused for the first of these causes that holds: `UnknownWord`, `AmbiguousWord`,
+/// `UnbornHead` or `NotACommit` if a word means no commit, `BadPath` if a path is invalid,
+/// `BadTime` if the cutoff isn't a number of seconds, and `OrderWithParents` if only first parents
+/// are to be followed in an order that wants all. It is a fault if a call of the files failed, or
+/// if no memory is left.
 fn walked<F: Files>(
     repository: &Repository<F>,
     alloc: Global,
@@ -203,13 +208,14 @@ fn walked<F: Files>(
     commits(repository, alloc, request)
 }
 
-/// The reply to `log`: the commits of its walk, and with paths those alone that differ at one of them from their first parents,
-/// each on a line.
+/// Returns the reply to `log`: the commits of its walk, and with paths only those that differ at
+/// one of them from their first parents, each on a line.
 ///
-/// It is refused, and the first of these that holds is told: `UnknownWord`, `AmbiguousWord`, `UnbornHead` or `NotACommit` where a
-/// word stands for no commit, `BadPath` where a path is none, `BadTime` where the cutoff isn't a number of seconds, and
-/// `OrderWithParents` where the first parents alone are to be followed in an order that wants all. It is a fault where a call of
-/// the files failed, or where no memory is left.
+/// It is refused for the first of these causes that holds: `UnknownWord`, `AmbiguousWord`,
+/// `UnbornHead` or `NotACommit` if a word means no commit, `BadPath` if a path is invalid,
+/// `BadTime` if the cutoff isn't a number of seconds, and `OrderWithParents` if only first parents
+/// are to be followed in an order that wants all. It is a fault if a call of the files failed, or
+/// if no memory is left.
 pub fn log<F: Files>(
     repository: &Repository<F>,
     alloc: Global,

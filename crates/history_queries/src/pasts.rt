@@ -21,7 +21,7 @@ use history_repository::{Repository, Stopped, first_standing, test_name};
 use history_store::{is_name, log_lines};
 use std::alloc::{AllocError, Global};
 
-/// The text that tells a name's moves, the newest first, by the name's log.
+/// Returns the text that lists a name's moves, the newest first, given the name's log.
 fn past_text(alloc: Global, log: &[u8]) -> Result<Vec<u8>, AllocError>
     ensures { (kind : Kind) (moves : List LogEntry) → IsTrue (list_all (is_log_entry kind) moves)
         → log.now ≡ log_text moves
@@ -44,8 +44,9 @@ fn past_text(alloc: Global, log: &[u8]) -> Result<Vec<u8>, AllocError>
     Ok(text)
 }
 
-/// The name that a word asks for: HEAD for its branch, a name for itself, and another word for the first that stands of the
-/// names that it may mean. A word that means none is left as it is.
+/// Returns the name whose past a word requests: HEAD's branch for HEAD, a name itself, and of
+/// another word the first existing name of those that it may mean. A word that means none is
+/// returned as it is. It is a fault if a call of the files failed, or if no memory is left.
 fn past_name<F: Files>(
     repository: &Repository<F>,
     alloc: Global,
@@ -66,7 +67,11 @@ fn past_name<F: Files>(
     }
 }
 
-/// The reply to `past`: the lines of a name's log, the newest first.
+/// Returns the reply to `past`: the lines of a name's log, the newest first.
+///
+/// It is refused with `BadName` or `PrivateName` if a repository can't hold the name, and with
+/// `NoSuchName` if the name doesn't exist. It is a fault if a call of the files failed, or if no
+/// memory is left.
 pub fn past<F: Files>(
     repository: &Repository<F>,
     alloc: Global,

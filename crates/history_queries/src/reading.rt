@@ -30,9 +30,10 @@ use history_store::parse_commit;
 use history_walks::{Request, list_commits};
 use std::alloc::{AllocError, Global};
 
-// In a whole repository each id that is read names an object of its kind, so only a failed call leads to `fault File`.
+// In a whole repository each id that is read names an object of its kind, so only a failed call
+// leads to `fault File`.
 
-/// The commit of this content.
+/// Returns the commit of this content.
 fn commit_in<F: Files>(
     repository: &Repository<F>,
     alloc: Global,
@@ -46,7 +47,8 @@ fn commit_in<F: Files>(
     Ok(parse_commit(alloc, repository.objects.kind(), content)?.ok_or(Fault::File)?)
 }
 
-/// A stored commit, whose content is read.
+/// Returns a stored commit, whose content is read. It is a fault if a call of the files failed, or
+/// if no memory is left.
 pub(crate) fn read_commit<F: Files>(
     repository: &Repository<F>,
     alloc: Global,
@@ -61,7 +63,8 @@ pub(crate) fn read_commit<F: Files>(
     commit_in(repository, alloc, &content)
 }
 
-/// A commit that is meant. Its content is read only if it wasn't read before.
+/// Returns a commit that is meant. Its content is read only if it wasn't read before. The faults
+/// are those of `read_commit`.
 pub(crate) fn commit_meant<F: Files>(
     repository: &Repository<F>,
     alloc: Global,
@@ -79,7 +82,8 @@ pub(crate) fn commit_meant<F: Files>(
     }
 }
 
-/// The files below a stored tree, their paths ascending. No content of theirs is read.
+/// Returns the files below a stored tree, their paths ascending. No content of theirs is read. The
+/// faults are those of `read_commit`.
 pub(crate) fn files_below<F: Files>(
     repository: &Repository<F>,
     alloc: Global,
@@ -93,7 +97,7 @@ pub(crate) fn files_below<F: Files>(
     Ok(files(alloc, &repository.objects, tree)?)
 }
 
-/// The rows that are kept, once more, of which no row is copied.
+/// Returns the rows that are kept again; no row is copied.
 fn copied_rows<F: Files>(repository: &Repository<F>) -> Result<Option<Graph>, AllocError>
     ensures { IfOk result (λ rows. rows ≡ rows_in repository.now) }
 {
@@ -103,10 +107,11 @@ fn copied_rows<F: Files>(repository: &Repository<F>) -> Result<Option<Graph>, Al
     }
 }
 
-/// The commits that some tips reach and no hidden commit reaches, each once, in the order that is asked for. Of a commit that has a
-/// row no file is read.
+/// Returns the commits that some tips reach and no hidden commit reaches, each once, in the
+/// requested order. Of a commit that has a row no file is read.
 ///
-/// The tips and the hidden ones are stored commits. It is a fault where a call of the files failed, or where no memory is left.
+/// The tips and the hidden ones are stored commits. It is a fault if a call of the files failed, or
+/// if no memory is left.
 pub(crate) fn commits<F: Files>(
     repository: &Repository<F>,
     alloc: Global,
@@ -115,7 +120,7 @@ pub(crate) fn commits<F: Files>(
     ensures lists { (r : plain.Repository) → Stands F.is_honest F.history repository.now r
         → AllHold r request.tips.items → AllHold r request.hidden.items
         → GivesMeant F.reading_may_fail (IsLogged r request) result }
-    // Where all of them have rows the walk asks for no object, so that no failed call stops it.
+    // If all of them have rows, the walk looks up no object, so that no failed call stops it.
     ensures rowed { (r : plain.Repository) → Stands F.is_honest F.history repository.now r
         → AllHeld (rows_of (rows_in repository.now)) request.tips.items
         → AllHeld (rows_of (rows_in repository.now)) request.hidden.items

@@ -30,7 +30,8 @@ use std::alloc::Global;
 /// How a commit's text begins, and that of no other object.
 const COMMIT_FRONT: &[u8] = b"commit ";
 
-/// Whether a stored object is a commit. Of its file the first 7 bytes are read.
+/// Returns whether a stored object is a commit. Of its file the first 7 bytes are read. It is a
+/// fault if a call of the files failed, or if no memory is left.
 fn is_commit<F: Files>(
     repository: &Repository<F>,
     alloc: Global,
@@ -46,7 +47,7 @@ fn is_commit<F: Files>(
     Ok(front.as_slice() == COMMIT_FRONT)
 }
 
-/// The ids of all stored commits.
+/// Returns the ids of all stored commits. The faults are those of `is_commit`.
 fn stored_commits<F: Files>(
     repository: &Repository<F>,
     alloc: Global,
@@ -63,7 +64,7 @@ fn stored_commits<F: Files>(
     Ok(commits)
 }
 
-/// The row that is kept of a commit, if it has one.
+/// Returns the row that is kept of a commit, if it has one.
 fn row_of<'a, F: Files>(repository: &'a Repository<F>, id: &ObjectId) -> Option<&'a Row>
     ensures { IfSome result (λ row. Contains (graph_rows (rows_in repository.now)) row.now
         × (row.now.id ≡ id.now)) }
@@ -71,7 +72,8 @@ fn row_of<'a, F: Files>(repository: &'a Repository<F>, id: &ObjectId) -> Option<
     repository.rows()?.commit_by_id(id)
 }
 
-/// What is told of a stored commit: by its row, if it has one; else its content is read.
+/// Returns what a stored commit says: by its row, if it has one; else its content is read. It is a
+/// fault if a call of the files failed, or if no memory is left.
 pub(crate) fn told_of<F: Files>(
     repository: &Repository<F>,
     alloc: Global,
@@ -103,7 +105,7 @@ pub(crate) fn told_of<F: Files>(
     })
 }
 
-/// What is told of stored commits, in their order.
+/// Returns what stored commits say, in their order. The faults are those of `told_of`.
 fn told<F: Files>(
     repository: &Repository<F>,
     alloc: Global,
@@ -120,7 +122,8 @@ fn told<F: Files>(
     Ok(commits)
 }
 
-/// The rows of all stored commits. They are read in an order in which each comes before its parents.
+/// Returns the rows of all stored commits. They are read in an order in which each comes before its
+/// parents. It is a fault if a call of the files failed, or if no memory is left.
 pub fn all_rows<F: Files>(repository: &Repository<F>, alloc: Global) -> Result<Vec<Row>, Stopped>
     ensures rows { (r : plain.Repository) → Stands F.is_honest F.history repository.now r
         → GivesMeant F.reading_may_fail (λ rows. AreTheRows (model.rows_of r) rows.items)

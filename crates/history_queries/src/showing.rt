@@ -78,7 +78,7 @@ fn actor(alloc: Global, text: &mut Vec<u8>, role: &[u8], actor: &Actor) -> Resul
     field(text, email)
 }
 
-/// The text that shows a commit of this id.
+/// Returns the text that shows a commit of this id.
 fn commit_text(alloc: Global, id: &ObjectId, commit: &Commit) -> Result<Vec<u8>, AllocError>
     ensures { (kind : hash.Kind) → IsPlainCommit kind commit.now → IfOk result (λ text. text.items
         ≡ reply_text (ShowsCommit (shown_commit id.now commit.now))) }
@@ -121,7 +121,7 @@ fn commit_text(alloc: Global, id: &ObjectId, commit: &Commit) -> Result<Vec<u8>,
     Ok(text)
 }
 
-/// The text that shows a file whose content has this id.
+/// Returns the text that shows a file whose content has this id.
 fn content_text(
     alloc: Global,
     kind: FileKind,
@@ -149,7 +149,7 @@ fn content_text(
     Ok(text)
 }
 
-/// The reply to `show` of a commit.
+/// Returns the reply to `show` of a commit.
 fn show_commit<F: Files>(
     repository: &Repository<F>,
     alloc: Global,
@@ -163,7 +163,7 @@ fn show_commit<F: Files>(
     Ok(commit_text(alloc, &meant.id, &commit)?)
 }
 
-/// The text that shows a file whose content has this id.
+/// Returns the text that shows a file whose content has this id. The content is read.
 fn show_file<F: Files>(
     repository: &Repository<F>,
     alloc: Global,
@@ -179,7 +179,8 @@ fn show_file<F: Files>(
     Ok(content_text(alloc, kind, id, &content)?)
 }
 
-/// The reply to `show` of what a commit has at a path.
+/// Returns the reply to `show` of what a commit has at a path. It is refused with `BadPath` if the
+/// path is invalid, `NoSuchPath` if nothing is there, and `IsFolder` if a folder is.
 fn show_content<F: Files>(
     repository: &Repository<F>,
     alloc: Global,
@@ -202,7 +203,12 @@ fn show_content<F: Files>(
     }
 }
 
-/// The reply to `show`: a commit, or what it has at a path.
+/// Returns the reply to `show`: a commit, or what it has at a path.
+///
+/// It is refused with `UnknownWord`, `AmbiguousWord`, `UnbornHead` or `NotACommit` if the word
+/// means no commit, and else with `BadPath` if the path is invalid, `NoSuchPath` if nothing is
+/// there, and `IsFolder` if a folder is. It is a fault if a call of the files failed, or if no
+/// memory is left.
 pub fn show<F: Files>(
     repository: &Repository<F>,
     alloc: Global,
