@@ -31,7 +31,7 @@ abbrev pub HaveAll : List Bytes → List Bytes → Type 0
 HaveAll kept names =
     (name : Bytes) → list_any (bytes_eq name) kept ≡ list_any (bytes_eq name) names
 
--- whether the line's name stands below one to be made, or is to be made and stands below one of all
+-- whether the line's name is below one to be made, or is to be made and is below one of all
 abbrev pub reaches : List Bytes → List Bytes → Line → Bool
 reaches all made line = list_any (λ folder. is_below folder (line_name line)) made
     || (is_made line && list_any (λ folder. is_below folder (line_name line)) all)

@@ -14,15 +14,15 @@ use Rattle.history_repository.specs.declared.repository.Repository.{Repository}
 use Rattle.history_model.specs.Commands as orders
 use Rattle.history_model.specs.Repository as plain
 
--- A repository is asked for this commit.
+-- This commit is requested of a repository.
 pub record AskedCommit {F : Type 0} (IsHonest : F → Type 0) (history : F → History)
     (repository : Repository F) (command : CommitCommand)
     (r : plain.Repository) (order : orders.CommitCommand) : Type 0 where
   pub serves : Stands IsHonest history repository r
   pub reads : IsCommit command order
 
--- A repository is asked for the files of a commit with these edits on these parents, and with the commits that are those of the edits'
--- words, where none of the causes of its name holds.
+-- The files of a commit are requested of a repository, with these edits on these parents, and with
+-- the commits of the edits' words; none of the causes of its name holds.
 pub record AskedFiles {F : Type 0} (IsHonest : F → Type 0) (history : F → History)
     (repository : Repository F) (parents : List ObjectId) (sources : List (Option ObjectId))
     (edits : List Edit)

@@ -1,4 +1,4 @@
--- What a commit stands on, and why it can't stand on it.
+-- What a commit is based on, and why it can't be based on it.
 use Rattle.std.specs.Prelude.{◌≡◌, ⊤, List, [], ◌∷◌, map, length, nat_lt, Option, Some, None, Result, option_map, option_and_then, if◌then◌else◌}
 use Rattle.history_model.specs.Bytes.{Bytes, has_twice}
 use Rattle.history_model.specs.Repository as plain
@@ -23,7 +23,7 @@ IsExpected r orders.New New = ⊤
 IsExpected r (orders.At word) (At meaning) = meaning_of meaning ≡ commit_or_cause r word
 IsExpected r _ _ = ⊥
 
--- what the word of the expectation stands for, if there is one
+-- what the word of the expectation means, if there is one
 abbrev pub expected_meanings : Expected → List (Result Id Cause)
 expected_meanings Any = []
 expected_meanings New = []
@@ -43,7 +43,7 @@ parents_cause ids =
     if nat_lt max_parents (length ids) then Some TooManyParents else if has_twice id_eq ids
     then Some DuplicateParent else None
 
--- the word of an edit's line, if it has one, and the commit that it stands for
+-- the word of an edit's line, if it has one, and the commit that it means
 abbrev pub line_word : orders.EditLine → Option Bytes
 line_word (orders.GraftLine path word source) = Some word
 line_word _ = None
@@ -51,7 +51,8 @@ line_word _ = None
 abbrev pub source_id : plain.Repository → orders.EditLine → Option Id
 source_id r line = option_and_then (commit_of r) (line_word line)
 
--- the name that the commit moves, what it holds, the commit's parents, and of each edit the commit of its word, if it has one
+-- the name that the commit moves, what it holds, the commit's parents, and of each edit the commit
+-- of its word, if it has one
 pub record IsCommitBase (r : plain.Repository) (order : orders.CommitCommand)
     (base : Base) : Type 0 where
   pub name : base.name.items ≡ branch_or_name r order.name

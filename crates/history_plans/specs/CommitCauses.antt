@@ -1,4 +1,5 @@
--- What a commit is refused for by itself and by the name that it moves, and what is read of it where it isn't.
+-- What a commit is refused for by itself and by the name that it moves, and what is read of it if
+-- it isn't.
 use Rattle.std.specs.Prelude.{pos, ◌≡◌, ◌≤◌, ℕ, Vec, Bool, List, [], ◌∷◌, ◌++◌, find, length, Option, Some, None, Result, Ok, Err, IsTrue, IsFalse, not, ◌||◌, nat_lt}
 use Rattle.std.specs.declared.alloc.Global.{Global}
 use Rattle.std.specs.List.{list_any}
@@ -22,8 +23,9 @@ use Rattle.history_model.specs.Repository as plain
 abbrev pub first_among : List Cause → plain.Repository → Command → Option Cause
 first_among causes r command = find (λ cause. holds cause r command) causes
 
--- The causes that the commit's name tells by itself, that its words tell, that what the name holds tells, and the other names, and the
--- parents; and those that the command tells by itself. What is too large may show only when all that is to be stored is made.
+-- The causes that lie in the commit's name itself, in its words, in what the name holds, in the
+-- other names, and in the parents; and those that lie in the command itself. What is too large may
+-- show only when all that is to be stored is made.
 abbrev pub name_form_causes : List Cause
 name_form_causes = BadName ∷ PrivateName ∷ []
 
@@ -42,14 +44,14 @@ parent_causes = TooManyParents ∷ DuplicateParent ∷ []
 abbrev pub name_causes : List Cause
 name_causes = name_form_causes ++ (word_causes ++ (held_causes ++ (place_causes ++ parent_causes)))
 
--- those that its paths tell, on the files before and on those that are grafted
+-- those that lie in its paths, in the files before and in those that are grafted
 abbrev pub path_causes : List Cause
 path_causes = BadPath ∷ IsFolder ∷ NoSuchPath ∷ []
 
 abbrev pub form_causes : List Cause
 form_causes = path_causes ++ (BadActor ∷ BadTime ∷ BadMessage ∷ [])
 
--- the first of these causes that holds is told, or a fault was met
+-- it is refused for the first of these causes that holds, or a fault was met
 abbrev pub IsToldOf : Type 0 → List Cause → plain.Repository → Command → Stopped → Type 0
 IsToldOf MayFail causes r command (Refused cause) = first_among causes r command ≡ Some cause
 IsToldOf MayFail causes r command (Fault fault) = IsReadingFault MayFail (Fault fault)
@@ -57,7 +59,8 @@ IsToldOf MayFail causes r command (Fault fault) = IsReadingFault MayFail (Fault 
 abbrev pub IsToldBy : Type 0 → List Cause → plain.Repository → CommitCommand → Stopped → Type 0
 IsToldBy MayFail causes r order = IsToldOf MayFail causes r (Commit order)
 
--- None of these causes holds, and this is what is meant; or the first is told, or a fault was met.
+-- None of these causes holds, and this is what is meant; or it is refused for the first that holds,
+-- or a fault was met.
 abbrev pub TestsOf : {T : Type 0} → Type 0 → List Cause → plain.Repository → Command
     → (T → Type 0) → Result T Stopped → Type 0
 TestsOf MayFail causes r command IsMeant (Ok value) =
@@ -82,7 +85,7 @@ pub record IsTime (line : ActorLine) (time : Time) : Type 0 where
   pub whole : IsSpellableOffset time.offset
   pub offset : offset_text time.offset ≡ line.offset
 
--- the line's time, where both of its words can stand in an actor's line
+-- the line's time, if both of its words can be in an actor's line
 abbrev pub ReadsTime : ActorLine → Option Time → Type 0
 ReadsTime line (Some time) = IsTime line time
 ReadsTime line None = IsTrue (not (is_seconds line.seconds) || not (is_offset line.offset))
@@ -91,7 +94,8 @@ ReadsTime line None = IsTrue (not (is_seconds line.seconds) || not (is_offset li
 abbrev pub is_long : Bytes → Bool
 is_long content = nat_lt max_content (length content)
 
--- None of the causes that the command tells by itself holds, its message and contents are within their limit, and these are its times.
+-- None of the causes that lie in the command itself holds, its message and contents are within
+-- their limit, and these are its times.
 pub record HasTimes (r : plain.Repository) (order : CommitCommand) (times : Times) : Type 0 where
   pub formed : first_among form_causes r (Commit order) ≡ None
   pub message : length order.message ≤ max_content
@@ -99,7 +103,7 @@ pub record HasTimes (r : plain.Repository) (order : CommitCommand) (times : Time
   pub author : IsTime order.author times.author
   pub committer : IsTime order.committer times.committer
 
--- The times are read; else the first cause is told.
+-- The times are read; or it is refused for the first cause that holds.
 abbrev pub AreTimes : plain.Repository → CommitCommand → Result Times Cause → Type 0
 AreTimes r order (Ok times) = HasTimes r order times
 AreTimes r order (Err cause) =

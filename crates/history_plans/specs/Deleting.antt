@@ -1,4 +1,4 @@
--- What a `delete` asks of its name.
+-- What a `delete` wants of its name.
 use Rattle.std.specs.Prelude.{◌≡◌, List, ◌++◌, Option, Some, None, Result, Ok, Err}
 use Rattle.gix_hash_id.specs.Id.{Id}
 use Rattle.history_model.specs.Causes.{first_cause}
@@ -17,12 +17,12 @@ use Rattle.history_model.specs.Repository as plain
 abbrev pub delete_causes : List Cause
 delete_causes = name_form_causes ++ (word_causes ++ held_causes)
 
--- why a name that holds this, or doesn't stand, can't go
+-- why a name that holds this, or doesn't exist, can't be deleted
 abbrev pub gone_cause : Expected → Option Id → Option Cause
 gone_cause expected None = Some NoSuchName
 gone_cause expected (Some id) = held_cause expected (Some id)
 
--- No cause holds; or the first that does is told, or a fault was met.
+-- No cause holds; or it is refused for the first that does, or a fault was met.
 abbrev pub TestsAll : Type 0 → plain.Repository → Command → Result (Unit {0}) Stopped → Type 0
 TestsAll MayFail r command (Ok done) = first_cause r command ≡ None
 TestsAll MayFail r command (Err (Refused cause)) = first_cause r command ≡ Some cause

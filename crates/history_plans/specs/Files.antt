@@ -51,13 +51,14 @@ IsFoundFor r (Graft graft) found =
     IsSource (table_of r) r.kind (kept_bytes graft.source) (word_files r graft.word.items) found
 IsFoundFor r _ found = ⊤
 
--- the commit of the line's word, where it has one
+-- the commit of the line's word, if it has one
 abbrev pub HasSource : plain.Repository → EditLine → Option ObjectId → Type 0
 HasSource r (GraftLine path word source) (Some id) = commit_of r word ≡ Some (id_of id)
 HasSource r (GraftLine path word source) None = ⊥
 HasSource r _ source = ⊤
 
--- the change at its path is this edit, with the id of the bytes that it puts, or with what it grafts
+-- the change at its path is this edit, with the id of the bytes that it puts, or with what it
+-- grafts
 abbrev pub IsChangeOf : plain.Repository → PathChange → model.Edit → Type 0
 IsChangeOf r change made = Names (table_of r) r.kind change.path.items change.change made
 
@@ -69,7 +70,7 @@ pub record AreReadAs (r : plain.Repository) (changes : Changes) (made : List mod
   pub changes_are : AreChangesOf r changes.made.items made
   pub blobs_are : AreObjectsOf r.kind (flat_map put_bytes made) changes.blobs.items
 
--- the files stand as a folder
+-- the files are stored as a folder
 abbrev pub StandsWithFolders : plain.Repository → FileMap → Type 0
 StandsWithFolders r files = get r.objects (folder_id r.kind files) ≡ Some (StoredFolder files)
 
@@ -96,7 +97,7 @@ edit_parts edit = (edit.path.now, edit.change)
 abbrev pub change_parts : PathChange → Bytes × Change
 change_parts change = (change.path.items, change.change)
 
--- what is answered where edits aren't made
+-- what is returned if edits aren't made
 abbrev pub unmade : EditError → Result (Option EditedFiles) Stopped
 unmade refused.BadPath = Err (Refused cause.BadPath)
 unmade refused.IsFolder = Err (Refused cause.IsFolder)
@@ -106,8 +107,8 @@ unmade refused.Failed = Err (Fault fault.File)
 unmade (refused.Broken oid) = Err (Fault fault.File)
 unmade refused.Memory = Err (Fault fault.Memory)
 
--- The trees of what the edits make of the first commit's files; or what is put or one of these would have the null id; or a folder
--- is met where a file is to be removed; or a fault was met.
+-- The trees of what the edits make of the first commit's files; or what is put or one of these
+-- would have the null id; or there is a folder where a file is to be removed; or a fault was met.
 abbrev pub TellsEdited : Type 0 → plain.Repository → List Id → List model.Edit
     → Result (Option EditedFiles) Stopped → Type 0
 TellsEdited MayFail r ids made (Ok (Some edited)) = AreEdited r.kind (first_files r ids) made edited

@@ -1,4 +1,4 @@
--- What stands in each of the two parts, and what storing values and moving a name make of it.
+-- What is stored in each of the two parts, and what storing values and moving a name make of it.
 use Rattle.std.specs.Prelude.{◌≡◌, ⊤, List, Result, Ok, Err, IsTrue, IsFalse}
 use Rattle.gix_ref_file.specs.History.{History}
 use Rattle.gix_ref_file.specs.Tree.{Tree}
@@ -25,7 +25,7 @@ use Rattle.history_names.specs.Packing.{KeepsRecords}
 use Rattle.history_plans.specs.declared.planning.Moves.{Moves}
 use Rattle.history_model.specs.Repository as plain
 
--- the tree that stands in a part
+-- the tree of a part
 abbrev pub objects_tree : {F : Type 0} → (F → History) → Repository F → Tree
 objects_tree history repository = (history (objects_part repository)).tree
 
@@ -45,7 +45,8 @@ abbrev pub KnowsIds : {F : Type 0} → Repository F → Values → Type 0
 KnowsIds repository values =
     (id : Id) → contains_key (known_ids repository) id ≡ contains_key values id
 
--- The names part is honest and holds the names of this repository, and the records that are kept are those of its `packed-refs`.
+-- The names part is honest and holds the names of this repository, and the records that are kept
+-- are those of its `packed-refs`.
 pub record NamesStand {F : Type 0} (IsHonest : F → Type 0) (history : F → History)
     (repository : Repository F) (r : plain.Repository) : Type 0 where
   pub honest : IsHonest (names_part repository)
@@ -54,7 +55,8 @@ pub record NamesStand {F : Type 0} (IsHonest : F → Type 0) (history : F → Hi
   pub kind : kind_of_names repository.names ≡ r.kind
   pub records : KeepsRecords repository.names (names_tree history repository)
 
--- No id is taken, and the tree holds these values beside those that stood; or one is taken, or a fault was met.
+-- No id is taken, and the tree holds these values beside those that were stored; or one is taken,
+-- or a fault was met.
 abbrev pub StoresValues : Type 0 → Kind → Values → List Value → Tree → Result (Unit {0}) Stopped
     → Type 0
 StoresValues CallFailed kind values more new (Ok done) =
@@ -65,12 +67,13 @@ StoresValues CallFailed kind values more new (Err (Fault File)) = CallFailed
 StoresValues CallFailed kind values more new (Err (Fault IdTaken)) =
     IsTrue (some_taken kind values more)
 
--- A name may come to stand beside those of the repository: it is one, and none of these is a folder of it or lies below it.
+-- A name can be added to those of the repository: it is one, and none of these is a folder of it or
+-- lies below it.
 pub record FitsAmong (r : plain.Repository) (name : Bytes) : Type 0 where
   pub named : IsTrue (is_name name)
   pub apart : (other : Bytes) → IsTrue (stands r other) → IsFalse (do_collide name other)
 
--- The name moves as its entry tells, or a fault was met.
+-- The name moves as its entry says, or a fault was met.
 abbrev pub MovesNames : Type 0 → Tree → Tree → Moves → Result (Unit {0}) Stopped → Type 0
 MovesNames CallFailed old new moves (Ok done) =
     MovesName moves.name.items (entry_of moves.entry) old new

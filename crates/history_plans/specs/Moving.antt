@@ -1,4 +1,4 @@
--- What a `move` asks of its names, and the moves that are made of its lines.
+-- What a `move` wants of its names, and the moves that are made of its lines.
 use Rattle.std.specs.Prelude.{◌≡◌, ⊤, Bool, true, false, not, ◌&&◌, List, [], ◌∷◌, ◌++◌, Option, Some, None, Result, Ok, Err, Vec, is_none, is_some, option_map, bytes_eq, if◌then◌else◌}
 use Rattle.std.specs.declared.alloc.Global.{Global}
 use Rattle.std.specs.List.{AllZip, list_any}
@@ -35,7 +35,8 @@ use Rattle.history_word.specs.declared.command.To as sent
 
 -- ---- causes
 
--- The causes that the names of the lines tell by themselves, and those that the actor and the message tell.
+-- The causes that lie in the names of the lines themselves, and those that lie in the actor and the
+-- message.
 abbrev pub to_causes : List Cause
 to_causes = BadName ∷ PrivateName ∷ NameTwice ∷ []
 
@@ -59,7 +60,7 @@ names_cause names =
     else if has_twice bytes_eq names then Some NameTwice
     else None
 
--- a move can be of these names; or why it can't is told, or no memory is left
+-- a move can be of these names; or it is refused for the cause, or no memory is left
 abbrev pub TestsNames : List Bytes → Result (Unit {0}) Stopped → Type 0
 TestsNames names (Ok done) = names_cause names ≡ None
 TestsNames names (Err (Refused cause)) = names_cause names ≡ Some cause
@@ -83,11 +84,11 @@ AreLines r = AllZip (IsLine r)
 abbrev pub line_name : Line → Bytes
 line_name line = line.name.items
 
--- what its words stand for
+-- what its words mean
 abbrev pub line_meanings : Line → List (Result Id Cause)
 line_meanings line = expected_meanings line.expected ++ meaning_of line.word ∷ []
 
--- whether its name is expected at a commit, and doesn't stand
+-- whether its name is expected at a commit, and doesn't exist
 abbrev pub is_missing : Line → Bool
 is_missing line = list_any (λ _. is_none line.held) (expected_meanings line.expected)
 
@@ -96,7 +97,7 @@ is_new New = true
 is_new Any = false
 is_new (At meaning) = false
 
--- whether it is expected to be new, and stands
+-- whether it is expected to be new, and exists
 abbrev pub is_taken : Line → Bool
 is_taken line = is_new line.expected && is_some line.held
 
@@ -122,17 +123,18 @@ lines_cause lines =
     else if list_any is_elsewhere lines then Some NotExpected
     else None
 
--- whether the line's name is to be made, and collides with one that stands
+-- whether the line's name is to be made, and collides with an existing one
 abbrev pub bars : plain.Repository → To → Bool
 bars r to = not (stands r to.name) && list_any (do_collide to.name) (keys r.names)
 
--- ---- what their logs tell
+-- ---- what their logs say
 
 pub record IsTeller (order : MoveCommand) (actor : Actor) (message : Bytes) : Type 0 where
   pub actor_is : actor_of actor ≡ read_actor order.actor
   pub message_is : message ≡ order.message
 
--- the actor, where no cause holds that it and the message tell; else the first is told
+-- the actor, if no cause holds that lies in it or the message; or it is refused for the first that
+-- holds
 abbrev pub TellsTeller : plain.Repository → MoveCommand → Field → Result Actor Cause → Type 0
 TellsTeller r order message (Ok actor) = (first_among teller_causes r (Move order) ≡ None)
     × IsTeller order actor (kept_bytes message)
@@ -140,7 +142,7 @@ TellsTeller r order message (Err cause) = first_among teller_causes r (Move orde
 
 -- ---- the moves
 
--- the line's name moves to what its word stands for
+-- the line's name moves to what its word means
 pub record IsLineMove (r : plain.Repository) (order : MoveCommand) (to : To)
     (moves : Moves) : Type 0 where
   pub name : moves.name.items ≡ to.name
@@ -149,7 +151,8 @@ pub record IsLineMove (r : plain.Repository) (order : MoveCommand) (to : To)
 abbrev pub AreMoves : plain.Repository → MoveCommand → List To → List Moves → Type 0
 AreMoves r order = AllZip (IsLineMove r order)
 
--- The moves are made where no cause holds; else the first is told, or a fault was met.
+-- The moves are made if no cause holds; or it is refused for the first that holds, or a fault was
+-- met.
 abbrev pub PlansMoves : Type 0 → plain.Repository → MoveCommand
     → Result (Vec Moves Global) Stopped → Type 0
 PlansMoves MayFail r order (Ok moves) =

@@ -11,7 +11,8 @@ use Rattle.history_names.specs.declared.packs.PackedName.{PackedName}
 use Rattle.history_repository.specs.declared.shown.Shown.{Shown}
 use Rattle.history_model.specs.Repository as plain
 
--- the record of a name that is shown so: its id, and, where that isn't the commit that it stands for, this too
+-- the record of a name that is shown so: its id, and, if that isn't the commit that it peels to,
+-- this too
 abbrev pub line_record : NameLine → Record
 line_record line = record {
   name = line.name;
@@ -19,7 +20,7 @@ line_record line = record {
   peeled = if id_eq line.id line.commit then None else Some line.commit;
 }
 
--- The records are those of all names that stand, as `names` shows them.
+-- The records are those of all existing names, as `names` shows them.
 abbrev pub AreAllNames : plain.Repository → List PackedName → Type 0
 AreAllNames r names = records_of names ≡ map line_record (names_shown r None)
 

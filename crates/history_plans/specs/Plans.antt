@@ -51,7 +51,7 @@ pub record IsMade (digests : Kind) (kind : git_object.Kind) (content : Bytes)
   pub kind_is : object.kind ≡ kind
   pub content_is : object.content.items ≡ content
 
--- what tells an object, and a tree
+-- what determines an object, and a tree
 abbrev pub object_parts : NewObject → ObjectId × git_object.Kind × Bytes
 object_parts object = (object.id, object.kind, object.content.items)
 
@@ -67,20 +67,22 @@ AreAdded old trees new =
     IsFalse (list_any is_long_tree trees)
     × (map object_parts new ≡ map object_parts old ++ map tree_parts trees)
 
--- why they aren't: one is over the limit, or no memory was left
+-- why they aren't: one is over the limit, or no memory is left
 abbrev pub IsNotAdded : List EditedTree → Stopped → Type 0
 IsNotAdded trees (Refused cause) = (cause ≡ TooLarge) × IsTrue (list_any is_long_tree trees)
 IsNotAdded trees (Fault Memory) = ⊤
 IsNotAdded trees (Fault File) = ⊥
 IsNotAdded trees (Fault IdTaken) = ⊥
 
--- the objects of what is put, and behind them those of the trees, with the root's id; or why they aren't added
+-- the objects of what is put, and after them those of the trees, with the root's id; or why they
+-- aren't added
 abbrev pub GivesObjects : List NewObject → EditedFiles → Result Below Stopped → Type 0
 GivesObjects blobs edited (Ok below) =
     (below.root ≡ edited.root) × AreAdded blobs edited.trees.items below.objects.items
 GivesObjects blobs edited (Err stopped) = IsNotAdded edited.trees.items stopped
 
--- None of the causes that the command tells by itself holds, its message and contents are within their limit, and these are its actors.
+-- None of the causes that lie in the command itself holds, its message and contents are within
+-- their limit, and these are its actors.
 pub record HasActors (r : plain.Repository) (order : CommitCommand) (actors : Actors) : Type 0 where
   pub formed : first_among form_causes r (Commit order) ≡ None
   pub message : length order.message ≤ max_content
@@ -88,14 +90,15 @@ pub record HasActors (r : plain.Repository) (order : CommitCommand) (actors : Ac
   pub author : actor_of actors.author ≡ read_actor order.author
   pub committer : actor_of actors.committer ≡ read_actor order.committer
 
--- The actors are read; else the first cause is told.
+-- The actors are read; or it is refused for the first cause that holds.
 abbrev pub AreActors : plain.Repository → CommitCommand → Result Actors Cause → Type 0
 AreActors r order (Ok actors) = HasActors r order actors
 AreActors r order (Err cause) =
     first_among (form_causes ++ TooLarge ∷ []) r (Commit order) ≡ Some cause
 
--- What edits come to, where none of the causes holds that their paths tell. Of a content over its limit only a front is kept, so the
--- objects and trees are the commit's where no content is.
+-- What edits come to, if none of the causes that lie in their paths holds. Of a content over its
+-- limit only a front is kept, so the objects and trees are the commit's only if there is no such
+-- content.
 pub record AreNewFiles (r : plain.Repository) (order : CommitCommand)
     (files : NewFiles) : Type 0 where
   pub paths : first_among path_causes r (Commit order) ≡ None
@@ -109,7 +112,8 @@ pub record AreNewFiles (r : plain.Repository) (order : CommitCommand)
 
 -- ---- the commit
 
--- A commit with this tree and these parents, actors and message says what this value says, and its parents' ids are of the kind.
+-- A commit with this tree and these parents, actors and message says what this value says, and its
+-- parents' ids are of the kind.
 pub record Says (kind : Kind) (tree : ObjectId) (parents : List ObjectId) (actors : Actors)
     (message : Bytes) (value : CommitValue) : Type 0 where
   pub tree_is : object_id.id_of tree ≡ folder_id kind value.files
@@ -119,7 +123,7 @@ pub record Says (kind : Kind) (tree : ObjectId) (parents : List ObjectId) (actor
   pub committer_is : actor_of actors.committer ≡ value.committer
   pub message_is : message ≡ value.message
 
--- what is meant, where this content is within its limit; else it is over it, or no memory was left
+-- what is meant, if this content is within its limit; otherwise it is over it, or no memory is left
 abbrev pub IfItFits : {T : Type 0} → Bytes → (T → Type 0) → Result T Stopped → Type 0
 IfItFits content IsMeant (Ok value) = (length content ≤ max_content) × IsMeant value
 IfItFits content IsMeant (Err (Refused cause)) =
@@ -143,8 +147,8 @@ GivesCommitted r order =
 
 -- ---- the plan
 
--- The objects are those of what the command stores, but for some whose text is stored already, in an order of which each beginning
--- leaves a whole store; and the name moves to the commit.
+-- The objects are those of what the command stores, but for some whose text is stored already, in
+-- an order of which each beginning leaves a whole store; and the name moves to the commit.
 pub record IsPlan (r : plain.Repository) (order : CommitCommand) (plan : Plan) : Type 0 where
   pub values : List Value
   pub among : (value : Value) → Contains values value → Contains (stored_by r (Commit order)) value
@@ -154,14 +158,15 @@ pub record IsPlan (r : plain.Repository) (order : CommitCommand) (plan : Plan) :
   pub objects : AreObjectsOf r.kind values plan.objects.items
   pub moves : IsMove r (commit_move r order) plan.moves
 
--- why there is no plan: the first cause is told, or an id is taken, or a fault was met
+-- why there is no plan: it is refused for the first cause that holds, or an id is taken, or a fault
+-- was met
 abbrev pub IsUnplanned : Type 0 → plain.Repository → CommitCommand → Stopped → Type 0
 IsUnplanned MayFail r order (Refused cause) = first_cause r (Commit order) ≡ Some cause
 IsUnplanned MayFail r order (Fault Memory) = ⊤
 IsUnplanned MayFail r order (Fault File) = MayFail
 IsUnplanned MayFail r order (Fault IdTaken) = MayTake r (Commit order)
 
--- A plan is made where no cause holds.
+-- A plan is made if no cause holds.
 abbrev pub Plans : Type 0 → plain.Repository → CommitCommand → Result Plan Stopped → Type 0
 Plans MayFail r order (Ok plan) = (first_cause r (Commit order) ≡ None) × IsPlan r order plan
 Plans MayFail r order (Err stopped) = IsUnplanned MayFail r order stopped

@@ -1,4 +1,4 @@
--- What a `rename` asks of its two names, and how the new one is made.
+-- What a `rename` wants of its two names, and how the new one is made.
 use Rattle.std.specs.Prelude.{◌≡◌, None, Some, Result, Ok, Err}
 use Rattle.gix_hash_id.specs.Id.{id_of}
 use Rattle.gix_hash_id.specs.declared.object_id.ObjectId.{ObjectId}
@@ -14,7 +14,8 @@ use Rattle.history_repository.specs.declared.stopped.Stopped.{Stopped}
 use Rattle.history_repository.specs.declared.stopped.Stopped.TheVariants.{Refused, Fault}
 use Rattle.history_model.specs.Repository as plain
 
--- No cause holds, and the old name holds this id; or the first cause that holds is told, or a fault was met.
+-- No cause holds, and the old name holds this id; or it is refused for the first cause that holds,
+-- or a fault was met.
 abbrev pub TestsRename : Type 0 → plain.Repository → Bytes → Bytes → Result ObjectId Stopped
     → Type 0
 TestsRename MayFail r from to (Ok id) =
@@ -22,12 +23,13 @@ TestsRename MayFail r from to (Ok id) =
 TestsRename MayFail r from to (Err (Refused cause)) = first_cause r (Rename from to) ≡ Some cause
 TestsRename MayFail r from to (Err (Fault fault)) = IsReadingFault MayFail (Fault fault)
 
--- the new name is made at what the old one holds, of which its log tells
+-- the new name is made at what the old one holds, and its log says so
 pub record MakesName (r : plain.Repository) (from to : Bytes) (moves : Moves) : Type 0 where
   pub name : moves.name.items ≡ to
   pub entry : entry_of moves.entry ≡ rename_entry r from to
 
--- The new name is to be made so where no cause holds; else the first is told, or a fault was met.
+-- The new name is to be made so if no cause holds; or it is refused for the first that holds, or a
+-- fault was met.
 abbrev pub PlansRename : Type 0 → plain.Repository → Bytes → Bytes → Result Moves Stopped → Type 0
 PlansRename MayFail r from to (Ok moves) =
     (first_cause r (Rename from to) ≡ None) × MakesName r from to moves

@@ -29,7 +29,8 @@ use Rattle.history_model.specs.Repository as plain
 
 -- ---- causes
 
--- The causes that the words of a tag tell, and what its name holds and stands beside; and those that its tagger and its message tell.
+-- The causes that lie in the words of a tag, in what its name holds, and in the other names; and
+-- those that lie in its tagger and its message.
 abbrev pub target_causes : List Cause
 target_causes = word_causes ++ (held_causes ++ place_causes)
 
@@ -46,18 +47,19 @@ is_tag_place name = begins tags_front name && is_tag_name (tag_rest name)
 
 -- ---- what is read
 
--- what the tag's name holds, and the commit that its word stands for
+-- what the tag's name holds, and the commit that its word means
 pub record IsTagBase (r : plain.Repository) (order : TagCommand) (base : TagBase) : Type 0 where
   pub held : IsHeld r order.name base.held
   pub commit : commit_of r order.word ≡ Some (id_of base.commit)
 
--- None of the causes that tagger and message tell holds, the message is within the limit, and this is the tagger.
+-- None of the causes that lie in tagger and message holds, the message is within the limit, and
+-- this is the tagger.
 pub record HasTagger (r : plain.Repository) (order : TagCommand) (actor : Actor) : Type 0 where
   pub formed : first_among tagger_causes r (Tag order) ≡ None
   pub message : length order.message ≤ max_content
   pub tagger : actor_of actor ≡ read_actor order.tagger
 
--- the tagger is read; else the first cause is told
+-- the tagger is read; or it is refused for the first cause that holds
 abbrev pub TellsTagger : plain.Repository → TagCommand → Field → Result Actor Cause → Type 0
 TellsTagger r order message (Ok actor) = HasTagger r order actor
 TellsTagger r order message (Err cause) =
@@ -78,7 +80,7 @@ pub record IsTagged (r : plain.Repository) (order : TagCommand) (tagged : Tagged
   pub object : IsMadeTag r.kind (new_tag r order) tagged.object
   pub moves : IsMove r (tag_move r order) tagged.moves
 
--- the tag is made; or the first cause is told, or a fault was met
+-- the tag is made; or it is refused for the first cause that holds, or a fault was met
 abbrev pub PlansTag : Type 0 → plain.Repository → TagCommand → Result Tagged Stopped → Type 0
 PlansTag MayFail r order (Ok tagged) = IsTagged r order tagged
 PlansTag MayFail r order (Err (Refused cause)) = first_cause r (Tag order) ≡ Some cause

@@ -1,4 +1,4 @@
-//! Who acted, and when, as a command's line tells it.
+//! Who acted, and when, as a command's line says it.
 
 ghost use Rattle.std.specs.Prelude.{◌≡◌, ◌&&◌, not, IsFalse, MatchOption};
 ghost use Rattle.history_model.specs.Bytes.{Bytes, is_empty};
@@ -36,7 +36,7 @@ fn is_email(field: &Field) -> bool
     }
 }
 
-/// Whether the name and the email can stand in an actor's line. The email may be empty.
+/// Returns whether the name and the email can be in an actor's line. The email may be empty.
 pub(crate) fn has_good_names(line: &ActorLine) -> bool
     ensures { (order : model.ActorLine) → IsActor line.now order
         → result ≡ not (is_bad_actor order) }
@@ -44,14 +44,15 @@ pub(crate) fn has_good_names(line: &ActorLine) -> bool
     is_name(&line.name) && is_email(&line.email)
 }
 
-/// When the actor acted, where both words can stand in an actor's line.
+/// Returns when the actor acted, if both words can be in an actor's line.
 pub(crate) fn time_of(line: &ActorLine) -> Option<Time>
     ensures { (order : model.ActorLine) → IsActor line.now order → ReadsTime order result }
 {
     parse_time(&line.seconds, &line.offset)
 }
 
-/// The actor of a line, who acted at this time; `None` where the parts can't stand in an actor's line.
+/// Returns the actor of a line, who acted at this time; `None` if the parts can't be in an actor's
+/// line.
 pub(crate) fn actor_at(line: ActorLine, time: Time) -> Option<Actor>
     ensures { (order : model.ActorLine) → IsActor line order → IsFalse (is_bad_actor order)
         → IsTime order time

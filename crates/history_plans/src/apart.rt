@@ -12,7 +12,7 @@ use history_word::To;
 use std::alloc::{AllocError, Global};
 use std::collections::BTreeSet;
 
-/// Whether two lines are of one name.
+/// Returns whether two lines are of one name. Fails only if memory runs out.
 pub(crate) fn have_twice(alloc: Global, to: &[To]) -> Result<bool, AllocError>
     ensures { IfOk result (λ twice. twice ≡ has_twice bytes_eq (map to_name to.now)) }
 {
@@ -27,7 +27,7 @@ pub(crate) fn have_twice(alloc: Global, to: &[To]) -> Result<bool, AllocError>
     Ok(false)
 }
 
-/// The names of the lines.
+/// Returns the names of the lines.
 fn all_names<'a>(alloc: Global, lines: &'a [Line]) -> Result<BTreeSet<&'a [u8]>, AllocError>
     ensures { IfOk result (λ names. HaveAll (names_in names.keys) (map line_name lines.now)) }
 {
@@ -40,7 +40,7 @@ fn all_names<'a>(alloc: Global, lines: &'a [Line]) -> Result<BTreeSet<&'a [u8]>,
     Ok(names)
 }
 
-/// Those of the lines' names that are to be made.
+/// Returns those of the lines' names that are to be made.
 fn names_to_make<'a>(alloc: Global, lines: &'a [Line]) -> Result<BTreeSet<&'a [u8]>, AllocError>
     ensures { IfOk result (λ names. HaveAll (names_in names.keys) (made_names lines.now)) }
 {
@@ -55,7 +55,7 @@ fn names_to_make<'a>(alloc: Global, lines: &'a [Line]) -> Result<BTreeSet<&'a [u
     Ok(names)
 }
 
-/// Whether one of the names is a folder of this one.
+/// Returns whether one of the names is a folder of this one.
 fn has_folder_of<'a>(names: &BTreeSet<&'a [u8]>, name: &'a [u8]) -> bool
     ensures { result ≡ list_any (λ folder. is_below folder name.now) (names_in names.now.keys) }
 {
@@ -69,15 +69,16 @@ fn has_folder_of<'a>(names: &BTreeSet<&'a [u8]>, name: &'a [u8]) -> bool
     false
 }
 
-/// Whether a line's name stands below another's, where one of the two is to be made.
+/// Returns whether a line's name is below another's, and one of the two is to be made.
 fn is_reached<'a>(all: &BTreeSet<&'a [u8]>, made: &BTreeSet<&'a [u8]>, line: &'a Line) -> bool
     ensures { result ≡ reaches (names_in all.now.keys) (names_in made.now.keys) line.now }
 {
     has_folder_of(made, &line.name) || (line.held.is_none() && has_folder_of(all, &line.name))
 }
 
-/// Whether the name of a line is to be made and collides with that of another. Of two names that collide one stands below the other,
-/// so that each name's folders alone are looked up.
+/// Returns whether the name of a line is to be made and collides with that of another. Of two names
+/// that collide one is below the other, so only each name's folders are looked up. Fails only if
+/// memory runs out.
 pub(crate) fn do_lines_collide(alloc: Global, lines: &[Line]) -> Result<bool, AllocError>
     ensures { IfOk result (λ found. found ≡ do_lines_collide lines.now) }
 {

@@ -1,4 +1,4 @@
-//! What a `commit` stands on: the name that it moves, what that holds, and the commit's parents.
+//! What a `commit` is based on: the name that it moves, what that holds, and the commit's parents.
 
 ghost use Rattle.std.specs.Prelude.{◌≡◌, MatchResult, None, Some, ◌++◌, ⊤, IfOk, IsTrue, List, map, option_and_then, option_map, option_to_list};
 ghost use Rattle.history_plans.specs.CommitCauses.{IsNamed, Tests, name_form_causes, name_causes, place_causes};
@@ -29,7 +29,9 @@ use history_store::has_twice;
 use history_word::{CommitCommand, Edit, Expect};
 use std::alloc::{AllocError, Global};
 
-/// The name that a `commit` moves: HEAD stands for its branch, and any other is one that a repository may hold.
+/// Returns the name that a `commit` moves: for HEAD its branch, and else the name itself. A name
+/// that a repository can't hold is refused with `BadName` or `PrivateName`; it is a fault if no
+/// memory is left.
 pub(crate) fn name_of<F: Files>(
     repository: &Repository<F>,
     alloc: Global,
@@ -46,7 +48,8 @@ pub(crate) fn name_of<F: Files>(
     Ok(Vec::from_slice(alloc, name)?)
 }
 
-/// The name that a commit moves, what it holds, the commit's parents, and of each edit the commit of its word, if it has one.
+/// The name that a commit moves, what it holds, the commit's parents, and of each edit the commit
+/// of its word, if it has one.
 #[derive(Drop)]
 pub(crate) struct Base {
     pub(crate) name: Vec<u8>,
@@ -64,7 +67,8 @@ pub(crate) enum Expected {
 }
 
 impl Expected {
-    /// Tests the commit that the name stands for, if it stands.
+    /// Tests the commit that the name peels to, `None` if the name doesn't exist. Otherwise returns
+    /// `NoSuchName`, `Taken` or `NotExpected`.
     pub(crate) fn test(self, held: Option<ObjectId>) -> Result<(), Cause>
         ensures { MatchResult result (λ _. held_cause self (option_map id_of held) ≡ None)
             (λ cause. held_cause self (option_map id_of held) ≡ Some cause) }
@@ -83,7 +87,7 @@ impl Expected {
     }
 }
 
-/// What the words of the parents read as, and then those of edits.
+/// Returns what the words of the parents read as, and then those of edits.
 fn all_words(
     alloc: Global,
     parents: &[WordMeaning],
@@ -98,7 +102,7 @@ fn all_words(
     Ok(all)
 }
 
-/// The commits of the edits' words.
+/// Returns the commits of the edits' words.
 fn source_ids(
     alloc: Global,
     sources: &[Option<WordMeaning>],
@@ -120,7 +124,7 @@ fn source_id(source: Option<WordMeaning>) -> Option<ObjectId>
     }
 }
 
-/// Tests that the words stand for commits.
+/// Tests that the words mean commits. Otherwise returns the cause, as `test_all` does.
 pub(crate) fn test_words(expected: Expected, parents: &[WordMeaning]) -> Result<(), Cause>
     ensures { MatchResult result
         (λ _. words_cause (expected_meanings expected ++ map meaning_of parents.now) ≡ None)
@@ -134,7 +138,7 @@ pub(crate) fn test_words(expected: Expected, parents: &[WordMeaning]) -> Result<
     }
 }
 
-/// The parents of a commit: that of its name, and then what its words read as.
+/// Returns the parents of a commit: that of its name, and then what its words read as.
 fn parents_of(
     alloc: Global,
     held: Option<ObjectId>,
@@ -149,7 +153,8 @@ fn parents_of(
     Ok(parents)
 }
 
-/// Tests that the parents are few, and that none stands twice.
+/// Tests that the parents aren't too many, and that none occurs twice. Otherwise returns
+/// `TooManyParents` or `DuplicateParent`.
 fn test_parents(parents: &[ObjectId]) -> Result<(), Cause>
     ensures { MatchResult result (λ _. parents_cause (map id_of parents.now) ≡ None)
         (λ cause. parents_cause (map id_of parents.now) ≡ Some cause) }
@@ -163,7 +168,8 @@ fn test_parents(parents: &[ObjectId]) -> Result<(), Cause>
     Ok(())
 }
 
-/// What is expected of a name, its word read.
+/// Returns what is expected of a name, its word read. It is a fault if a call of the files failed,
+/// or if no memory is left.
 pub(crate) fn read_expected<F: Files>(
     repository: &Repository<F>,
     alloc: Global,
@@ -180,7 +186,7 @@ pub(crate) fn read_expected<F: Files>(
     })
 }
 
-/// What words read as.
+/// Returns what words read as. The faults are those of `read_expected`.
 fn read_words<F: Files>(
     repository: &Repository<F>,
     alloc: Global,
@@ -197,7 +203,8 @@ fn read_words<F: Files>(
     Ok(meanings)
 }
 
-/// What the word of an edit reads as, if it has one.
+/// Returns what the word of an edit reads as, if it has one. The faults are those of
+/// `read_expected`.
 fn read_source<F: Files>(
     repository: &Repository<F>,
     alloc: Global,
@@ -216,7 +223,8 @@ fn read_source<F: Files>(
     }
 }
 
-/// What the words of edits read as, one of each edit, if it has one.
+/// Returns what the words of edits read as, one of each edit, if it has one. The faults are those
+/// of `read_expected`.
 fn read_sources<F: Files>(
     repository: &Repository<F>,
     alloc: Global,
@@ -234,7 +242,8 @@ fn read_sources<F: Files>(
     Ok(sources)
 }
 
-/// Tests that the name holds a commit, or may come to stand beside the others.
+/// Tests that the name holds a commit, or doesn't exist and can be made beside the others.
+/// Otherwise it is refused with `HoldsTag` or `Collides`. The faults are those of `read_expected`.
 fn test_place<F: Files>(
     repository: &Repository<F>,
     alloc: Global,
@@ -259,7 +268,8 @@ fn test_place<F: Files>(
     Ok(())
 }
 
-/// What a `commit` stands on, where no cause of its name, its words and its parents holds.
+/// Returns what a `commit` is based on, if no cause lies in its name, its words and its parents;
+/// otherwise it is refused for the first that holds. The faults are those of `read_expected`.
 pub(crate) fn read_base<F: Files>(
     repository: &Repository<F>,
     alloc: Global,

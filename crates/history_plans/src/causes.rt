@@ -29,7 +29,7 @@ pub(crate) struct Times {
     pub(crate) committer: Time,
 }
 
-/// Whether a title is empty, over its limit, or holds a byte that can't stand in a log's line.
+/// Returns whether a title is empty, over its limit, or holds a byte that can't be in a log's line.
 pub(crate) fn is_bad_title(title: &[u8]) -> bool
     ensures { result ≡ is_bad_title title.now }
 {
@@ -52,7 +52,7 @@ fn has_bad_path(edit: &Edit) -> bool
     }
 }
 
-/// Whether a graft's source is no path; that of all files isn't tested.
+/// Returns whether a graft's source is an invalid path; that of all files isn't tested.
 fn is_bad_source(source: &Field) -> bool
     ensures { (bytes : Bytes) → Keeps max_path source.now bytes
         → result ≡ list_any is_bad_path (source_paths bytes) }
@@ -79,7 +79,7 @@ fn have_bad_path(edits: &[Edit]) -> bool
     edits.iter().any(|edit| has_bad_path(edit))
 }
 
-/// Whether a content that is put is over its limit.
+/// Returns whether a content that is put is over its limit.
 pub(crate) fn have_long_content(edits: &[Edit]) -> bool
     ensures { (lines : List EditLine) → AreEdits edits.now lines
         → result ≡ list_any is_long (flat_map put_contents lines) }
@@ -87,7 +87,7 @@ pub(crate) fn have_long_content(edits: &[Edit]) -> bool
     edits.iter().any(|edit| has_long_content(edit))
 }
 
-/// Tests that no path is bad.
+/// Tests that no path is bad. Otherwise returns `BadPath`.
 pub(crate) fn test_paths(edits: &[Edit]) -> Result<(), Cause>
     ensures { (lines : List EditLine) → AreEdits edits.now lines → MatchResult result
         (λ _. IsFalse (list_any is_bad_path (flat_map edit_paths lines)))
@@ -99,7 +99,9 @@ pub(crate) fn test_paths(edits: &[Edit]) -> Result<(), Cause>
     Ok(())
 }
 
-/// Tests what the command says by itself behind its paths, in the order of the causes.
+/// Tests what the command says by itself after its paths, in the order of the causes, and returns
+/// the times. Otherwise returns the first cause that holds: `BadActor`, `BadTime`, `BadMessage` or
+/// `TooLarge`.
 pub(crate) fn read_times(
     author: &ActorLine,
     committer: &ActorLine,

@@ -17,7 +17,8 @@ use history_repository::{Repository, Stopped, commit_held, read_held, test_name}
 use history_word::Delete;
 use std::alloc::Global;
 
-/// Tests the commit that a name stands for which is to go: it stands, and is where it is expected.
+/// Tests the commit of a name that is to be deleted: the name exists, and is where it is expected.
+/// Otherwise returns `NoSuchName` or `NotExpected`, or `Taken` if the name is expected to be new.
 fn test_gone(expected: Expected, held: Option<ObjectId>) -> Result<(), Cause>
     ensures { MatchResult result (λ _. gone_cause expected (option_map id_of held) ≡ None)
         (λ cause. gone_cause expected (option_map id_of held) ≡ Some cause) }
@@ -29,6 +30,10 @@ fn test_gone(expected: Expected, held: Option<ObjectId>) -> Result<(), Cause>
 }
 
 /// Tests every cause. It changes nothing.
+///
+/// It is refused for the first cause that holds: `BadName`, `PrivateName`, one of a word that means
+/// no commit, `NoSuchName`, `Taken` or `NotExpected`. It is a fault if a call of the files failed,
+/// or if no memory is left.
 pub fn test_delete<F: Files>(
     repository: &Repository<F>,
     alloc: Global,

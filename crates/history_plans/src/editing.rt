@@ -40,8 +40,8 @@ pub(crate) struct Changes {
     pub(crate) blobs: Vec<NewObject>,
 }
 
-/// What an edit changes, for which this was found, and the object of its content, if it has one. Each content is hashed here, and
-/// nowhere else.
+/// Returns what an edit changes, for which this was found, and the object of its content, if it has
+/// one. Each content is hashed here, and nowhere else.
 fn read_edit(kind: Kind, edit: Edit, found: Option<Found>) -> (PathChange, Option<NewObject>)
     ensures change { (r : plain.Repository) → kind ≡ r.kind → IsFoundFor r edit found
         → IsChangeOf r result.0 (kept_edit r edit) }
@@ -76,7 +76,9 @@ fn read_edit(kind: Kind, edit: Edit, found: Option<Found>) -> (PathChange, Optio
     }
 }
 
-/// What edits change, of which these are the commits of their words.
+/// Returns what edits change; these are the commits of their words. It is refused with `BadPath` if
+/// a graft would put a file at a path over the limit. It is a fault if a call of the files failed,
+/// or if no memory is left.
 pub(crate) fn read_edits<F: Files>(
     repository: &Repository<F>,
     alloc: Global,
@@ -103,7 +105,7 @@ pub(crate) fn read_edits<F: Files>(
     Ok(Changes { made, blobs })
 }
 
-/// Whether a change grafts what isn't there.
+/// Returns whether a change grafts what isn't there.
 pub(crate) fn graft_nothing(changes: &[PathChange]) -> bool
     ensures { result ≡ list_any (λ change. grafts_none change.change) changes.now }
 {
@@ -116,7 +118,7 @@ fn grafts_none(change: &Change) -> bool
     matches!(change, Change::Graft(None))
 }
 
-/// The changes as edits of files.
+/// Returns the changes as edits of files.
 fn edits_of(
     alloc: Global,
     changes: &[PathChange],
@@ -133,7 +135,8 @@ fn edits_of(
     Ok(edits)
 }
 
-/// What is answered where edits aren't made.
+/// Returns what comes of edits that aren't made: `None` for a null id, and else a refusal or a
+/// fault.
 fn unmade(error: EditError) -> Result<Option<EditedFiles>, Stopped>
     ensures { result ≡ unmade error }
 {
@@ -147,7 +150,9 @@ fn unmade(error: EditError) -> Result<Option<EditedFiles>, Stopped>
     }
 }
 
-/// What changes make of the first parent's files, or of none; `None` where what is put or a tree would have the null id.
+/// Returns what changes make of the first parent's files, or of none; `None` if what is put or a
+/// tree would have the null id. It is refused with `IsFolder` if there is a folder where a file is
+/// to be removed. The faults are those of `read_edits`.
 pub(crate) fn edited<F: Files>(
     repository: &Repository<F>,
     alloc: Global,

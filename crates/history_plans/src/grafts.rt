@@ -33,7 +33,7 @@ use history_repository::{Repository, Stopped, found_below, kept, root_of};
 use history_word::Edit;
 use std::alloc::Global;
 
-/// The commit of the word of the edit at a place, if it has one.
+/// Returns the commit of the word of the edit at a place, if it has one.
 pub(crate) fn source_at(sources: &[Option<ObjectId>], at: usize) -> Option<ObjectId>
     ensures { result ≡ get_or sources.now at None }
 {
@@ -43,7 +43,8 @@ pub(crate) fn source_at(sources: &[Option<ObjectId>], at: usize) -> Option<Objec
     }
 }
 
-/// What is found for an edit: of a graft, what its source has in the commit of its word.
+/// Returns what is found for an edit: of a graft, what its source has in the commit of its word.
+/// The errors are those of `test_graft`.
 pub(crate) fn found_for<F: Files>(
     repository: &Repository<F>,
     alloc: Global,
@@ -64,7 +65,7 @@ pub(crate) fn found_for<F: Files>(
     Ok(found)
 }
 
-/// What a stored commit's files have at or below a source; all of them at an empty one.
+/// Returns what a stored commit's files have at or below a source; all of them at an empty one.
 fn found_in<F: Files>(
     repository: &Repository<F>,
     alloc: Global,
@@ -86,7 +87,9 @@ fn found_in<F: Files>(
     Ok(Some(Found::Folder { id: root }))
 }
 
-/// Tests that a graft at a path would put each file at one within the limit: one file comes at the path itself.
+/// Tests that a graft at a path would put each file at one within the limit: one file comes at the
+/// path itself. Otherwise it is refused with `BadPath`. It is a fault if a call of the files
+/// failed, or if no memory is left.
 fn test_graft<F: Files>(
     repository: &Repository<F>,
     alloc: Global,
@@ -106,7 +109,7 @@ fn test_graft<F: Files>(
     }
 }
 
-/// The same of a folder. Each different tree below it is read once.
+/// Tests the same of a folder. Each different tree below it is read once.
 fn test_folder<F: Files>(
     repository: &Repository<F>,
     alloc: Global,
@@ -126,7 +129,8 @@ fn test_folder<F: Files>(
     Ok(())
 }
 
-/// The files below a stored tree, of which each different one is read once, however often it stands: all are kept in memory meanwhile.
+/// Returns the files below a stored tree. Each different tree is read once, however often it
+/// occurs: all are kept in memory meanwhile.
 fn files_in<F: Files>(
     repository: &Repository<F>,
     alloc: Global,
@@ -148,7 +152,8 @@ fn have_long_below(path: usize, files: &[File]) -> bool
         .any(|file| is_long_below(path, file.path.len()))
 }
 
-/// Whether a file would come at a path over the limit, as many bytes below a path of as many bytes.
+/// Returns whether a file would come at a path over the limit, as many bytes below a path of as
+/// many bytes.
 fn is_long_below(path: usize, rest: usize) -> bool
     ensures { result ≡ nat_lt max_path (path + 1 + rest) }
 {

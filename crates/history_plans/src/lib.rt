@@ -1,4 +1,5 @@
-//! The plans of the commands that change files: what each is refused for, and what it is to store and to move. Nothing is changed.
+//! The plans of the commands that change files: what refuses each, and what it stores and moves.
+//! Nothing is changed here.
 #![tactic(auto)]
 
 mod actors;

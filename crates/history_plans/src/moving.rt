@@ -31,7 +31,8 @@ use history_store::{Actor, is_name};
 use history_word::{ActorLine, Field, MoveCommand, To};
 use std::alloc::{AllocError, Global};
 
-/// A line of a `move`: its name, what is expected of that, what it holds, and what the line's word reads as.
+/// A line of a `move`: its name, what is expected of that, what it holds, and what the line's word
+/// reads as.
 #[derive(Drop)]
 pub(crate) struct Line {
     pub(crate) name: Vec<u8>,
@@ -40,7 +41,7 @@ pub(crate) struct Line {
     word: WordMeaning,
 }
 
-/// Whether both are one id, or both are none.
+/// Returns whether both are one id, or both are none.
 pub(crate) fn same_id(a: Option<ObjectId>, b: Option<ObjectId>) -> bool
     ensures { result ≡ model.same_id (option_map id_of a) (option_map id_of b) }
 {
@@ -54,21 +55,21 @@ pub(crate) fn same_id(a: Option<ObjectId>, b: Option<ObjectId>) -> bool
 }
 
 impl Line {
-    /// Whether the name is expected at a word's commit and doesn't stand.
+    /// Returns whether the name is expected at a word's commit and doesn't exist.
     fn is_missing(&self) -> bool
         ensures { result ≡ is_missing self.now }
     {
         matches!(self.expected, Expected::At(_)) && self.held.is_none()
     }
 
-    /// Whether the name is expected to be new and stands.
+    /// Returns whether the name is expected to be new and exists.
     fn is_taken(&self) -> bool
         ensures { result ≡ is_taken self.now }
     {
         matches!(self.expected, Expected::New) && self.held.is_some()
     }
 
-    /// Whether the name is expected at a word's commit and isn't there.
+    /// Returns whether the name is expected at a word's commit and isn't there.
     fn is_elsewhere(&self) -> bool
         ensures { result ≡ is_elsewhere self.now }
     {
@@ -79,14 +80,14 @@ impl Line {
         }
     }
 
-    /// Whether the name holds its word's commit before it moves.
+    /// Returns whether the name holds its word's commit before it moves.
     fn is_there(&self) -> bool
         ensures { result ≡ is_there self.now }
     {
         same_id(id_held(self.held), self.word.id())
     }
 
-    /// How the name moves, of which its log tells with this actor and message.
+    /// Returns how the name moves, with this actor and message in its log.
     fn into_moves(
         self,
         alloc: Global,
@@ -120,7 +121,8 @@ fn have_private(to: &[To]) -> bool
     to.iter().any(|to| is_private(&to.name))
 }
 
-/// Tests the names by themselves: a repository may hold each, and none stands twice.
+/// Tests the names by themselves: a repository may hold each, and none occurs twice. Otherwise it
+/// is refused with `BadName`, `PrivateName` or `NameTwice`; it is a fault if no memory is left.
 fn test_names(alloc: Global, to: &[To]) -> Result<(), Stopped>
     ensures { TestsNames (map to_name to.now) result }
 {
@@ -136,7 +138,7 @@ fn test_names(alloc: Global, to: &[To]) -> Result<(), Stopped>
     Ok(())
 }
 
-/// Whether the message has a second line, or can't be a title.
+/// Returns whether the message has a second line, or can't be a title.
 fn is_bad_message(message: &Field) -> bool
     ensures { (r : plain.Repository) (order : orders.MoveCommand)
         → Keeps max_content message.now order.message
@@ -146,7 +148,8 @@ fn is_bad_message(message: &Field) -> bool
     is_bad_title(text) || text.contains(&b'\n')
 }
 
-/// The actor of a move, where neither this nor the message is refused.
+/// Returns the actor of a move, if neither this nor the message is refused; otherwise `BadActor`,
+/// `BadTime` or `BadMessage`.
 fn read_teller(actor: ActorLine, message: &Field) -> Result<Actor, Cause>
     ensures { (r : plain.Repository) (order : orders.MoveCommand)
         → IsActor actor order.actor → Keeps max_content message.now order.message
@@ -176,7 +179,7 @@ fn add_meanings(meanings: &mut Vec<WordMeaning>, line: &Line) -> Result<(), Allo
     Ok(())
 }
 
-/// What the words of the lines read as.
+/// Returns what the words of the lines read as.
 fn meanings_in(alloc: Global, lines: &[Line]) -> Result<Vec<WordMeaning>, AllocError>
     ensures { IfOk result
         (λ meanings. map meaning_of meanings.items ≡ flat_map line_meanings lines.now) }
@@ -206,14 +209,14 @@ fn have_elsewhere(lines: &[Line]) -> bool
     lines.iter().any(|line| line.is_elsewhere())
 }
 
-/// Whether a line's name is there before it moves.
+/// Returns whether a line's name is there before it moves.
 fn have_there(lines: &[Line]) -> bool
     ensures { result ≡ list_any is_there lines.now }
 {
     lines.iter().any(|line| line.is_there())
 }
 
-/// Tests what the names hold.
+/// Tests what the names hold. Otherwise returns `NoSuchName`, `Taken` or `NotExpected`.
 fn test_held(lines: &[Line]) -> Result<(), Cause>
     ensures { MatchResult result (λ _. lines_cause lines.now ≡ None)
         (λ cause. lines_cause lines.now ≡ Some cause) }
@@ -230,7 +233,7 @@ fn test_held(lines: &[Line]) -> Result<(), Cause>
     Ok(())
 }
 
-/// How the names of the lines move, in the order of the lines.
+/// Returns how the names of the lines move, in the order of the lines.
 fn moves_of(
     alloc: Global,
     kind: Kind,
@@ -249,7 +252,8 @@ fn moves_of(
     Ok(moves)
 }
 
-/// A line, its words read, and what its name holds.
+/// Returns a line, its words read, and what its name holds. It is a fault if a call of the files
+/// failed, or if no memory is left.
 fn read_line<F: Files>(repository: &Repository<F>, alloc: Global, to: To) -> Result<Line, Stopped>
     ensures { (r : plain.Repository) (order : orders.To)
         → Stands F.is_honest F.history repository.now r
@@ -284,7 +288,7 @@ fn read_lines<F: Files>(
     Ok(lines)
 }
 
-/// Whether a line's name is to be made, and collides with one that stands.
+/// Returns whether a line's name is to be made, and collides with an existing one.
 fn is_barred<F: Files>(
     repository: &Repository<F>,
     alloc: Global,
@@ -301,7 +305,7 @@ fn is_barred<F: Files>(
     Ok(repository.names.collides_any(alloc, &line.name)?)
 }
 
-/// Whether one of the lines' names is to be made, and collides with one that stands.
+/// Returns whether one of the lines' names is to be made, and collides with an existing one.
 fn have_barred<F: Files>(
     repository: &Repository<F>,
     alloc: Global,
@@ -320,7 +324,8 @@ fn have_barred<F: Files>(
     Ok(false)
 }
 
-/// Tests that each line's name stands, or may come to stand beside the others.
+/// Tests that each line's name exists, or can be made beside the others. Otherwise it is refused
+/// with `Collides`. The faults are those of `read_line`.
 fn test_places<F: Files>(
     repository: &Repository<F>,
     alloc: Global,
@@ -340,7 +345,12 @@ fn test_places<F: Files>(
     Ok(())
 }
 
-/// Tests every cause, and makes the moves. It changes nothing.
+/// Tests every cause, and returns the moves. It changes nothing.
+///
+/// It is refused for the first cause that holds: `BadName`, `PrivateName`, `NameTwice`, one of a
+/// word that means no commit, `NoSuchName`, `Taken`, `NotExpected`, `Collides`, `BadActor`,
+/// `BadTime`, `BadMessage` or `NothingMoves`. It is a fault if a call of the files failed, or if no
+/// memory is left.
 pub fn plan_moves<F: Files>(
     repository: &Repository<F>,
     alloc: Global,

@@ -17,7 +17,8 @@ use history_repository::{ALL_NAMES, Repository, Shown, Stopped, read_shown};
 use history_store::PackedName;
 use std::alloc::Global;
 
-/// The name as it is to be packed: with its id, and of a tag with the commit that it is of. `None` where it isn't a full name.
+/// Returns the name as it is to be packed: with its id, and of a tag with the commit that it is of.
+/// `None` if it isn't a full name.
 fn to_pack(shown: Shown) -> Option<PackedName>
     ensures some { IfSome result
         (λ named. record_of_name named ≡ line_record (shown_name shown)) }
@@ -29,7 +30,7 @@ fn to_pack(shown: Shown) -> Option<PackedName>
     Some(PackedName { name, id, peeled })
 }
 
-/// The names as they are to be packed.
+/// Returns the names as they are to be packed. It is a fault only if no memory is left.
 fn all_to_pack(alloc: Global, shown: Vec<Shown>) -> Result<Vec<PackedName>, Stopped>
     ensures { AreFull shown.items → GivesMeant ⊥ (λ names. records_of names.items
         ≡ map line_record (map shown_name shown.items)) result }
@@ -43,7 +44,8 @@ fn all_to_pack(alloc: Global, shown: Vec<Shown>) -> Result<Vec<PackedName>, Stop
     Ok(names)
 }
 
-/// All names that stand, as they are to be packed. It changes nothing.
+/// Returns all existing names, as they are to be packed. It changes nothing. It is a fault if a
+/// call of the files failed, or if no memory is left.
 pub fn names_to_pack<F: Files>(
     repository: &Repository<F>,
     alloc: Global,

@@ -39,12 +39,12 @@ use std::alloc::{AllocError, Global};
 /// What a commit is to store, and how its name is to move.
 #[derive(Drop)]
 pub struct Plan {
-    /// The content of each `put`, the trees, each behind those of its folders, the commit.
+    /// The content of each `put`, the trees, each after those of its folders, the commit.
     pub objects: Vec<NewObject>,
     pub moves: Moves,
 }
 
-/// A name that is to hold another id, and the line of its log that tells so.
+/// A name that is to hold another id, and the line of its log that says so.
 #[derive(Drop)]
 pub struct Moves {
     pub name: Vec<u8>,
@@ -58,8 +58,9 @@ struct Actors {
     committer: Actor,
 }
 
-/// What a commit's edits come to: the object of each content that they put, the trees of what they make (`None` where one would have the
-/// null id), and whether a content is over its limit.
+/// What a commit's edits come to: the object of each content that they put, the trees of what they
+/// make (`None` if what is put or a tree would have the null id), and whether a content is over its
+/// limit.
 #[derive(Drop)]
 struct NewFiles {
     blobs: Vec<NewObject>,
@@ -81,14 +82,14 @@ struct Committed {
     moves: Moves,
 }
 
-/// Whether a tree is over the limit.
+/// Returns whether a tree is over the limit.
 fn has_long(trees: &[EditedTree]) -> bool
     ensures { result ≡ list_any is_long_tree trees.now }
 {
     trees.iter().any(|tree| tree.content.len() > MAX_CONTENT)
 }
 
-/// Adds the objects of trees, which have their ids.
+/// Adds the objects of trees, which have their ids. Fails only if memory runs out.
 fn add_all(objects: &mut Vec<NewObject>, trees: Vec<EditedTree>) -> Result<(), AllocError>
     ensures { OnOk result (map object_parts objects.new.items
         ≡ map object_parts objects.old.items ++ map tree_parts trees.items) }
@@ -103,7 +104,8 @@ fn add_all(objects: &mut Vec<NewObject>, trees: Vec<EditedTree>) -> Result<(), A
     Ok(())
 }
 
-/// Adds the objects of trees, where each is within the limit.
+/// Adds the objects of trees, if each is within the limit; otherwise it is refused with `TooLarge`.
+/// It is a fault if no memory is left.
 fn add_trees(objects: &mut Vec<NewObject>, trees: Vec<EditedTree>) -> Result<(), Stopped>
     ensures { MatchResult result (λ _. AreAdded objects.old.items trees.items objects.new.items)
         (IsNotAdded trees.items) }
@@ -115,7 +117,9 @@ fn add_trees(objects: &mut Vec<NewObject>, trees: Vec<EditedTree>) -> Result<(),
 }
 
 impl NewFiles {
-    /// The objects of the contents and of the trees, where each tree is within the limit and none has the null id.
+    /// Returns the objects of the contents and of the trees. It is refused with `TooLarge` if a
+    /// tree is over the limit. It is the fault `IdTaken` if what is put or a tree would have the
+    /// null id, and a fault too if no memory is left.
     fn into_objects(self) -> Result<Below, Stopped>
         ensures { MatchOption self.edited (result ≡ Err (why.Fault IdTaken))
             (λ edited. GivesObjects self.blobs.items edited result) }
@@ -130,7 +134,8 @@ impl NewFiles {
     }
 }
 
-/// The actors of a commit's lines, where no cause holds that the command tells by itself behind its paths.
+/// Returns the actors of a commit's lines, if no cause after those of its paths lies in the command
+/// itself; otherwise `BadActor`, `BadTime`, `BadMessage` or `TooLarge`.
 fn read_actors(
     author: ActorLine,
     committer: ActorLine,
@@ -150,7 +155,7 @@ fn read_actors(
     Ok(Actors { author, committer })
 }
 
-/// The move of a name from one id to another, of which its log tells with this actor and message.
+/// Returns the move of a name from one id to another, with this actor and message in its log.
 pub(crate) fn moves_to(
     name: Vec<u8>,
     before: ObjectId,
@@ -175,7 +180,7 @@ pub(crate) fn moves_to(
     }
 }
 
-/// An object of this content, where that is within the limit.
+/// Returns an object of this content, if that is within the limit; otherwise `TooLarge`.
 pub(crate) fn new_object<F: Files>(
     repository: &Repository<F>,
     kind: gix_object::Kind,
@@ -192,7 +197,8 @@ pub(crate) fn new_object<F: Files>(
     Ok(NewObject::new(repository.objects.kind(), kind, content))
 }
 
-/// The object of the commit that says this, where its content is within the limit.
+/// Returns the object of the commit that says this, if its content is within the limit; otherwise
+/// it is refused with `TooLarge`. It is a fault if no memory is left.
 fn commit_object<F: Files>(
     repository: &Repository<F>,
     alloc: Global,
@@ -218,7 +224,8 @@ fn commit_object<F: Files>(
     Ok(new_object(repository, gix_object::Kind::Commit, content)?)
 }
 
-/// The object of a commit with this root and message on its base, and how its name moves to it.
+/// Returns the object of a commit with this root and message on its base, and how its name moves to
+/// it. The errors are those of `commit_object`.
 fn make_commit<F: Files>(
     repository: &Repository<F>,
     alloc: Global,
@@ -243,7 +250,9 @@ fn make_commit<F: Files>(
     Ok(Committed { object, moves })
 }
 
-/// What edits put, and what they make of the first parent's files, where no cause holds that their paths tell.
+/// Returns what edits put, and what they make of the first parent's files, if no cause lies in
+/// their paths; otherwise it is refused with `BadPath`, `IsFolder` or `NoSuchPath`. It is a fault
+/// if a call of the files failed, or if no memory is left.
 fn new_files<F: Files>(
     repository: &Repository<F>,
     alloc: Global,
@@ -269,7 +278,13 @@ fn new_files<F: Files>(
     })
 }
 
-/// Tests every cause, and makes all that is to be stored. It changes nothing.
+/// Tests every cause, and returns all that is to be stored. It changes nothing.
+///
+/// It is refused for the first cause that holds: `BadName`, `PrivateName`, one of a word that means
+/// no commit, `NoSuchName`, `Taken`, `NotExpected`, `Collides`, `HoldsTag`, `TooManyParents`,
+/// `DuplicateParent`, `BadPath`, `IsFolder`, `NoSuchPath`, `BadActor`, `BadTime`, `BadMessage` or
+/// `TooLarge`. It is a fault if a needed id is taken, a call of the files failed, or no memory is
+/// left.
 pub fn plan_commit<F: Files>(
     repository: &Repository<F>,
     alloc: Global,

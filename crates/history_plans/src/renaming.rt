@@ -22,7 +22,8 @@ use history_store::{Actor, is_name};
 use history_word::Rename;
 use std::alloc::{AllocError, Global};
 
-/// Tests the two names by themselves: a repository may hold both, and they differ.
+/// Tests the two names by themselves: a repository may hold both, and they differ. Otherwise
+/// returns `BadName`, `PrivateName` or `NameTwice`.
 fn test_both(from: &[u8], to: &[u8]) -> Result<(), Cause>
     ensures { MatchResult result (λ _. names_cause (from.now ∷ to.now ∷ []) ≡ None)
         (λ cause. names_cause (from.now ∷ to.now ∷ []) ≡ Some cause) }
@@ -39,7 +40,7 @@ fn test_both(from: &[u8], to: &[u8]) -> Result<(), Cause>
     Ok(())
 }
 
-/// Who renames, in the logs: `history <> 0 +0000`.
+/// Returns who renames, in the logs: `history <> 0 +0000`.
 fn renamer(alloc: Global) -> Result<Actor, AllocError>
     ensures { IfOk result (λ actor. actor_of actor ≡ history_actor) }
 {
@@ -53,7 +54,7 @@ fn renamer(alloc: Global) -> Result<Actor, AllocError>
     })
 }
 
-/// How the new name is made at this id.
+/// Returns how the new name is made at this id.
 fn new_name(alloc: Global, kind: Kind, to: &[u8], id: ObjectId) -> Result<Moves, AllocError>
     ensures { (r : plain.Repository) (from : Bytes) → kind ≡ r.kind
         → id_at r from ≡ Some (id_of id) → id_at r to.now ≡ None
@@ -65,7 +66,8 @@ fn new_name(alloc: Global, kind: Kind, to: &[u8], id: ObjectId) -> Result<Moves,
     Ok(moves_to(name, ObjectId::null(kind), id, actor, message))
 }
 
-/// Tests every cause, and answers what the old name holds. It changes nothing.
+/// Tests every cause, and returns what the old name holds. It changes nothing. The errors are those
+/// of `plan_rename`.
 fn test_rename<F: Files>(
     repository: &Repository<F>,
     alloc: Global,
@@ -88,7 +90,11 @@ fn test_rename<F: Files>(
     Ok(id)
 }
 
-/// Tests every cause, and says how the new name is made. It changes nothing.
+/// Tests every cause, and returns how the new name is made. It changes nothing.
+///
+/// It is refused for the first cause that holds: `BadName`, `PrivateName`, `NameTwice`,
+/// `NoSuchName`, `Taken` or `Collides`. It is a fault if a call of the files failed, or if no
+/// memory is left.
 pub fn plan_rename<F: Files>(
     repository: &Repository<F>,
     alloc: Global,

@@ -12,14 +12,16 @@ use history_model::Cause;
 use history_repository::Repository;
 use history_store::is_name;
 
-/// Whether HEAD may name this branch, as a repository has its names. None below `refs/heads/` belongs to one working tree.
+/// Returns whether HEAD may name this branch, as a repository has its names. None below
+/// `refs/heads/` belongs to one working tree.
 fn is_branch(name: &[u8]) -> bool
     ensures { result ≡ is_branch name.now }
 {
     is_name(name) && name.starts_with(b"refs/heads/")
 }
 
-/// Tests every cause.
+/// Tests every cause. Otherwise returns `BadName` if the name is no branch's, and `NothingMoves` if
+/// HEAD names it already.
 pub fn test_switch<F: Files>(repository: &Repository<F>, name: &[u8]) -> Result<(), Cause>
     ensures { (r : plain.Repository) → Stands F.is_honest F.history repository.now r
         → MatchResult result (λ _. first_cause r (orders.Switch name.now) ≡ None)

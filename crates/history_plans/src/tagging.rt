@@ -32,7 +32,7 @@ use history_store::{Actor, NewObject, is_name, tag_bytes, title};
 use history_word::{ActorLine, Expect, Field, TagCommand};
 use std::alloc::Global;
 
-/// What a tag stands on: what its name holds, and the commit that it is of.
+/// What a tag is based on: what its name holds, and the commit that it is of.
 #[derive(Clone, Copy)]
 struct TagBase {
     held: Option<Held>,
@@ -46,7 +46,7 @@ pub struct Tagged {
     pub moves: Moves,
 }
 
-/// A tag's own name, which follows `refs/tags/`; `None` where no tag has it.
+/// Returns a tag's own name, which follows `refs/tags/`; `None` if no tag may have the name.
 fn own_name(name: &[u8]) -> Option<&[u8]>
     ensures { MatchOption result (IsFalse (is_tag_place name.now))
         (λ own. IsTrue (is_tag_place name.now) × (own.now ≡ tag_rest name.now)) }
@@ -61,7 +61,8 @@ fn own_name(name: &[u8]) -> Option<&[u8]>
     Some(own)
 }
 
-/// The tagger, where neither that nor the message is refused.
+/// Returns the tagger, if neither that nor the message is refused; otherwise `BadActor`, `BadTime`,
+/// `BadMessage` or `TooLarge`.
 fn read_tagger(actor: ActorLine, message: &Field) -> Result<Actor, Cause>
     ensures { (r : plain.Repository) (order : orders.TagCommand)
         → IsActor actor order.tagger → Keeps max_content message.now order.message
@@ -80,7 +81,9 @@ fn read_tagger(actor: ActorLine, message: &Field) -> Result<Actor, Cause>
     Ok(actor_at(actor, time).ok_or(Cause::BadActor)?)
 }
 
-/// What a tag stands on, where no cause of its name and of its words holds but that no tag may have the name.
+/// Returns what a tag is based on, if no cause lies in its words, what its name holds or the other
+/// names; otherwise it is refused for the first that holds. It is a fault if a call of the files
+/// failed, or if no memory is left.
 fn tag_base<F: Files>(
     repository: &Repository<F>,
     alloc: Global,
@@ -107,7 +110,8 @@ fn tag_base<F: Files>(
     Ok(TagBase { held, commit })
 }
 
-/// The object of the tag that says this, where its content is within the limit.
+/// Returns the object of the tag that says this, if its content is within the limit; otherwise it
+/// is refused with `TooLarge`. It is a fault if no memory is left.
 fn tag_object<F: Files>(
     repository: &Repository<F>,
     alloc: Global,
@@ -126,7 +130,12 @@ fn tag_object<F: Files>(
     Ok(new_object(repository, gix_object::Kind::Tag, content)?)
 }
 
-/// Tests every cause, and makes the tag. It changes nothing.
+/// Tests every cause, and returns the tag. It changes nothing.
+///
+/// It is refused for the first cause that holds: `BadName`, one of a word that means no commit,
+/// `NoSuchName`, `Taken`, `NotExpected`, `Collides`, `BadActor`, `BadTime`, `BadMessage`,
+/// `TooLarge` or `NothingMoves`. It is a fault if a call of the files failed, or if no memory is
+/// left.
 pub fn plan_tag<F: Files>(
     repository: &Repository<F>,
     alloc: Global,
