@@ -151,7 +151,7 @@ module _ (m : Move) (apart : AreApart m) where
         others = λ path a b c. ap bytes_of (stay path b);
       }
 
-    -- ---- logs that go
+    -- ---- logs that are removed
     log_goes : (x : Tree) → MayGo (log_path_of m) old x → (contents m x ≡ contents m old) ⊎ (contents m x ≡ record { file = file_at old (place_of m); log = None; lock = file_at old (lock_path_of m) })
     log_goes x may = by_case may.file
       where

@@ -52,7 +52,7 @@ up_files (Pack line) c d (file, log) = file
 up_files Remove c d same = subst (FileStays Remove c) (sym same) refl
 up_files Forget c d same = subst (FileStays Forget c) (sym same) refl
 
--- ---- logs that go
+-- ---- logs that are removed
 updated_between : (act : Act) (c : Contents) → IsBetween act c (updated act c)
 updated_between (Put line) c = record { log = all_noted line c.log; file = inr (refl, refl) }
 updated_between (Note line) c = record { log = all_noted line c.log; file = inl refl }
@@ -114,7 +114,7 @@ pub forget_files : (act : Act) (c d : Contents) → IsForgetting act (updated ac
 forget_files act c d (inl same) = subst (FileStays act c) (sym same) (updated_files act c)
 forget_files act c d (inr same) = subst (FileStays act c) (sym same) (shown_files act c)
 
--- ---- files that go
+-- ---- files that are removed
 pub remove_between : (act : Act) (c d : Contents) → IsRemoving act (shown act c) d → IsBetween act c d
 remove_between (Put line) c d same = subst (IsBetween (Put line) c) (sym same) (shown_between (Put line) c)
 remove_between (Note line) c d same = subst (IsBetween (Note line) c) (sym same) (shown_between (Note line) c)

@@ -17,7 +17,7 @@ use Rattle.gix_ref_moves.specs.Contents.{MayBeNoted}
 use Rattle.gix_ref_moves.specs.Moments.{OtherFilesStay, MayNote, NotesLog, MayGo, IsGone}
 use Rattle.gix_ref_moves.proofs.StepEnds.{not_noted}
 
--- what an outcome tells that passes another on
+-- what an outcome that passes another on says
 pub on_told : {T U E D : Type 0} (P : Type 0) (r : Result T E) (s : Result U D) (u : U) → OnOk r (s ≡ Ok u) → OnOk s P → OnOk r P
 on_told P (Ok x) s u is h = subst (λ o. OnOk o P) is h
 on_told P (Err e) s u is h = tt
@@ -25,7 +25,7 @@ on_told P (Err e) s u is h = tt
 pub files_stay : (here : Bytes) (old x : Tree) → OthersStay here old x → OtherFilesStay here old x
 files_stay here old x stay path apart = ap bytes_of (stay path apart)
 
--- the same of what stands after all
+-- the same of what exists after all
 pub now_of : (P : Tree → Type 0) (old new : History) → P old.tree → Adds P old new → P new.tree
 now_of P old new begin adds = by_case (adds_now P old new adds)
   where
@@ -63,7 +63,7 @@ is_noted line log old mid new same may is = record {
   others = λ path apart. ap (λ t. file_at t path) is ∙ ap bytes_of (others_stay (to_append log line.items) mid path (one_other path log apart)) ∙ same path;
 }
 
--- ---- a file goes
+-- ---- a file is removed
 pub going : (here : Bytes) (old x : Tree) → MayLeave (to_remove_file here) old x → MayGo here old x
 going here old x (inl same) = record { file = inl (ap (λ t. file_at t here) same); others = λ path apart. ap (λ t. file_at t path) same }
 going here old x (inr (n, may, is)) = record {

@@ -1,4 +1,4 @@
--- What moves need stays while others are made, and steps fail for their causes alone.
+-- What moves need stays while others are made, and steps fail only for their causes.
 use Rattle.std.proofs.Common.{◌≡◌, ◌≢◌, ◌⊎◌, true, inl, inr, refl, sym, ◌∙◌, ap, subst, ⊎_elim, ℕ, ◌≤◌, List, [], ◌∷◌, ◌++◌, Option, Some, None, Vec, arith}
 use Rattle.std.specs.Prelude.{Contains, IsTrue, IsSome, is_some, Result, Ok, Err, IfErr, IsErrOf}
 use Rattle.std.specs.List.{AllByRecursion}
@@ -33,7 +33,7 @@ use Rattle.gix_ref_moves.proofs.Progress.{Progress}
 
 -- ---- causes
 
--- what passes an outcome on fails for its cause
+-- a function that passes an outcome on fails for the outcome's cause
 pub told_cause : {T U P : Type 0} (outcome : Result T FileError) (r : Result U CommitError) → IfErr r (λ error. IsOutOfMemory error ⊎ IsErrOf outcome Failed)
     → (IsErrOf outcome Failed → P) → IfErr r (λ error. IsOutOfMemory error ⊎ P)
 told_cause outcome (Ok u) told cause = tt
@@ -148,7 +148,7 @@ module _ (f : Act → Contents → Contents) (moves : List Move) (m : Move) (res
       needs_stay moves old now beside only so_far.others step m among_all so_far.left.0
       (all_at (λ n. Needs step n old) so_far.done m rest (subst (AllByRecursion (λ n. Needs step n old)) so_far.split all))
 
-  -- folders for the sake of one log are for the sake of all
+  -- folders that are made for one log are among those made for all
   pub logs_wider : (x : Tree) → FoldersOnlyOf (logs_of m) now x → FoldersOnlyOf (log_paths moves) now x
   logs_wider x only = only_weaker (logs_of m) (log_paths moves) now x (λ path among. subst (λ ms. Contains (log_paths ms) path) (sym so_far.split) (own_logs so_far.done m rest path among)) only
 

@@ -44,7 +44,7 @@ pub once_moves : (t : Option Transaction) (ms : List Move) → Once (commit_path
 once_moves None ms once = once
 once_moves (Some t) ms once = once.1.1
 
--- ---- where nothing happened
+-- ---- if nothing happened
 pub way_begins : (t : Option Transaction) (ms : List Move) (tree : Tree) → OnTheWay t ms tree tree
 way_begins t ms tree = record {
   each = all_of (λ m. IsBetween m.act (contents m tree) (contents m tree)) ms (λ m. begin_between m.act (contents m tree));
@@ -59,7 +59,7 @@ way_begins t ms tree = record {
     packed_begins None = tt
     packed_begins (Some t) = refl
 
--- ---- updates, and logs that go
+-- ---- updates, and logs that are removed
 pub updating : (ms : List Move) (old x : Tree) → AllMay IsUpdating ms old x → IsShowing ms old x
 updating ms old x may = record {
   way = record {
@@ -100,7 +100,7 @@ packed_apart t ms once = once.0.1
 pub packed_lock_apart : (t : Transaction) (ms : List Move) → Once (commit_paths (Some t) ms) → IsNone (packed.lock_path_of t) (all_paths ms)
 packed_lock_apart t ms once = once.1.0
 
--- where the moves' files alone changed, the packed ones are the same
+-- if only the moves' files changed, the packed ones are the same
 packed_same : (t : Option Transaction) (ms : List Move) (old new : Tree) → Once (commit_paths t ms) → ((path : Bytes) → IsNone path (all_paths ms) → file_at new path ≡ file_at old path) → PackedStays t old new
 packed_same None ms old new once others = tt
 packed_same (Some t) ms old new once others = others (packed.place_of t) (packed_apart t ms once)
@@ -147,7 +147,7 @@ once_less : (t : Option Transaction) (m : Move) (ms : List Move) → Once (commi
 once_less None m ms once = once.1.1.1
 once_less (Some t) m ms once = ((once.0.0, once.0.1.1.1.1), (once.1.0.1.1.1, once.1.1.1.1.1))
 
--- where the packed files alone changed, those of the moves are the same
+-- if only the packed files changed, those of the moves are the same
 moves_same : (t : Option Transaction) (ms : List Move) (old new : Tree) → Once (commit_paths t ms) → ((path : Bytes) → IsNone path (packed_paths t) → file_at new path ≡ file_at old path) → AllSame ms old new
 moves_same t [] old new once others = tt
 moves_same t (m ∷ ms) old new once others =
@@ -173,7 +173,7 @@ logs_on : (t : Option Transaction) (ms : List Move) (old mid x : Tree) → LogsF
 logs_on t ms old mid x (inl packed) locks second = inl (stays_on t old mid x packed second)
 logs_on t ms old mid x (inr (shows, gone)) locks second = inr (each_still Shows ms old mid x still_shows shows locks, each_still LogGone ms old mid x still_gone gone locks)
 
--- locks that go
+-- locks that are removed
 pub way_goes_on : (t : Option Transaction) (ms : List Move) (old mid x : Tree) → OnTheWay t ms old mid → EachOf LocksAlone ms mid x → PackedStays t mid x → ((path : Bytes) → IsNone path (commit_paths t ms) → file_at x path ≡ file_at mid path) → OnTheWay t ms old x
 way_goes_on t ms old mid x way locks second others = record {
   each = each_still IsBetween ms old mid x still_between way.each locks;
@@ -192,7 +192,7 @@ pub way_dropped : (t : Option Transaction) (ms : List Move) (old mid x : Tree) �
 way_dropped t ms old mid x once way keeps =
     way_goes_on t ms old mid x way (locks_same ms mid x (moves_same t ms mid x once keeps.others)) keeps.packed (λ path none. keeps.others path (none_of_packed t ms path none))
 
--- with packed records whose files are no moves'
+-- with packed records whose files are not those of moves
 pub wider : (t : Option Transaction) (ms : List Move) (old x : Tree) → Once (commit_paths t ms) → IsShowing ms old x → OnTheWay t ms old x
 wider t ms old x once showing = record {
   each = showing.way.each;
@@ -242,7 +242,7 @@ module _ (t : Option Transaction) (ms : List Move) (old mid : Tree) (once : Once
       by_case (inl stays) = inl (stays_on t old mid x (packed_same t ms old mid once made.others) stays)
       by_case (inr new) = inr (new_after t ms old mid x once made.others new)
 
-  -- ---- files that go
+  -- ---- files that are removed
   module _ (then : Tree) (replaced : Replaces t mid then) where
     pub then_shown : AllByRecursion (λ m. contents m then ≡ shown m.act (contents m old)) ms
     then_shown = same_shown then (moves_same t ms mid then once replaced.others)

@@ -1,4 +1,4 @@
--- The paths of moves, each of which stands once.
+-- The paths of moves, each of which occurs once.
 use Rattle.std.proofs.Common.{◌≡◌, ◌≢◌, sym, subst, List, [], ◌∷◌, ◌++◌}
 use Rattle.std.specs.List.{AllByRecursion}
 use Rattle.gix_ref_file.specs.Tree.{Tree}
@@ -14,7 +14,7 @@ pub record Clear (n m : Move) : Type 0 where
   pub lock : IsNone (lock_path_of n) (paths_of m)
   pub log : IsNone (log_path_of n) (paths_of m)
 
--- a path that is none of all is none of one
+-- a path that differs from all differs from each one's
 pub none_of_one : (path : Bytes) (done : List Move) (m : Move) (rest : List Move) → IsNone path (all_paths (done ++ m ∷ rest)) → IsNone path (paths_of m)
 none_of_one path [] m rest none = (none.0, (none.1.0, (none.1.1.0, tt)))
 none_of_one path (n ∷ done) m rest none = none_of_one path done m rest none.1.1.1

@@ -1,4 +1,4 @@
--- What stands while moves of several references are committed, with records that are packed.
+-- What exists while moves of several references are committed, with records that are packed.
 use Rattle.std.specs.Prelude.{◌≡◌, ◌⊎◌, false, List, [], ◌∷◌, ◌++◌, Option, Some, None, if◌then◌else◌}
 use Rattle.std.specs.List.{AllByRecursion}
 use Rattle.gix_ref_file.specs.Tree.{Tree, bytes_at}
@@ -13,7 +13,7 @@ use Rattle.gix_ref_moves.specs.declared.act.Act.{Act}
 use Rattle.gix_ref_moves.specs.declared.act.Act.TheVariants.{Put, Note, Pack, Remove, Forget}
 use Rattle.gix_ref_moves.specs.declared.act.Move.{Move}
 
--- where packed records stand, and their lock
+-- the paths of packed records and of their lock
 abbrev pub packed_paths : Option Transaction → List Bytes
 packed_paths None = []
 packed_paths (Some t) = packed.place_of t ∷ packed.lock_path_of t ∷ []
@@ -22,7 +22,7 @@ packed_paths (Some t) = packed.place_of t ∷ packed.lock_path_of t ∷ []
 abbrev pub commit_paths : Option Transaction → List Move → List Bytes
 commit_paths t moves = packed_paths t ++ all_paths moves
 
--- the packed records' file in the end: with the text of its lock, where one was written
+-- the packed records' file in the end: with the text of its lock, if one was written
 abbrev pub packed_end : Transaction → Tree → Option Bytes
 packed_end t old =
     if t.is_written then Some (bytes_at old (packed.lock_path_of t))
@@ -39,12 +39,12 @@ abbrev pub PackedIsNew : Option Transaction → Tree → Tree → Type 0
 PackedIsNew None old tree = Unit {0}
 PackedIsNew (Some t) old tree = file_at tree (packed.place_of t) ≡ packed_end t old
 
--- no file stands at the lock of packed records
+-- there is no file at the path of the lock of packed records
 abbrev pub PackedUnlocked : Option Transaction → Tree → Type 0
 PackedUnlocked None tree = Unit {0}
 PackedUnlocked (Some t) tree = file_at tree (packed.lock_path_of t) ≡ None
 
--- the update shows, with its line in the log; of what is packed the line is there
+-- the update is made, with its line in the log; for what is packed, the log has the line
 abbrev pub Shows : Act → Contents → Contents → Type 0
 Shows (Put line) before now =
     (now.file ≡ (updated (Put line) before).file) × (now.log ≡ (updated (Put line) before).log)
@@ -61,7 +61,7 @@ StaysYet (Pack line) before now = now.file ≡ before.file
 StaysYet Remove before now = (now.file ≡ before.file) × (now.log ≡ before.log)
 StaysYet Forget before now = (now.file ≡ before.file) × (now.log ≡ before.log)
 
--- the file that is to go is as before
+-- the file that is to be removed is as before
 abbrev pub FileStays : Act → Contents → Contents → Type 0
 FileStays (Put line) before now = Unit {0}
 FileStays (Note line) before now = Unit {0}
@@ -69,7 +69,7 @@ FileStays (Pack line) before now = now.file ≡ before.file
 FileStays Remove before now = now.file ≡ before.file
 FileStays Forget before now = now.file ≡ before.file
 
--- no log stands of what is removed
+-- what is removed has no log
 abbrev pub LogGone : Act → Contents → Contents → Type 0
 LogGone (Put line) before now = Unit {0}
 LogGone (Note line) before now = Unit {0}
@@ -81,21 +81,22 @@ abbrev pub EachOf : (Act → Contents → Contents → Type 0) → List Move →
 EachOf Rel moves old tree =
     AllByRecursion (λ m. Rel m.act (contents m old) (contents m tree)) moves
 
--- Nothing is removed yet, and packed records are as before; or all updates show.
+-- Nothing is removed yet, and packed records are as before; or all updates are made.
 abbrev pub UpdatesFirst : Option Transaction → List Move → Tree → Tree → Type 0
 UpdatesFirst t moves old tree =
     (EachOf StaysYet moves old tree × PackedStays t old tree) ⊎ EachOf Shows moves old tree
 
--- No file goes before packed records are as in the end: the record that it hides may tell what stood long ago.
+-- No file is removed before packed records are as in the end: the record that it hides may hold a
+-- much older value.
 abbrev pub RecordsFirst : Option Transaction → List Move → Tree → Tree → Type 0
 RecordsFirst t moves old tree = EachOf FileStays moves old tree ⊎ PackedIsNew t old tree
 
--- Packed records change only once all updates show and no log stands of what is removed.
+-- Packed records change only after all updates are made and all logs of what is removed are gone.
 abbrev pub LogsFirst : Option Transaction → List Move → Tree → Tree → Type 0
 LogsFirst t moves old tree =
     PackedStays t old tree ⊎ (EachOf Shows moves old tree × EachOf LogGone moves old tree)
 
--- What stands at each moment of a commit.
+-- What exists at each moment of a commit.
 pub record OnTheWay (t : Option Transaction) (moves : List Move) (old tree : Tree) : Type 0 where
   pub each : EachOf IsBetween moves old tree
   pub order : UpdatesFirst t moves old tree
@@ -105,7 +106,7 @@ pub record OnTheWay (t : Option Transaction) (moves : List Move) (old tree : Tre
   pub others : (path : Bytes) → IsNone path (commit_paths t moves)
       → file_at tree path ≡ file_at old path
 
--- What stands after it: each act is made, and no lock stands.
+-- What exists after it: each act is made, and there is no lock.
 pub record IsCommitted (t : Option Transaction) (moves : List Move) (old new : Tree) : Type 0 where
   pub each : AllByRecursion (λ m. contents m new ≡ moved m.act (contents m old)) moves
   pub packed : PackedIsNew t old new
@@ -119,7 +120,7 @@ pub record IsCommitted (t : Option Transaction) (moves : List Move) (old new : T
 abbrev pub shown : Act → Contents → Contents
 shown act c = forgotten act (updated act c)
 
--- What stands until then: no file is gone.
+-- What exists until then: no file is gone.
 pub record IsShowing (moves : List Move) (old tree : Tree) : Type 0 where
   pub way : OnTheWay None moves old tree
   pub files : EachOf FileStays moves old tree
@@ -128,7 +129,7 @@ pub record IsShowing (moves : List Move) (old tree : Tree) : Type 0 where
 abbrev pub LocksAlone : Act → Contents → Contents → Type 0
 LocksAlone act before now = (now.file ≡ before.file) × (now.log ≡ before.log)
 
--- no lock stands, and all else is as before
+-- there is no lock, and all else is as before
 pub record NoneLocked (moves : List Move) (old new : Tree) : Type 0 where
   pub gone : AllByRecursion (λ m. file_at new (lock_path_of m) ≡ None) moves
   pub may : AllMay LocksAlone moves old new

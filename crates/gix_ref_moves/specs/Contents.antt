@@ -1,4 +1,5 @@
--- What stands in the files of one reference: its own file, its log, and the lock of its own file (gitrepository-layout).
+-- What the files of one reference hold: its own file, its log, and the lock of its own file
+-- (gitrepository-layout).
 use Rattle.std.specs.Prelude.{ℕ, ◌≡◌, ◌⊎◌, [], ◌++◌, Option, Some, None, Vec, take, unwrap_or}
 use Rattle.std.specs.declared.alloc.Global.{Global}
 use Rattle.gix_ref_file.specs.Tree.{Tree}
@@ -7,13 +8,13 @@ use Rattle.gix_ref_moves.specs.declared.act.Act.{Act}
 use Rattle.gix_ref_moves.specs.declared.act.Act.TheVariants.{Put, Note, Pack, Remove, Forget}
 use Rattle.gix_ref_moves.specs.declared.act.Move.{Move}
 
--- the bytes of each; `None` where no file stands
+-- the bytes of each; `None` if there is no file
 pub record Contents : Type 0 where
   pub file : Option Bytes
   pub log : Option Bytes
   pub lock : Option Bytes
 
--- where they stand
+-- their paths
 abbrev pub place_of : Move → Bytes
 place_of m = m.lock.place.items
 
@@ -31,12 +32,12 @@ contents m tree = record {
   lock = file_at tree (lock_path_of m);
 }
 
--- a log with a line behind what it holds, where there is one
+-- a log with a line appended to it, if there is a line
 abbrev pub noted : Option (Vec ℕ Global) → Option Bytes → Option Bytes
 noted None log = log
 noted (Some line) log = Some (unwrap_or log [] ++ line.items)
 
--- the line that an act puts behind the log
+-- the line that an act appends to the log
 abbrev pub act_line : Act → Option (Vec ℕ Global)
 act_line (Put line) = line
 act_line (Note line) = line
@@ -46,7 +47,7 @@ act_line Forget = None
 
 -- ---- one act after another
 
--- an update's log has its line, the lock's bytes stand in the file's place, and the lock is gone
+-- an update's log has its line, the file has the lock's bytes, and the lock is gone
 abbrev pub updated : Act → Contents → Contents
 updated (Put line) c = record {
   file = Some (unwrap_or c.lock []);
@@ -70,7 +71,7 @@ forgotten Forget c = record { file = c.file; log = None; lock = c.lock }
 abbrev pub gone : Act → Contents → Contents
 gone act c = record { file = None; log = c.log; lock = None }
 
--- so are those of what is removed, and of what is packed
+-- so are the files and locks of what is removed or packed
 abbrev pub removed : Act → Contents → Contents
 removed (Put line) c = c
 removed (Note line) c = c
@@ -84,7 +85,7 @@ moved act c = removed act (forgotten act (updated act c))
 
 -- ---- on the way
 
--- the log as before, or with any beginning of the line behind
+-- the log as before, or with any beginning of the line appended to it
 abbrev pub MayBeNoted : Option (Vec ℕ Global) → Option Bytes → Option Bytes → Type 0
 MayBeNoted None before now = now ≡ before
 MayBeNoted (Some line) before now = (now ≡ before)

@@ -1,4 +1,4 @@
--- What stands while single files change.
+-- What exists while single files change.
 use Rattle.std.specs.Prelude.{ℕ, ◌≡◌, ◌≢◌, ◌⊎◌, Bool, [], Option, Some, None, Vec, unwrap_or, codes, IsFalse, IsTrue}
 use Rattle.std.specs.declared.alloc.Global.{Global}
 use Rattle.gix_ref_file.specs.Tree.{Tree}
@@ -29,12 +29,13 @@ SameButLocks old tree =
 abbrev pub NoFileMore : Tree → Tree → Type 0
 NoFileMore old new = (path : Bytes) → IsTrue (is_file_at new path) → IsTrue (is_file_at old path)
 
--- The log is as before, or has any beginning of the line behind what it held; each other file is as before.
+-- The log is as before, or has any beginning of the line after what it held; each other file is as
+-- before.
 pub record MayNote (line : Option (Vec ℕ Global)) (log : Bytes) (old tree : Tree) : Type 0 where
   pub here : MayBeNoted line (file_at old log) (file_at tree log)
   pub others : OtherFilesStay log old tree
 
--- The log has the line behind what it held; each other file is as before.
+-- The log has the line after what it held; each other file is as before.
 pub record NotesLog (line : Option (Vec ℕ Global)) (log : Bytes) (old new : Tree) : Type 0 where
   pub here : file_at new log ≡ noted line (file_at old log)
   pub others : OtherFilesStay log old new
@@ -70,7 +71,7 @@ pub record AreApart (m : Move) : Type 0 where
 
 -- ---- the single acts
 
--- An update's log may get its line; then, with the whole line, its lock is put or given back.
+-- An update's log may get its line; then, with the whole line, its lock is renamed or given back.
 abbrev pub IsUpdating : Act → Contents → Contents → Type 0
 IsUpdating (acts.Put line) before now =
     ((now.file ≡ before.file) × MayBeNoted line before.log now.log)
@@ -82,16 +83,16 @@ IsUpdating (acts.Pack line) before now =
 IsUpdating acts.Remove before now = now ≡ before
 IsUpdating acts.Forget before now = now ≡ before
 
--- The log of what is removed may go.
+-- The log of what is removed may be gone.
 abbrev pub IsForgetting : Act → Contents → Contents → Type 0
 IsForgetting act before now = (now ≡ before) ⊎ (now ≡ forgotten act before)
 
--- A file may go, and then its lock.
+-- A file may be gone, and then its lock.
 abbrev pub IsGoing : Act → Contents → Contents → Type 0
 IsGoing act before now =
     ((now.file ≡ before.file) ⊎ (now.file ≡ None)) × (now.log ≡ before.log)
 
--- So may those of what is removed, and of what is packed.
+-- So may the files of what is removed or packed.
 abbrev pub IsRemoving : Act → Contents → Contents → Type 0
 IsRemoving (acts.Put line) before now = now ≡ before
 IsRemoving (acts.Note line) before now = now ≡ before

@@ -1,4 +1,5 @@
--- What moves need so that they fail only if a call of the files does, and the logs for whose sake folders come and go.
+-- What moves need so that they fail only if a call of the files does, and the logs for which
+-- folders are made and removed.
 use Rattle.std.specs.Prelude.{ℕ, List, [], ◌∷◌, ◌++◌, Option, Some, None, Vec, Contains, IsTrue, IsSome}
 use Rattle.std.specs.List.{AllByRecursion}
 use Rattle.std.specs.declared.alloc.Global.{Global}
@@ -31,24 +32,24 @@ abbrev pub log_paths : List Move → List Bytes
 log_paths [] = []
 log_paths (m ∷ ms) = logs_of m ++ log_paths ms
 
--- A file may come to stand at the log's path, if a line is to go there.
+-- If there is a line for the log, there may be a file at the log's path.
 abbrev pub CanNote : Option (Vec ℕ Global) → Bytes → Tree → Type 0
 CanNote None log tree = Unit {0}
 CanNote (Some line) log tree = IsTrue (is_path log) × HasWay log tree
 
--- The lock of a move is held, a file may stand in its place, and its log may get its line.
+-- The lock of a move is held, there may be a file at its place, and its log may get its line.
 pub record CanMove (m : Move) (tree : Tree) : Type 0 where
   pub held : IsTrue (is_file_at tree (lock_path_of m))
   pub place : IsTrue (may_hold_file tree (place_of m))
   pub log : CanNote (act_line m.act) (log_path_of m) tree
 
--- the lock of packed records is held, and a file may stand in their place
+-- the lock of packed records is held, and there may be a file at their place
 abbrev pub CanReplace : Option Transaction → Tree → Type 0
 CanReplace None tree = Unit {0}
 CanReplace (Some t) tree = IsTrue (is_file_at tree (packed.lock_path_of t))
     × IsTrue (may_hold_file tree (packed.place_of t))
 
--- none of these paths stands below another
+-- none of these paths is below another
 abbrev pub AreBeside : List Bytes → Type 0
 AreBeside paths =
     (upper lower : Bytes) → Contains paths upper → Contains paths lower → ¬ IsAbove upper lower
@@ -59,7 +60,7 @@ pub record CanCommit (t : Option Transaction) (moves : List Move) (tree : Tree) 
   pub packed : CanReplace t tree
   pub apart : AreBeside (commit_paths t moves)
 
--- an error says that memory was wanting
+-- an error says that memory ran out
 abbrev pub IsOutOfMemory : CommitError → Type 0
 IsOutOfMemory (PackedTransactionCommit error) = IsUncommitted error
 IsOutOfMemory LockCommit = ⊥
@@ -70,7 +71,7 @@ IsOutOfMemory Memory = Unit {0}
 
 -- ---- of the single steps
 
--- the lock is held until the file goes
+-- the lock is held until the file is removed
 abbrev pub KeepsLock : Act → Contents → Type 0
 KeepsLock (acts.Put line) c = Unit {0}
 KeepsLock (acts.Note line) c = Unit {0}

@@ -1,4 +1,4 @@
-//! What becomes of a reference's file and of its log, and why it doesn't.
+//! What is done to a reference's file and to its log, and why it fails.
 
 ghost use Rattle.std.specs.Prelude.{◌≡◌, ◌⊎◌, IfErr, IsErrOf, OnOk};
 ghost use Rattle.gix_ref_file.specs.declared.files.FileError.TheVariants as file_case;
@@ -9,45 +9,46 @@ use gix_ref_transaction::lock::Lock;
 use gix_ref_transaction::packed;
 use thiserror::Error;
 
-/// What becomes of a reference's own file and of its log.
+/// What is done to a reference's own file and to its log.
 #[derive(Debug, Drop, PartialEq, Eq)]
 pub enum Act {
-    /// The log gets this line, where there is one, and then the lock is put in the place of the file.
+    /// Appends this line, if there is one, to the log; then renames the lock to the file's place.
     Put(Option<Vec<u8>>),
-    /// The log gets this line, where there is one, and then the lock is given back.
+    /// Appends this line, if there is one, to the log; then gives the lock back.
     Note(Option<Vec<u8>>),
-    /// The log gets this line, where there is one; and when packed records are replaced, which tell what the file told, the file goes.
+    /// Appends this line, if there is one, to the log. After packed records are replaced, which say
+    /// what the file said, the file is removed.
     Pack(Option<Vec<u8>>),
-    /// The log goes, and then the file.
+    /// Removes the log, and then the file.
     Remove,
-    /// The log goes.
+    /// Removes the log.
     Forget,
 }
 
-/// What becomes of the files of one reference, whose lock is held.
+/// What is done to the files of one reference, whose lock is held.
 #[derive(Debug, Drop)]
 pub struct Move {
     /// The lock of its own file.
     pub lock: Lock,
     /// The path of its log.
     pub log: Vec<u8>,
-    /// What becomes of them.
+    /// What is done to them.
     pub act: Act,
 }
 
-/// Why a log doesn't get its line.
+/// Why a line isn't appended to a log.
 #[derive(Debug, Clone, Copy, PartialEq, Eq, Error)]
 pub enum LogError {
-    /// The folders that it stands in couldn't be made.
+    /// The folders that the log is in couldn't be made.
     #[error("the folders of a log can't be made")]
     CreateLeadingDirectories,
-    /// The line couldn't be put behind what it holds.
+    /// The line couldn't be appended to the log.
     #[error("a log can't get its line")]
     Append,
     /// The message holds a line feed, which would end the line.
     #[error("a log's message must not hold a line feed")]
     MessageWithNewlines,
-    /// No committer was told.
+    /// No committer was given.
     #[error("a log's line needs a committer")]
     MissingCommitter,
     /// The committer has no spelling.
@@ -61,7 +62,7 @@ pub enum CommitError {
     /// The packed references couldn't be replaced.
     #[error(transparent)]
     PackedTransactionCommit(packed::CommitError),
-    /// A lock couldn't be put in its place, or given back.
+    /// A lock couldn't be renamed to its place, or given back.
     #[error("a lock can't be put in its place")]
     LockCommit,
     /// The file of a reference couldn't be removed.
@@ -70,15 +71,16 @@ pub enum CommitError {
     /// The log of a reference couldn't be removed.
     #[error("the log of a reference can't be removed")]
     DeleteReflog,
-    /// The log of a reference didn't get its line.
+    /// A line couldn't be made for the log of a reference, or couldn't be appended to it.
     #[error(transparent)]
     CreateOrUpdateRefLog(LogError),
-    /// No memory is left.
+    /// Memory ran out.
     #[error("no memory is left")]
     Memory,
 }
 
-// What a call of the files told, as this error where it failed.
+// Returns the outcome of a call of the files: `why` if the call failed, and `Memory` if memory ran
+// out.
 pub(crate) fn told(outcome: Result<(), FileError>, why: CommitError) -> Result<(), CommitError>
     ensures done { OnOk result (outcome ≡ Ok tt) }
     ensures failed { IfErr result (λ error.

@@ -1,4 +1,5 @@
-//! Moves of several references' files, whose locks are held: their logs get lines, the locks are put in their places, and files go.
+//! Moves of several references' files, whose locks are held.
+//! Lines are appended to their logs, the locks are renamed to their places, and files are removed.
 #![tactic(auto)]
 
 pub mod act;

@@ -12,7 +12,7 @@ use gix_ref_file::Files;
 use gix_ref_way::make_way;
 use std::alloc::Global;
 
-// Puts the line behind what the log holds, where there is a line.
+// Appends the line, if there is one, to the log.
 pub(crate) fn note<F: Files>(
     alloc: Global,
     files: &mut F,

@@ -1,4 +1,4 @@
-//! The steps in which moves are made: all updates, then the logs go of what is removed, at last its files and those of what is packed.
+//! The steps in which moves are made: first all updates, then removals of logs, then of files.
 
 ghost use Rattle.std.specs.Prelude.{◌≡◌, ◌≤◌, ◌⊎◌, IfErr, IsTrue, OnOk};
 ghost use Rattle.std.specs.List.{AllByRecursion};
@@ -17,11 +17,11 @@ use std::alloc::Global;
 
 #[derive(Debug, Clone, Copy, PartialEq, Eq)]
 pub(crate) enum Step {
-    // Lines are put into logs, and locks in their places.
+    // Appends lines to logs, and renames locks to their places.
     Update,
-    // The logs go of what is removed.
+    // Removes the logs of what is removed.
     Forget,
-    // Its files go, and those of what is packed, with their locks.
+    // Removes the files of what is removed or packed, and their locks.
     Remove,
 }
 
@@ -150,7 +150,7 @@ fn remove<F: Files>(alloc: Global, files: &mut F, made: &Move) -> Result<(), Com
     }
 }
 
-// Removes the file, where one stands, and then gives its lock back.
+// Removes the file, if it exists, and then gives its lock back.
 fn remove_locked<F: Files>(alloc: Global, files: &mut F, made: &Move) -> Result<(), CommitError>
     ensures honest { F.is_honest files.old → F.is_honest files.new }
     ensures later { F.failures files.old ≤ F.failures files.new }
@@ -169,7 +169,7 @@ fn remove_locked<F: Files>(alloc: Global, files: &mut F, made: &Move) -> Result<
     told(made.lock.give_back(alloc, files), CommitError::LockCommit)
 }
 
-// Removes a file, where one stands.
+// Removes a file, if it exists.
 fn remove_file<F: Files>(
     alloc: Global,
     files: &mut F,

@@ -13,7 +13,7 @@ use Rattle.gix_ref_moves.proofs.Givings.{Giving}
 use Rattle.gix_ref_moves.proofs.Unlockings.{Unlocking}
 use Rattle.gix_ref_moves.proofs.commit.give_back_all.Given as goal
 
--- locks alone went, those of all moves but those left, as far as that succeeded
+-- only locks are gone: those of all moves but those left, if giving them back succeeded
 abbrev pub invariant-moves : goal.invariant-moves
 invariant-moves g l =
     let history = g.F.Files.history in
