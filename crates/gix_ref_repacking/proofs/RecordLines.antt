@@ -114,7 +114,7 @@ same_changes records kept (line ∷ lines) holds =
     let rest = same_changes records kept lines holds in
     λ i. (is_some line.says || is_some (one i)) || rest i
 
--- what was read tells whether the records of the tree change
+-- what was read determines whether the records of the tree change
 pub known_changes : (kind : Kind) (text : Option Bytes) (lent : Option (Bor Buffer)) (lines : List Line) → KeepsFile kind text (option_map (λ (buffer : Bor Buffer). kept buffer.now) lent)
     → changes_records (records_of kind text) lines ≡ list_any (changes_record (finds.records_in lent)) lines
 known_changes kind None None lines keeps = refl
@@ -155,7 +155,7 @@ pub any_line : (p : Line → Bool) (edits : List RecordEdit) → list_any (λ ed
 any_line p [] = refl
 any_line p (edit ∷ edits) = ap (λ b. p (line_in edit) || b) (any_line p edits)
 
--- ---- the object that an id stands for
+-- ---- the object that an id leads to
 pub ends_id : {n m : Bytes} {i j : Id} {p q : Option Id} → Ends n i p ≡ Ends m j q → i ≡ j
 ends_id e = cc
 

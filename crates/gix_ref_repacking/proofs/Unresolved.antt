@@ -47,7 +47,7 @@ lost_own R M read table r id to (NotFound oid) (none, lost) may =
     subst (λ (i : Id). IsLost table i (id_of oid)) (sym (ends_id is)) lost.2
 lost_own R M read table r id to Memory fault may = tt
 
--- what is none is why, too
+-- an error that isn't `Resolve` has any cause
 pub anyhow : (Why : Error → Type 0) (error : RepackError) → IfUnresolved (λ _. ⊥) error → IfUnresolved Why error
 anyhow Why (repack.Resolve e) h = absurd h
 anyhow Why (repack.PackedTransactionAcquire e) h = tt
@@ -67,7 +67,7 @@ of_update Why change log expected new is error h = subst (λ c. IfUnresolved (Ch
 pub of_target : (Why : Id → Error → Type 0) (new : Points) (id : Id) → new ≡ ToObject id → (error : RepackError) → IfUnresolved (Why id) error → IfUnresolved (TargetFault Why new) error
 of_target Why new id is error h = subst (λ n. IfUnresolved (TargetFault Why n) error) (sym is) h
 
--- the rest of a list, and what stands before it
+-- the rest of a list, and what comes before it
 abbrev pub IsSplit : List RefEdit → List RefEdit → Type 0
 IsSplit edits rest = (done : List RefEdit) × (edits ≡ done ++ rest)
 

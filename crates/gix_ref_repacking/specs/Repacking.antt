@@ -1,5 +1,6 @@
--- What edits make of packed records (git-pack-refs; gitrepository-layout, "packed-refs"): the records of what is removed go, and those of
--- updates to objects come where updates are packed. Names of which each worktree has its own have no record.
+-- What edits make of packed records (git-pack-refs; gitrepository-layout, "packed-refs"): the
+-- records of what is removed are removed, and those of updates to objects are added if updates are
+-- packed. Names that each worktree has of its own have no record.
 use Rattle.std.specs.Prelude.{◌≡◌, ◌≢◌, ◌||◌, Bool, true, false, is_some, List, [], ◌∷◌, ◌++◌, Option, Some, None, option_map}
 use Rattle.std.specs.List.{list_any}
 use Rattle.std.specs.Option.{option_to_list}
@@ -26,12 +27,13 @@ use Rattle.gix_ref_transaction.specs.Records.{records_in, IsTextOf}
 use Rattle.gix_ref_transaction.specs.declared.packed.Transaction.{Transaction}
 use Rattle.gix_ref_way.specs.Ways.{Bytes, file_at}
 
--- what a record tells beside this id: nothing where an object of it stands that is no tag, else the id that tags lead to
+-- what a record holds besides this id: nothing if the id is that of an object that is no tag, else
+-- the id that tags lead to
 abbrev pub TellsPeeled : Table → Id → Option Id → Type 0
 TellsPeeled table id None = PeelsTo table id id
 TellsPeeled table id (Some end) = PeelsTo table id end × (end ≢ id)
 
--- the record of an id goes under this name
+-- the record of an id is written under this name
 abbrev pub WritesRecord : Table → Id → Bytes → Option Line → Type 0
 WritesRecord table id key line =
     (peeled : Option Id) × TellsPeeled table id peeled
@@ -40,7 +42,7 @@ WritesRecord table id key line =
       says = Some (record { name = key; target = id; peeled = peeled });
     }))
 
--- the record of an update goes with it where updates are packed, which is to an object
+-- the record of an update to an object is written with it, if updates are packed
 abbrev pub UpdatesRecord : Option Table → RefLog → Points → Bytes → Option Line → Type 0
 UpdatesRecord None log new key line = line ≡ None
 UpdatesRecord (Some table) Only new key line = line ≡ None
@@ -56,7 +58,7 @@ ChangesRecord packs (Update log expected new) key line =
     UpdatesRecord packs log.mode (target_view new) key line
 ChangesRecord packs (Delete expected log) key line = line ≡ removal_line log key
 
--- what an edit says of the record that may stand for its name
+-- what an edit says of the record that its name may have
 abbrev pub SaysByKey : Option Table → Change → Option Bytes → Option Line → Type 0
 SaysByKey packs change None line = line ≡ None
 SaysByKey packs change (Some key) line = ChangesRecord packs change key line
@@ -64,7 +66,7 @@ SaysByKey packs change (Some key) line = ChangesRecord packs change key line
 abbrev pub SaysOfRecord : Option Table → RefEdit → Option Line → Type 0
 SaysOfRecord packs edit line = SaysByKey packs edit.change (packed_key edit.name) line
 
--- it is added behind what was said before
+-- it is added after what was said before
 abbrev pub AddsSaid : Option Table → RefEdit → List Line → List Line → Type 0
 AddsSaid packs edit old new =
     (own : Option Line) × SaysOfRecord packs edit own × (new ≡ old ++ option_to_list own)
@@ -76,11 +78,12 @@ SayOfRecords packs (edit ∷ edits) lines =
     (own : Option Line) × (rest : List Line) × SaysOfRecord packs edit own
     × SayOfRecords packs edits rest × (lines ≡ option_to_list own ++ rest)
 
--- whether a line changes these records: it brings one, or one stands for the name that it takes away
+-- whether a line changes these records: it adds one, or removes the one of a name that has one
 abbrev pub changes_record : List Record → Line → Bool
 changes_record records line = is_some line.says || is_some (packed_hit records line.name)
 
--- whether one of these lines does; of records that can't be read nothing is known, so they count as changed
+-- whether one of these lines does; of records that can't be read nothing is known, so they count as
+-- changed
 abbrev pub changes_records : Option (List Record) → List Line → Bool
 changes_records None lines = true
 changes_records (Some records) lines = list_any (changes_record records) lines
@@ -89,7 +92,8 @@ changes_records (Some records) lines = list_any (changes_record records) lines
 abbrev pub changes_tree : Base → Tree → List Line → Bool
 changes_tree b tree lines = changes_records (records_of b.kind (packed_text_in b tree)) lines
 
--- The lock of the records at this place is held, where nothing stood before, and has the text of the old tree's records under these lines.
+-- The lock of the records at this path is held, at whose path nothing was before, and it has the
+-- text of the old tree's records under these lines.
 pub record HoldsRecords (kind : Kind) (place : Bytes) (old new : Tree) (lines : List Line)
     (t : Transaction) : Type 0 where
   pub here : place_of t ≡ place
@@ -100,7 +104,7 @@ pub record HoldsRecords (kind : Kind) (place : Bytes) (old new : Tree) (lines : 
   pub holds : file_at new (lock_path_of t) ≡ Some text
   pub told : IsTextOf kind (records_in t.buffer) lines text
 
--- it is held where records change, and else no record does
+-- it is held if records change; otherwise no record does
 abbrev pub HoldsIf : Base → Tree → Tree → List Line → Option Transaction → Type 0
 HoldsIf b old new lines None = changes_tree b old lines ≡ false
 HoldsIf b old new lines (Some t) =

@@ -1,4 +1,4 @@
--- Why no object is found whose id a record is to tell.
+-- Why no object is found whose id a record is to hold.
 use Rattle.std.specs.Prelude.{◌≡◌, List, Option, Some, Contains}
 use Rattle.gix_hash_id.specs.Id.{Id, id_of}
 use Rattle.gix_object_lookup.specs.Existing.{LookupFault}
@@ -17,7 +17,7 @@ use Rattle.gix_ref_store.specs.declared.store.file.peel.Error.TheVariants.{Follo
 use Rattle.gix_ref_repacking.specs.declared.error.RepackError.{RepackError}
 use Rattle.gix_ref_repacking.specs.declared.error.RepackError.TheVariants as repack
 
--- a reading failed, or memory was wanting: R says whether readings may fail
+-- a reading failed, or memory ran out: R says whether readings may fail
 abbrev pub GivesUp : Type 0 → FollowError → Type 0
 GivesUp R (follow.Follow existing.NotFound) = ⊥
 GivesUp R (follow.Follow (existing.Find (find.ReferenceCreation error))) = ⊥
@@ -35,7 +35,7 @@ ResolveFault R M table id (Find error) = LookupFault M error
 ResolveFault R M table id (NotFound oid) = IsLost table id (id_of oid)
 ResolveFault R M table id Memory = Unit {0}
 
--- the same where objects are given, by which ids are packed
+-- the same if objects are given, by which ids are packed
 abbrev pub PackFault : {O : Type 0} → Type 0 → (O → Type 0) → (O → Table) → Option O → Id → Error
     → Type 0
 PackFault {O} R may_fail table given id error =

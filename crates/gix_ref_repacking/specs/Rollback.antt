@@ -1,4 +1,4 @@
--- What stands of the lock of packed records after an error.
+-- What is left of the lock of packed records after an error.
 use Rattle.std.specs.Prelude.{ℕ, ◌≡◌, ◌⊎◌}
 use Rattle.gix_ref_file.specs.Tree.{Tree}
 use Rattle.gix_ref_file.specs.Changes.{is_file_at}
@@ -8,28 +8,28 @@ use Rattle.gix_ref_transaction.specs.PackedErrors.{IsShort, IsUnprepared}
 use Rattle.gix_ref_repacking.specs.declared.error.RepackError.{RepackError}
 use Rattle.gix_ref_repacking.specs.declared.error.RepackError.TheVariants.{PackedTransactionAcquire, PackedTransactionPrepare, Resolve, Memory}
 
--- the error came before the lock was asked for
+-- the error came before the lock was to be made
 abbrev pub IsEarly : RepackError → Type 0
 IsEarly (PackedTransactionAcquire error) = ⊥
 IsEarly (PackedTransactionPrepare error) = ⊥
 IsEarly (Resolve error) = Unit {0}
 IsEarly Memory = Unit {0}
 
--- memory was wanting for the lock, or for its text
+-- memory ran out for the lock, or for its text
 abbrev pub WantsMemory : RepackError → Type 0
 WantsMemory (PackedTransactionAcquire error) = IsShort error
 WantsMemory (PackedTransactionPrepare error) = IsUnprepared error
 WantsMemory (Resolve error) = ⊥
 WantsMemory Memory = Unit {0}
 
--- its removal may have failed: a failure was counted, or memory was wanting
+-- its removal may have failed: a failure was counted, or memory ran out
 abbrev pub MayStay : ℕ → ℕ → RepackError → Type 0
 MayStay before now (PackedTransactionAcquire error) = HasRisen before now ⊎ IsShort error
 MayStay before now (PackedTransactionPrepare error) = HasRisen before now ⊎ IsUnprepared error
 MayStay before now (Resolve error) = ⊥
 MayStay before now Memory = ⊥
 
--- a file stands at the lock's path just where one stood, if its removal didn't fail
+-- there is a file at the lock's path exactly if there was one before, unless its removal failed
 abbrev pub IsRolledBack : Bytes → ℕ → ℕ → Tree → Tree → RepackError → Type 0
 IsRolledBack lock before now old new error =
     (is_file_at new lock ≡ is_file_at old lock) ⊎ MayStay before now error

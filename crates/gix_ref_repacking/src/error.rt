@@ -11,16 +11,17 @@ use thiserror::Error;
 /// Why packed records aren't locked.
 #[derive(Debug, Drop, Error)]
 pub enum RepackError {
-    /// The lock of the packed references isn't held.
+    /// The packed references can't be read, or their lock can't be acquired.
     #[error(transparent)]
     PackedTransactionAcquire(packed::Error),
     /// The new packed references can't be written.
     #[error(transparent)]
     PackedTransactionPrepare(packed::PrepareError),
-    /// The object that a reference is to stand for isn't found, whose id its record would tell.
+    /// No object is found for the id that a reference is to hold; its record would hold the
+    /// object's id.
     #[error(transparent)]
     Resolve(peel::Error),
-    /// No memory is left.
+    /// Memory ran out.
     #[error("no memory is left")]
     Memory,
 }

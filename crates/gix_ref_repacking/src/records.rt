@@ -37,13 +37,18 @@ use gix_ref_store::store::file::{ReferenceExt, Store};
 use gix_ref_transaction::packed::{RecordEdit, Transaction};
 use std::alloc::Global;
 
-/// Begins a transaction of the packed references and prepares it, if the edits change records: its lock is then held, and has the new
-/// text. `None` if none changes, as after the deletion of a name without a record. `packed` is what the caller has read of the file, `None` where none stands. The records of references
-/// that are deleted go; where `packed_refs` packs updates, each update to an object gets one, with the id that tags lead to where it is
-/// another. Names of which each worktree has its own have none.
+/// Begins a transaction of the packed references and prepares it, if the edits change records: its
+/// lock is then held, and has the new text. Returns `None` if no record changes, as after the
+/// deletion of a name without a record. `packed` is what the caller has read of the file, `None` if
+/// the file doesn't exist. The records of references that are deleted are removed. If `packed_refs`
+/// packs updates, each update to an object gets a record, with the id that tags lead to if it
+/// differs. Names that each worktree has of its own have no record.
 ///
-/// A lock that stands already isn't touched: it is an error. At each moment each file and folder but the lock is as before. Where no
-/// record changes nothing is done, and after an error the lock has gone, as far as that succeeds.
+/// `PackedTransactionAcquire` if the packed references can't be read or locked,
+/// `PackedTransactionPrepare` if the new text can't be written, `Resolve` if no object is found for
+/// an id that is to be packed, and `Memory` if memory ran out. A lock that exists already isn't
+/// touched. At each moment each file and folder but the lock is as before. If no record changes
+/// nothing is done, and after an error the lock is gone, unless its removal fails.
 pub fn repack<F: Files, O: FindInto>(
     alloc: Global,
     store: &mut Store<F>,
@@ -75,7 +80,7 @@ pub fn repack<F: Files, O: FindInto>(
     ensures resolves { F.is_honest store.old.files → IfSome (objects_in packed_refs.now) O.is_honest
         → let why = PackFault F.reading_may_fail O.may_fail O.table (objects_in packed_refs.now) in
         IfErr result (IfUnresolved (SomeChangeFault why edits.now)) }
-    // An error that isn't early comes from a fault of the files or want of memory.
+    // An error that isn't early comes from a fault of the files, or memory ran out.
     ensures failed { F.is_honest store.old.files → let tree = (F.history store.old.files).tree in
         let b = base_of store.old in let place = packed_place b in
         HasLockPlace place tree → IsReadAt b.kind place tree → IfErr result (λ error. IsEarly error
@@ -91,7 +96,7 @@ pub fn repack<F: Files, O: FindInto>(
     Ok(Some(held))
 }
 
-// Begins a transaction of the packed references at this place, and prepares it with these edits.
+// Begins a transaction of the packed references at this path, and prepares it with these edits.
 fn written<F: Files>(
     alloc: Global,
     files: &mut F,
@@ -122,7 +127,7 @@ fn written<F: Files>(
     Ok(prepared)
 }
 
-// Whether one of the edits changes the records that were read.
+// Returns whether one of the edits changes the records that were read.
 fn change_records(packed: Option<&Buffer>, lines: &[RecordEdit]) -> bool
     ensures { result ≡ list_any (λ line.
         spec.changes_record (records_in packed.entry) (record_edits.line_in line)) lines.now }
@@ -140,7 +145,7 @@ fn changes_records(packed: Option<&Buffer>, line: &RecordEdit) -> bool
     }
 }
 
-// Whether one of the records that were read is of this name.
+// Returns whether one of the records that were read has this name.
 fn has_record(packed: Option<&Buffer>, name: &FullName) -> bool
     ensures { result ≡ is_some (packed_hit (records_in packed.entry) name.now) }
 {
@@ -150,7 +155,7 @@ fn has_record(packed: Option<&Buffer>, name: &FullName) -> bool
     }
 }
 
-// What the edits make of packed records.
+// Returns the edits of packed records that these edits lead to.
 fn record_edits<F: Files, O: FindInto>(
     alloc: Global,
     store: &Store<F>,
@@ -174,7 +179,7 @@ fn record_edits<F: Files, O: FindInto>(
     Ok(lines)
 }
 
-// Adds what an edit makes of the record that may stand for its name.
+// Adds the edit of the record of its name, if the edit leads to one.
 fn add_record_edit<F: Files, O: FindInto>(
     alloc: Global,
     store: &Store<F>,
@@ -196,7 +201,7 @@ fn add_record_edit<F: Files, O: FindInto>(
     Ok(())
 }
 
-// Adds it, where there is one.
+// Adds the edit of a record, if there is one.
 fn push_some(lines: &mut Vec<RecordEdit>, own: Option<RecordEdit>) -> Result<(), RepackError>
     ensures early { IfErr result IsEarly }
     ensures resolved { IfErr result (IfUnresolved (λ _. ⊥)) }
@@ -210,7 +215,7 @@ fn push_some(lines: &mut Vec<RecordEdit>, own: Option<RecordEdit>) -> Result<(),
     Ok(())
 }
 
-// What an edit makes of the record that may stand for its name.
+// Returns the edit of the record of its name, if the edit leads to one.
 fn record_edit<F: Files, O: FindInto>(
     alloc: Global,
     store: &Store<F>,
@@ -234,7 +239,7 @@ fn record_edit<F: Files, O: FindInto>(
     }
 }
 
-// The record goes with the reference.
+// Returns the removal of the record; none if only the log is deleted.
 fn removal_of(alloc: Global, key: &[u8], log: RefLog) -> Result<Option<RecordEdit>, RepackError>
     ensures early { IfErr result IsEarly }
     ensures resolved { IfErr result (IfUnresolved (λ _. ⊥)) }
@@ -249,7 +254,8 @@ fn removal_of(alloc: Global, key: &[u8], log: RefLog) -> Result<Option<RecordEdi
     }
 }
 
-// An update to an object is packed where updates are.
+// Returns the record of an update to an object, if updates are packed; none if only the log is
+// changed.
 fn update_of<F: Files, O: FindInto>(
     alloc: Global,
     store: &Store<F>,
@@ -282,7 +288,8 @@ fn update_of<F: Files, O: FindInto>(
     }
 }
 
-// The record of an id under this name, with the id of the object that it stands for, where that is another.
+// Returns the record of an id under this name, with the id of the object that tags lead to, if it
+// differs.
 fn record_of<F: Files, O: FindInto>(
     alloc: Global,
     store: &Store<F>,
@@ -307,7 +314,7 @@ fn record_of<F: Files, O: FindInto>(
     })
 }
 
-// The id of the object that an id stands for, where that is another.
+// Returns the id of the object that an id leads to, if it differs.
 fn peeled<F: Files, O: FindInto>(
     alloc: Global,
     store: &Store<F>,
