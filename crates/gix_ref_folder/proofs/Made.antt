@@ -29,7 +29,7 @@ at_place root part path place text is of = (is ∙ of.0, of.1)
 pub cause_of : {T : Type 0} (allowed : Bool) (before old now : ℕ) (result : Result T FileError) → before ≡ old → (IsErrOf result Failed → HasRisen before now) → HasCause allowed old now result
 cause_of allowed before old now result same risen failed = inl (subst (λ n. HasRisen n now) same (risen failed))
 
--- what is answered in the place of the system's result makes what that did
+-- what is returned in place of the system's result makes what that did
 pub makes_of : {T : Type 0} (change : Change) (old new : History) (told : Result T Error) (result : Result T FileError)
     → IfOk result (λ value. told ≡ Ok value) → Does change old new told → Makes change old new result
 makes_of change old new told (Ok value) is does = record {
@@ -52,7 +52,7 @@ passed_ok P told (Err e) is says = tt
 pub does_nothing : {T : Type 0} (change : Change) (history : History) (e : Error) → Does {T = T} change history history (Err e)
 does_nothing change history e = record { allowed = tt; made = tt; moments = record { during = []; added = sym (append-nil (trees history)); all = tt } }
 
--- of an error only what was done on the way is known
+-- after an error only what was done on the way is known
 pub does_err : {T U : Type 0} (change : Change) (old new : History) (told : Result U Error) (e : Error) → Does change old new told → Does {T = T} change old new (Err e)
 does_err change old new told e does = record { allowed = tt; made = tt; moments = does.moments }
 
@@ -82,7 +82,7 @@ now_has P old new adds before =
     let now : last new.tree (trees old ++ adds.during) ≡ new.tree = ap (last new.tree) (sym adds.added) ∙ last_trees new.past new.tree new.tree in
     subst P now (last_added P old.past old.tree new.tree adds.during adds.all before)
 
--- where something is already, the making of a file changes nothing
+-- if something is there already, the making of a file changes nothing
 made_none : (path bytes : List ℕ) (tree : Tree) → IsSome (node_at tree path) → after (to_create path bytes) tree ≡ tree
 made_none path bytes tree there = ap (λ b. cond b tree (insert tree path (file bytes))) there
 

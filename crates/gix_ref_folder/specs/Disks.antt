@@ -6,9 +6,10 @@ use Rattle.gix_ref_folder.specs.declared.disk.Disk.{Disk}
 use Rattle.gix_ref_folder.specs.declared.own.Own.{Own}
 use Rattle.gix_ref_folder.specs.declared.part.Part.{Part}
 
--- What a part below a root holds and held, and that the calls keep what `System` says of them there. Both are closed: no other crate sees
--- their text, so they can neither be shown of a disk nor refuted, only supposed. No call of the runtime promises anything, so within this
--- crate only a premise that never holds could give the clauses.
+-- What a part below a root holds and held, and that the calls keep what `System` says of them
+-- there. Both are closed: no other crate sees their text, so they can neither be shown of a disk
+-- nor refuted, only supposed. No call of the runtime promises anything, so within this crate only a
+-- premise that never holds could give the clauses.
 pub history_on : {R File Dir : Type 0} → Disk R File Dir → List ℕ → Part → History
 history_on disk root part = record { past = []; tree = empty }
 

@@ -10,12 +10,13 @@ use Rattle.gix_ref_folder.specs.declared.failure.Failure.{Failure}
 use Rattle.gix_ref_folder.specs.declared.failures.FailedChanges.{FailedChanges}
 use Rattle.gix_ref_folder.specs.declared.failures.Failures.{Failures}
 
--- what a call answers
+-- what a call returns
 abbrev pub fault_of : ErrorKind → FileError
 fault_of OutOfMemory = Memory
 fault_of _ = Failed
 
--- whether nothing exists at the path: none does at one that is too long for the system, and a refused permission says nothing of it
+-- whether nothing exists at the path: none does at one that is too long for the system, and a
+-- refused permission says nothing of it
 abbrev pub means_absent : ErrorKind → Bool
 means_absent NotFound = true
 means_absent NotADirectory = true

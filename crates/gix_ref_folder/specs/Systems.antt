@@ -26,7 +26,8 @@ pub record IsShown (part : Part) (tree : Tree) : Type 0 where
 
 -- ---- readings
 
--- what the system reports of a path is what is there; of what is neither a file nor a folder nothing is said
+-- what the system reports of a path is what is there; of what is neither a file nor a folder
+-- nothing is said
 abbrev pub IsFound : Found → Option Node → Type 0
 IsFound (File len) there = option_map length (bytes_of there) ≡ Some len
 IsFound Folder there = IsTrue (is_folder there)
@@ -50,14 +51,16 @@ Reads IsHonest history system place What =
 
 -- ---- changes
 
--- what a call does that is to make this change: at Ok it is made, and at each moment what the change may leave exists
+-- what a call does that is to make this change: at Ok it is made, and at each moment what the
+-- change may leave exists
 pub record Does {T : Type 0} (change : Change) (old new : History)
     (result : Result T Error) : Type 0 where
   pub allowed : OnOk result (IsTrue (allows old.tree change))
   pub made : OnOk result (new.tree ≡ after change old.tree)
   pub moments : Adds (MayLeave change old.tree) old new
 
--- of a part that is honest: at each of its places the call makes this change, and the part stays honest
+-- of a part that is honest: at each of its places the call makes this change, and the part stays
+-- honest
 abbrev pub Performs : {S T : Type 0} → (S → List ℕ → Part → Type 0)
     → (S → List ℕ → Part → History) → S → S → List ℕ → (List ℕ → Change) → Result T Error → Type 0
 Performs IsHonest history old new place change result =
@@ -65,7 +68,7 @@ Performs IsHonest history old new place change result =
     → IsPlaceOf root part path place → IsHonest new root part
     × Does (change path) (history old root part) (history new root part) result
 
--- the same of a rename, where a file is at the first place: the system would move a folder too
+-- the same of a rename, if there is a file at the first place: the system would move a folder too
 abbrev pub Moves : {S T : Type 0} → (S → List ℕ → Part → Type 0) → (S → List ℕ → Part → History)
     → S → S → List ℕ → List ℕ → Result T Error → Type 0
 Moves IsHonest history old new first second result =

@@ -11,17 +11,18 @@ use std::os::unix::fs::MetadataExt;
 
 /// The calls of the system that a program runs on.
 ///
-/// A link is neither a file nor a folder: nothing is read or written through it, though one at a folder above the path is followed.
+/// A link is neither a file nor a folder: nothing is read or written through it, though one at a
+/// folder above the path is followed.
 ///
-/// That the calls do what [`System`] says of a part of what is below a root, and that nobody else changes it, is supposed: the
-/// runtime's calls promise nothing.
+/// That the calls do what [`System`] says of a part of what is below a root, and that nobody else
+/// changes it, is supposed: the runtime's calls promise nothing.
 #[derive(Drop)]
 pub struct Disk<R: fs::Files + AllocGlobal + Clone + Drop> {
     rt: R,
 }
 
 impl<R: fs::Files + AllocGlobal + Clone + Drop> Disk<R> {
-    /// The system of a runtime.
+    /// Returns the system of a runtime.
     pub fn new(rt: R) -> Self {
         Disk { rt }
     }
@@ -42,7 +43,8 @@ impl<R: fs::Files + AllocGlobal + Clone + Drop> Disk<R> {
         fs::symlink_metadata(&self.rt, place).is_ok_and(|found| found.is_symlink())
     }
 
-    // Opens a file to read it, and returns the length that it has as it is open; `None` if nothing is there, or a folder.
+    // Opens a file to read it, and returns the length that it has as it is open; `None` if nothing
+    // is there, or a folder.
     fn opened(&self, place: &str) -> io::Result<Option<(R::File, u64)>> {
         let file = match fs::open(&self.rt, place) {
             Err(error) if is_missing(&error) => return Ok(None),
@@ -99,7 +101,7 @@ impl<R: fs::Files + AllocGlobal + Clone + Drop> Disk<R> {
         Ok(names)
     }
 
-    // Makes and opens a file where nothing is, not even a link.
+    // Makes and opens a file if nothing is there, not even a link.
     fn make(&self, place: &str) -> io::Result<R::File> {
         let mut how = OpenOptions::new();
         how.write(true).create_new(true);
@@ -111,8 +113,9 @@ impl<R: fs::Files + AllocGlobal + Clone + Drop> Disk<R> {
         file.write_all(bytes)
     }
 
-    // Opens a file to change it, and returns its length; one that is missing is made. The system would follow a link that was put into
-    // the place of a file just now, so what was opened is to be the file that was seen there.
+    // Opens a file to change it, and returns its length; one that is missing is made. The system
+    // would follow a link that was put into the place of a file just now, so what was opened is to
+    // be the file that was seen there.
     fn open(&self, place: &str, how: &OpenOptions) -> io::Result<(R::File, u64)> {
         let seen = match fs::symlink_metadata(&self.rt, place) {
             Err(error) if error.kind() == ErrorKind::NotFound => return Ok((self.make(place)?, 0)),

@@ -13,7 +13,7 @@ pub struct Failure {
 }
 
 impl Failure {
-    // Keeps the error alone where memory for the path is refused.
+    // Keeps only the error if memory for the path is refused.
     pub(crate) fn new(alloc: Global, path: &[u8], error: io::Error) -> Self
         ensures error { failed_error result ≡ error }
     {
@@ -23,21 +23,23 @@ impl Failure {
         }
     }
 
-    /// The path, from the folder's root on. It is empty for the root, and where memory to keep it was refused.
+    /// Returns the path, from the folder's root on. It is empty for the root, and if memory to keep
+    /// it was refused.
     pub fn path(&self) -> &[u8]
         ensures { result.now ≡ failed_path self.now }
     {
         &self.path
     }
 
-    /// The system's error.
+    /// Returns the system's error.
     pub fn error(&self) -> io::Error
         ensures { result ≡ failed_error self.now }
     {
         self.error
     }
 
-    /// The path and the system's reason, as `objects/8f: Permission denied`.
+    /// Returns the path and the system's reason, as `objects/8f: Permission denied`; an error if
+    /// memory ran out.
     pub fn text(&self, alloc: Global) -> Result<Vec<u8>, AllocError>
         ensures { IfOk result (λ text. (reason : List ℕ)
             × (text.items ≡ failed_path self.now ++ 58 ∷ 32 ∷ reason)) }

@@ -36,7 +36,7 @@ impl Failures {
         }
     }
 
-    // The last call that failed.
+    // Returns the last call that failed, if one did.
     pub fn last(&mut self) -> Option<&Failure>
         ensures { IfNone result (count_of self.old ≡ 0) }
     {
@@ -44,7 +44,7 @@ impl Failures {
         self.reading.get_mut().as_ref().or(change)
     }
 
-    // What a reading answers; where it failed, why is kept.
+    // Returns what a reading returned; if it failed, why is kept.
     pub fn read<T: Drop>(
         &self,
         alloc: Global,
@@ -65,7 +65,7 @@ impl Failures {
         }
     }
 
-    // What a change answers; where it failed it is counted, and why is kept.
+    // Returns what a change returned; if it failed it is counted, and why is kept.
     pub fn changed<T: Drop>(
         &mut self,
         alloc: Global,

@@ -6,7 +6,7 @@ ghost use Rattle.gix_ref_folder.specs.Errors.{fault_of, means_absent, IsNew};
 use gix_ref_file::FileError;
 use std::io::{self, ErrorKind};
 
-/// `Memory` where memory was refused, else `Failed`.
+/// Returns `Memory` if memory was refused, else `Failed`.
 pub fn fault(error: &io::Error) -> FileError
     ensures { result ≡ fault_of (error_kind error.now) }
 {
@@ -16,8 +16,8 @@ pub fn fault(error: &io::Error) -> FileError
     }
 }
 
-/// Whether it says that nothing exists at a path. Nothing does at a path that is too long for the system; a refused permission says
-/// nothing of it.
+/// Returns whether the error says that nothing exists at a path. Nothing does at a path that is too
+/// long for the system; a refused permission says nothing of it.
 pub fn is_missing(error: &io::Error) -> bool
     ensures { result ≡ means_absent (error_kind error.now) }
 {
@@ -27,7 +27,7 @@ pub fn is_missing(error: &io::Error) -> bool
     )
 }
 
-/// Whether a file was made; it wasn't if something is there already.
+/// Returns whether a file was made: false if something is there already.
 pub fn is_new(made: io::Result<()>) -> io::Result<bool>
     ensures { IsNew made result }
 {

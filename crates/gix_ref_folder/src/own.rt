@@ -1,4 +1,5 @@
-//! A value that only the proofs of this crate can name, so that they alone open what is supposed of a folder.
+//! A value that only this crate's proofs can name.
+//! So they alone open what is supposed of a folder.
 
 enum Own {
     Proof,

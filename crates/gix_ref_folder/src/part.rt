@@ -7,12 +7,12 @@ ghost use Rattle.gix_ref_folder.specs.Parts.{has};
 pub enum Part {
     /// `objects`, and all below it.
     Objects,
-    /// All else.
+    /// Everything else.
     Names,
 }
 
 impl Part {
-    /// Whether what stands at this path belongs to the part.
+    /// Returns whether what is at this path belongs to the part.
     pub fn has(self, path: &[u8]) -> bool
         ensures { result ≡ has self path.now }
     {

@@ -20,21 +20,23 @@ pub enum Found {
     File(u64),
     /// A folder.
     Folder,
-    /// What is neither, as a link.
+    /// What is neither, such as a link.
     Other,
 }
 
 /// The calls of a system, at paths of its own.
 ///
-/// Each clause is about one part of what is below a root, where the part is honest: there the calls do what they say, and nobody else
-/// changes anything. Of a path that is none of an honest part nothing is said. An error says what is absent only by its kind
-/// (`NotFound`, `NotADirectory`, `InvalidFilename`). A change that fails, or is stopped with the process, leaves all as before or as
-/// after it, and of what it was to write any beginning.
+/// Each clause is about one part of what is below a root, if the part is honest: there the calls do
+/// what they say, and nobody else changes anything. Nothing is said of a path that isn't of an
+/// honest part. An error says that something is absent only by its kind (`NotFound`,
+/// `NotADirectory`, `InvalidFilename`). A change that fails, or is stopped with the process, leaves
+/// all as before or as after it, and any beginning of what it was to write.
 pub trait System {
     /// What a part of what is below a root holds, and what it held before.
     ghost history: { Self → List ℕ → Part → History };
 
-    /// Whether the calls do what they say in a part of what is below a root, and nobody else changes it.
+    /// Whether the calls do what they say in a part of what is below a root, and nobody else
+    /// changes it.
     ghost is_honest: { Self → List ℕ → Part → Type 0 };
 
     /// Returns what is at a path; an error if nothing is.
@@ -51,8 +53,8 @@ pub trait System {
             (λ tree path. IfOk result (λ found. option_map (λ bytes. bytes.items) found
             ≡ bytes_of (node_at tree path))) };
 
-    /// Puts what a file has from a byte on into the beginning of a buffer, as much as fits, and returns how many bytes that is, or
-    /// `None` if no file is there.
+    /// Puts what a file has from a byte on into the beginning of a buffer, as much as fits, and
+    /// returns how many bytes that is, or `None` if no file is there.
     fn read_at(&self, place: &str, at: u64, buffer: &mut [u8]) -> io::Result<Option<usize>>
         ensures count { Reads is_honest history self.now place.now
             (λ tree path. IfOk result (λ count.
@@ -77,7 +79,7 @@ pub trait System {
         ensures { (root : List ℕ) (part : Part) → is_honest self.now root part → place.now ≡ root
             → IfOk result (λ names. AreRootNames part (history self.now root part).tree names.items) };
 
-    /// Makes a file of these bytes where nothing is; `AlreadyExists` if something is.
+    /// Makes a file of these bytes if nothing is there; `AlreadyExists` if something is.
     fn create_new(&mut self, place: &str, bytes: &[u8]) -> io::Result<()>
         ensures change { Performs is_honest history self.old self.new place.now
             (λ path. to_create path bytes.now) result }
@@ -87,7 +89,7 @@ pub trait System {
             (λ tree path. IfErr result (λ error. error_kind error ≡ AlreadyExists
             → IsSome (node_at tree path))) };
 
-    /// Makes a file of these bytes, or gives them to one in the place of its own.
+    /// Makes a file of these bytes, or replaces the bytes of the file that is there.
     fn write(&mut self, place: &str, bytes: &[u8]) -> io::Result<()>
         ensures change { Performs is_honest history self.old self.new place.now
             (λ path. to_write path bytes.now) result };
@@ -97,7 +99,7 @@ pub trait System {
         ensures change { Performs is_honest history self.old self.new place.now
             (λ path. to_append path bytes.now) result };
 
-    /// Gives a file another path, in the place of a file there.
+    /// Gives a file another path, and replaces the file that is there, if there is one.
     fn rename(&mut self, from: &str, to: &str) -> io::Result<()>
         ensures change { Moves is_honest history self.old self.new from.now to.now result };
 
@@ -109,7 +111,7 @@ pub trait System {
     fn make_folder(&mut self, place: &str) -> io::Result<()>
         ensures change { Performs is_honest history self.old self.new place.now to_make_folder result };
 
-    /// Removes a folder in which nothing is.
+    /// Removes a folder that is empty.
     fn remove_folder(&mut self, place: &str) -> io::Result<()>
         ensures change { Performs is_honest history self.old self.new place.now to_remove_folder result };
 
