@@ -9,7 +9,7 @@ use gix_ref_file::{Files, MemoryFiles};
 use gix_ref_folder::{Folder, Part, System};
 use std::alloc::{AllocError, Global};
 
-/// A system in memory with an empty folder at this root.
+/// Returns a system in memory with an empty folder at this root.
 pub fn system_in_memory(alloc: Global, root: String) -> OverFiles<MemoryFiles>
     ensures honest { (part : Part)
         → ⟦<OverFiles<MemoryFiles> as System>⟧.is_honest result (string_bytes root) part }
@@ -21,7 +21,8 @@ pub fn system_in_memory(alloc: Global, root: String) -> OverFiles<MemoryFiles>
     OverFiles::new(alloc, root, objects, names)
 }
 
-/// A part of an empty folder at this root, over a system in memory. It does what [`Files`] says, with no premise.
+/// Returns a part of an empty folder at this root, over a system in memory. It does what [`Files`]
+/// says, with no premise.
 pub fn folder_in_memory(
     alloc: Global,
     root: &str,

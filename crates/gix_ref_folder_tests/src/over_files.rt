@@ -11,10 +11,11 @@ use gix_ref_folder::{Found, Part, System};
 use std::alloc::Global;
 use std::io::{self, ErrorKind};
 
-/// The calls of a system in which one folder is, each of whose two parts is kept in files.
+/// The calls of a system that has one folder, each of whose two parts is kept in files.
 ///
-/// It is honest of both parts at once, if the files are honest and those of a part hold nothing of the other: each clause of
-/// [`System`] is then proved. A call at a place outside the folder fails and changes nothing.
+/// It is honest of both parts at once, if the files are honest and those of a part hold nothing of
+/// the other: each clause of [`System`] is then proved. A call at a place outside the folder fails
+/// and changes nothing.
 #[derive(Drop)]
 pub struct OverFiles<F: Files> {
     alloc: Global,
@@ -26,7 +27,7 @@ pub struct OverFiles<F: Files> {
 impl<F: Files> OverFiles<F> {
     ghost use Rattle.gix_ref_folder_tests.specs.OverFiles.{root_of, files_of, IsSpot, IsHonestAt};
 
-    /// The system with a folder at this root.
+    /// Returns the system with a folder at this root.
     pub fn new(alloc: Global, root: String, objects: F, names: F) -> Self
         ensures root { root_of result ≡ string_bytes root }
         ensures objects { files_of result Objects ≡ objects }
@@ -40,7 +41,8 @@ impl<F: Files> OverFiles<F> {
         }
     }
 
-    // The part, and the path of it, that is at a place.
+    // Returns the part that a place belongs to, and its path there; an error if the place is
+    // outside the folder.
     fn spot<'a>(&self, place: &'a str) -> io::Result<(Part, &'a [u8])>
         ensures spot { IfOk result (λ spot. IsSpot (root_of self.now) spot.0 spot.1.now place.now) }
         ensures outside { OnErr result ((path : List ℕ) → place.now ≢ root_of self.now ++ 47 ∷ path) }
@@ -63,7 +65,7 @@ impl<F: Files> OverFiles<F> {
         }
     }
 
-    // The names right in the root, of both parts.
+    // Returns the names right in the root, of both parts.
     fn root_names(&self, alloc: Global) -> io::Result<Vec<Vec<u8>>>
         ensures { (root : List ℕ) (part : Part) → IsHonestAt F.is_honest F.history self.now root
             → IfOk result (λ names.
@@ -76,7 +78,7 @@ impl<F: Files> OverFiles<F> {
     }
 }
 
-// What follows a folder's path and a slash.
+// Returns what follows a folder's path and a slash; `None` if the place isn't below the folder.
 fn below<'a>(root: &[u8], place: &'a [u8]) -> Option<&'a [u8]>
     ensures { MatchOption result ((path : List ℕ) → place.now ≢ root.now ++ 47 ∷ path)
         (λ path. place.now ≡ root.now ++ 47 ∷ path.now) }

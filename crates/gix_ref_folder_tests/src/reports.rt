@@ -17,7 +17,7 @@ fn error_of(why: FileError) -> io::Error
     }
 }
 
-// What a call of files returned.
+// Returns what a call of files returned, as a system's result.
 pub fn reported<T>(done: Result<T, FileError>) -> io::Result<T>
     ensures { IsReport done result }
 {
@@ -27,7 +27,7 @@ pub fn reported<T>(done: Result<T, FileError>) -> io::Result<T>
     }
 }
 
-// What the making of a file returned; `AlreadyExists` if something was there.
+// Returns the system's result of the making of a file: `AlreadyExists` if something was there.
 pub fn newly(made: Result<bool, FileError>) -> io::Result<()>
     ensures ok { OnOk result (made ≡ Ok true) }
     ensures taken { IfErr result (λ error. error_kind error ≡ AlreadyExists → made ≡ Ok false) }

@@ -13,7 +13,7 @@ use std::test::Fail;
 
 const ROOT: &str = "repository";
 
-// What the words return over the two parts of a folder.
+// Returns what the words return over the two parts of a folder.
 fn play(alloc: Global, line: &str) -> Result<String, AllocError> {
     let mut objects = folder_in_memory(alloc, ROOT, Part::Objects)?;
     let mut names = folder_in_memory(alloc, ROOT, Part::Names)?;
@@ -31,7 +31,7 @@ fn play(alloc: Global, line: &str) -> Result<String, AllocError> {
     page.finish()
 }
 
-// What the words return over one part.
+// Returns what the words return over one part.
 fn play_on<S: System>(
     alloc: Global,
     folder: &mut Folder<S>,
@@ -67,7 +67,7 @@ fn rows_over_memory_are_those_over_a_disk(rt: HostRuntime) -> Result<(), Fail> {
     Ok(())
 }
 
-// A system with a file of each part.
+// Returns a system with a file of each part.
 fn filled(alloc: Global) -> io::Result<OverFiles<MemoryFiles>> {
     let mut system = system_in_memory(alloc, String::from_str(alloc, ROOT)?);
     system.make_folder("repository/objects")?;
@@ -93,7 +93,7 @@ fn each_part_of_one_system_is_shown_alone(rt: HostRuntime) -> Result<(), Fail> {
     Ok(())
 }
 
-// The kind of the error that was returned.
+// Returns the kind of the error that was returned.
 fn kind_of<T: Drop>(returned: io::Result<T>) -> Option<ErrorKind> {
     match returned {
         Ok(_) => None,
@@ -125,7 +125,8 @@ fn a_system_says_why_it_fails(rt: HostRuntime) -> Result<(), Fail> {
     Ok(())
 }
 
-/// The call of the names' files that fails, what it leaves of its bytes, words, and what they return.
+/// The call of the names' files that fails, what it leaves of its bytes, words, and what they
+/// return.
 const FAILING: [(u64, Option<usize>, &str, &str); 13] = [
     (
         1,
