@@ -1,4 +1,4 @@
--- Where locks alone differ, all references read alike.
+-- If only locks differ, all references read alike.
 use Rattle.std.proofs.Common.{◌≡◌, refl, Bool, true, false, cond}
 use Rattle.gix_object_lines.specs.NameTest.{is_full_name}
 use Rattle.gix_ref_file.specs.Tree.{Tree}

@@ -33,7 +33,7 @@ keyed packs (Delete expected AndReference) (Some k) line says = ap Some (sym (ap
 keyed packs (Delete expected Only) (Some k) line says = cc
 keyed packs (Update log expected new) (Some k) line says = ap Some (sym (updated_key packs log.mode (target_view new) k line says))
 
--- a line of another name stands before
+-- a line of another name comes before
 behind_line : (line : Line) (rest : List Line) (k : Bytes) → line.name ≢ k → line_at (line ∷ rest) k ≡ line_at rest k
 behind_line line rest k apart = ap (λ b. cond b (Some line) (line_at rest k)) (differ (bytes_eq line.name k) refl)
   where
@@ -58,7 +58,7 @@ no_line packs [] lines k none others = ap (λ ls. line_at ls k) none
 no_line packs (edit ∷ edits) lines k (own, rest, says, later, is) others =
     ap (λ ls. line_at ls k) is ∙ past packs edit own rest k says others.0 ∙ no_line packs edits rest k later others.1
 
--- each place stands once
+-- each place occurs once
 abbrev pub PlacesApart : Base → List RefEdit → Type 0
 PlacesApart b [] = Unit {0}
 PlacesApart b (edit ∷ edits) = AllByRecursion (λ other. place b edit.name ≢ place b other.name) edits × PlacesApart b edits

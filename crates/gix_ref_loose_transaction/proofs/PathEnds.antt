@@ -33,7 +33,7 @@ or_true : (b : Bool) → (b || true) ≡ true
 or_true true = refl
 or_true false = refl
 
--- a slash stands before all of it
+-- the slash comes before all of `.lock`
 behind : (front ahead path : Bytes) → front ++ 47 ∷ path ≡ ahead ++ codes ".lock" → (rest : Bytes) × (path ≡ rest ++ codes ".lock")
 behind [] [] path is = let wrong : 47 ≡ 46 = ap (λ t. get_or t 0 0) is in absurd (omega (arith, wrong))
 behind [] (a ∷ ahead) path is = (ahead, ap (drop 1) is)

@@ -1,4 +1,5 @@
--- Names that may have a record stand in the shared folder, at the path of the record's name.
+-- The files of names that may have a record are in the shared folder, at the path of the record's
+-- name.
 use Rattle.std.proofs.Common.{◌≡◌, refl, sym, ◌∙◌, ap, subst, ℕ, Bool, true, false, cond, ◌||◌, [], ◌∷◌, ◌++◌, take, drop, codes, Option, Some, None}
 use Rattle.std.proofs.lemmas.Bool.{or_parts}
 use Rattle.std.proofs.lemmas.Slice.Eq.{bytes_eq-Decides}
@@ -33,7 +34,7 @@ OfWorktree b name =
 not_own_home : (b : Base) (name : Bytes) → is_own name ≡ false → home b name ≡ OfWorktree b name
 not_own_home b name own = ap (λ c. cond {A = Home} c (record { folder = b.git; path = name }) (OfWorktree b name)) own
 
--- ---- of names behind a worktree's front
+-- ---- of names after a worktree's front
 by_rest : Bytes → Bytes → Bool → Bool → Option Bytes
 by_rest name rest own below = cond own None (cond below (Some rest) (Some name))
 
@@ -88,7 +89,7 @@ home_key b name k key = by_main (begins (codes "main-worktree/") name) refl
         ∙ main_rest b name (drop 14 name) k (is_own (drop 14 name)) (begins (codes "refs/") (drop 14 name)) refl refl (sym (ap (key_by name) worktree) ∙ key)
     by_main false is = by_linked (begins (codes "worktrees/") name) is refl
 
--- so two names that a record may stand for have one place
+-- so two names that may have the same record have one place
 pub one_place : (b : Base) (name other k : Bytes) → packed_key name ≡ Some k → packed_key other ≡ Some k → place b name ≡ place b other
 one_place b name other k one two = ap place_in (home_key b name k one ∙ sym (home_key b other k two))
 

@@ -36,7 +36,7 @@ use Rattle.gix_ref_loose_transaction.specs.LogLines.{Logging, AllLined, IsLineOf
 use Rattle.gix_ref_loose_transaction.specs.Causes.{EditFault, SomeEditFault}
 use Rattle.gix_ref_loose_transaction.proofs.PathEnds.{place_free, log_place_free}
 
--- ---- readings by given records, where locks alone differ
+-- ---- readings by given records, if only locks differ
 pub among_alike : (b : Base) (old x : Tree) (records : List Record) → SameButLocks old x → (name : Bytes) → state_among b x records name ≡ state_among b old records name
 among_alike b old x records same name = by_full (is_full_name name) refl
   where
@@ -52,7 +52,7 @@ keeps_same old new same path text stood = same path ∙ stood
 pub keeps_joined : (old mid new : Tree) → KeepsFiles old mid → KeepsFiles mid new → KeepsFiles old new
 keeps_joined old mid new first second path text stood = second path text (first path text stood)
 
--- where one file changes that didn't stand
+-- if one file changes that didn't exist
 pub keeps_others : (lock : Bytes) (old new : Tree) → file_at old lock ≡ None → ((path : Bytes) → path ≢ lock → file_at new path ≡ file_at old path) → KeepsFiles old new
 keeps_others lock old new free others path text stood = others path (λ same. let wrong : None ≡ Some text = sym free ∙ ap (file_at old) (sym same) ∙ stood in cc) ∙ stood
 
@@ -157,12 +157,12 @@ pub ok_three : {T E : Type 0} (P Q R : T → Type 0) (r : Result T E) → ((t : 
 ok_three P Q R (Ok t) f p q = f t p q
 ok_three P Q R (Err e) f p q = tt
 
--- where a lock is made that didn't stand, and then written
+-- if a lock is made that didn't exist, and then written
 pub keeps_but : (lock place : Bytes) (old mid new : Tree) → lock ≡ lock_of place → file_at old (lock_of place) ≡ None → KeepsFiles old mid → OthersStay lock mid new → KeepsFiles old new
 keeps_but lock place old mid new beside free keeps stay path text stood =
     ap bytes_of (stay path (λ same. let wrong : None ≡ Some text = sym free ∙ ap (file_at old) (sym (same ∙ beside)) ∙ stood in cc)) ∙ keeps path text stood
 
--- ---- logs, where locks alone differ
+-- ---- logs, if only locks differ
 pub logs_alike : (b : Base) (old x : Tree) (name : Bytes) → SameButLocks old x → is_full_name name ≡ true → has_log b x name ≡ has_log b old name
 logs_alike b old x name same full = ap is_some (same (log_place b name) (log_place_free b name full))
 
@@ -206,7 +206,7 @@ module _ (options other : Options) (b base : Base) (old x : Tree) (records : Lis
   pub some_fault_alike : (may : Type 0) (edits : List RefEdit) (error : PrepareError) → SomeEditFault (logging other (state_among base x records) committer) base x may edits error → SomeEditFault (logging options (state_among b old records) committer) b old may edits error
   some_fault_alike may edits error (edit, among, full, fault) = (edit, among, full, fault_alike options other b base old x records committer edit may error same full opts bases fault)
 
--- ---- outcomes that tell four things
+-- ---- outcomes that say four things
 pub ok_four : {T E : Type 0} (P Q R S : T → Type 0) (r : Result T E) → ((t : T) → P t → Q t → R t → S t) → IfOk r P → IfOk r Q → IfOk r R → IfOk r S
 ok_four P Q R S (Ok t) f p q w = f t p q w
 ok_four P Q R S (Err e) f p q w = tt

@@ -43,7 +43,7 @@ records_back b packs old new edits lines None holds give say = tt
 records_back b packs old new edits lines (Some t) (changes, holds) give say =
     holds.told.reads (edited_kinds b.kind _ lines holds.told.after (kept_kinds b.kind (file_at old (packed_place b)) t.buffer holds.keeps) (said_kinds b.kind packs edits lines give say) holds.told.edited)
 
--- own files go only where updates are packed
+-- own files are removed only if updates are packed
 pub mode_packs : {O : Type 0} (table : O → Table) (mode : PackedRefs O) → removes mode ≡ true → IsSome (option_map table (objects_in mode))
 mode_packs table DeletionsOnly gone = cc
 mode_packs table (DeletionsAndNonSymbolicUpdates objects) gone = cc

@@ -47,7 +47,7 @@ packing b before old x lines (Some t) (changes, holds) reads locks unmoved = rec
       (ap (file_at x) (sym holds.here) ∙ new ∙ ap (λ w. cond w (Some (unwrap_or (file_at old (packed_lock_of t)) [])) (file_at old (packed_place_of t))) holds.written ∙ ap (λ f. Some (unwrap_or f [])) holds.holds) said;
 }
 
--- ---- places that stand once
+-- ---- places that occur once
 none_places : (b : Base) (removes : Bool) (p : Bytes) (edits : List RefEdit) (moves : List Move) → AllPlanned b removes edits moves → IsNone p (all_paths moves) → AllByRecursion (λ other. p ≢ place b other.name) edits
 none_places b removes p [] moves plans none = tt
 none_places b removes p (edit ∷ edits) [] plans none = absurd plans

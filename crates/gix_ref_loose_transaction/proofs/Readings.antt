@@ -45,7 +45,7 @@ use Rattle.gix_ref_loose_transaction.proofs.PathKeys.{key_again}
 inner : {A : Type 0} {r s : A} → Some r ≡ Some s → r ≡ s
 inner e = cc
 
--- what packed records tell of a name
+-- what packed records say of a name
 abbrev pub told : Base → Tree → Bytes → RefState
 told b x name = told_by (records_of b.kind (packed_text_in b x)) name
 
@@ -67,7 +67,7 @@ module _ (b : Base) (before x : Tree) (name : Bytes) (full : is_full_name name �
   pub put : (text : Bytes) (points : Points) → file_at x (place b name) ≡ Some text → loose_target b.kind text ≡ Some points → ref_state b x name ≡ Stands points None
   put text points stands reads = state_is b x name full ∙ ap (λ o. read_by b.kind o (told b x name)) stands ∙ ap (loose_state text) reads
 
-  -- the file is as before: then what it tells, or what records tell now
+  -- the file is as before: then the name reads as the file says, or as the records say now
   pub kept_or_told : file_at x (place b name) ≡ file_at before (place b name) → (ref_state b x name ≡ ref_state b before name) ⊎ (ref_state b x name ≡ told b x name)
   kept_or_told f = by_file (file_at before (place b name)) refl
     where
@@ -87,7 +87,7 @@ old_told kind (Some text) None name k is keeps = absurd keeps
 old_told kind (Some text) (Some buffer) name k is (records, reads, holds) =
     ap (λ rs. told_by rs name) reads ∙ ap (λ key. packed_state (option_and_then (hit records) key)) is ∙ ap packed_state (sym (holds.first k))
 
--- what records tell once they are replaced
+-- what records say after they are replaced
 abbrev pub NewTold : Option Line → RefState → RefState → Type 0
 NewTold None before now = now ≡ before
 NewTold (Some line) before now = now ≡ packed_state line.says
@@ -121,7 +121,7 @@ quiet p (l ∷ lines) k line found none = by_name (bytes_eq l.name k) refl (λ l
     by_name true is later = ap p (sym (inner (sym (ap (λ c. cond c (Some l) (line_at lines k)) is) ∙ found))) ∙ (or_parts (p l) (list_any p lines) none).0
     by_name false is later = later (sym (ap (λ c. cond c (Some l) (line_at lines k)) is) ∙ found)
 
--- the line that stands first for a name has that name
+-- the first line found for a name has that name
 line_named : (lines : List Line) (k : Bytes) (line : Line) → line_at lines k ≡ Some line → line.name ≡ k
 line_named [] k line found = cc
 line_named (l ∷ lines) k line found = by_name (bytes_eq l.name k) refl (λ later. line_named lines k line later)

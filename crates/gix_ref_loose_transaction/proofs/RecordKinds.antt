@@ -1,4 +1,5 @@
--- The hash function of packed records: of those that are read, of those that edits say, and so of those that are written.
+-- The hash function of packed records: of those that are read, of those that edits say, and so of
+-- those that are written.
 use Rattle.std.proofs.Common.{◌≡◌, refl, sym, ◌∙◌, ap, subst, arith, ℕ, ◌+◌, Bool, true, false, cond, ◌&&◌, ◌==◌, length, take, drop, codes, List, [], ◌∷◌, ◌++◌, bytes_eq, Option, Some, None, option_map}
 use Rattle.std.specs.Prelude.{IfSome, is_some, option_and_then}
 use Rattle.std.specs.Option.{option_to_list}

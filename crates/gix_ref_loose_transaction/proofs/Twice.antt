@@ -1,4 +1,4 @@
--- Whether a path stands twice, by a set of those that were met.
+-- Whether a path occurs twice, by a set of those that were met.
 use Rattle.std.proofs.Common.{◌≡◌, ℕ, Bool, true, false, cond, not, ◌||◌, List, [], ◌∷◌, map, refl, sym, ◌∙◌, ap, bytes_eq}
 use Rattle.std.specs.Borrow.{Bor}
 use Rattle.std.specs.List.{list_any}
@@ -96,7 +96,7 @@ first_put old new name others absent put =
     turned false true c = refl
     turned false false c = refl
 
--- ---- paths that stand once
+-- ---- paths that occur once
 none_of : (path : Bytes) (paths : List Bytes) → list_any (bytes_eq path) paths ≡ false → IsNone path paths
 none_of path [] none = tt
 none_of path (other ∷ paths) none =

@@ -3,7 +3,7 @@ use Rattle.std.specs.Prelude.{Option, Some, None}
 use Rattle.gix_ref_name.specs.Targets.{Points}
 use Rattle.gix_ref_store.specs.RefStates.{RefState, Stands, Absent, Faulty}
 
--- none where no reference stands, or none that can be read
+-- none if no reference exists, or none that can be read
 abbrev pub points_at : RefState → Option Points
 points_at (Stands points peeled) = Some points
 points_at Absent = None

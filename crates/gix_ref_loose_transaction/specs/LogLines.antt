@@ -1,4 +1,5 @@
--- The line that a log gets with an update (git-update-ref, "Logging updates"; git-config, "core.logAllRefUpdates").
+-- The line that a log gets with an update (git-update-ref, "Logging updates"; git-config,
+-- "core.logAllRefUpdates").
 use Rattle.std.specs.Prelude.{ℕ, ◌≡◌, ◌||◌, ◌&&◌, not, Bool, true, false, is_some, List, [], ◌∷◌, ◌++◌, bytes_eq, codes, Option, Some, None, Vec}
 use Rattle.std.specs.List.{AllZip}
 use Rattle.std.specs.declared.alloc.Global.{Global}
@@ -32,20 +33,21 @@ use Rattle.gix_ref_store.specs.declared.options.WriteReflog.{WriteReflog}
 use Rattle.gix_ref_store.specs.declared.options.WriteReflog.TheVariants.{Always, Normal, Disable}
 use Rattle.gix_ref_way.specs.Ways.{Bytes, file_at}
 
--- whether updates of a name are logged where nothing else is said
+-- whether updates of a name are logged by default
 abbrev pub is_usually_logged : Bytes → Bool
 is_usually_logged name =
     bytes_eq name (codes "HEAD") || begins (codes "refs/heads/") name
     || begins (codes "refs/remotes/") name || begins (codes "refs/notes/") name
     || begins (codes "refs/worktree/") name
 
--- whether they are, where a log is asked for, or stands already
+-- whether they are, if a log is wanted or exists already
 abbrev pub is_logged : WriteReflog → Bool → Bool → Bytes → Bool
 is_logged Always forced stands name = true
 is_logged Disable forced stands name = false
 is_logged Normal forced stands name = forced || is_usually_logged name || stands
 
--- what lines rest on: which updates are logged, the hash function, what names read as, and who commits
+-- what lines depend on: which updates are logged, the hash function, what names read as, and who
+-- commits
 pub record Logging : Type 0 where
   pub logged : WriteReflog
   pub kind : Kind
@@ -60,7 +62,7 @@ logging options read committer = record {
   committer = committer;
 }
 
--- the id of the object at the end of a chain, and the null id where it ends at none
+-- the id of the object at the end of a chain, or the null id if it ends at none
 abbrev pub end_id : Kind → Followed → Id
 end_id kind (Ends name id peeled) = id
 end_id kind Cycles = null_id kind
@@ -73,11 +75,11 @@ abbrev pub id_found : Kind → (Bytes → RefState) → Option Reference → Id
 id_found kind read None = null_id kind
 id_found kind read (Some r) = end_id kind (follow_from read r)
 
--- the id of the object that a name stood for
+-- the id of the object that a name led to
 abbrev pub id_before : Logging → Bytes → Id
 id_before l name = end_id l.kind (follow l.read 5 [] name (l.read name))
 
--- this is the committer, with the time that the text tells
+-- this is the committer, at the time that the text spells
 pub record SpellsCommitter (who : ActorRef) (actor : Actor) : Type 0 where
   pub name : actor.name ≡ bstr_bytes who.name
   pub email : actor.email ≡ bstr_bytes who.email
@@ -97,7 +99,7 @@ IsLineBy (Some who) before after message (Some line) =
 IsLineBy (Some who) before after message None = ⊥
 IsLineBy None before after message line = ⊥
 
--- whether an update of a name, whose log stands or doesn't, to this id adds a line
+-- whether an update of a name, whose log exists or doesn't, to this id adds a line
 abbrev pub adds_line : Logging → Bool → Bytes → LogChange → Id → Bool
 adds_line l stands name log after =
     is_logged l.logged log.force_create_reflog stands name && not (id_eq (id_before l name) after)
@@ -121,7 +123,7 @@ IsLineOf l stands name (Delete expected mode) line = line ≡ None
 
 -- ---- of all edits
 
--- whether the log of a name stands
+-- whether the log of a name exists
 abbrev pub has_log : Base → Tree → Bytes → Bool
 has_log b tree name = is_some (file_at tree (log_place b name))
 

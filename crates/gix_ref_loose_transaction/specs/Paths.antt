@@ -1,4 +1,4 @@
--- Paths, and whether one stands twice.
+-- Paths, and whether one occurs twice.
 use Rattle.std.specs.Prelude.{ℕ, Bool, false, ◌||◌, List, [], ◌∷◌, ◌++◌, map, bytes_eq, Option, Some, None, Vec}
 use Rattle.std.specs.declared.alloc.Global.{Global}
 use Rattle.std.specs.List.{list_any}
@@ -16,11 +16,11 @@ abbrev pub has_twice : List (List ℕ) → Bool
 has_twice [] = false
 has_twice (path ∷ paths) = list_any (bytes_eq path) paths || has_twice paths
 
--- where the files of the edits' names stand
+-- the paths of the files of the edits' names
 abbrev pub places_of : Base → List RefEdit → List (List ℕ)
 places_of b edits = map (λ edit. place b edit.name) edits
 
--- where packed records stand, and their lock where it is held
+-- the path of packed records, and that of their lock if it is held
 abbrev pub records_paths : Base → Option Transaction → List (List ℕ)
 records_paths b None = packed_place b ∷ []
 records_paths b (Some t) = packed_paths (Some t)

@@ -1,4 +1,5 @@
--- What a transaction makes of each edit before it changes anything: the reference passes the edit's test, and its lock has the new text.
+-- What a transaction makes of each edit before it changes anything: the reference passes the edit's
+-- test, and its lock has the new text.
 use Rattle.std.specs.Prelude.{ℕ, ◌≡◌, ◌&&◌, Bool, true, false, is_some, List, Option, Some, None, Ok, option_map, IsTrue}
 use Rattle.std.specs.List.{AllByRecursion, AllZip}
 use Rattle.gix_object_lines.specs.NameTest.{is_full_name}
@@ -33,13 +34,13 @@ IsFoundSo edit state found =
 abbrev pub IsTested : RefEdit → RefState → Type 0
 IsTested edit state = (found : Option Reference) × IsFoundSo edit state found
 
--- whether a record alone tells what an update makes the name point to: an object, where own files go that are packed; names of which each
--- worktree has its own have no record
+-- whether only a record says what an update makes the name point to: an object, if own files of
+-- what is packed are removed; names that each worktree has of its own have no record
 abbrev pub is_packed_alone : Bool → Bytes → Points → Bool
 is_packed_alone removes name (ToObject id) = removes && is_some (packed_key name)
 is_packed_alone removes name (ToName other) = false
 
--- an update puts the lock in its place, leaves it to a record, or tells the log alone
+-- an update renames the lock to its place, leaves it to a record, or changes the log alone
 abbrev pub IsUpdateBy : RefLog → Bool → Act → Type 0
 IsUpdateBy AndReference alone (acts.Put line) = alone ≡ false
 IsUpdateBy AndReference alone (acts.Pack line) = alone ≡ true
@@ -50,7 +51,7 @@ IsUpdateBy Only alone (acts.Pack line) = ⊥
 IsUpdateBy mode alone acts.Remove = ⊥
 IsUpdateBy mode alone acts.Forget = ⊥
 
--- a deletion removes the reference or its log alone
+-- a deletion removes the reference, or its log alone
 
 abbrev pub IsDeletionBy : RefLog → Act → Type 0
 IsDeletionBy AndReference acts.Remove = Unit {0}
@@ -80,19 +81,19 @@ IsPut (acts.Pack line) = ⊥
 IsPut acts.Remove = ⊥
 IsPut acts.Forget = ⊥
 
--- the lock that is put in the place of a reference's own file has the text of the new target
+-- the lock that is to replace a reference's own file has the text of the new target
 abbrev pub HoldsText : Change → Act → Bytes → Tree → Type 0
 HoldsText (Update log expected new) act lock tree =
     IsPut act → file_at tree lock ≡ Some (loose_text (target_view new))
 HoldsText (Delete expected mode) act lock tree = Unit {0}
 
--- each file that stood is as before
+-- each file that existed is as before
 abbrev pub KeepsFiles : Tree → Tree → Type 0
 KeepsFiles old new = (path text : Bytes) → file_at old path ≡ Some text → file_at new path ≡ Some text
 
 -- ---- of all edits
 
--- these are the edits that were asked for, those of symbolic references split by what the names read as
+-- these are the given edits, with those of symbolic references split by what the names read as
 abbrev pub AreSplit : (List ℕ → RefState) → List RefEdit → List RefEdit → Type 0
 AreSplit read asked edits = (places : List ℕ) × Splits (λ name. points_at (read name)) asked edits places
 
@@ -108,6 +109,6 @@ abbrev pub AllHold : Tree → List RefEdit → List Move → Type 0
 AllHold tree edits moves =
     AllZip (λ edit made. HoldsText edit.change made.act (lock_path_of made) tree) edits moves
 
--- no lock of these stands
+-- none of these locks exists
 abbrev pub LocksGone : List Move → Tree → Type 0
 LocksGone moves tree = AllByRecursion (λ made. file_at tree (lock_path_of made) ≡ None) moves

@@ -27,13 +27,14 @@ use Rattle.gix_ref_moves.specs.declared.act.Move.{Move}
 
 -- ---- one name
 
--- the peeled id that a record tells beside its target
+-- the peeled id that a record holds besides its target
 abbrev pub IsPeeledOf : Option Table → Points → Option Id → Type 0
 IsPeeledOf (Some table) (ToObject id) peeled = TellsPeeled table id peeled
 IsPeeledOf (Some table) (ToName name) peeled = ⊥
 IsPeeledOf None new peeled = ⊥
 
--- an update makes the name read as its target, by a file of its own or by a record alone; one of the log leaves it
+-- an update makes the name read as its target, by a file of its own or by a record alone; one of
+-- the log alone changes nothing
 abbrev pub ReadsUpdated : Option Table → RefLog → Bool → Points → RefState → RefState → Type 0
 ReadsUpdated packs Only alone new before now = now ≡ before
 ReadsUpdated packs AndReference false new before now = now ≡ Stands new None
@@ -44,7 +45,7 @@ abbrev pub ReadsDeleted : RefLog → RefState → RefState → Type 0
 ReadsDeleted AndReference before now = now ≡ Absent
 ReadsDeleted Only before now = now ≡ before
 
--- what an edit makes of what its name read as before
+-- what an edit makes the name read as, by what it read as before
 abbrev pub ReadsChanged : Option Table → Bool → List ℕ → Change → RefState → RefState → Type 0
 ReadsChanged packs removes name (Update log expected new) before now =
     ReadsUpdated packs log.mode (is_packed_alone removes name (target_view new)) (target_view new)
@@ -66,7 +67,8 @@ GivesKind kind (Delete expected log) = Unit {0}
 abbrev pub AllGiveKind : Kind → List RefEdit → Type 0
 AllGiveKind kind edits = AllByRecursion (λ edit. GivesKind kind edit.change) edits
 
--- what is written of a target is read as it, as of each name and of each id of the hash function
+-- what is written of a target is read as it; so it is for each name and each id of the hash
+-- function
 abbrev pub IsReadBack : Kind → Change → Type 0
 IsReadBack kind (Update log expected new) =
     loose_target kind (loose_text (target_view new)) ≡ Some (target_view new)
@@ -75,7 +77,8 @@ IsReadBack kind (Delete expected log) = Unit {0}
 abbrev pub AllReadBack : Kind → List RefEdit → Type 0
 AllReadBack kind edits = AllByRecursion (λ edit. IsReadBack kind edit.change) edits
 
--- the records that were written are read as they are, as where all their ids are of the hash function
+-- the records that were written are read as they are; so it is if all their ids are of the hash
+-- function
 abbrev pub AreReadBack : (b : Base) (old new : Tree) (lines : List Line) (t : Option Packed)
     → HoldsIf b old new lines t → Type 0
 AreReadBack b old new lines None holds = Unit {0}
@@ -91,7 +94,7 @@ pub record Prepared : Type 0 where
 abbrev pub prepared_of : List RefEdit → List Move → Option Packed → Prepared
 prepared_of edits moves packed = record { edits = edits; moves = moves; packed = packed }
 
--- What was prepared in the tree before still stands.
+-- What was prepared in the tree before is still as it was.
 pub record IsAsPrepared (b : Base) (packs : Option Table) (removes : Bool) (before now : Tree)
     (t : Prepared) : Type 0 where
   pub mode : removes ≡ true → IsSome packs
@@ -104,10 +107,11 @@ pub record IsAsPrepared (b : Base) (packs : Option Table) (removes : Bool) (befo
   -- what is written is read back
   pub files : AllReadBack b.kind t.edits
   pub records : AreReadBack b before now lines t.packed holds
-  -- no file of the edits stands where packed records do
+  -- no file of the edits is at the path of packed records
   pub apart : IsNone (packed_place b) (all_paths t.moves)
 
--- The name has another place, and another record, than each edit's, and its place is no lock and no log of the transaction.
+-- The name has another place, and another record, than each edit's, and its place is no lock and no
+-- log of the transaction.
 pub record IsOther (b : Base) (t : Prepared) (name : List ℕ) : Type 0 where
   pub place_apart : IsNone (place b name) (commit_paths t.packed t.moves)
   pub key_apart : (key : List ℕ) → packed_key name ≡ Some key

@@ -1,4 +1,4 @@
-//! What an edit asks of its reference.
+//! What an edit expects of its reference.
 
 ghost use Rattle.std.specs.Prelude.{◌≡◌, ◌≢◌, ◌⊎◌, None, Some, IfErr, MatchResult, option_map};
 ghost use Rattle.std.specs.Bool.{Decides};
@@ -14,19 +14,19 @@ use gix_ref_name::{FullName, Target};
 use gix_ref_store::Reference;
 use thiserror::Error;
 
-/// Why a reference isn't as its edit asks.
+/// Why a reference isn't as its edit expects.
 #[derive(Debug, Clone, Copy, PartialEq, Eq, Error)]
 pub enum Refusal {
-    /// A reference that is to be removed doesn't stand.
+    /// A reference that is to be removed doesn't exist.
     #[error("a reference that is to be removed doesn't stand")]
     DeleteReferenceMustExist,
-    /// A reference is to be removed that mustn't stand.
+    /// A reference is to be removed that must not exist.
     #[error("a reference can't be removed that mustn't stand")]
     DeleteMustNotExist,
-    /// The reference doesn't stand.
+    /// The reference doesn't exist.
     #[error("the reference doesn't stand")]
     MustExist,
-    /// The reference stands, and points to something else than the new target.
+    /// The reference exists, and points to something else than the new target.
     #[error("the reference stands already")]
     MustNotExist,
     /// The reference points to something else.
@@ -34,7 +34,8 @@ pub enum Refusal {
     ReferenceOutOfDate,
 }
 
-// Tests what is asked of a reference that was found so.
+// Tests that a reference that was found so is as the change expects. Otherwise returns why it
+// isn't.
 pub(crate) fn test(change: &Change, found: &Option<Reference>) -> Result<(), Refusal>
     ensures met { MatchResult result (λ _. MeetsOf change.now (option_map points_of found.now))
         (λ _. ¬ MeetsOf change.now (option_map points_of found.now)) }
@@ -140,7 +141,7 @@ fn test_gone(expected: &PreviousValue) -> Result<(), Refusal>
     }
 }
 
-// Tests that the two are one.
+// Tests that the two targets are equal. Otherwise returns `why`.
 fn same(found: &Target, wanted: &Target, why: Refusal) -> Result<(), Refusal>
     ensures met { MatchResult result (λ _. target_view found.now ≡ target_view wanted.now)
         (λ _. target_view found.now ≢ target_view wanted.now) }
@@ -153,7 +154,7 @@ fn same(found: &Target, wanted: &Target, why: Refusal) -> Result<(), Refusal>
     }
 }
 
-// Tests that it is one of the two.
+// Tests that what was found equals one of the two targets. Otherwise returns `ReferenceOutOfDate`.
 fn either(found: &Target, stated: &Target, new: &Target) -> Result<(), Refusal>
     ensures met { MatchResult result (λ _. (target_view found.now ≡ target_view stated.now)
         ⊎ (target_view found.now ≡ target_view new.now))
@@ -167,7 +168,7 @@ fn either(found: &Target, stated: &Target, new: &Target) -> Result<(), Refusal>
     same(found, new, Refusal::ReferenceOutOfDate)
 }
 
-// Whether two targets are one.
+// Returns whether two targets are equal.
 fn is_one(first: &Target, second: &Target) -> bool
     ensures { Decides result (target_view first.now ≡ target_view second.now) }
 {

@@ -1,4 +1,4 @@
-//! What a store's names point to, for the splits of edits.
+//! What a store's names point to, for the splitting of edits.
 
 ghost use Rattle.gix_ref_loose_transaction.specs.Found.{points_at};
 ghost use Rattle.gix_ref_store.specs.Lookups.{reads_with};
@@ -10,7 +10,7 @@ use gix_ref_name::{FullNameRef, Target};
 use gix_ref_store::store::file::{Store, find};
 use std::alloc::Global;
 
-// A store, and the packed references that it is asked with.
+// A store, and the packed references with which its names are looked up.
 #[derive(Drop)]
 pub(crate) struct Names<'s, 'p, F: Files> {
     pub(crate) store: &'s Store<F>,

@@ -1,4 +1,5 @@
-//! Transactions of references: edits of several references that are tested, locked and made together, in their own files and in packed records.
+//! Transactions of references: several edits that are tested, locked and made together.
+//! They change the references' own files and packed records.
 #![tactic(auto)]
 
 mod asked;

@@ -29,8 +29,9 @@ use gix_ref_store::store::file::{ReferenceExt, Store, find, follow, log};
 use gix_ref_store::{Reference, WriteReflog};
 use std::alloc::Global;
 
-// The line that the log of the edit's name gets: none by a deletion, by an update to another reference's name or to the id that stood,
-// and where the store's options leave it.
+// Returns the line that the log of the edit's name gets. It is none for a deletion, for an update
+// to another reference's name or to the id that the name held, and if the store's options don't log
+// the name.
 pub(crate) fn line_of<F: Files>(
     alloc: Global,
     store: &Store<F>,
@@ -66,7 +67,7 @@ pub(crate) fn line_of<F: Files>(
     Ok(Some(spelled(alloc, before, *after, &log.message, committer)?))
 }
 
-// Whether updates of the name are written to its log.
+// Returns whether updates of the name are written to its log.
 fn is_logged<F: Files>(
     alloc: Global,
     store: &Store<F>,
@@ -95,7 +96,7 @@ fn is_logged<F: Files>(
     }
 }
 
-// Whether updates of a name are logged where nothing else is said.
+// Returns whether updates of a name are logged by default.
 fn is_usually_logged(name: &[u8]) -> bool
     ensures { result ≡ spec.is_usually_logged name.now }
 {
@@ -106,7 +107,7 @@ fn is_usually_logged(name: &[u8]) -> bool
         || name.starts_with(b"refs/worktree/")
 }
 
-// The id of the object that the reference stood for, and the null id where it stood for none.
+// Returns the id of the object that the reference led to, or the null id if it led to none.
 fn id_before<F: Files>(
     alloc: Global,
     store: &Store<F>,
@@ -128,7 +129,8 @@ fn id_before<F: Files>(
     }
 }
 
-// The null id, where the chain ends at no object; the error, where it couldn't be followed to its end.
+// Returns the null id if the chain ends at no object, or the error if it couldn't be followed to
+// its end.
 fn none_reached(error: follow::Error, null: ObjectId) -> Result<ObjectId, PrepareError>
     ensures { MatchResult result (λ id. (id ≡ null) × (end_fault error ≡ None))
         (λ told. end_fault error ≡ Some told) }

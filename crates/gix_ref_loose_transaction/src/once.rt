@@ -14,7 +14,7 @@ use gix_ref_transaction::packed::Transaction;
 use std::alloc::{AllocError, Global};
 use std::collections::BTreeSet;
 
-// Whether two edits are of one place.
+// Returns whether two edits have the same place.
 pub(crate) fn share_place<F: Files>(
     alloc: Global,
     store: &Store<F>,
@@ -26,7 +26,7 @@ pub(crate) fn share_place<F: Files>(
     have_twice(alloc, &places)
 }
 
-// Where the files of the edits' names stand.
+// Returns the paths of the files of the edits' names.
 fn places_of<F: Files>(
     alloc: Global,
     store: &Store<F>,
@@ -42,7 +42,8 @@ fn places_of<F: Files>(
     Ok(places)
 }
 
-// Whether two of the paths that a commit concerns are one, or one of the moves' is that of packed records.
+// Returns whether two of the paths that a commit concerns are equal, or one of the moves' is that
+// of packed records.
 pub(crate) fn stand_twice<F: Files>(
     alloc: Global,
     store: &Store<F>,
@@ -57,7 +58,7 @@ pub(crate) fn stand_twice<F: Files>(
     have_twice(alloc, &paths)
 }
 
-// Where packed records stand, and their lock where it is held.
+// Returns the path of packed records, and that of their lock if it is held.
 fn paths_of_records<F: Files>(
     alloc: Global,
     store: &Store<F>,
@@ -90,7 +91,7 @@ fn add_paths(alloc: Global, moves: &[Move], paths: &mut Vec<Vec<u8>>) -> Result<
     Ok(())
 }
 
-// Whether a path stands twice.
+// Returns whether a path occurs twice.
 fn have_twice(alloc: Global, paths: &[Vec<u8>]) -> Result<bool, AllocError>
     ensures { IfOk result (λ twice. twice ≡ has_twice (map bytes_of paths.now)) }
 {

@@ -1,4 +1,4 @@
-//! What is written of the targets of edits is read back.
+//! Each target of an edit is read back as it is written.
 
 ghost use Rattle.gix_ref_loose_transaction.specs.Reads.{AllGiveKind, AllReadBack, GivesKind, IsOfKind, IsReadBack};
 ghost use Rattle.gix_ref_name.specs.Targets.{target_view};
@@ -10,7 +10,7 @@ use gix_ref_edit::{Change, RefEdit};
 use gix_ref_format::laws::{written_id_is_read, written_name_is_read};
 use gix_ref_name::Target;
 
-// Of edits whose ids are of this hash function each target is read as it is written.
+// If the ids of edits are of this hash function, each target is read as it is written.
 pub(crate) fn targets_are_read(edits: &[RefEdit], kind: Kind)
     ensures { AllGiveKind kind edits.now → AllReadBack kind edits.now }
 {

@@ -3,7 +3,7 @@ use Rattle.gix_ref_loose_transaction.specs.Paths.{bytes_of, has_twice}
 use Rattle.gix_ref_loose_transaction.proofs.Twice.{comes_again}
 use Rattle.gix_ref_loose_transaction.proofs.once.have_twice.Given as goal
 
--- a path stands twice where one that is left comes again
+-- a path occurs twice if one that is left occurs again
 abbrev pub invariant-paths : goal.invariant-paths
 invariant-paths l = has_twice (map bytes_of l.paths) ≡ comes_again l.seen.keys (map bytes_of l.rest)
 

@@ -10,7 +10,7 @@ use Rattle.gix_ref_loose_transaction.specs.Rollback.{MoreFilesAt, lock_paths}
 use Rattle.gix_ref_loose_transaction.proofs.Plannings.{ZippedSoFar, TestedSoFar, LinedIn}
 use Rattle.gix_ref_loose_transaction.proofs.transaction.plan_all.Given as goal
 
--- locks alone came, of the edits that are planned
+-- only locks were made, of the edits that are planned
 abbrev pub invariant-edits : goal.invariant-edits
 invariant-edits g l =
     let history = g.F.Files.history in
