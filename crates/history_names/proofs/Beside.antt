@@ -1,4 +1,4 @@
--- A name's file is written beside and renamed to its place.
+-- A name's file is written in its lock file and renamed to its place.
 use Rattle.std.proofs.Common.{◌≡◌, ◌≢◌, ◌⊎◌, inl, inr, refl, sym, ◌∙◌, ap, Bool, true, false, cond, not, ◌&&◌, [], ◌∷◌}
 use Rattle.std.specs.Prelude.{IsErrOf, IsTrue, Option, Result, Ok, Err, Some, None, is_some}
 use Rattle.gix_ref_file.specs.declared.files.FileError.{FileError}
@@ -120,7 +120,7 @@ room_after name old mid above room is = by_case (now_above (log_place name) old 
     by_case (inl stood) = room stood
     by_case (inr within) = lock_not_above_log name within
 
--- the error that a call was told
+-- the error that a call returned
 pub told_error : {T : Type 0} (told : Result T FileError) (error passed : FileError) → told ≡ Err passed → passed ≡ error → IsErrOf told Failed → error ≡ Failed
 told_error (Ok x) error passed is same failed = cc
 told_error (Err e) error passed is same failed = cc

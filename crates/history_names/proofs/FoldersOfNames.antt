@@ -1,4 +1,4 @@
--- Which folders come and go where a name moves: those that its file and its log stand in.
+-- Which folders are made and removed when a name moves: those above its file and its log.
 use Rattle.std.proofs.Common.{◌≡◌, ◌⊎◌, inl, inr}
 use Rattle.std.specs.Prelude.{IsTrue, Some}
 use Rattle.std.specs.FinMap.{get}
@@ -12,7 +12,7 @@ use Rattle.gix_ref_way.proofs.Above.{now_above}
 use Rattle.gix_ref_way.proofs.FoldersKept.{others_now}
 use Rattle.history_names.specs.References.{FoldersOfName, KeepsFoldersOfOthers}
 
--- ---- those that come
+-- ---- those that are made
 pub log_folders : (name : Bytes) (old mid : History) → Adds (FoldersAbove (log_place name) old.tree) old mid → Adds (FoldersOfName name old.tree) old mid
 log_folders name old mid adds = adds_weaker old mid adds (λ x above q is. out (above q is))
   where

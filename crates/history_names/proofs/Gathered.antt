@@ -119,7 +119,7 @@ module _ (es fs : List (Key × ObjectId)) (key : Key) (id : ObjectId) (is : fs �
 
 -- ---- the walk
 
--- names at a path and below it are there, where their files hold ids
+-- names at a path and below it are there, if their files hold ids
 abbrev pub HasFrom : Kind → Tree → NameIds → Bytes → Type 0
 HasFrom kind tree ids path = (name : Bytes) (id : Id) → IsAtOrBelow path name → held_id kind tree name ≡ Some id → IsSome (get ids name)
 
@@ -217,7 +217,7 @@ one_named names new name id left rest all is first so_far =
     ∙ append_assoc (map name_entry names) ((name.items, id_of id) ∷ []) (named_ids rest)
     ∙ ap (λ es. map name_entry names ++ named_ids es) (sym first) ∙ so_far
 
--- what is gathered where nothing was
+-- what is gathered if nothing was before
 module _ (kind : Kind) (tree : Tree) (place : Bytes) (start : List (Key × ObjectId)) (ids : NameIds) (empty : start ≡ []) (gathers : Gathers kind tree place (from_sorted (named_ids start)) ids) where
   none : (name : Bytes) → get (from_sorted {R = by_bytes} (named_ids start)) name ≡ None
   none name = ap (λ es. get (from_sorted {R = by_bytes} (named_ids es)) name) empty ∙ get-from_sorted by_bytes [] name tt

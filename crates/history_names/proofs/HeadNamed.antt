@@ -1,4 +1,4 @@
--- HEAD is written anew in a repository that stands.
+-- HEAD is written anew in an existing repository.
 use Rattle.std.proofs.Common.{◌≡◌, ◌≢◌, refl, ◌∙◌, ap, not, ◌&&◌, true}
 use Rattle.std.specs.Prelude.{IsTrue, Option, Some, None, is_some}
 use Rattle.std.specs.FinMap.{get}

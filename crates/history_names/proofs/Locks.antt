@@ -1,4 +1,4 @@
--- The lock file of a name: its path, and where it stands.
+-- The lock file of a name: its path, and the folder that it is in.
 use Rattle.std.proofs.Common.{◌≡◌, ◌≢◌, refl, sym, ◌∙◌, ap, ℕ, ◌+◌, ◌-◌, ◌≤◌, ◌==◌, Bool, true, false, cond, not, ◌&&◌, ◌||◌, List, [], ◌∷◌, ◌++◌, length, length-append, take, reverse, get_or, arith, codes, bytes_eq}
 use Rattle.std.specs.Prelude.{IsTrue, nat_lt, nat_le}
 use Rattle.std.specs.List.{list_any, list_all, slice_split, onto_first, prefix_len, suffix_len}
@@ -78,7 +78,7 @@ lock_path name h =
     let parts = ap (list_all is_component) (split_locked name) ∙ locked_parts (slice_split is_slash name) (none_split 0 name) (name_parts name h) in
     λ i. short_enough (length name) (length (lock_place name)) (and_parts _ (nat_le (length name) max_name) h).1 (omega (arith, length-append name lock_end)) i && parts i
 
--- ---- it stands where the name's own file does
+-- ---- it is in the folder of the name's own file
 pub lock_beside_name : (name : Bytes) → parent (lock_place name) ≡ parent name
 lock_beside_name name = ap (λ n. take n (name ++ lock_end)) (omega (arith, longer, length-append name lock_end)) ∙ take-append-le (length name - suffix_len (λ byte. not (is_slash byte)) name - 1) name lock_end (omega arith)
   where
@@ -88,7 +88,7 @@ lock_beside_name name = ap (λ n. take n (name ++ lock_end)) (omega (arith, long
         let behind : prefix_len inside (reverse lock_end ++ reverse name) ≡ 1 + (1 + (1 + (1 + (1 + prefix_len inside (reverse name))))) = refl in
         omega (arith, ap (prefix_len inside) (reverse-append name lock_end), behind)
 
--- ---- and at no other place
+-- ---- and at no other path
 pub own_lock : (path : Bytes) → path ≢ lock_place path
 own_lock path same = omega (arith, ap length same, length-append path lock_end)
 
@@ -98,7 +98,7 @@ lock_is_lock path = ends_after path lock_end
 pub log_no_lock : (name : Bytes) → is_name name ≡ true → log_place name ≢ lock_place name
 log_no_lock name h same = let byte : 108 ≡ 114 = ap (λ t. get_or t 0 0) (same ∙ ap lock_place (refs_of name h)) in omega (arith, byte)
 
--- nothing stands below it that a name or its log stands in
+-- it is no folder of a name or its log
 pub lock_not_above : (name : Bytes) → IsAbove (lock_place name) name → ⊥
 lock_not_above name (rest, is) = omega (arith, ap length is, length-append (lock_place name) (47 ∷ rest), length-append name lock_end)
 

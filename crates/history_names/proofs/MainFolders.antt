@@ -1,4 +1,4 @@
--- The folders of the branch main, below which its file and its log stand.
+-- The folders that the file and the log of the branch main are in.
 use Rattle.std.proofs.Common.{◌≡◌, ◌⊎◌, inl, inr, refl, ◌∙◌, ap, true, ◌++◌}
 use Rattle.std.specs.Prelude.{IsTrue, Some, codes}
 use Rattle.std.specs.FinMap.{get}
@@ -38,7 +38,7 @@ main_log_above place (rest, is) = from_first (behind (codes "logs") main place r
     from_first (inl same) = ap is_name_folder same
     from_first (inr (inner, same, left)) = ap is_name_folder same ∙ from_second inner (behind (codes "refs") (codes "heads/main") inner rest refl left)
 
--- Where all folders were folders of names, they are after a move of the branch main.
+-- If all folders were folders of names, they are after a move of the branch main.
 pub main_folders_stay : (old new : Tree) → FoldersOfName (codes "refs/heads/main") old new
     → ((path : Bytes) → get old path ≡ Some folder → IsTrue (is_name_folder path)) → (path : Bytes) → get new path ≡ Some folder → IsTrue (is_name_folder path)
 main_folders_stay old new above before path is = by_case (above path is)

@@ -25,7 +25,7 @@ use Rattle.gix_ref_way.proofs.FoldersMade.{above_shorter, front_of}
 
 -- ---- above
 
--- none above that ends before this place in the name reads as an id
+-- no folder of the name that ends before this place in it reads as an id
 abbrev pub NoneBefore : ℕ → Kind → Bytes → Tree → Type 0
 NoneBefore end kind name tree = (other : Bytes) → IsAbove other name → length other < end → ReadsAsNone kind tree other
 
@@ -76,7 +76,7 @@ module _ (kind : Kind) (tree : Tree) (name : Bytes) where
       let below = told_below key id (sym (lists.each key) ∙ at) in
       (key, below.0, below.1)
 
-  -- whether names are listed tells whether one lies below
+  -- whether names are listed says whether one is below
   pub listed_tells : (names : List NamedId) (found : Bool) → ListsAll kind tree name names → found ≡ not (length names == 0) → TellsHeldBelow kind name tree found
   listed_tells [] found lists is = subst (TellsHeldBelow kind name tree) (sym is) (none_listed lists)
   listed_tells (first ∷ rest) true lists is = one_listed first rest lists

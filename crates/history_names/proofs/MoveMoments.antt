@@ -1,4 +1,4 @@
--- What stands while a name moves.
+-- What exists while a name moves.
 use Rattle.std.proofs.Common.{◌≡◌, ◌≢◌, ◌⊎◌, inl, inr, sym, ◌∙◌, ap, take, ◌++◌, true}
 use Rattle.std.specs.Prelude.{Some}
 use Rattle.gix_ref_file.specs.Tree.{Tree, file, bytes_at}

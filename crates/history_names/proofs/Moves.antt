@@ -22,7 +22,7 @@ use Rattle.history_names.proofs.Locks.{log_no_lock}
 use Rattle.gix_ref_way.proofs.Stored.{now_same, apart_from_inserted}
 use Rattle.gix_hash_id.specs.Id.{id_of}
 
--- a front and a back that are there are what stands around the rest
+-- if a text begins with a front and ends with a back, these are around the rest
 pub between : (text front rest back middle : Bytes) → text ≡ front ++ rest → text ≡ (front ++ middle) ++ back → rest ≡ middle ++ back
 between text front rest back middle begins is = append_cancel_left front rest (middle ++ back) (sym begins ∙ is ∙ append_assoc front middle back)
 

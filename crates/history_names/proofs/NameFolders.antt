@@ -1,4 +1,4 @@
--- The folders that a name and its log stand in are folders of names.
+-- The folders that a name and its log are in are folders of names.
 use Rattle.std.proofs.Common.{◌≡◌, ℕ, ◌+◌, ◌-◌, ◌⊎◌, Bool, true, false, cond, not, ◌||◌, List, [], ◌∷◌, ◌++◌, length, take, drop, refl, sym, ◌∙◌, ap, inl, inr, codes, ◌==◌}
 use Rattle.std.specs.Prelude.{IsTrue, Some}
 use Rattle.std.specs.List.{list_any, slice_split, onto_first}
@@ -82,7 +82,7 @@ log_above name place h (rest, is) = by_front (behind (codes "logs") name place r
     by_front (inl same) = ap is_name_folder same
     by_front (inr (inner, same, left)) = ap is_name_folder same ∙ ap not (ap is_lock (sym same) ∙ no_lock_log name place rest h is)
 
--- Where all folders were folders of names, they are after a move.
+-- If all folders were folders of names, they are after a move.
 pub name_folders_stay : (name : Bytes) (old new : Tree) → is_name name ≡ true → FoldersOfName name old new
     → ((path : Bytes) → get old path ≡ Some folder → IsTrue (is_name_folder path)) → (path : Bytes) → get new path ≡ Some folder → IsTrue (is_name_folder path)
 name_folders_stay name old new h above before path is = by_case (above path is)
@@ -92,7 +92,7 @@ name_folders_stay name old new h above before path is = by_case (above path is)
     by_case (inr (inl placed)) = name_above name path h placed
     by_case (inr (inr placed)) = log_above name path h placed
 
--- what stands at each moment stands now
+-- what exists at each moment exists now
 pub folders_now : (name : Bytes) (old new : History) → Adds (FoldersOfName name old.tree) old new → FoldersOfName name old.tree new.tree
 folders_now name old new adds = from_now (adds_now _ old new adds)
   where

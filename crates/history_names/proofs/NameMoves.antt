@@ -13,7 +13,7 @@ use Rattle.history_names.specs.References.{HasMoved, FoldersOfName, lock_place}
 use Rattle.history_texts.specs.declared.log_entry.LogEntry.{LogEntry}
 use Rattle.history_names.proofs.NameFolders.{name_folders_stay}
 
--- where all folders were folders of names
+-- if all folders were folders of names
 pub moves_name : (name : Bytes) (entry : LogEntry) (old new : Tree) → IsTrue (is_name name) → file_at old (lock_place name) ≡ None → HasMoved name entry old new → FoldersOfName name old new
     → ((path : Bytes) → get old path ≡ Some folder → IsTrue (is_name_folder path)) → MovesName name (entry_of entry) old new
 moves_name name entry old new named unlocked moved above before = record {

@@ -57,7 +57,7 @@ module _ (kind : Kind) (tree : Tree) where
       go false None t = refl
       go false (Some other) t = refl
 
-  -- a name that was read and put in, where it reads as an id
+  -- a name that was read and added, if it reads as an id
   module _ (name : Bytes) (found : Option ObjectId) (reads : NameReads kind tree name found) where
     put_told : (other : Bytes) (b : Bool) → bytes_eq name other ≡ b → option_map id_of found ≡ cond b (told other) (option_map id_of found)
     put_told other true e = reads ∙ ap told (one_text name other e)
@@ -195,7 +195,7 @@ module _ (kind : Kind) (tree : Tree) (packed : Option Buffer) (keeps : KeepsFile
 
 -- ---- the names in order
 
--- one name more: it is there where it is a name of a reference
+-- one name more: it is there if it is a name of a reference
 pub one_pushed : (names new : List NamedId) (name : Bytes) (id : Id) (left rest all : List (Bytes × Id)) → map name_entry new ≡ map name_entry names ++ cond (is_name name) ((name, id) ∷ []) [] → left ≡ (name, id) ∷ rest
     → map name_entry names ++ filter (λ e. is_name e.0) left ≡ all → map name_entry new ++ filter (λ e. is_name e.0) rest ≡ all
 one_pushed names new name id left rest all is first so_far =

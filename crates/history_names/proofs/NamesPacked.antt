@@ -1,4 +1,4 @@
--- Where all names of a repository are packed, the steps are those of a `pack`.
+-- If all names of a repository are packed, the steps are those of a `pack`.
 use Rattle.std.proofs.Common.{◌≡◌, ◌≢◌, ◌⊎◌, inl, inr, refl, sym, ◌∙◌, ap, subst, Bool, true, false, cond, not, ◌&&◌, ◌||◌, List, [], ◌∷◌, Option, Some, None, option_map, is_some, bytes_eq, MatchOption}
 use Rattle.std.specs.Prelude.{IfSome, nat_le, option_and_then, unwrap_or, length}
 use Rattle.std.specs.FinMap.{get}
@@ -46,7 +46,7 @@ not_true : (b : Bool) → not b ≡ true → b ≡ false
 not_true true e = cc
 not_true false e = refl
 
--- a name is among those that are packed where one of their records is its
+-- a name is among those that are packed if one of their records is its
 among_hit : (names : List PackedName) (name : Bytes) → is_among (name_texts names) name ≡ is_some (hit (records_of names) name)
 among_hit [] name = refl
 among_hit (n ∷ names) name = go (bytes_eq n.name name) (among_hit names name)
@@ -144,7 +144,7 @@ module _ (r : Repository) (written : IsWritten r) where
       go None at h = cc
       go (Some ref) at h = (and_parts (is_name name) (not (is_private name)) (and_parts (is_name name && not (is_private name)) (is_reference r.kind ref) (written.names name ref at)).0).0
 
-  -- ---- where the records of these names are those
+  -- ---- if the records of these names are those
 
   module _ (names : List PackedName) (each : (name : Bytes) → hit (records_of names) name ≡ record_for r name) where
     pub kinds_told : AllOfKind r.kind names
@@ -200,7 +200,7 @@ module _ (r : Repository) (written : IsWritten r) where
         by_lock path true e away apart = let at = one_text path lock e in ap (file_at new) at ∙ packs.lock ∙ sym (none_locked old holds) ∙ ap (file_at old) (sym at)
         by_lock path false e away apart = packs.others path (among path false (none_away path away)) apart (λ at. clash (ap (λ p. bytes_eq p lock) at ∙ text_itself lock) e)
 
-    -- what stands meanwhile
+    -- what exists meanwhile
     pub packs_pass : (old tree : Tree) → HoldsNames old r → MayPack r.kind names old tree → SameFolders old tree → PacksOnTheWay r old tree
     packs_pass old tree holds may same = record {
       packed = elim may.packed [

@@ -57,7 +57,7 @@ one_more true b c h = h
 one_more false true c h = h
 one_more false false c h = h
 
--- ---- files go one after another
+-- ---- files are removed one after another
 
 pub none_yet : (old : Tree) → AreGone [] old old
 none_yet old = record { here = λ path is. absurd (cc is); others = λ path is. refl }

@@ -1,4 +1,4 @@
--- What `packed-refs` says where a name's record has gone.
+-- What `packed-refs` says after a name's record was removed.
 use Rattle.std.proofs.Common.{◌≡◌, refl, sym, ◌∙◌, ap, subst, Bool, true, false, cond, not, ◌&&◌, ◌||◌, List, [], ◌∷◌, map, Option, Some, None, option_map, bytes_eq, MatchOption}
 use Rattle.std.specs.Prelude.{option_and_then}
 use Rattle.std.specs.List.{list_any, list_all, AllByRecursion}
@@ -71,7 +71,7 @@ pub ascend_once : (records : List Record) → Ascend records → has_twice bytes
 ascend_once [] h = refl
 ascend_once (r ∷ records) h = or_from (list_any (bytes_eq r.name) (map name_in records)) (has_twice bytes_eq (map name_in records)) (before_apart r.name records h.0) (ascend_once records h.1)
 
--- ---- what is told of all names
+-- ---- what is said of all names
 
 all_told : (p : Bytes → Bool) (records : List Record) → AllByRecursion (λ (e : Record). p e.name ≡ true) records → list_all p (map name_in records) ≡ true
 all_told p [] h = refl
@@ -85,7 +85,7 @@ none_told : (p : Bytes → Bool) (records : List Record) → AllByRecursion (λ 
 none_told p [] h = refl
 none_told p (r ∷ records) h = or_from (p r.name) (list_any p (map name_in records)) h.0 (none_told p records h.1)
 
--- records that ascend have the form, where their names do
+-- records that ascend have the form, if their names do
 pub form_made : (records : List Record) → Ascend records → AllByRecursion (λ (e : Record). is_name e.name ≡ true) records → AllByRecursion (λ (e : Record). is_private e.name ≡ false) records
     → (text : Bytes) → text ≡ packed_text records → is_packed_form (packed_with text records) ≡ true
 form_made records ascend named public text written =

@@ -1,4 +1,4 @@
--- What is left of the files while a name and its log go.
+-- What is left of the files while a name and its log are removed.
 use Rattle.std.proofs.Common.{◌≡◌, ◌⊎◌, inl, inr, refl, sym, ◌∙◌, ap, subst, Bool, true, false, cond, [], ◌∷◌}
 use Rattle.std.specs.Prelude.{IsTrue, Option, Some, None, is_some}
 use Rattle.std.specs.FinMap.{get, remove}
@@ -14,7 +14,7 @@ use Rattle.history_names.specs.References.{SameFolders, LogIsGone, LogMayGo, IsG
 use Rattle.history_names.proofs.Moves.{name_apart}
 use Rattle.gix_ref_way.proofs.Stored.{apart_from_removed}
 
--- ---- one file goes
+-- ---- one file is removed
 pub removed_here : (t : Tree) (k : Bytes) → file_at (remove t k) k ≡ None
 removed_here t [] = refl
 removed_here t (b ∷ k) = ap bytes_of (get-removed t (b ∷ k) (b ∷ k) ∙ ap (λ same. cond same None (get t (b ∷ k))) (same_path_itself (b ∷ k)))

@@ -1,4 +1,4 @@
--- `packed-refs` is written beside and renamed to its place.
+-- `packed-refs` is written in its lock file and renamed to its place.
 use Rattle.std.proofs.Common.{◌≡◌, ◌≢◌, refl, sym, ◌∙◌, ap, subst, not, ◌&&◌, true, List, codes}
 use Rattle.std.specs.Prelude.{IsTrue, Option, Some, None, is_some}
 use Rattle.std.specs.FinMap.{get}

@@ -1,4 +1,4 @@
--- What is left of the files while a name goes, packed or not.
+-- What is left of the files while a name is deleted, packed or not.
 use Rattle.std.proofs.Common.{◌≡◌, ◌≢◌, inl, inr, refl, sym, ◌∙◌, ap, subst, Option, Some, None, option_map, true, false, bytes_eq, codes}
 use Rattle.gix_ref_file.specs.Tree.{Tree}
 use Rattle.gix_ref_file.specs.Changes.{to_remove_file, is_file_at, MayLeave}
@@ -87,7 +87,7 @@ none_lost kind name old lacks = record { packed = lacks; lock = inr refl; others
 -- ---- all three
 
 module _ (kind : Kind) (name : Bytes) (named : is_name name ≡ true) where
-  -- the log goes first
+  -- the log is removed first
   while_log : (old x : Tree) → LogMayGo name old x → MayTake kind name old x
   while_log old x may = record {
     log = may.log;

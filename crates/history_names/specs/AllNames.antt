@@ -1,4 +1,5 @@
--- The names below a folder with the ids that they read as, and whether a name meets another, packed or not.
+-- The names below a folder with the ids that they read as, and whether a name collides with
+-- another, packed or not.
 use Rattle.std.specs.Prelude.{◌≡◌, ◌⊎◌, Bool, true, false, ◌&&◌, is_some, List, map, Option, Some, None, if◌then◌else◌, IsTrue, IsSome}
 use Rattle.std.specs.FinMap.{entries, get}
 use Rattle.gix_ref_file.specs.Tree.{Tree}
@@ -19,7 +20,7 @@ use Rattle.history_names.specs.declared.listed.NamedId.{NamedId}
 
 -- ---- below a folder
 
--- the id that a name reads as, where it is one of those that are asked for
+-- the id that a name reads as, if it is one of those that are wanted
 abbrev pub told_if : Bool → Kind → Tree → Bytes → Option Id
 told_if asked kind tree name = if asked then told_id (name_state kind tree name) else None
 
@@ -60,15 +61,15 @@ TellsHeldAbove kind name tree true =
 TellsHeldAbove kind name tree false =
     (other : Bytes) → IsAbove other name → ReadsAsNone kind tree other
 
--- whether what lies below the name reads as an id
+-- whether a name below this one reads as an id
 abbrev pub TellsHeldBelow : Kind → Bytes → Tree → Bool → Type 0
 TellsHeldBelow kind name tree true =
     (other : Bytes) × IsAbove name other × ReadsAsId kind tree other
 TellsHeldBelow kind name tree false =
     (other : Bytes) → IsAbove name other → ReadsAsNone kind tree other
 
--- Whether the name meets another: at one of its folders, or below it, a file stands or a name reads as an id. Folders without files are
--- in nobody's way.
+-- Whether the name collides with another: at one of its folders, or below it, there is a file or a
+-- name that reads as an id. Folders without files don't matter.
 abbrev pub TellsMeeting : Kind → Bytes → Tree → Bool → Type 0
 TellsMeeting kind name tree true =
     (other : Bytes) × (IsAbove other name ⊎ IsAbove name other)

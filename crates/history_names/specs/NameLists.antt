@@ -1,4 +1,4 @@
--- The names that stand below a folder, with the ids that their files hold.
+-- The names that exist below a folder, with the ids that their files hold.
 use Rattle.std.specs.Prelude.{◌≡◌, ◌⊎◌, ℕ, List, map, option_and_then, if◌then◌else◌, Option, Some, None, Vec, IsSome}
 use Rattle.std.specs.declared.alloc.Global.{Global}
 use Rattle.std.specs.BTreeMap.{BTreeMap}
@@ -46,7 +46,8 @@ pub record ListsNames (kind : Kind) (tree : Tree) (folder : Bytes)
 abbrev pub ids_in : BTreeMap (Vec ℕ Global) ObjectId → NameIds
 ids_in names = from_sorted (map (λ e. ((e.0).items, id_of e.1)) names.entries)
 
--- The names below the folder came, with the ids that their files hold, and no other name; those that were there are there.
+-- The names below the folder are added, with the ids that their files hold, and no other name;
+-- those that were there are there.
 pub record Gathers (kind : Kind) (tree : Tree) (folder : Bytes) (old new : NameIds) : Type 0 where
   pub kept : (name : Bytes) → IsSome (get old name) → IsSome (get new name)
   pub came : (name : Bytes) (id : Id) → get new name ≡ Some id

@@ -1,4 +1,4 @@
--- What packing of names makes of their files, and what stands while it is done (git-pack-refs(1)).
+-- What packing of names makes of their files, and what exists while it is done (git-pack-refs(1)).
 use Rattle.std.specs.Prelude.{◌≡◌, ◌≢◌, ◌⊎◌, List, Some, None, map, option_map, IsTrue, IsFalse}
 use Rattle.std.specs.List.{AllByRecursion}
 use Rattle.gix_ref_file.specs.Tree.{Tree}
@@ -33,12 +33,13 @@ name_texts names = map (λ n. n.name) names
 abbrev pub AllFull : List Bytes → Type 0
 AllFull names = AllByRecursion (λ name. IsTrue (is_full_name name)) names
 
--- the ids are of this kind, of the first of each name
+-- the ids are of this kind: that of each name's first occurrence
 abbrev pub AllOfKind : Kind → List PackedName → Type 0
 AllOfKind kind names =
     (name : Bytes) (e : Record) → hit (records_of names) name ≡ Some e → HasKind kind e
 
--- The text of these records in the order of their names, each name once; and where all their ids are of the kind it is read as them.
+-- The text of these records in the order of their names, each name once. If all their ids are of
+-- the kind, it is read as them.
 pub record IsPackedText (kind : Kind) (records : List Record) (text : Bytes) : Type 0 where
   pub after : List Record
   pub ascend : Ascend after
@@ -46,26 +47,27 @@ pub record IsPackedText (kind : Kind) (records : List Record) (text : Bytes) : T
   pub is : text ≡ packed_text after
   pub reads : AllHaveKind kind after → packed_records kind text ≡ Some after
 
--- such a text stands in the place of `packed-refs`
+-- the file `packed-refs` has such a text
 pub record HasPackedText (kind : Kind) (names : List PackedName) (tree : Tree) : Type 0 where
   pub text : Bytes
   pub told : IsPackedText kind (records_of names) text
   pub here : file_at tree packed_place ≡ Some text
 
--- no file stands at any of these paths, and each other file is as before
+-- there is no file at any of these paths, and each other file is as before
 pub record AreGone (paths : List Bytes) (old new : Tree) : Type 0 where
   pub here : (path : Bytes) → IsTrue (is_among paths path) → file_at new path ≡ None
   pub others : (path : Bytes) → IsFalse (is_among paths path)
       → file_at new path ≡ file_at old path
 
--- What stands while they go: each is as before or gone, and each other file as before.
+-- What exists while they are removed: each is as before or gone, and each other file is as before.
 pub record MayBeGone (paths : List Bytes) (old tree : Tree) : Type 0 where
   pub here : (path : Bytes) → IsTrue (is_among paths path)
       → (file_at tree path ≡ file_at old path) ⊎ (file_at tree path ≡ None)
   pub others : (path : Bytes) → IsFalse (is_among paths path)
       → file_at tree path ≡ file_at old path
 
--- `packed-refs` has the records of these names, whose own files are gone; so is what it was written in, and each other file is as before.
+-- `packed-refs` has the records of these names, whose own files are gone; so is its lock file, and
+-- each other file is as before.
 pub record ArePacked (kind : Kind) (names : List PackedName) (old new : Tree) : Type 0 where
   pub packed : HasPackedText kind names new
   pub here : (path : Bytes) → IsTrue (is_among (name_texts names) path) → file_at new path ≡ None
@@ -73,8 +75,8 @@ pub record ArePacked (kind : Kind) (names : List PackedName) (old new : Tree) : 
   pub others : (path : Bytes) → IsFalse (is_among (name_texts names) path) → path ≢ packed_place
       → path ≢ lock_place packed_place → file_at new path ≡ file_at old path
 
--- What stands meanwhile: `packed-refs` is as before, or has these records; only then may a name's own file be gone. Each other file but
--- the lock file of `packed-refs` is as before.
+-- What exists meanwhile: `packed-refs` is as before, or has these records; only then may a name's
+-- own file be gone. Each other file but the lock file of `packed-refs` is as before.
 pub record MayPack (kind : Kind) (names : List PackedName) (old tree : Tree) : Type 0 where
   pub packed : (file_at tree packed_place ≡ file_at old packed_place)
       ⊎ HasPackedText kind names tree

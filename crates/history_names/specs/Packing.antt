@@ -1,4 +1,5 @@
--- What is kept of `packed-refs` (git-pack-refs(1)), what names read as by it, and what stands while it is replaced.
+-- What is kept of `packed-refs` (git-pack-refs(1)), what names read as by it, and what exists while
+-- it is replaced.
 use Rattle.std.specs.Prelude.{◌≡◌, ◌≢◌, ◌⊎◌, List, Option, Some, None, option_map, MatchOption, IsTrue}
 use Rattle.std.specs.FinMap.{get}
 use Rattle.gix_ref_file.specs.Tree.{Tree, folder}
@@ -22,19 +23,20 @@ use Rattle.history_names.specs.declared.names.Names.{Names}
 
 -- ---- what names read as
 
--- the records that are kept are those of the file; of none where none stands
+-- the records that are kept are those of the file; none if there is no file
 abbrev pub KeepsRecords : {F : Type 0} → Names F → Tree → Type 0
 KeepsRecords names tree =
     KeepsFile names.kind (file_at tree packed_place) (option_map kept names.packed)
 
--- the id that a state tells
+-- the id that a state gives
 abbrev pub told_id : NameState → Option Id
 told_id (Holds id) = Some id
 told_id (Symbolic name) = None
 told_id Absent = None
 told_id Faulty = None
 
--- the name reads as this id: of its own file, or where none stands of its record; or it reads as none
+-- the name reads as this id: that of its own file, or that of its record if there is no file; or it
+-- reads as none
 abbrev pub NameReads : Kind → Tree → Bytes → Option ObjectId → Type 0
 NameReads kind tree name id = option_map id_of id ≡ told_id (name_state kind tree name)
 
@@ -49,7 +51,7 @@ kept_hit (Some buffer) name = packed_hit (kept buffer) name
 abbrev pub IfSomeRecords : Option Buffer → (List Record → Type 0) → Type 0
 IfSomeRecords packed P = MatchOption packed ⊥ (λ buffer. P (kept buffer))
 
--- The text of the records under the edits, and where all their ids are of the kind it is read as them.
+-- The text of the records under the edits. If all their ids are of the kind, it is read as them.
 pub record IsEditedText (kind : Kind) (records : List Record) (lines : List Line)
     (text : Bytes) : Type 0 where
   pub after : List Record
@@ -57,7 +59,7 @@ pub record IsEditedText (kind : Kind) (records : List Record) (lines : List Line
   pub is : text ≡ packed_text after
   pub reads : AllHaveKind kind after → packed_records kind text ≡ Some after
 
--- no folder stands in the place of `packed-refs`, or where it is written beside
+-- there is no folder at the path of `packed-refs`, or at that of its lock file
 pub record HasPackedRoom (tree : Tree) : Type 0 where
   pub place : get tree packed_place ≢ Some folder
   pub lock : HasLockRoom packed_place tree
@@ -70,17 +72,18 @@ IsPackedForm kind tree =
 
 -- ---- a deletion
 
--- no file stands at the path, and each other file is as before
+-- there is no file at the path, and each other file is as before
 pub record FileIsGone (path : Bytes) (old new : Tree) : Type 0 where
   pub here : file_at new path ≡ None
   pub others : OthersStay path old new
 
--- What stands while a file goes: it is as before or gone, and each other file is as before.
+-- What exists while a file is removed: it is as before or gone, and each other file is as before.
 pub record FileMayGo (path : Bytes) (old tree : Tree) : Type 0 where
   pub here : (file_at tree path ≡ file_at old path) ⊎ (file_at tree path ≡ None)
   pub others : OthersStay path old tree
 
--- `packed-refs` has no record of the name, what it was written in is gone, if anything was, and each other file is as before.
+-- `packed-refs` has no record of the name, its lock file is gone, if there was one, and each other
+-- file is as before.
 pub record LosesRecord (kind : Kind) (name : Bytes) (old new : Tree) : Type 0 where
   pub packed : TakesRecord kind name old new
   pub lock : (file_at new (lock_place packed_place) ≡ None)
@@ -88,15 +91,15 @@ pub record LosesRecord (kind : Kind) (name : Bytes) (old new : Tree) : Type 0 wh
   pub others : (path : Bytes) → path ≢ packed_place → path ≢ lock_place packed_place
       → file_at new path ≡ file_at old path
 
--- What stands meanwhile: `packed-refs` is as before, or has no record of the name.
+-- What exists meanwhile: `packed-refs` is as before, or has no record of the name.
 pub record MayLoseRecord (kind : Kind) (name : Bytes) (old tree : Tree) : Type 0 where
   pub packed : (file_at tree packed_place ≡ file_at old packed_place)
       ⊎ TakesRecord kind name old tree
   pub others : (path : Bytes) → path ≢ packed_place → path ≢ lock_place packed_place
       → file_at tree path ≡ file_at old path
 
--- The name's file, its log and its record are gone, what `packed-refs` was written in too, if anything was, and each other file is as
--- before.
+-- The name's file, its log and its record are gone, the lock file of `packed-refs` too, if there
+-- was one, and each other file is as before.
 pub record IsTaken (kind : Kind) (name : Bytes) (old new : Tree) : Type 0 where
   pub here : file_at new name ≡ None
   pub log : file_at new (log_place name) ≡ None
@@ -106,8 +109,9 @@ pub record IsTaken (kind : Kind) (name : Bytes) (old new : Tree) : Type 0 where
   pub others : (path : Bytes) → path ≢ name → path ≢ log_place name → path ≢ packed_place
       → path ≢ lock_place packed_place → file_at new path ≡ file_at old path
 
--- What stands while a name goes: its log is as before or gone; where it is gone, its record may be gone; and where that is gone too,
--- its file. Each other file but the lock file of `packed-refs` is as before.
+-- What exists while a name is deleted: its log is as before or gone; if it is gone, its record may
+-- be gone; and if that is gone too, its file may be. Each other file but the lock file of
+-- `packed-refs` is as before.
 pub record MayTake (kind : Kind) (name : Bytes) (old tree : Tree) : Type 0 where
   pub log : (file_at tree (log_place name) ≡ file_at old (log_place name))
       ⊎ (file_at tree (log_place name) ≡ None)

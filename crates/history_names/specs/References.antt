@@ -1,4 +1,5 @@
--- What the files of names and logs say (gitrepository-layout(5), git-update-ref(1)), and what a move or a deletion does to them.
+-- What the files of names and logs say (gitrepository-layout(5), git-update-ref(1)), and what a
+-- move or a deletion does to them.
 use Rattle.std.specs.Prelude.{◌≡◌, ◌≢◌, ◌⊎◌, ◌↔◌, ◌++◌, ℕ, Bool, true, false, take, Option, Some, None, MatchOption, IsTrue, codes}
 use Rattle.std.specs.FinMap.{get}
 use Rattle.gix_ref_file.specs.Tree.{Tree, folder, node_at, is_folder, bytes_at}
@@ -36,7 +37,8 @@ abbrev pub NameHolds : Kind → Tree → Bytes → Option ObjectId → Type 0
 NameHolds kind tree name id =
     MatchOption (file_at tree name) (id ≡ None) (λ text. SpellsId kind text id)
 
--- the name's log has the entry's line more, unless the entry's two ids are one, and each other file is as before
+-- the name's log has the entry's line more, unless the entry's two ids are equal, and each other
+-- file is as before
 pub record Logs (name : Bytes) (entry : LogEntry) (old new : Tree) : Type 0 where
   pub appended : id_of entry.before ≢ id_of entry.after
       → file_at new (log_place name)
@@ -45,15 +47,15 @@ pub record Logs (name : Bytes) (entry : LogEntry) (old new : Tree) : Type 0 wher
       → file_at new (log_place name) ≡ file_at old (log_place name)
   pub others : (path : Bytes) → path ≢ log_place name → file_at new path ≡ file_at old path
 
--- where a file is written before it is renamed to its place: a lock file of its own
+-- the path at which a file is written before it is renamed to its place: that of its lock file
 abbrev pub lock_place : Bytes → Bytes
 lock_place path = path ++ codes ".lock"
 
--- where HEAD is written before it is renamed to its place
+-- the path at which HEAD is written before it is renamed to its place
 abbrev pub head_lock : Bytes
 head_lock = codes "HEAD.lock"
 
--- The same, and the name's file holds the id after; what was written beside is gone.
+-- The same, and the name's file holds the id after; its lock file is gone.
 pub record HasMoved (name : Bytes) (entry : LogEntry) (old new : Tree) : Type 0 where
   pub here : file_at new name ≡ Some (line (hex (id_of entry.after)))
   pub appended : id_of entry.before ≢ id_of entry.after
@@ -65,33 +67,34 @@ pub record HasMoved (name : Bytes) (entry : LogEntry) (old new : Tree) : Type 0 
   pub others : (path : Bytes) → path ≢ name → path ≢ log_place name → path ≢ lock_place name
       → file_at new path ≡ file_at old path
 
--- These bytes stand at the path, what was written beside is gone, and each other file is as before.
+-- The file at the path has these bytes, its lock file is gone, and each other file is as before.
 pub record PutsBeside (path text : Bytes) (old new : Tree) : Type 0 where
   pub here : file_at new path ≡ Some text
   pub lock : file_at new (lock_place path) ≡ None
   pub others : (other : Bytes) → other ≢ path → other ≢ lock_place path
       → file_at new other ≡ file_at old other
 
--- What stands meanwhile: the file at the path is as before, or whole.
+-- What exists meanwhile: the file at the path is as before, or whole.
 pub record MayBeWritten (path text : Bytes) (old tree : Tree) : Type 0 where
   pub here : (file_at tree path ≡ file_at old path) ⊎ (file_at tree path ≡ Some text)
   pub others : (other : Bytes) → other ≢ path → other ≢ lock_place path
       → file_at tree other ≡ file_at old other
 
--- no folder stands where the name's file is written beside
+-- there is no folder at the path of the lock file of the name's file
 abbrev pub HasLockRoom : Bytes → Tree → Type 0
 HasLockRoom name tree = get tree (lock_place name) ≢ Some folder
 
--- no folder stands in HEAD's place, or where HEAD is written beside
+-- there is no folder at HEAD's path, or at that of its lock file
 pub record HasHeadRoom (tree : Tree) : Type 0 where
   pub head : get tree head_place ≢ Some folder
   pub lock : HasLockRoom head_place tree
 
--- each file but the one at this path stands as before
+-- each file but the one at this path is as before
 abbrev pub OthersStay : Bytes → Tree → Tree → Type 0
 OthersStay path old new = (other : Bytes) → other ≢ path → file_at new other ≡ file_at old other
 
--- the log holds what it held, with the entry's line or a beginning of it behind; unless the entry's two ids are one, then it is as before
+-- the log holds what it held, with the entry's line or a beginning of it after that; if the entry's
+-- two ids are equal, it is as before
 abbrev pub LogMayGrow : Bytes → LogEntry → Tree → Tree → Type 0
 LogMayGrow name entry old tree = (file_at tree (log_place name) ≡ file_at old (log_place name))
     ⊎ ((id_of entry.before ≢ id_of entry.after)
@@ -99,13 +102,14 @@ LogMayGrow name entry old tree = (file_at tree (log_place name) ≡ file_at old 
     × (file_at tree (log_place name)
     ≡ Some (bytes_at old (log_place name) ++ take n (log_line (entry_of entry))))))
 
--- What stands while a log gets its line: each other file is as before.
+-- What exists while a log gets its line: each other file is as before.
 pub record MayLog (name : Bytes) (entry : LogEntry) (old tree : Tree) : Type 0 where
   pub log : LogMayGrow name entry old tree
   pub others : OthersStay (log_place name) old tree
 
--- What stands while a name moves: its file is as before, or holds the id after, whole, and its log has the entry's line (where the
--- entry's two ids aren't one); the log loses nothing, and each file but these two and the name's lock file is as before.
+-- What exists while a name moves: its file is as before, or holds the id after, whole, and its log
+-- has the entry's line, if the entry's two ids differ; the log loses nothing, and each file but
+-- these two and the name's lock file is as before.
 pub record MayMove (name : Bytes) (entry : LogEntry) (old tree : Tree) : Type 0 where
   pub here : (file_at tree name ≡ file_at old name)
       ⊎ ((file_at tree name ≡ Some (line (hex (id_of entry.after))))
@@ -116,7 +120,7 @@ pub record MayMove (name : Bytes) (entry : LogEntry) (old tree : Tree) : Type 0 
   pub others : (path : Bytes) → path ≢ name → path ≢ log_place name → path ≢ lock_place name
       → file_at tree path ≡ file_at old path
 
--- each folder that stands stood before, or is one that the name's file or its log stands in
+-- each folder that exists existed before, or is above the name's file or its log
 abbrev pub FoldersOfName : Bytes → Tree → Tree → Type 0
 FoldersOfName name old new =
     (place : Bytes) → get new place ≡ Some folder
@@ -124,19 +128,21 @@ FoldersOfName name old new =
 
 -- ---- the way of a file
 
--- Whether the name collides: a file stands at one of its folders, or below it. Folders without files are in nobody's way.
+-- Whether the name collides: there is a file at one of its folders, or below it. Folders without
+-- files don't matter.
 abbrev pub TellsCollision : Bytes → Tree → Bool → Type 0
 TellsCollision name tree true =
     (other : Bytes) × (IsAbove other name ⊎ IsAbove name other) × IsTrue (is_file_at tree other)
 TellsCollision name tree false = HasWay name tree
 
--- The name has room: its file and its log may come to stand, and its lock file.
+-- The name has room: there may be a file, a log and a lock file of it.
 pub record HasRoom (name : Bytes) (tree : Tree) : Type 0 where
   pub way : HasWay name tree
   pub log_way : HasWay (log_place name) tree
   pub lock : HasLockRoom name tree
 
--- each folder that stood stands, but perhaps those in the way of the name's file and of its log
+-- each folder that existed exists, except perhaps those in the way of the name's file and of its
+-- log
 abbrev pub KeepsFoldersOfOthers : Bytes → Tree → Tree → Type 0
 KeepsFoldersOfOthers name old new =
     (place : Bytes) → IsTrue (is_folder (node_at old place))
@@ -145,7 +151,7 @@ KeepsFoldersOfOthers name old new =
 
 -- ---- a deletion
 
--- no folder came, and none went
+-- no folder was made, and none was removed
 abbrev pub SameFolders : Tree → Tree → Type 0
 SameFolders old new =
     (place : Bytes) → (get new place ≡ Some folder) ↔ (get old place ≡ Some folder)
@@ -155,13 +161,13 @@ pub record LogIsGone (name : Bytes) (old new : Tree) : Type 0 where
   pub log : file_at new (log_place name) ≡ None
   pub others : OthersStay (log_place name) old new
 
--- What stands while a log goes: it is as before or gone, and each other file is as before.
+-- What exists while a log is removed: it is as before or gone, and each other file is as before.
 pub record LogMayGo (name : Bytes) (old tree : Tree) : Type 0 where
   pub log : (file_at tree (log_place name) ≡ file_at old (log_place name))
       ⊎ (file_at tree (log_place name) ≡ None)
   pub others : OthersStay (log_place name) old tree
 
--- A file stood at the name; it and the name's log are gone, and each other file is as before.
+-- The name had a file; it and the name's log are gone, and each other file is as before.
 pub record IsGone (name : Bytes) (old new : Tree) : Type 0 where
   pub stood : IsTrue (is_file_at old name)
   pub here : file_at new name ≡ None
@@ -169,8 +175,8 @@ pub record IsGone (name : Bytes) (old new : Tree) : Type 0 where
   pub others : (path : Bytes) → path ≢ name → path ≢ log_place name
       → file_at new path ≡ file_at old path
 
--- What stands while a name goes: its log is as before or gone, and its file as before, or gone where the log is. Each other file is
--- as before.
+-- What exists while a name is deleted: its log is as before or gone, and its file is as before, or
+-- gone if the log is. Each other file is as before.
 pub record MayGo (name : Bytes) (old tree : Tree) : Type 0 where
   pub log : (file_at tree (log_place name) ≡ file_at old (log_place name))
       ⊎ (file_at tree (log_place name) ≡ None)

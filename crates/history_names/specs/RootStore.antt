@@ -7,7 +7,8 @@ use Rattle.gix_ref_store.specs.declared.options.Options.{Options}
 use Rattle.gix_ref_store.specs.declared.options.WriteReflog.TheVariants.{Always}
 use Rattle.gix_ref_store.specs.declared.store.file.Store.{Store}
 
--- Its folders are the root, its ids of this kind; each name has a log, and names are known as they are spelled.
+-- Its folders are the root, its ids of this kind; each name has a log, and names are known as they
+-- are spelled.
 pub record IsRoot (kind : Kind) (b : Base) (options : Options) : Type 0 where
   pub hash : options.object_hash ≡ kind
   pub git : b.git ≡ []

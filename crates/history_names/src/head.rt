@@ -1,4 +1,4 @@
-//! HEAD of a repository that stands: its file is written whole.
+//! HEAD of an existing repository: its file is written whole.
 ghost use Rattle.std.specs.Prelude.{◌≡◌, ◌≤◌, IfOk, OnOk, IsErrOf};
 ghost use Rattle.gix_ref_file.specs.Calls.{Achieves, Passes};
 ghost use Rattle.gix_ref_file.specs.History.{HasRisen};
@@ -15,10 +15,10 @@ use gix_ref_way::write_anew;
 use history_model::names::HEAD;
 use std::alloc::{AllocError, Global};
 
-/// Where HEAD is written before it is renamed to its place.
+/// The path of the lock file in which HEAD is written before it is renamed to its place.
 pub const HEAD_LOCK: &[u8] = b"HEAD.lock";
 
-// What HEAD has in it where it names this branch.
+// Returns what HEAD has in it if it names this branch.
 fn head_text(alloc: Global, branch: &[u8]) -> Result<Vec<u8>, AllocError>
     ensures { IfOk result (λ text. text.items ≡ head_text branch.now) }
 {
@@ -29,8 +29,11 @@ fn head_text(alloc: Global, branch: &[u8]) -> Result<Vec<u8>, AllocError>
 }
 
 impl<F: Files> Names<F> {
-    /// Makes HEAD name this branch, whether that stands or not: HEAD is written in its lock file that is then renamed. No log gets a
-    /// line. After an error HEAD is as before or names the branch, whole.
+    /// Makes HEAD name this branch, whether the branch exists or not: HEAD is written in its lock
+    /// file, which is then renamed. No log gets a line.
+    ///
+    /// Returns `Failed` if a file call failed, and `Memory` if memory ran out. After an error HEAD
+    /// is as before or names the branch, whole.
     pub fn switch(&mut self, alloc: Global, branch: &[u8]) -> Result<(), FileError>
         ensures honest { F.is_honest self.old.store.files → F.is_honest self.new.store.files }
         ensures kind { self.new.kind ≡ self.old.kind }
@@ -41,13 +44,14 @@ impl<F: Files> Names<F> {
             → KeepsRecords self.old (F.history self.old.store.files).tree
             → OnOk result (KeepsRecords self.new (F.history self.new.store.files).tree) }
 
-        // What stands on the way; no folder comes or goes.
+        // What exists on the way; no folder is made or removed.
         ensures moments { Passes F.is_honest F.history self.old.store.files self.new.store.files
             (MayBeWritten head_place (head_text branch.now)) }
         ensures folders { Passes F.is_honest F.history self.old.store.files self.new.store.files
             SameFolders }
 
-        // Where HEAD and its lock file have room, a call of the files fails only of itself.
+        // If HEAD and its lock file have room, `Failed` comes only from a call of the files that
+        // failed.
         ensures later { F.failures self.old.store.files ≤ F.failures self.new.store.files }
         ensures unfailed { OnOk result
             (F.failures self.new.store.files ≡ F.failures self.old.store.files) }

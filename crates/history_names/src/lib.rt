@@ -1,4 +1,4 @@
-//! The store of names: HEAD, names with their ids and logs, each in a file of its own, and `packed-refs`.
+//! The store of names: HEAD, names with ids and logs, each in its own file, and `packed-refs`.
 #![tactic(auto)]
 
 mod head;

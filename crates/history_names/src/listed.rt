@@ -1,4 +1,4 @@
-//! The names that stand below a folder, with the ids that their files hold.
+//! The names that exist below a folder, with the ids that their files hold.
 ghost use Rattle.std.specs.Prelude.{◌≡◌, ◌≢◌, ◌++◌, [], ◌∷◌, map, bytes_eq, if◌then◌else◌, IfOk, OnOk, IsErrOf};
 ghost use Rattle.std.specs.FinMap.{entries, get};
 ghost use Rattle.std.specs.List.{filter};
@@ -30,10 +30,11 @@ pub struct NamedId {
 }
 
 impl<F: Files> Names<F> {
-    /// The names below a folder, which isn't the root, with the ids that their files hold, ascending by the names' bytes. A file
-    /// that isn't an id's hex digits and a line feed is passed over. The folder and those below it are listed, no others.
+    /// Returns the names below a folder, which isn't the root, with the ids that their files hold,
+    /// ascending by the names' bytes. A file that isn't an id's hex digits and a line feed is
+    /// passed over. Only the folder and those below it are listed.
     ///
-    /// It is `Failed` where a file call failed, and `Memory` where no memory is left.
+    /// Returns `Failed` if a file call failed, and `Memory` if memory ran out.
     pub fn list(&self, alloc: Global, folder: &[u8]) -> Result<Vec<NamedId>, FileError>
         ensures found { folder.now ≢ [] → Finds F.is_honest F.history self.now.store.files
             (λ tree. IfOk result (λ names.
@@ -45,11 +46,12 @@ impl<F: Files> Names<F> {
         Ok(in_order(alloc, ids)?)
     }
 
-    /// The names below a folder, which isn't the root, packed or not, with the ids that they read as, ascending by the names' bytes: of a
-    /// name the id in its own file, and where none stands that in its record. What is no name is passed over. The folder and those
-    /// below it are listed, and of the records those below the folder gone through, no others.
+    /// Returns the names below a folder, which isn't the root, packed or not, with the ids that
+    /// they read as, ascending by the names' bytes: the id in the name's own file, or that in its
+    /// record if there is no such file. What is no name is passed over. Only the folder and those
+    /// below it are listed, and only the records below the folder are gone through.
     ///
-    /// It is `Failed` where a file call failed, and `Memory` where no memory is left.
+    /// Returns `Failed` if a file call failed, and `Memory` if memory ran out.
     pub fn list_all(&self, alloc: Global, folder: &[u8]) -> Result<Vec<NamedId>, FileError>
         ensures found { folder.now ≢ [] → Finds F.is_honest F.history self.now.store.files
             (λ tree. KeepsRecords self.now tree → IfOk result (λ names.
@@ -62,7 +64,7 @@ impl<F: Files> Names<F> {
         Ok(names_in_order(alloc, found)?)
     }
 
-    // Puts in the names below a folder that have records, with the ids that they read as.
+    // Adds the names below a folder that have records, with the ids that they read as.
     fn add_packed(
         &self,
         alloc: Global,
@@ -84,7 +86,7 @@ impl<F: Files> Names<F> {
         self.add_records(alloc, records.iter_prefixed(&front), ids)
     }
 
-    // Puts in the names of these records, with the ids that they read as.
+    // Adds the names of these records, with the ids that they read as.
     fn add_records(
         &self,
         alloc: Global,
@@ -105,7 +107,7 @@ impl<F: Files> Names<F> {
         Ok(())
     }
 
-    // Puts in the name, with the id that it reads as, if it does.
+    // Adds the name with the id that it reads as, if it reads as one.
     fn add_name(
         &self,
         alloc: Global,
@@ -127,7 +129,7 @@ impl<F: Files> Names<F> {
         Ok(())
     }
 
-    // Puts in the names below a folder, with their ids.
+    // Adds the names below a folder, with their ids.
     fn gather(
         &self,
         alloc: Global,
@@ -151,7 +153,7 @@ impl<F: Files> Names<F> {
     }
 }
 
-// The names in a map, ascending, with their ids.
+// Returns the names in a map, ascending, with their ids.
 fn in_order(alloc: Global, ids: BTreeMap<Vec<u8>, ObjectId>) -> Result<Vec<NamedId>, AllocError>
     ensures { IfOk result (λ names. map name_entry names.items ≡ entries (ids_in ids)) }
 {
@@ -162,7 +164,7 @@ fn in_order(alloc: Global, ids: BTreeMap<Vec<u8>, ObjectId>) -> Result<Vec<Named
     Ok(names)
 }
 
-// The names in a map that are names of references, ascending, with their ids.
+// Returns those names in a map that are names of references, ascending, with their ids.
 fn names_in_order(
     alloc: Global,
     ids: BTreeMap<Vec<u8>, ObjectId>,
@@ -177,7 +179,7 @@ fn names_in_order(
     Ok(listed)
 }
 
-// Adds the name with its id, where it is a name of a reference.
+// Adds the name with its id, if it is a name of a reference.
 fn push_name(names: &mut Vec<NamedId>, name: Vec<u8>, id: ObjectId) -> Result<(), AllocError>
     ensures { OnOk result (map name_entry names.new.items ≡ map name_entry names.old.items
         ++ (if is_name name.items then (name.items, id_of id) ∷ [] else [])) }

@@ -1,4 +1,4 @@
-//! Whether a name meets another, packed or not: at one of its folders, or below it.
+//! Whether a name collides with another, packed or not, that is one of its folders or below it.
 ghost use Rattle.std.specs.Prelude.{◌≢◌, [], IfOk, IsErrOf, IsTrue};
 ghost use Rattle.gix_ref_file.specs.Calls.{Finds};
 ghost use Rattle.gix_ref_file.specs.declared.files.FileError.TheVariants.{Failed};
@@ -11,11 +11,12 @@ use gix_ref_file::{FileError, Files};
 use std::alloc::Global;
 
 impl<F: Files> Names<F> {
-    /// Whether the name meets another, packed or not: where it needs a folder, or below it, a file stands or a name reads as an id.
-    /// Folders without files are in nobody's way. The name's own folders are read, those below it listed, and of the records those
-    /// below it gone through, no others.
+    /// Returns whether the name collides with another, packed or not: whether there is a file, or a
+    /// name that reads as an id, at a path where the name needs a folder, or below the name.
+    /// Folders without files don't matter. The name's own folders are read, those below it are
+    /// listed, and only the records below it are gone through.
     ///
-    /// It is `Failed` where a file call failed, and `Memory` where no memory is left.
+    /// Returns `Failed` if a file call failed, and `Memory` if memory ran out.
     pub fn collides_any(&self, alloc: Global, name: &[u8]) -> Result<bool, FileError>
         ensures found { IsTrue (is_name name.now) → Finds F.is_honest F.history self.now.store.files
             (λ tree. KeepsRecords self.now tree
@@ -31,7 +32,7 @@ impl<F: Files> Names<F> {
         self.is_held_below(alloc, name)
     }
 
-    // Whether a name that reads as an id is one of this name's folders.
+    // Returns whether a name that reads as an id is one of this name's folders.
     fn is_held_above(&self, alloc: Global, name: &[u8]) -> Result<bool, FileError>
         ensures found { Finds F.is_honest F.history self.now.store.files
             (λ tree. KeepsRecords self.now tree
@@ -48,7 +49,7 @@ impl<F: Files> Names<F> {
         Ok(false)
     }
 
-    // Whether a name that reads as an id lies below this one, which isn't the root.
+    // Returns whether a name that reads as an id is below this one, which isn't the root.
     fn is_held_below(&self, alloc: Global, name: &[u8]) -> Result<bool, FileError>
         ensures found { name.now ≢ [] → Finds F.is_honest F.history self.now.store.files
             (λ tree. KeepsRecords self.now tree

@@ -1,4 +1,4 @@
-//! The names of a repository: each is a file of its id, and its moves are a log.
+//! The names of a repository: each is a file with its id, and its moves are in a log.
 ghost use Rattle.std.specs.Prelude.{◌≡◌, ◌≤◌, None, IfOk, OnOk, IsErrOf, IsTrue, option_map, option_copied};
 ghost use Rattle.gix_ref_file.specs.Calls.{Achieves, Finds, HasFault, Passes};
 ghost use Rattle.gix_ref_file.specs.Tree.{bytes_at};
@@ -26,7 +26,8 @@ use history_model::names::HEAD;
 use history_texts::{LogEntry, push_hex};
 use std::alloc::{AllocError, Global};
 
-// No bound on `F`: of a struct with a fact each definition that names it would take the bound's ghost members.
+// No bound on `F`: since the struct has a fact, each definition that names it would take the
+// bound's ghost members.
 /// The names of a repository, in its names part.
 #[derive(Drop)]
 pub struct Names<F> {
@@ -40,7 +41,8 @@ pub struct Names<F> {
 impl<F: Files> Names<F> {
     ghost use Rattle.history_names.specs.Packing.{KeepsRecords};
 
-    /// The names in this part, of which none is packed: it keeps no records until they are read.
+    /// Returns the names in this part, none of them packed: no records are kept until they are
+    /// read.
     pub fn new(alloc: Global, files: F, kind: Kind) -> Self
         ensures files { result.store.files ≡ files }
         ensures kind { result.kind ≡ kind }
@@ -81,9 +83,9 @@ impl<F: Files> Names<F> {
         self.kind
     }
 
-    /// HEAD's branch; `None` where HEAD isn't `ref: <name>` and a line feed.
+    /// Returns HEAD's branch; `None` if HEAD isn't `ref: <name>` and a line feed.
     ///
-    /// It is `Failed` where a file call failed, and `Memory` where no memory is left.
+    /// Returns `Failed` if a file call failed, and `Memory` if memory ran out.
     pub fn head(&self, alloc: Global) -> Result<Option<Vec<u8>>, FileError>
         ensures found { Finds F.is_honest F.history self.now.store.files
             (λ tree. IfOk result (λ found. HeadNames tree
@@ -100,9 +102,10 @@ impl<F: Files> Names<F> {
         }
     }
 
-    /// The id that a name holds, of the repository's kind; `None` where its file doesn't stand or isn't an id's hex digits and a line feed.
+    /// Returns the id that a name's file holds, of the repository's kind; `None` if the file
+    /// doesn't exist or isn't an id's hex digits and a line feed.
     ///
-    /// It is `Failed` where a file call failed, and `Memory` where no memory is left.
+    /// Returns `Failed` if a file call failed, and `Memory` if memory ran out.
     pub fn read(&self, alloc: Global, name: &[u8]) -> Result<Option<ObjectId>, FileError>
         ensures found { Finds F.is_honest F.history self.now.store.files
             (λ tree. IfOk result (λ found. NameHolds self.now.kind tree name.now found)) }
@@ -115,9 +118,9 @@ impl<F: Files> Names<F> {
         Ok(id_in(self.kind, &text))
     }
 
-    /// What the name's log has in it, nothing where none stands.
+    /// Returns what the name's log has in it; nothing if there is no log.
     ///
-    /// It is `Failed` where a file call failed, and `Memory` where no memory is left.
+    /// Returns `Failed` if a file call failed, and `Memory` if memory ran out.
     pub fn log(&self, alloc: Global, name: &[u8]) -> Result<Vec<u8>, FileError>
         ensures found { Finds F.is_honest F.history self.now.store.files
             (λ tree. IfOk result (λ log. log.items ≡ bytes_at tree (log_place name.now))) }
@@ -129,10 +132,11 @@ impl<F: Files> Names<F> {
         Ok(log)
     }
 
-    /// Whether the name collides with another: a file stands where it needs a folder, or below it. Folders without files are in
-    /// nobody's way. The name's own folders are read, and those below it listed, no others.
+    /// Returns whether the name collides with another: whether there is a file at a path where the
+    /// name needs a folder, or below the name. Folders without files don't matter. Only the name's
+    /// own folders are read, and those below it listed.
     ///
-    /// It is `Failed` where a file call failed, and `Memory` where no memory is left.
+    /// Returns `Failed` if a file call failed, and `Memory` if memory ran out.
     pub fn collides(&self, alloc: Global, name: &[u8]) -> Result<bool, FileError>
         ensures found { IsTrue (is_name name.now) → Finds F.is_honest F.history self.now.store.files
             (λ tree. IfOk result (λ found. TellsCollision name.now tree found)) }
@@ -144,9 +148,13 @@ impl<F: Files> Names<F> {
         has_file_below(alloc, &self.store.files, name)
     }
 
-    /// Moves a name to the id after, packed or not: appends the entry's line to the name's log, unless the two ids are one, and then writes the
-    /// name's file, in the name's lock file that is then renamed. Folders without files that stand in the place of either go. After an error the line may
-    /// stand without the move, and of the line a beginning alone; the log keeps what it held, and the name's file is whole.
+    /// Moves a name to the id after, packed or not: appends the entry's line to the name's log,
+    /// unless the two ids are equal, and then writes the name's file, in the name's lock file,
+    /// which is then renamed. Folders without files at the path of either are removed.
+    ///
+    /// Returns `Failed` if a file call failed, and `Memory` if memory ran out. After an error the
+    /// log may have the line, or a beginning of it, without the move; the log keeps what it held,
+    /// and the name's file is whole.
     pub fn move_name(
         &mut self,
         alloc: Global,
@@ -163,7 +171,8 @@ impl<F: Files> Names<F> {
             → KeepsRecords self.old (F.history self.old.store.files).tree
             → OnOk result (KeepsRecords self.new (F.history self.new.store.files).tree) }
 
-        // What stands on the way; no folder goes but those in the way of the two files, and none comes but those that they stand in.
+        // What exists on the way. Only folders in the way of the two files are removed, and only
+        // folders above them are made.
         ensures moments { IsTrue (is_name name.now)
             → Passes F.is_honest F.history self.old.store.files self.new.store.files
             (MayMove name.now entry.now) }
@@ -172,7 +181,7 @@ impl<F: Files> Names<F> {
         ensures folders { Passes F.is_honest F.history self.old.store.files self.new.store.files
             (FoldersOfName name.now) }
 
-        // Where the name has room, a call of the files fails only of itself.
+        // If the name has room, `Failed` comes only from a fault of the files.
         ensures later { F.failures self.old.store.files ≤ F.failures self.new.store.files }
         ensures unfailed { OnOk result
             (F.failures self.new.store.files ≡ F.failures self.old.store.files) }
@@ -255,10 +264,11 @@ impl<F: Files> Names<F> {
         self.store.files.rename(alloc, &lock, name)
     }
 
-    /// Deletes the name: removes its log, where one stands, and then its file. After an error the log may be gone and the name not,
-    /// and no name is gone whose log stands; each is whole or gone. No folder goes.
+    /// Deletes the name: removes its log, if there is one, and then its file. No folder is removed.
     ///
-    /// It is `Failed` where a file call failed or no file stands at the name, and `Memory` where no memory is left.
+    /// Returns `Failed` if a file call failed or the name has no file, and `Memory` if memory ran
+    /// out. After an error the log may be gone and the name not, and no name is gone whose log
+    /// exists; each is whole or gone.
     pub fn remove_name(&mut self, alloc: Global, name: &[u8]) -> Result<(), FileError>
         ensures honest { F.is_honest self.old.store.files → F.is_honest self.new.store.files }
         ensures kind { self.new.kind ≡ self.old.kind }
@@ -266,13 +276,13 @@ impl<F: Files> Names<F> {
         ensures gone { Achieves F.is_honest F.history self.old.store.files self.new.store.files
             result (IsGone name.now) }
 
-        // What stands on the way.
+        // What exists on the way.
         ensures moments { Passes F.is_honest F.history self.old.store.files self.new.store.files
             (MayGo name.now) }
         ensures folders { Passes F.is_honest F.history self.old.store.files self.new.store.files
             SameFolders }
 
-        // Where the name's file stands, a call of the files fails only of itself.
+        // If the name's file exists, `Failed` comes only from a fault of the files.
         ensures later { F.failures self.old.store.files ≤ F.failures self.new.store.files }
         ensures unfailed { OnOk result
             (F.failures self.new.store.files ≡ F.failures self.old.store.files) }
@@ -313,7 +323,7 @@ impl<F: Files> Names<F> {
     }
 }
 
-// The name in `ref: <name>` and a line feed.
+// Returns the name in `ref: <name>` and a line feed; `None` if the text isn't of that form.
 fn branch_of(text: &[u8]) -> Option<&[u8]>
     ensures { SpellsBranch text.now (option_copied result) }
 {
@@ -321,7 +331,7 @@ fn branch_of(text: &[u8]) -> Option<&[u8]>
     strip_suffix(rest, b"\n")
 }
 
-// The id of this kind in `<hex>` and a line feed.
+// Returns the id of this kind in `<hex>` and a line feed; `None` if the text isn't of that form.
 pub(crate) fn id_in(kind: Kind, text: &[u8]) -> Option<ObjectId>
     ensures { SpellsId kind text.now result }
 {
@@ -329,7 +339,7 @@ pub(crate) fn id_in(kind: Kind, text: &[u8]) -> Option<ObjectId>
     parse_hex(kind, digits)
 }
 
-// What the file of a name that holds this id has in it.
+// Returns what the file of a name that holds this id has in it.
 fn name_text(alloc: Global, id: &ObjectId) -> Result<Vec<u8>, AllocError>
     ensures { IfOk result (λ text. text.items ≡ line (hex (id_of id.now))) }
 {
@@ -339,7 +349,7 @@ fn name_text(alloc: Global, id: &ObjectId) -> Result<Vec<u8>, AllocError>
     Ok(text)
 }
 
-// The path of the lock file in which a name's file is written.
+// Returns the path of the lock file in which a name's file is written.
 fn lock_place(alloc: Global, name: &[u8]) -> Result<Vec<u8>, AllocError>
     ensures { IfOk result (λ place. place.items ≡ lock_place name.now) }
 {
@@ -348,7 +358,7 @@ fn lock_place(alloc: Global, name: &[u8]) -> Result<Vec<u8>, AllocError>
     Ok(place)
 }
 
-// The path of a name's log.
+// Returns the path of a name's log.
 fn log_place(alloc: Global, name: &[u8]) -> Result<Vec<u8>, AllocError>
     ensures { IfOk result (λ place. place.items ≡ log_place name.now) }
 {

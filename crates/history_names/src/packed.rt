@@ -23,16 +23,17 @@ use gix_ref_way::write_anew;
 use history_texts::is_name;
 use std::alloc::Global;
 
-/// Where the records stand.
+/// The path of the records.
 pub const PACKED: &[u8] = b"packed-refs";
 
-// Where they are written before that is renamed to their place.
+// The path of the lock file in which they are written before it is renamed to their place.
 const PACKED_LOCK: &[u8] = b"packed-refs.lock";
 
 impl<F: Files> Names<F> {
-    /// Reads `packed-refs`, and keeps its records from then on; none where no file stands.
+    /// Reads `packed-refs`, and keeps its records from then on; none if there is no such file.
     ///
-    /// It is `Io` where the file couldn't be read, `Memory` where no memory is left, and else tells the fault of the text.
+    /// Returns `Io` if the file couldn't be read, `Memory` if memory ran out, and otherwise the
+    /// fault of the text.
     pub fn read_packed(&mut self, alloc: Global) -> Result<(), Error>
         ensures files { self.new.store.files ≡ self.old.store.files }
         ensures kind { self.new.kind ≡ self.old.kind }
@@ -46,10 +47,10 @@ impl<F: Files> Names<F> {
         Ok(())
     }
 
-    /// The id that a name holds: that of its own file, and where none stands that of its record. `None` where it holds none, and where it
-    /// is no name that a repository may hold.
+    /// Returns the id that a name holds: that of its own file, or that of its record if there is no
+    /// such file. `None` if it holds none, and if it is no name that a repository may hold.
     ///
-    /// It is `Failed` where a file call failed, and `Memory` where no memory is left.
+    /// Returns `Failed` if a file call failed, and `Memory` if memory ran out.
     pub fn find(&self, alloc: Global, name: &[u8]) -> Result<Option<ObjectId>, FileError>
         ensures found { Finds F.is_honest F.history self.now.store.files
             (λ tree. KeepsRecords self.now tree
@@ -66,7 +67,8 @@ impl<F: Files> Names<F> {
         }
     }
 
-    // Puts this text in the place of `packed-refs`, in its lock file that is then renamed, and keeps its records.
+    // Replaces `packed-refs` by this text, which is written in its lock file that is then renamed,
+    // and keeps its records.
     pub(crate) fn replace_packed(&mut self, alloc: Global, text: Vec<u8>) -> Result<(), FileError>
         ensures honest { F.is_honest self.old.store.files → F.is_honest self.new.store.files }
         ensures kind { self.new.kind ≡ self.old.kind }
@@ -96,7 +98,7 @@ impl<F: Files> Names<F> {
     }
 }
 
-// The id in the name's record, where it has one.
+// Returns the id in the name's record, if it has one.
 fn packed_id(packed: &Option<Buffer>, name: &[u8]) -> Option<ObjectId>
     ensures { IsTrue (is_name name.now) → option_map id_of result
         ≡ option_map (λ (e : Record). e.target) (kept_hit packed.now name.now) }
@@ -108,7 +110,7 @@ fn packed_id(packed: &Option<Buffer>, name: &[u8]) -> Option<ObjectId>
     }
 }
 
-// The records of a text, with it.
+// Returns the records of a text, with the text.
 fn buffer_of(alloc: Global, text: Vec<u8>, kind: Kind) -> Result<Buffer, FileError>
     ensures kept { IfOk result (λ buffer. Keeps kind text.items (kept buffer)) }
     ensures bytes { IfOk result (λ buffer. text_of buffer ≡ text.items) }

@@ -1,4 +1,4 @@
-//! Packing of names: `packed-refs` gets a record for each, and then their own files go.
+//! Packing of names: `packed-refs` gets a record for each, and then their own files are removed.
 ghost use Rattle.std.specs.Prelude.{◌≡◌, ◌≤◌, IfOk, OnOk, IsErrOf};
 ghost use Rattle.gix_ref_file.specs.Calls.{Achieves, HasFault, Passes};
 ghost use Rattle.gix_ref_file.specs.declared.files.FileError.TheVariants.{Failed, Memory};
@@ -21,15 +21,16 @@ use std::alloc::{AllocError, Global};
 pub struct PackedName {
     pub name: FullName,
     pub id: ObjectId,
-    /// The commit that the name stands for, where the id is a tag's.
+    /// The commit that the name leads to, if the id is a tag's.
     pub peeled: Option<ObjectId>,
 }
 
 impl<F: Files> Names<F> {
-    /// Packs these names: `packed-refs` is written anew with a record for each, ascending by name, in its lock file that is then
-    /// renamed; and then their own files go, where they stand, one after another. No log and no folder changes.
+    /// Packs these names: `packed-refs` is written anew with a record for each, ascending by name,
+    /// in its lock file, which is then renamed; then their own files are removed, if they exist,
+    /// one after another. No log and no folder changes.
     ///
-    /// It is `Failed` where a file call failed, and `Memory` where no memory is left.
+    /// Returns `Failed` if a file call failed, and `Memory` if memory ran out.
     pub fn pack_names(&mut self, alloc: Global, names: &[PackedName]) -> Result<(), FileError>
         ensures honest { F.is_honest self.old.store.files → F.is_honest self.new.store.files }
         ensures kind { self.new.kind ≡ self.old.kind }
@@ -38,7 +39,7 @@ impl<F: Files> Names<F> {
         ensures keeps { F.is_honest self.old.store.files
             → OnOk result (KeepsRecords self.new (F.history self.new.store.files).tree) }
 
-        // What stands on the way.
+        // What exists on the way.
         ensures moments { Passes F.is_honest F.history self.old.store.files self.new.store.files
             (MayPack self.old.kind names.now) }
         ensures folders { Passes F.is_honest F.history self.old.store.files self.new.store.files
@@ -58,7 +59,7 @@ impl<F: Files> Names<F> {
         self.remove_own_files(alloc, names)
     }
 
-    // Removes the names' own files, where they stand, one after another.
+    // Removes the names' own files, if they exist, one after another.
     fn remove_own_files(&mut self, alloc: Global, names: &[PackedName]) -> Result<(), FileError>
         ensures honest { F.is_honest self.old.store.files → F.is_honest self.new.store.files }
         ensures kind { self.new.kind ≡ self.old.kind }
@@ -84,7 +85,7 @@ impl<F: Files> Names<F> {
     }
 }
 
-// The text of the names' records, ascending by name.
+// Returns the text of the names' records, ascending by name.
 fn text_of_names(alloc: Global, names: &[PackedName], kind: Kind) -> Result<Vec<u8>, AllocError>
     ensures text { IfOk result
         (λ text. IsPackedText kind (records_of names.now) text.items) }
@@ -97,7 +98,7 @@ fn text_of_names(alloc: Global, names: &[PackedName], kind: Kind) -> Result<Vec<
     packed_text(alloc, records.as_slice())
 }
 
-// That each name's record stands.
+// Returns the edits by which each name has its record.
 fn edits_of<'a>(alloc: Global, names: &'a [PackedName]) -> Result<Vec<Edit<'a>>, AllocError>
     ensures { IfOk result (λ edits. lines_of edits.items ≡ lines_of_names names.now) }
 {
@@ -108,7 +109,7 @@ fn edits_of<'a>(alloc: Global, names: &'a [PackedName]) -> Result<Vec<Edit<'a>>,
     Ok(edits)
 }
 
-// That the name's record stands.
+// Returns the edit by which the name has its record.
 fn edit_of(named: &PackedName) -> Edit<'_>
     ensures { line_of result ≡ own_line (record_of_name named.now) }
 {

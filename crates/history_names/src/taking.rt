@@ -1,4 +1,4 @@
-//! Deletions of names, packed or not: the log goes, then the record, then the file.
+//! Deletions of names, packed or not: the log is removed first, then the record, then the file.
 ghost use Rattle.std.specs.Prelude.{◌≡◌, ◌≤◌, [], ◌∷◌, None, Some, IfOk, OnOk, IsErrOf, IsTrue, MatchOption};
 ghost use Rattle.gix_ref_file.specs.Calls.{Achieves, HasFault, Passes};
 ghost use Rattle.gix_ref_file.specs.declared.files.FileError.TheVariants.{Failed, Memory};
@@ -21,11 +21,12 @@ use gix_ref_way::is_file;
 use std::alloc::{AllocError, Global};
 
 impl<F: Files> Names<F> {
-    /// Deletes the name, packed or not: its log goes, where one stands; where it has a record, `packed-refs` is written anew without
-    /// it, in its lock file that is then renamed; and last the name's file goes, where one stands. After an error the log may be gone
-    /// and the name not; each file is whole or gone. No folder goes.
+    /// Deletes the name, packed or not: first its log is removed, if there is one; if it has a
+    /// record, `packed-refs` is written anew without it, in its lock file, which is then renamed;
+    /// last the name's file is removed, if there is one. No folder is removed.
     ///
-    /// It is `Failed` where a file call failed, and `Memory` where no memory is left.
+    /// Returns `Failed` if a file call failed, and `Memory` if memory ran out. After an error the
+    /// log may be gone and the name not; each file is whole or gone.
     pub fn take_name(&mut self, alloc: Global, name: &[u8]) -> Result<(), FileError>
         ensures honest { F.is_honest self.old.store.files → F.is_honest self.new.store.files }
         ensures kind { self.new.kind ≡ self.old.kind }
@@ -39,7 +40,7 @@ impl<F: Files> Names<F> {
             → F.is_honest self.old.store.files
             → OnOk result (KeepsRecords self.new (F.history self.new.store.files).tree) }
 
-        // What stands on the way.
+        // What exists on the way.
         ensures moments { IsTrue (is_name name.now)
             → KeepsRecords self.old (F.history self.old.store.files).tree
             → IsPackedForm self.old.kind (F.history self.old.store.files).tree
@@ -48,7 +49,7 @@ impl<F: Files> Names<F> {
         ensures folders { Passes F.is_honest F.history self.old.store.files self.new.store.files
             SameFolders }
 
-        // Where `packed-refs` has room, a call of the files fails only of itself.
+        // If `packed-refs` has room, `Failed` comes only from a fault of the files.
         ensures later { F.failures self.old.store.files ≤ F.failures self.new.store.files }
         ensures unfailed { OnOk result
             (F.failures self.new.store.files ≡ F.failures self.old.store.files) }
@@ -64,7 +65,7 @@ impl<F: Files> Names<F> {
         self.remove_own_file(alloc, name)
     }
 
-    // Writes `packed-refs` anew without the name's record, where it has one.
+    // Writes `packed-refs` anew without the name's record, if it has one.
     fn take_record(&mut self, alloc: Global, name: &[u8]) -> Result<(), FileError>
         ensures honest { F.is_honest self.old.store.files → F.is_honest self.new.store.files }
         ensures kind { self.new.kind ≡ self.old.kind }
@@ -99,7 +100,7 @@ impl<F: Files> Names<F> {
         }
     }
 
-    // Removes the name's own file, where one stands.
+    // Removes the name's own file, if there is one.
     pub(crate) fn remove_own_file(&mut self, alloc: Global, name: &[u8]) -> Result<(), FileError>
         ensures honest { F.is_honest self.old.store.files → F.is_honest self.new.store.files }
         ensures kind { self.new.kind ≡ self.old.kind }
@@ -125,7 +126,7 @@ impl<F: Files> Names<F> {
     }
 }
 
-// The text of the records without that of the name; `None` where it has none.
+// Returns the text of the kept records without that of the name; `None` if it has none.
 fn text_without(
     alloc: Global,
     packed: &Option<Buffer>,
@@ -146,7 +147,7 @@ fn text_without(
     }
 }
 
-// The text of these records without that of the name; `None` where it has none.
+// Returns the text of these records without that of the name; `None` if it has none.
 fn without_one(
     alloc: Global,
     records: &Buffer,
@@ -164,7 +165,7 @@ fn without_one(
     Ok(Some(without(alloc, records, name, kind)?))
 }
 
-// The text of the records but for that of the name.
+// Returns the text of the records except that of the name.
 fn without(
     alloc: Global,
     records: &Buffer,
