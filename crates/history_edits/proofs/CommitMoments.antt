@@ -131,7 +131,7 @@ module _ (old locked tree : Tree) (locks : SameButLocks old locked) where
   each_shows (m ∷ moved) taken [] are named each = absurd are
   each_shows (m ∷ moved) taken (made ∷ moves) are named each = (one_shows m old locked tree made are.0 named.0 locks each.0, each_shows moved taken moves are.1 named.1 each.1)
 
-  -- what is told of each move is told of the one that removes
+  -- what is said of each move is said of the one that removes
   abbrev Removed : (Act → Contents → Contents → Type 0) → Bytes → Type 0
   Removed Rel name = (made : Move) × RemovesName name made × Rel Remove (contents made locked) (contents made tree)
 
@@ -188,7 +188,7 @@ module _ (kind : Kind) (moved : List MovedName) (taken : Option Bytes) (old lock
   packed_was : file_at locked packed_place ≡ file_at old packed_place
   packed_was = ready.locks packed_place refl
 
-  -- where records aren't locked they are as before
+  -- if records aren't locked they are as before
   unlocked : t ≡ None → file_at tree packed_place ≡ file_at old packed_place
   unlocked none =
       let apart = records_apart old locked tree ready.locks (edited_names moved taken) ready.named in
@@ -201,7 +201,7 @@ module _ (kind : Kind) (moved : List MovedName) (taken : Option Bytes) (old lock
       go None is at h = unlocked is
       go (Some x) is at h = ap (file_at tree) (sym at) ∙ h ∙ ap (file_at locked) at ∙ packed_was
 
-  -- where they are new they are those of the end
+  -- if they are new they are those of the end
   ended : PackedIsNew t locked tree → file_at tree packed_place ≡ records_end old locked t
   ended new = go t refl ready.at_records new
     where

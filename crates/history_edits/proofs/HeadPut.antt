@@ -1,4 +1,4 @@
--- A commit that puts HEAD, moment by moment.
+-- A commit that replaces HEAD, moment by moment.
 use Rattle.std.proofs.Common.{◌≡◌, ◌≢◌, inl, inr, false, [], ◌∷◌, refl, sym, ◌∙◌, ap, subst, Some, None, unwrap_or, bytes_eq}
 use Rattle.gix_ref_file.specs.Tree.{Tree}
 use Rattle.gix_ref_moves.specs.Committing.{OnTheWay, IsCommitted}

@@ -38,7 +38,7 @@ none_of_paths p (n ∷ names) file lock log =
     (or_from (bytes_eq p (lock_of n)) (bytes_eq p (log_place n) || list_any (bytes_eq p) (name_paths names)) locks.0
     (or_from (bytes_eq p (log_place n)) (list_any (bytes_eq p) (name_paths names)) logs.0 rest))
 
--- ---- what tells them apart
+-- ---- what makes them different
 
 lock_ends : (place : Bytes) → is_lock_file (lock_of place) ≡ true
 lock_ends place = ends_after place (codes ".lock")

@@ -46,7 +46,7 @@ use Rattle.history_edits.proofs.WholeReads.{names_stand_in_place, reads_whole}
 
 -- ---- acts
 
--- an update of a reference to an object is put
+-- an update of a reference to an object is `Put`
 put_line : (alone : Bool) (act : Act) → alone ≡ false → IsUpdateBy AndReference alone act → (line : Option (Vec ℕ Global)) × (act ≡ Put line)
 put_line alone (Put line) never is = (line, refl)
 put_line alone (Note line) never is = absurd is

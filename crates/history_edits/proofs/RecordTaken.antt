@@ -43,7 +43,8 @@ none_of : {A : Type 0} (o : Option A) → is_some o ≡ false → o ≡ None
 none_of None e = refl
 none_of (Some x) e = cc
 
--- ---- records that have none of the name are as they are without it. RecordsLeft of history_names has this too, for itself alone
+-- ---- records that have none of the name are as they are without it. RecordsLeft of history_names
+-- has this too, for itself alone
 
 not_true : (b : Bool) → not b ≡ true → b ≡ false
 not_true true e = cc
@@ -79,7 +80,7 @@ same_lacks name packed formed none = record { formed = formed; each = λ other. 
 private_hit : (records : List Record) (name : Bytes) → is_name name ≡ true → is_private name ≡ true → packed_hit records name ≡ None
 private_hit records name named private = ap (option_and_then (hit records)) (records_alike name named ∙ ap (λ b. cond b None (Some name)) private)
 
--- where nothing changes the name has no record
+-- if nothing changes the name has no record
 unchanged : (records : List Record) (name : Bytes) → is_name name ≡ true → list_any (changes_record records) (removals name) ≡ false → packed_hit records name ≡ None
 unchanged records name named none = go (is_private name) refl none
   where
@@ -87,7 +88,7 @@ unchanged records name named none = go (is_private name) refl none
     go true private e = private_hit records name named private
     go false public e = none_of (packed_hit records name) (or_parts (is_some (packed_hit records name)) false e).0
 
--- where something changes it is no private one, and records stand
+-- if something changes it is no private one, and records exist
 changed : (records : List Record) (name : Bytes) → list_any (changes_record records) (removals name) ≡ true → is_private name ≡ false
 changed records name some = go (is_private name) refl some
   where
@@ -161,7 +162,7 @@ module _ (r : Repository) (name : Bytes) (old locked : Tree) (h : HoldsNames old
 pub record_taken : RecordTaken
 record_taken r name old locked t h named holds = taken r name old locked h named t holds
 
--- where nothing is said of records they are not locked
+-- if nothing is said of records they are not locked
 pub none_said : (r : Repository) (old locked : Tree) (t : Option Transaction) → HoldsNames old r → HoldsIf (root_base r.kind) old locked [] t → t ≡ None
 none_said r old locked None h holds = refl
 none_said r old locked (Some t) h holds = go (file_at old packed_place) refl holds.0

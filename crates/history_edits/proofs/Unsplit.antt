@@ -1,4 +1,4 @@
--- Edits that ask for no other reference's change aren't split.
+-- Edits that don't follow symbolic references aren't split.
 use Rattle.std.proofs.Common.{◌≡◌, ℕ, zero, suc, false, cond, List, [], ◌∷◌, ◌++◌, map, refl, sym, ◌∙◌, ap, None, is_some}
 use Rattle.std.specs.List.{AllByRecursion, cons_option}
 use Rattle.gix_ref_edit.specs.Splits.{Targets, further, hop, hop_to, hops, settled, settled_as}

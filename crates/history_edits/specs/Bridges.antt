@@ -1,4 +1,5 @@
--- What the references of gix_ref are in the words of a repository: its store is of the root, with the records that are kept.
+-- What the references of gix_ref are in the terms of a repository: its store is of the root, with
+-- the records that are kept.
 use Rattle.std.specs.Prelude.{◌≡◌, List, [], ◌∷◌, ◌++◌, Option, Some, None, unwrap_or, bytes_eq, decimal, if◌then◌else◌, IsTrue, IsFalse}
 use Rattle.std.specs.List.{list_all}
 use Rattle.gix_ref_file.specs.Tree.{Tree}
@@ -53,12 +54,14 @@ ReadsWhole =
     → IsTrue (is_name name)
     → ReadsAs (id_at r name) (state_among (root_base r.kind) tree (unwrap_or kept []) name)
 
--- the paths that edits of these names concern: of each its file, the lock of that, and its log
+-- the paths that edits of these names concern: for each name its file, the lock of that, and its
+-- log
 abbrev pub name_paths : List Bytes → List Bytes
 name_paths [] = []
 name_paths (name ∷ names) = name ∷ lock_of name ∷ log_place name ∷ name_paths names
 
--- If no name is there twice, no path is, nor is one of them that of packed records or of their lock.
+-- If no name occurs twice, no path does, nor is one of them that of packed records or of their
+-- lock.
 abbrev pub PathsOnce : Type 0
 PathsOnce =
     (names : List Bytes) → IsTrue (list_all is_name names) → IsFalse (has_twice bytes_eq names)

@@ -22,12 +22,12 @@ use Rattle.history_steps.specs.EditSteps.{MovedName, EditsOnTheWay, EditsMade, e
 use Rattle.history_steps.specs.TakeSteps.{LacksRecord}
 use Rattle.history_edits.specs.Bridges.{records_end}
 
--- the line is the entry's, if the entry's two ids differ, and else there is none
+-- the line is the entry's if the entry's two ids differ; otherwise there is none
 abbrev pub IsLineFor : MovedName → Option (Vec ℕ Global) → Type 0
 IsLineFor m None = m.entry.before ≡ m.entry.after
 IsLineFor m (Some line) = (m.entry.before ≢ m.entry.after) × (line.items ≡ log_line m.entry)
 
--- The move puts the name's file, whose lock has the id after.
+-- The move replaces the name's file by the lock, which has the id after.
 pub record PutsName (m : MovedName) (locked : Tree) (made : Move) : Type 0 where
   pub line : Option (Vec ℕ Global)
   pub act : made.act ≡ Put line
@@ -42,7 +42,7 @@ pub record RemovesName (name : Bytes) (made : Move) : Type 0 where
   pub place : place_of made ≡ name
   pub log : log_path_of made ≡ log_place name
 
--- the moves are those of the names, in their order, and after them that of the one that goes
+-- the moves are those of the names, in their order, and after them that of the deleted one
 abbrev pub AreMovesOf : List MovedName → Option Bytes → Tree → List Move → Type 0
 AreMovesOf [] None locked moves = moves ≡ []
 AreMovesOf [] (Some name) locked [] = ⊥
@@ -55,13 +55,13 @@ abbrev pub IsOfRecords : Option Transaction → Type 0
 IsOfRecords None = ⊤
 IsOfRecords (Some t) = packed.place_of t ≡ packed_place
 
--- packed records change for a name that goes alone, and are without its record in the end
+-- packed records change only if a name is deleted, and are without its record in the end
 abbrev pub RecordsGo : Kind → Option Bytes → Tree → Tree → Option Transaction → Type 0
 RecordsGo kind None old locked t = t ≡ None
 RecordsGo kind (Some name) old locked t =
     LacksRecord kind name (file_at old packed_place) (records_end old locked t)
 
--- What is ready to be committed: of the tree that stood at most locks have changed.
+-- What is ready to be committed: of the tree before, at most locks have changed.
 pub record IsReady (kind : Kind) (moved : List MovedName) (taken : Option Bytes)
     (old locked : Tree) (t : Option Transaction) (moves : List Move) : Type 0 where
   pub named : AllByRecursion (λ name. IsTrue (is_name name)) (edited_names moved taken)
@@ -75,14 +75,14 @@ abbrev pub HasNameFolders : Tree → Type 0
 HasNameFolders tree =
     (path : Bytes) → get tree path ≡ Some folder → IsTrue (is_name_folder path)
 
--- While edits are made ready nothing has moved.
+-- While edits are made ready, no name moves.
 abbrev pub ReadyingPasses : Type 0
 ReadyingPasses =
     (kind : Kind) (moved : List MovedName) (taken : Option Bytes) (old tree : Tree)
     → AllByRecursion (λ name. IsTrue (is_name name)) (edited_names moved taken)
     → SameButLocks old tree → HasNameFolders tree → EditsOnTheWay kind moved taken old tree
 
--- While they are committed they are on the way.
+-- While they are committed, the names are on the way.
 abbrev pub CommitPasses : Type 0
 CommitPasses =
     (kind : Kind) (moved : List MovedName) (taken : Option Bytes) (old locked tree : Tree)
@@ -90,12 +90,12 @@ CommitPasses =
     → IsReady kind moved taken old locked t moves → OnTheWay t moves locked tree
     → HasNameFolders tree → EditsOnTheWay kind moved taken old tree
 
--- no lock has come, and none has gone
+-- no lock was made, and none was removed
 abbrev pub LocksAsBefore : Tree → Tree → Type 0
 LocksAsBefore old new =
     (path : Bytes) → IsTrue (is_lock_file path) → file_at new path ≡ file_at old path
 
--- After it they are made.
+-- After it the moves are made.
 abbrev pub CommitMakes : Type 0
 CommitMakes =
     (kind : Kind) (moved : List MovedName) (taken : Option Bytes) (old locked new : Tree)

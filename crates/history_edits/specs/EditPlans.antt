@@ -1,4 +1,4 @@
--- The edits that ask for moves of names, and for a deletion after them, and what is made of them.
+-- The edits for moves of names, and for a deletion after them, and what is made of them.
 use Rattle.std.specs.Prelude.{◌≡◌, List, [], ◌∷◌, Option, Some, None, unwrap_or, IsTrue, false}
 use Rattle.std.specs.List.{AllByRecursion}
 use Rattle.gix_hash_id.specs.Id.{null_id}
@@ -48,7 +48,7 @@ pub record AsksDeletion (name : Bytes) (edit : RefEdit) : Type 0 where
   pub name_is : edit.name ≡ name
   pub change : edit.change ≡ Delete expected AndReference
 
--- the edits are those of the names, in their order, and after them that of the one that goes
+-- the edits are those of the names, in their order, and after them that of the deleted one
 abbrev pub AreEdits : List MovedName → Option Bytes → List RefEdit → Type 0
 AreEdits [] None edits = edits ≡ []
 AreEdits [] (Some name) [] = ⊥
@@ -87,7 +87,7 @@ abbrev pub removals_of : Option Bytes → List Line
 removals_of None = []
 removals_of (Some name) = removals name
 
--- They say of records, if none are packed, that the record of the name that goes goes too.
+-- If updates aren't packed, they say only that the record of the deleted name is removed too.
 abbrev pub EditsSay : Type 0
 EditsSay =
     (moved : List MovedName) (taken : Option Bytes) (edits : List RefEdit) (lines : List Line)
@@ -117,7 +117,7 @@ EditsReady =
     → MadeReady r old locked kept moved taken who l edits t moves
     → IsReady r.kind moved taken old locked t moves
 
--- Edits that ask for no other reference's change aren't split.
+-- Edits that don't follow symbolic references aren't split.
 abbrev pub UnsplitStay : Type 0
 UnsplitStay =
     (read : Bytes → RefState) (asked edits : List RefEdit)

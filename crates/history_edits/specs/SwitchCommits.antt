@@ -1,4 +1,4 @@
--- The moments of a commit that puts HEAD, as the law on switches has them.
+-- The moments of a commit that replaces HEAD, as the law on switches has them.
 use Rattle.std.specs.Prelude.{◌≡◌, [], ◌∷◌, Some, None}
 use Rattle.gix_ref_file.specs.Tree.{Tree}
 use Rattle.gix_ref_name.specs.Targets.{ToName}
@@ -13,13 +13,13 @@ use Rattle.history_model.specs.Places.{file_at, head_place}
 use Rattle.history_steps.specs.SwitchSteps.{HeadOnTheWay, NamesBranch}
 use Rattle.history_edits.specs.EditCommits.{HasNameFolders, LocksAsBefore}
 
--- The move puts HEAD, whose lock names the branch, and its log has no line more.
+-- The move replaces HEAD by its lock, which names the branch, and its log has no line more.
 pub record PutsHead (branch : Bytes) (locked : Tree) (made : Move) : Type 0 where
   pub act : made.act ≡ Put None
   pub place : place_of made ≡ head_place
   pub text : file_at locked (lock_path_of made) ≡ Some (loose_text (ToName branch))
 
--- While it is committed HEAD is on its way.
+-- While it is committed, HEAD is on its way.
 abbrev pub SwitchCommitPasses : Type 0
 SwitchCommitPasses =
     (branch : Bytes) (old locked tree : Tree) (made : Move) → PutsHead branch locked made

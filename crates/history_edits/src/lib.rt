@@ -1,4 +1,5 @@
-//! What transactions of `gix_ref` make of a repository's names: laws over the definitions, each the contract of a function that does nothing.
+//! What transactions of `gix_ref` make of a repository's names: laws over the definitions.
+//! Each is the contract of a function that does nothing.
 #![tactic(auto)]
 
 pub mod laws;
