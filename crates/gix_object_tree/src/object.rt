@@ -39,7 +39,7 @@ pub enum LooseDecodeError {
     InvalidHeader(LooseHeaderDecodeError),
     /// What follows the header isn't the object's content: it is shorter or longer than the header
     /// says (`None`), or isn't read as content of the kind.
-    #[error("what stands behind the header isn't the object's content")]
+    #[error("what follows the header isn't the object's content")]
     InvalidContent(Option<Error>),
     /// No memory is left.
     #[error("out of memory")]

@@ -13,7 +13,7 @@ pub enum Error {
     #[error(transparent)]
     Find(find::Error),
     /// No object of this id exists.
-    #[error("no object {oid} stands")]
+    #[error("the object {oid} is missing")]
     NotFound {
         /// The id.
         oid: ObjectId,

@@ -23,7 +23,7 @@ pub enum Error {
         source: decode::Error,
     },
     /// No object of this id exists.
-    #[error("no object {oid} stands")]
+    #[error("the object {oid} is missing")]
     NotFound {
         /// The id.
         oid: ObjectId,

@@ -27,7 +27,7 @@ pub enum Error {
         name: FullName,
     },
     /// The text of a reference's file names no target.
-    #[error("the file of the reference {name} tells no target")]
+    #[error("the file of the reference {name} names no target")]
     ReferenceCreation {
         /// The reference's name.
         name: FullName,
