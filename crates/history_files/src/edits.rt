@@ -67,7 +67,7 @@ pub enum EditError {
     #[error("a path has an empty name")]
     BadPath,
     /// There are files below the path of a file that is to be removed.
-    #[error("files stand below a path where a file is to be removed")]
+    #[error("a path from which a file is to be removed has files below it")]
     IsFolder,
     /// What is put, or the tree of a folder, has the null id, by which a tree names nothing.
     #[error("an object has the null id")]
@@ -79,7 +79,7 @@ pub enum EditError {
     #[error("a tree couldn't be looked up")]
     Failed,
     /// There is no readable tree under this id.
-    #[error("no tree {oid} stands that can be read")]
+    #[error("the tree {oid} is missing, or can't be read")]
     Broken {
         /// The id.
         oid: ObjectId,

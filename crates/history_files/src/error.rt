@@ -16,7 +16,7 @@ pub enum ReadError {
     #[error("a tree couldn't be looked up")]
     Failed,
     /// There is no readable tree under this id.
-    #[error("no tree {oid} stands that can be read")]
+    #[error("the tree {oid} is missing, or can't be read")]
     Broken {
         /// The id.
         oid: ObjectId,

@@ -12,7 +12,7 @@ use thiserror::Error;
 /// whole from the part's root; lines count from 1.
 #[derive(Debug, Drop, Error)]
 pub enum OpenError {
-    #[error("no HEAD stands")]
+    #[error("HEAD is missing")]
     NoHead,
     /// HEAD isn't `ref: `, a branch's name and a line feed.
     #[error("HEAD doesn't name a branch")]
@@ -67,7 +67,7 @@ pub enum OpenError {
     /// This line of `packed-refs` isn't in its form, or its name may not follow those before it: it
     /// is no name, it has a record already, or it descends though the header says that names
     /// ascend.
-    #[error("line {0} of the packed names may not stand there")]
+    #[error("line {0} of the packed names is malformed or out of order")]
     BadPacked(usize),
     /// The peeled id in the name's record isn't that of the commit of a tag that the record holds.
     #[error("the peeled id is wrong: {0:?}")]
@@ -76,7 +76,7 @@ pub enum OpenError {
     #[error("{0:?} is a folder of {1:?}")]
     Collides(Vec<u8>, Vec<u8>),
     /// The line of the log of this path isn't in its form and limits.
-    #[error("{0:?}: line {1} tells no move")]
+    #[error("{0:?}: line {1} is no move")]
     BadLog(Vec<u8>, usize),
     /// The line of the log of this path has more than 4,096 bytes, with its line feed.
     #[error("{0:?}: line {1} is too long")]

@@ -16,7 +16,7 @@ pub enum WalkError {
     #[error("a commit couldn't be looked up")]
     Failed,
     /// A commit that the walk comes to isn't stored, or can't be read.
-    #[error("a commit doesn't stand, or can't be read")]
+    #[error("a commit is missing, or can't be read")]
     Broken,
     /// No memory is left.
     #[error("out of memory")]
