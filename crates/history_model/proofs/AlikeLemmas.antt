@@ -33,7 +33,7 @@ ids_of : List Id → Rattle.history_model.specs.Replies.Reply → List Id
 ids_of d (LogIs ids) = ids
 ids_of d _ = d
 
--- a plain log is a walk that its request asks for
+-- a plain log is a walk of its request, with no commit left out
 listed : (r : Repository) (c : LogCommand) (xs : List Id) → IsPlainLog c → (ids : List Id) × IsLog r c ids × (LogIs xs ≡ LogIs ids) → InSomeOrder (commits_of r) (walk_request r c) xs
 unfolding ids_of
 listed r c xs plain (ids, (walked, walk, kept_ids), same) =

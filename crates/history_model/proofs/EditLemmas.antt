@@ -14,7 +14,7 @@ use Rattle.std.proofs.lemmas.Bool.{and_parts, not-true}
 use Rattle.history_model.proofs.WholeStores.{same_tie}
 use Rattle.history_model.proofs.GraftLemmas.{IsCarried, had_all, of_carried, follows_there, with_rest_path, carried_apart, below_carried, carried_below}
 
--- a choice that is there, where the other one is none
+-- if a choice between an option and none is some, the option is chosen and is some
 kept_passes : {X : Type 0} (b : Bool) (o : Option X) → is_some (cond b o None) ≡ true → (b ≡ true) × (is_some o ≡ true)
 kept_passes true o h = (refl, h)
 kept_passes false o h = cc

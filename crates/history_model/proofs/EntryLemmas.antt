@@ -1,4 +1,4 @@
--- The entries of trees tell the files at and below their paths.
+-- A tree's entries determine the files at their paths and below.
 use Rattle.std.proofs.Common.{◌≡◌, inl, inr, ℕ, zero, suc, ◌+◌, Bool, true, false, cond, ◌||◌, ◌==◌, List, [], ◌∷◌, ◌++◌, map, length, take, drop, refl, sym, ◌∙◌, ap, subst, Option, Some, None, is_some, option_map, unwrap_or, bytes_eq, codes, length-append}
 use Rattle.std.specs.List.{AllByRecursion, list_any, flat_map, filter_map, cons_option}
 use Rattle.std.specs.Ordering.{eq_by_cmp}
@@ -50,7 +50,7 @@ dropped (b ∷ front) rest = dropped front rest
 front_length : (path : Bytes) → length (path ++ 47 ∷ []) ≡ length path + 1
 front_length path = length-append path (47 ∷ [])
 
--- the rest of a path behind a folder
+-- the rest of a path after a folder and a slash
 abbrev rest_of : Bytes → Bytes → Bytes
 rest_of path q = drop (length path + 1) q
 
@@ -68,7 +68,7 @@ below_made path rest = subst (λ q. is_below path q ≡ true) (joined path rest)
 rest_made : (path rest : Bytes) → rest_of path (path ++ 47 ∷ rest) ≡ rest
 rest_made path rest = ap (λ n. drop n (path ++ 47 ∷ rest)) (sym (front_length path)) ∙ ap (drop (length (path ++ 47 ∷ []))) (sym (joined path rest)) ∙ dropped (path ++ 47 ∷ []) rest
 
--- ---- what stands inside a folder
+-- ---- the files inside a folder
 
 module _ (path : Bytes) where
   abbrev within : Bytes × Content → Option (Bytes × Content)
@@ -115,7 +115,7 @@ module _ (path : Bytes) where
 
 -- ---- keys
 
--- a key that passes, and stands
+-- a key that passes, and that the list has
 some_key : (test : Bytes → Bool) (ks : List Bytes) → list_any test ks ≡ true → (p : Bytes) × (test p ≡ true) × (list_any (eq_by_cmp by_bytes p) ks ≡ true)
 some_key test [] e = cc
 some_key test (k ∷ ks) e = go (some_key test ks) (test k) refl e
@@ -225,7 +225,7 @@ module _ (r : Repository) (whole : IsWhole r) (files : FileMap) where
   folder_there (inl none) path h = let found = below_stands files path h in none_in_empty files found.0 none found.2
   folder_there (inr (id, at)) path h = folder_stored r whole id files at path h
 
--- ---- ids and modes tell what they are of
+-- ---- equal ids are of equal contents, and equal modes of one kind
 
 bytes_in : Bytes → Value → Bytes
 bytes_in none (StoredBytes bytes) = bytes
@@ -268,7 +268,7 @@ none_there (Some x) e = cc
 true_false : {A : Type 0} {b : Bool} → b ≡ true → b ≡ false → A
 true_false e f = cc
 
--- no file stands where one stands below
+-- no file is at a path that another file is below
 no_file_here : (files : FileMap) (path : Bytes) → IsFileMap files → has_below files path ≡ true → get files path ≡ None
 no_file_here files path map h =
     let found = below_stands files path h in

@@ -1,4 +1,5 @@
--- What commands did where it isn't told whether a reading may fail, and which of them a failed call was met by.
+-- What commands did if it isn't said whether a reading may fail, and which of them met the failed
+-- call.
 use Rattle.std.proofs.Common.{◌≡◌, ◌⊎◌, ℕ, zero, suc, ◌-◌, ◌^◌, ◌<◌, ◌≤◌, ◌≢◌, inl, inr, Bool, true, false, not, ◌&&◌, List, [], ◌∷◌, refl, sym, ◌∙◌, ap, subst, Contains, IsTrue, arith}
 use Rattle.std.specs.List.{AllByRecursion}
 use Rattle.gix_ref_file.specs.History.{History, HasRisen}
@@ -120,7 +121,7 @@ none_in : {X : Type 0} (x : X) → Contains [] x → ⊥
 none_in x (k, within, is) = absurd (omega (arith, within))
 
 module _ (objects names : History) (start : Moment) where
-  -- where the run goes on behind a command, another one met the failed call
+  -- if the run goes on after a command, another one met the failed call
   goes_further : (begin next finish : Moment) (command : Command) (commands : List Command) (reply : Reply) (replies : List Reply) (moments : List Moment) → reply ≢ Faulted File → CountsStay start next
       → EndsByFailedCall start commands replies moments finish → EndsByFailedCall start (command ∷ commands) (reply ∷ replies) (next ∷ moments) finish
   goes_further begin next finish command commands reply replies moments none so_far rest = record {
@@ -137,7 +138,7 @@ module _ (objects names : History) (start : Moment) where
     counted = rest.counted;
   }
 
-  -- where no command follows, this one did
+  -- if no command follows, this one did
   ends_here : (begin next : Moment) (command : Command) (reply : Reply) → CountsStay start begin → reply ≡ Faulted File → HasFailedCall ⊥ command begin next
       → EndsByFailedCall start (command ∷ []) (reply ∷ []) (next ∷ []) next
   ends_here begin next command reply stay is (inl (changing, counted)) = record {

@@ -1,4 +1,4 @@
--- A new folder stands for a fresh repository, which is whole.
+-- A new folder represents a fresh repository, which is whole.
 use Rattle.std.proofs.Common.{◌≡◌, Bool, true, false, cond, [], ◌∷◌, refl, sym, ◌∙◌, ap, subst, Option, Some, None, is_some, IsTrue, bytes_eq, codes, option_map, unwrap_or, map}
 use Rattle.std.specs.FinMap.{get, empty, get-empty, get-insert, from_entries}
 use Rattle.std.specs.Str.{is_utf8, chars}
@@ -90,7 +90,7 @@ fresh_is_fresh = record {
     no_folder path false e h = some_none folder (sym h ∙ at_path path ∙ ap (λ b. cond b (Some (file (head_text (codes "refs/heads/main")))) None) e)
 
 module _ (kind : Kind) (pair : Pair) (h : IsFresh pair) where
-  -- HEAD is no name, and nothing else stands
+  -- HEAD is no name, and there is no other file
   reads_absent : (name : Bytes) → name_state kind (pair.names) name ≡ Absent
   unfolding main_text
   reads_absent name = ap (λ packed. choose (is_name name) (file_at (pair.names) name) packed) no_packed ∙ alone (is_name name) refl

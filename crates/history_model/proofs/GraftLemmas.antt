@@ -23,7 +23,7 @@ of_filter {X = X} {Y = Y} f y (x ∷ xs) i = go (f x) refl i (of_filter f y xs)
     go (Some z) e (inl g) rest = (x, inl refl, e ∙ ap Some (sym g))
     go (Some z) e (inr j) rest = let more = rest j in (more.0, inr more.1, more.2)
 
--- what stands in a map after these were put into it
+-- what a map has after these were put into it
 pub had_all : (es : List (Bytes × Content)) (files : FileMap) (q : Bytes) (c : Content) → get (with_all es files) q ≡ Some c → In (q, c) es ⊎ (get files q ≡ Some c)
 had_all [] files q c h = inr h
 had_all (e ∷ es) files q c h = elim (had_all es (insert files e.0 e.1) q c h) [
@@ -65,7 +65,7 @@ some_parts (b ∷ path) = go (b == 47) (some_parts path)
     go true rest = ([], components path, refl)
     go false (c, cs, e) = (b ∷ c, cs, ap (onto_first b) e)
 
--- the components of what stands below a folder
+-- the components of a path below a folder
 parts_below : (folder rest : Bytes) → components (folder ++ 47 ∷ rest) ≡ components folder ++ components rest
 parts_below [] rest = refl
 parts_below (b ∷ folder) rest = go (b == 47) (parts_below folder rest) (some_parts folder)
@@ -80,7 +80,7 @@ parts_below (b ∷ folder) rest = go (b == 47) (parts_below folder rest) (some_p
 or_none : (a b : Bool) → a ≡ false → b ≡ false → (a || b) ≡ false
 or_none a b f g = ap (λ t. t || b) f ∙ g
 
--- what a path's test asks
+-- what makes a text a path: no component is empty, and it has no zero byte
 path_parts : (path : Bytes) → is_path path ≡ true → (list_any is_empty (components path) ≡ false) × (has_byte 0 path ≡ false)
 path_parts path h =
     let both = and_parts (not (list_any is_empty (components path))) (not (has_byte 0 path)) h in
@@ -131,7 +131,7 @@ follows (b ∷ source) path rest h = by_itself (bytes_eq (b ∷ source) path) re
     by_itself true e k = Itself (sym (same_text (b ∷ source) path e)) (sym (same_Some [] rest k))
     by_itself false e k = by_below (is_below (b ∷ source) path) refl k
 
--- where the path is one, either nothing follows, at the source itself, or a path does
+-- if the path is one, either nothing follows, at the source itself, or a path does
 pub record FollowsAs (source path rest : Bytes) : Type 0 where
   pub named : is_path path ≡ true
   pub nothing : rest ≡ [] → path ≡ source
@@ -215,7 +215,7 @@ shorter p rest h =
     let more = length-append p (47 ∷ rest) in
     absurd (omega arith)
 
--- what is below a path, and another below which it stands too
+-- of two paths that one path is below, one is within the other
 below_either : (q path rest : Bytes) → is_below q (path ++ 47 ∷ rest) ≡ true → (is_within q path ≡ true) ⊎ (is_within path q ≡ true)
 below_either [] [] rest h = inl refl
 below_either [] (a ∷ path) rest h = inl h

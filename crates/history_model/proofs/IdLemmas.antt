@@ -1,4 +1,4 @@
--- Ids: their equality, maps by them, and what their digits, texts and bytes tell.
+-- Ids: their equality, maps by them, and that their digits, texts and bytes determine them.
 use Rattle.std.proofs.Common.{◌≡◌, ℕ, zero, suc, ◌+◌, ◌*◌, ◌/◌, ◌%◌, ◌<◌, Bool, true, false, cond, ◌&&◌, List, [], ◌∷◌, map, length, get_or, refl, sym, ◌∙◌, ap, arith, tests, Some, nat_lt, ◌==◌}
 use Rattle.std.specs.List.{list_all}
 use Rattle.std.specs.Ordering.{eq_by_cmp, is_eq}
@@ -188,7 +188,7 @@ id_of_bytes id bytes h fits =
 pub length-hex : (id : Id) → length (hex id) ≡ length id.digits
 length-hex id = length-map id.digits hex_character
 
--- the text of an id of a kind tells the id
+-- ids of one kind with equal texts are equal
 pub hex_tells : (kind : Kind) (a b : Id) → is_id kind a ≡ true → is_id kind b ≡ true → hex a ≡ hex b → a ≡ b
 hex_tells kind a b ha hb e =
     let ka = has_kind kind a ha in
@@ -252,7 +252,7 @@ length-raw_bytes kind id h = length-bytes_from (byte_len kind) id.digits (even_d
 pub digits_of-raw_bytes : (kind : Kind) (id : Id) → is_id kind id ≡ true → digits_of (raw_bytes id) ≡ id.digits
 digits_of-raw_bytes kind id h = digits_of-bytes_from (byte_len kind) id.digits (even_digits kind id h) (has_kind kind id h).digits
 
--- the bytes of an id of a kind tell the id
+-- ids of one kind with equal bytes are equal
 pub raw_bytes_tell : (kind : Kind) (a b : Id) → is_id kind a ≡ true → is_id kind b ≡ true → raw_bytes a ≡ raw_bytes b → a ≡ b
 raw_bytes_tell kind a b ha hb e =
     one_of_kind kind a b (has_kind kind a ha) (has_kind kind b hb)

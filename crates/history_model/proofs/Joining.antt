@@ -29,13 +29,13 @@ now_at history m e = subst (λ n. StoodAt history n history.tree) (sym e) (got_a
 stood_later : (old new : History) → GoesOnFrom old new → (m : ℕ) → m ≡ moment old → StoodAt new m old.tree
 stood_later old new on m e = ap (λ ts. slice_get ts m) on.1 ∙ got_longer (trees old) on.0 m old.tree (now_at old m e)
 
--- the pair that a run began at stands at its begin in the histories that it left
+-- a run's first pair is the pair at its beginning in the histories after it
 pub begins_there : (old_objects old_names objects names : History) (begin : Moment) → GoesOnAt old_objects old_names objects names begin
     → IsPairAt objects names begin (pair_now old_objects old_names)
 begins_there old_objects old_names objects names begin on =
     (stood_later old_objects objects on.objects_on begin.objects on.objects_at, stood_later old_names names on.names_on begin.names on.names_at)
 
--- what is a run of one repository that the pair stands for is one of each
+-- a run of one repository that the pair represents is a run of each of them
 pub of_each : (kind : Kind) (pair : Pair) (old : Repository) (round : Round) → StandsWhole kind pair old → IsRunOf old round → (other : Repository) → StandsWhole kind pair other → IsRunOf other round
 of_each kind pair old round whole is other stands = subst (λ r. IsRunOf r round) (one_pair kind pair old other whole stands) is
 

@@ -42,7 +42,7 @@ chosen_at_one_time time S Fit Comes once xs ys hx hy k x y same ax ay =
       ]
     ]
   where
-    -- what stands before the place in one list stands there in the other
+    -- no id is before the place in one list and at it in the other
     early : (us vs : List Id) → IsChosen S Fit Comes vs → take k us ≡ take k vs → (j : ℕ) (z : Id) → j < k → At us j z → At vs k z → ⊥
     early us vs hv same j z lt au av =
         let moved = at_from_take vs k j z (subst (λ (ws : List Id). At ws j z) same (at_take us k j z lt au)) in

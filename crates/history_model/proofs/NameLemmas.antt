@@ -75,7 +75,7 @@ last_part back h (b ∷ front) = go (last_part back h front) (b == 47)
     go rest true = some_or (ends back []) _ (inr rest)
     go rest false = with_byte b back (slice_split (λ b. b == 47) (front ++ back)) rest
 
--- where each component passes, none ends with `.lock`
+-- if each component passes, none ends with `.lock`
 pub no_lock : (parts : List Bytes) → list_all is_name_component parts ≡ true → list_any (ends (codes ".lock")) parts ≡ false
 no_lock [] h = refl
 no_lock (part ∷ parts) h =

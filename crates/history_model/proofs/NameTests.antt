@@ -13,7 +13,7 @@ use Rattle.history_model.proofs.EntryLemmas.{parts, taken}
 abbrev pub is_name_component : Bytes → Bool
 is_name_component part = not (is_empty part) && not (begins (codes ".") part) && not (ends (codes ".lock") part)
 
--- ---- what stands inside a text
+-- ---- texts that begin with, contain or end with a part
 
 begins_so : (part rest : Bytes) → rules.begins part (part ++ rest) ≡ true
 begins_so part rest = (bytes_eq-Decides part (take (length part) (part ++ rest))).1 (sym (taken part rest))

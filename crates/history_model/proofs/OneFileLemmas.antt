@@ -84,9 +84,10 @@ pub content_shown : (files : FileMap) → commit_content Sha1 (commit_with files
 unfolding digits text_with digest sha1 digest_bytes
 content_shown files = refl
 
--- ---- with the ids told
+-- ---- if the ids are given
 
--- the ids of the three objects, which differ from each other, the null id and the empty tree's, and sizes within the limit
+-- the ids of the three objects, which differ from each other, the null id and the empty tree's, and
+-- sizes within the limit
 pub record AreIds (text : Bytes) (blob tree commit none : Id) : Type 0 where
   pub none_is : empty_tree_id Sha1 ≡ none
   pub blob_is : blob_id Sha1 text ≡ blob

@@ -1,4 +1,4 @@
--- One pair of file trees stands for one whole repository.
+-- One pair of file trees represents one whole repository.
 use Rattle.std.proofs.Common.{◌≡◌, ◌⊎◌, true, [], ◌++◌, refl, sym, ◌∙◌, ap, subst, inl, inr, Option, Some, None, option_map, unwrap_or, codes}
 use Rattle.std.specs.FinMap.{FinMap, get}
 use Rattle.history_model.specs.Bytes.{Bytes, by_bytes}
@@ -28,7 +28,7 @@ use Rattle.std.proofs.lemmas.Option.{same_Some}
 stored_id : (r : Repository) → IsWholeStore r → (q : Id) (v : Value) → get r.objects q ≡ Some v → is_id r.kind q ≡ true
 stored_id r whole q v at = ap (is_id r.kind) (whole.own_ids q v at) ∙ digest_is_id r.kind (value_text r.kind v)
 
--- at an id's place stands its value's text
+-- the file at an id's place is its value's text
 at_place : (r : Repository) → IsWholeStore r → (q : Id) → is_id r.kind q ≡ true → get (object_files r) (object_place q) ≡ option_map (value_text r.kind) (get r.objects q)
 at_place r whole q h = file_at_id r.kind r.objects whole.own_ids q h
 

@@ -1,4 +1,5 @@
--- The texts of ids and actors in their written forms: what they hold, and what they stand for.
+-- The texts of ids and actors in their written forms: which bytes they have, and that equal texts
+-- are of equal ids and actors.
 use Rattle.std.proofs.Common.{◌≡◌, ℕ, zero, suc, ◌^◌, ◌<◌, Bool, true, false, not, ◌&&◌, ◌||◌, [], ◌∷◌, ◌++◌, length, refl, sym, ◌∙◌, ap, arith, tests, inl, inr, bytes_eq, nat_lt, nat_le, ◌==◌, append_assoc, codes, decimal, slice_index, length-append}
 use Rattle.std.specs.List.{list_any, list_all}
 use Rattle.std.specs.Char.{is_ascii_digit}
@@ -30,7 +31,7 @@ table_high d low (c ∷ table) h (suc i) less = table_high d low table (and_part
 digit_high : (d : ℕ) → d < 48 → (i : ℕ) → i < 16 → (slice_index lower_digits i == d) ≡ false
 digit_high d low i less = table_high d low lower_digits refl i less
 
--- no byte below the digits stands in hex
+-- hex has no byte below the digits
 hex_plain : (d : ℕ) → d < 48 → (digits : Bytes) → list_all (λ d. nat_lt d 16) digits ≡ true → has_byte d (hex_text digits) ≡ false
 hex_plain d low [] h = refl
 hex_plain d low (i ∷ digits) h =
@@ -49,7 +50,7 @@ none_in d (b ∷ s) t hs ht = or_from (b == d) (has_byte d (s ++ t)) (or_parts (
 abbrev pub part_bytes : Bytes
 part_bytes = 60 ∷ 62 ∷ 0 ∷ 9 ∷ 13 ∷ 10 ∷ []
 
--- none of these bytes stands in an actor's name or email
+-- an actor's name or email has none of these bytes
 without : (d : ℕ) → has_byte d part_bytes ≡ true → (part : Bytes) → list_any (λ b. has_byte b part_bytes) part ≡ false → has_byte d part ≡ false
 without d is [] h = refl
 without d is (b ∷ part) h =
@@ -115,7 +116,7 @@ actor_parts actor h =
     small : (n : ℕ) → nat_le n max_seconds ≡ true → n < 2 ^ 64
     small n k = grind (arith, tests)
 
--- neither tab nor line feed stands in an actor's text
+-- an actor's text has neither tab nor line feed
 actor_plain : (d : ℕ) → d < 43 → has_byte d part_bytes ≡ true → has_byte d (codes " <") ≡ false → has_byte d (codes "> ") ≡ false → (32 == d) ≡ false
     → (actor : Actor) → is_actor actor ≡ true → has_byte d (actor_text actor) ≡ false
 actor_plain d low is opens close space actor h =
@@ -145,7 +146,7 @@ last_same a b c e =
 actor_shape : (n e d o : Bytes) → n ++ codes " <" ++ e ++ codes "> " ++ d ++ 32 ∷ o ≡ (n ++ 32 ∷ []) ++ 60 ∷ (e ++ 62 ∷ 32 ∷ (d ++ 32 ∷ o))
 actor_shape n e d o = simp append_assoc
 
--- the text tells the actor
+-- actors with equal texts are equal
 pub actor_same : (a b : Actor) → is_actor a ≡ true → is_actor b ≡ true → actor_text a ≡ actor_text b → a ≡ b
 actor_same a b ha hb e =
     let pa = actor_parts a ha in

@@ -6,7 +6,7 @@ use Rattle.history_model.specs.Bytes.{Bytes, has_byte, line, is_empty}
 use Rattle.history_model.specs.Spelling.{Part, Line, Field, parts_text, len_word, is_word, is_part}
 use Rattle.std.proofs.lemmas.Bool.{or_parts, and_parts, not-true, or_from}
 
--- C follows where both lists have been read to their ends
+-- C follows if both lists are read to their ends
 abbrev pub Agree : Type 0 → List Part → List Part → Type 0
 Agree C [] [] = C
 Agree C [] (Line vs ∷ qs) = ⊥

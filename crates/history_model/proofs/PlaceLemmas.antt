@@ -1,4 +1,5 @@
--- Places tell ids, and the files of values tell what is stored under each id.
+-- Equal places are of equal ids, and the files of values are the texts of what is stored under each
+-- id.
 use Rattle.std.proofs.Common.{◌≡◌, Bool, true, false, cond, List, [], ◌∷◌, ◌++◌, map, length, take, drop, refl, sym, ◌∙◌, ap, subst, arith, Option, Some, None, option_map, is_some, bytes_eq}
 use Rattle.std.specs.Ordering.{eq_by_cmp}
 use Rattle.std.specs.FinMap.{FinMap, entries, get, get-entries, get-from_entries, get-insert, insert}
@@ -43,7 +44,7 @@ same_key a b = is_eq-slice_cmp a b
 
 -- ---- ids
 
--- the digits behind `objects/`, whatever their number
+-- the digits after `objects/`, whatever their number
 digits_told : (s t : Bytes) → take 2 s ++ 47 ∷ drop 2 s ≡ take 2 t ++ 47 ∷ drop 2 t → length s ≡ length t → s ≡ t
 digits_told [] [] e n = refl
 digits_told [] (b ∷ t) e n = absurd (omega arith)
@@ -128,7 +129,7 @@ module _ (kind : Kind) where
     pub file_at_id : (id : Id) → is_id kind id ≡ true → get (value_files kind values) (object_place id) ≡ option_map (value_text kind) (get values id)
     file_at_id id h = files_found (object_place id) ∙ text_at (entries values) all_ids id h ∙ ap (option_map (value_text kind)) (sym (get-entries values id))
 
-    -- where a file stands, at the place of an id
+    -- the path of a file is the place of an id
     pub file_has_id : (path text : Bytes) → get (value_files kind values) path ≡ Some text → (id : Id) × (is_id kind id ≡ true) × (path ≡ object_place id)
     file_has_id path text h =
         let found = found_at path (entries values) (ap is_some (sym (files_found path) ∙ h)) in

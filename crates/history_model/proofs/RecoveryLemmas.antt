@@ -26,7 +26,7 @@ use Rattle.history_model.proofs.EntryLemmas.{same_key, key_passes}
 pub same_tree : (a b : Tree) → ((q : Bytes) → get a q ≡ get b q) → a ≡ b
 same_tree a b h = same_map nat_list_cmp_total (slice_cmp-IsAntisymmetric nat_cmp-IsAntisymmetric) a b h
 
--- ---- what stands at a path
+-- ---- what a recovered tree has at a path
 
 pub get-kept : (tree : Tree) (test : Bytes → Bool) (q : Bytes) → get (retain_keys tree test) q ≡ cond (test q) (get tree q) None
 get-kept tree test q = get-retain_keys tree test q (λ x e. ap test (sym (same_tie q x e)))
@@ -146,7 +146,7 @@ module _ (kind : Kind) (tree : Tree) where
   is_kept : Bytes → Bool
   is_kept path = is_lock_file path || (is_log_place path && is_absent (name_state kind tree (log_name path)))
 
-  -- what stands in the recovered tree stands as recovery leaves it, and was no leftover
+  -- a node of the recovered tree is as recovery leaves it, and was no leftover
   stood : (leftover deserted : Bool) (path : Bytes) (o : Option Node) (node : Node) → cond (not deserted) (option_map (recovered_node path) (cond (not leftover) o None)) None ≡ Some node
       → (recovered_node path node ≡ node) × (leftover ≡ false)
   stood true true path o node e = cc
@@ -189,7 +189,7 @@ module _ (kind : Kind) (tree : Tree) where
           ap (λ b. option_map (recovered_node path) (cond (not b) (get names path) None)) (leftover_then path so.1)
           ∙ ap (option_map (recovered_node path)) e ∙ ap Some so.0 ∙ sym e
 
-  -- a file that stood before the deserted folders went stands behind it
+  -- removing the deserted folders removes no file
   file_behind : (path : Bytes) → file_at names path ≡ file_at files path
   unfolding names files
   file_behind [] = refl
@@ -198,7 +198,7 @@ module _ (kind : Kind) (tree : Tree) where
       ∙ file_stays kind tree (b ∷ path) (get (recovered_files kind tree) (b ∷ path)) (is_below (codes "refs") (b ∷ path) || is_below (codes "logs") (b ∷ path))
       (not (list_any (λ below. is_below (b ∷ path) below && is_some (file_at (recovered_files kind tree) below)) (keys (recovered_files kind tree))))
 
--- where some key passes, it is one that stands, and the other way round
+-- if a test passes for some key, a key that passes it
 some_key : (test : Bytes → Bool) (ks : List Bytes) → list_any test ks ≡ true → (p : Bytes) × (test p ≡ true)
 some_key test [] e = cc
 some_key test (k ∷ ks) e = go (some_key test ks) (test k) refl e
@@ -215,7 +215,7 @@ file_is_key tree (b ∷ path) e = go (get tree (b ∷ path)) e
     go None e = cc
     go (Some node) e = refl
 
--- a file below the path stands
+-- whether there is a file below the path
 has_file_below : Tree → Bytes → Bool
 has_file_below tree path = list_any (λ below. is_below path below && is_some (file_at tree below)) (keys tree)
 

@@ -1,4 +1,4 @@
--- A rest has at most one cause, and none where it begins with a command.
+-- A rest has at most one cause, and none if it begins with a command.
 use Rattle.std.proofs.Common.{◌≡◌, ℕ, zero, suc, ◌+◌, ◌<◌, ◌≤◌, ◌⊎◌, Bool, true, false, ◌&&◌, ◌||◌, List, [], ◌∷◌, ◌++◌, length, take, refl, sym, ◌∙◌, ap, subst, inl, inr, arith, length-append, ◌==◌, tests}
 use Rattle.std.specs.List.{list_all, join_with_byte}
 use Rattle.std.proofs.lemmas.Fmt.{decimal_injective}
@@ -12,7 +12,7 @@ use Rattle.history_model.proofs.PartLemmas.{Agree, split_at, one_is_in, one_line
 use Rattle.history_model.proofs.GrammarLemmas.{agree, spelled_parts}
 use Rattle.std.proofs.lemmas.Bool.{and_parts}
 
--- two fronts of parts that agree, in one text: they are one, or one goes on where the other stops
+-- two fronts of parts that agree, in one text: they are one, or one goes on after the other's end
 pub data Compared (C : Type 0) (ps qs : List Part) (m n : List Part) (x y : Bytes) : Type 0 where
   both : ps ≡ qs → x ≡ y → Agree C m n → Compared C ps qs m n x y
   left_stops : (r : Part) (rs : List Part) → qs ≡ ps ++ r ∷ rs → x ≡ parts_text (r ∷ rs) ++ y → Agree C m (r ∷ (rs ++ n)) → Compared C ps qs m n x y
@@ -224,7 +224,7 @@ module _ (is_known : Command → Bool) (spelled : (c : Command) → is_known c �
   same_cause ps t x y (inr (inl (e, s))) (inr (inr (f, u))) = long_wrong ps t s u
   same_cause ps t x y (inr (inr (e, s))) (inr (inl (f, u))) = long_wrong ps t u s
 
-  -- where one front goes on behind another, the other doesn't stop
+  -- if one front goes on after another, the other doesn't stop
   goes_behind : (ps rs qs : List Part) (r : Part) {q : Part} → qs ≡ ps ++ r ∷ rs → GoesOnOf is_known qs q → GoesOnOf is_known ps r
   goes_behind ps rs qs r {q = q} same g = record {
     command = g.command;

@@ -86,7 +86,7 @@ module _ (objects names : History) where
   acts_kind old begin (c ∷ cs) [] ms new h = absurd h
   acts_kind old begin (c ∷ cs) (a ∷ bs) [] new h = absurd h
 
-  -- what the last one left stands
+  -- what the last command left represents the repository
   stands_then : (old : Repository) (begin : Moment) (commands : List Command) (replies : List Reply) (moments : List Moment) (new : Repository)
       → ActsOn objects names (Unit {0}) old begin commands replies moments new → StandsAt objects names begin false old → StandsAt objects names (last_moment begin moments) (some_failed commands replies) new
   stands_then old begin [] [] [] new h stands = subst (StandsAt objects names begin false) (sym h) stands
@@ -122,7 +122,7 @@ same_pair objects names moment a b h k = λ i. record {
 recovered_whole : (kind : Kind) (pair : Pair) (r : Repository) → StandsWhole kind pair r → StandsWhole kind (recovered kind pair) r
 recovered_whole kind pair r h = record { stands = recovered_stands kind pair r h.stands; written = h.written; whole = h.whole }
 
--- of what stands at a moment, and of what recovery makes of it
+-- of what the pair at a moment represents, and of what recovery makes of it
 module _ (objects names : History) (moment : Moment) (kind : Kind) (r : Repository) (same : r.kind ≡ kind) (pair : Pair) (here : IsPairAt objects names moment pair) where
   unfailed_stands : (failed : Bool) → failed ≡ false → StandsAt objects names moment failed r → StandsWhole kind pair r
   unfailed_stands true e h = absurd (cc e)

@@ -150,7 +150,7 @@ take_front zero a b le = refl
 take_front (suc n) [] b le = absurd (omega arith)
 take_front (suc n) (x ∷ a) b le = ap (λ t. x ∷ t) (take_front n a b (omega arith))
 
--- what doesn't go on doesn't with more behind it, unless it was cut short
+-- a text that stops by a cause does so also with more after it, unless it was cut short
 stop_stays : (parts : List Part) (tail rest : Bytes) (cause : Cause) → (cause ≡ Truncated → ⊥) → StopsBy parts tail cause → StopsBy parts (tail ++ rest) cause
 stop_stays parts tail rest Truncated whole stops = absurd (whole refl)
 stop_stays parts tail rest LineTooLong whole (stands, long, none) = (

@@ -1,4 +1,4 @@
--- A run of which less is told: of the end of its input, of its last reading and of failed calls.
+-- A run of which less is said: of the end of its input, of its last reading and of failed calls.
 use Rattle.std.proofs.Common.{◌≡◌, ◌⊎◌, inl, inr, Bool, true, false, List, [], ◌∷◌}
 use Rattle.std.specs.List.{AllByRecursion}
 use Rattle.history_model.specs.Bytes.{Bytes}

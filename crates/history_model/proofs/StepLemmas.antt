@@ -182,7 +182,7 @@ pub passed : {X : Type 0} (b : Bool) (x : X) (rest : Option X) → cond b (Some 
 passed true x rest e = cc
 passed false x rest e = (refl, e)
 
--- where nothing is found, the test fails at each place
+-- if nothing is found, the test fails at each place
 none_at : {X : Type 0} (test : X → Bool) (xs : List X) → find test xs ≡ None → (i : ℕ) (x : X) → slice_get xs i ≡ Some x → test x ≡ false
 none_at test [] e i x h = none_some x (sym h)
 none_at test (y ∷ ys) e zero x h = subst (λ z. test z ≡ false) (same_Some y x h) (passed (test y) y (find test ys) e).0

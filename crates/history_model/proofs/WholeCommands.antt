@@ -23,7 +23,7 @@ use Rattle.history_model.proofs.WholeReads.{no_cause, tests_ambiguous_word, test
 
 -- ---- words
 
--- each word of the command stands for a commit
+-- each word of the command means a commit
 pub word_commit : (r : Repository) (command : Command) → first_cause r command ≡ None → (word : Bytes) → In word (words_in command) → (t : Id) × (commit_of r word ≡ Some t)
 word_commit r command none word i = go (word_meaning r word)
     (none_passes (λ w. is_unknown (word_meaning r w)) (words_in command) (no_cause r command none UnknownWord tests_unknown_word) word i)

@@ -75,7 +75,7 @@ path_after folder rest h =
     let zeros = (or_parts (47 == 0) (has_byte 0 rest) (zero_after folder (47 ∷ rest) (not-true (has_byte 0 (folder ++ 47 ∷ rest)) parts.1))).1 in
     and_from (not (list_any is_empty (components rest))) (not (has_byte 0 rest)) (not_from_false (list_any is_empty (components rest)) pieces) (not_from_false (has_byte 0 rest) zeros)
 
--- a file inside a folder stands below it
+-- a file inside a folder is below it in the map
 pub below_there : (folder : Bytes) (m : FileMap) (p : Bytes) → contains_key (inside folder m) p ≡ true → contains_key m (folder ++ 47 ∷ p) ≡ true
 below_there folder m p h =
     let at = some_is (get (inside folder m) p) h in

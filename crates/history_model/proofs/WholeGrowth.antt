@@ -46,7 +46,7 @@ dropped : {X : Type 0} (x : X) (xs : List X) → In x (drop 1 xs) → In x xs
 dropped x [] i = i
 dropped x (y ∷ xs) i = inr i
 
--- where what it names is stored, each id that a value names has a value
+-- if all that a value names is stored, each id that it names has a value
 named_there : (r : Repository) (v : Value) → NamesAreStored r v → (to : Id) → In to (named_ids r.kind v) → (w : Value) × (get r.objects to ≡ Some w)
 named_there r (StoredCommit c) h to (inl e) = (StoredFolder c.files, ap (get r.objects) e ∙ h.1)
 named_there r (StoredCommit c) h to (inr i) = let held = holds_value r to (all_in (HoldsCommit r) c.parents h.0 to i) in (StoredCommit held.0, held.1)
@@ -190,7 +190,7 @@ module _ (r : Repository) (whole : IsWholeStore r) (plain : (q : Id) (m : FileMa
       let two = reaches_old second one.1 in
       (by_way_of mid one.0 two.0, two.1)
 
-  -- from a new object: to what stood before, or to one of a lower rank
+  -- from a new object: to what was stored before, or to one of a lower rank
   abbrev Sinks : Id → Id → Type 0
   Sinks a b = There b ⊎ ((v w : Value) × (get new.objects a ≡ Some v) × (get new.objects b ≡ Some w) × (rank w < rank v))
 

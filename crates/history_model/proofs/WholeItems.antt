@@ -27,7 +27,7 @@ below_entry folder e = cond (is_below folder e.0) (Some (drop (length folder + 1
 abbrev pub below : Bytes → List Entry → List Entry
 below folder es = filter_map (λ e. below_entry folder e) es
 
--- ---- what an item stands for
+-- ---- the files of an item
 
 abbrev pub files_of : TreeEntry → List Entry
 files_of (FileEntry path content) = (path, content) ∷ []
@@ -43,7 +43,7 @@ into_files name file (FolderEntry other files ∷ items) = go (bytes_eq name oth
     go true e = ap (λ n. (name ++ 47 ∷ file.0, file.1) ∷ (map (λ e. (n ++ 47 ∷ e.0, e.1)) files ++ flat_map files_of items)) (same_text name other e)
     go false e = refl
 
--- the items stand for the list
+-- the items of a list have its files
 pub items_files : (es : List Entry) → flat_map files_of (tree_entries es) ≡ es
 items_files [] = refl
 items_files (e ∷ es) = go (has_byte 47 e.0) refl (items_files es)
@@ -94,7 +94,7 @@ below_here folder rest content es =
     ap (λ b. cons_option (cond b (Some (drop (length folder + 1) (folder ++ 47 ∷ rest), content)) None) (below folder es)) (below_front folder rest)
     ∙ ap (λ r. (r, content) ∷ below folder es) (drop_below folder rest)
 
--- what is below stands in the list, behind the folder and a slash
+-- what is below is in the list, after the folder and a slash
 pub of_below : (folder : Bytes) (es : List Entry) (e : Entry) → In e (below folder es) → In (folder ++ 47 ∷ e.0, e.1) es
 of_below folder [] e i = absurd i
 of_below folder (f ∷ es) e i = go (is_below folder f.0) refl i (of_below folder es e)
@@ -186,7 +186,7 @@ others_in name [] h other files i = absurd i
 others_in name (item ∷ items) h other files (inl e) = subst (IsOther name) (sym e) h.0
 others_in name (item ∷ items) h other files (inr i) = others_in name items h.1 other files i
 
--- where nothing is below the name, no folder has it
+-- if nothing is below the name, no folder has it
 no_folder : (name : Bytes) (es : List Entry) (items : List TreeEntry) → AllFit es items → below name es ≡ [] → AreOthers name items
 no_folder name es [] h none = tt
 no_folder name es (FileEntry path content ∷ items) h none = (tt, no_folder name es items h.1 none)

@@ -25,7 +25,7 @@ use Rattle.std.proofs.lemmas.Bool.{or_parts, not-false}
 use Rattle.std.proofs.lemmas.Option.{same_Some}
 use Rattle.history_model.proofs.AfterFirstLemmas.{get-with}
 
--- ---- what a name stands for
+-- ---- which ids names have
 
 -- an id that is a commit or a tag, among these objects
 abbrev pub IsHeld : FinMap by_id Value → Id → Type 0
@@ -129,9 +129,9 @@ names_held r whole written (Past word) none free = old_held r whole written (Pas
 names_held r whole written (Log c) none free = old_held r whole written (Log c) none free
 names_held r whole written (Show word path) none free = old_held r whole written (Show word path) none free
 
--- ---- names that stand
+-- ---- names that exist
 
--- the name stood before, or is one of these
+-- the name existed before, or is one of these
 abbrev pub StoodOr : References → List Bytes → References → Type 0
 StoodOr old made names = (name : Bytes) (ref : Reference) → get names name ≡ Some ref → (is_some (get old name) ≡ true) ⊎ In name made
 
@@ -189,7 +189,7 @@ in_filter {X = X} test x (y ∷ ys) (inr i) h = go (test y) (in_filter test x ys
     go false k = k
 
 module _ (r : Repository) (whole : IsWhole r) (command : Command) (none : first_cause r command ≡ None) where
-  -- a name to be made collides with no name that stands, nor with one that the command makes
+  -- a name to be made collides with no name that exists, nor with one that the command makes
   free_of : (a b : Bytes) → stands r a ≡ false → In a (targets r command) → (stands r b ≡ true) ⊎ In b (targets r command) → do_collide a b ≡ false
   free_of a b absent i other =
       let outer = none_passes (λ made. list_any (do_collide made) (keys r.names ++ targets r command)) (filter (λ name. not (stands r name)) (targets r command))

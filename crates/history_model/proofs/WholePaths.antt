@@ -156,7 +156,7 @@ first_less a b x y h = go (nat_lt a b) refl (a == b) refl h
 differs : (b c : ℕ) → b < c → nat_eq b c ≡ false
 differs b c h = grind (arith, tests)
 
--- what begins so stands together
+-- in order, texts with one beginning are next to each other
 pub together : (front x y z : Bytes) → begins front x ≡ true → begins front y ≡ false → by_bytes x y ≡ Less → by_bytes y z ≡ Less → begins front z ≡ false
 together [] x y z hx hy xy yz = cc
 together (b ∷ front) [] y z hx hy xy yz = cc

@@ -36,11 +36,11 @@ found_none {X = X} test (y ∷ ys) e x i = go (test y) refl e i (λ k j. found_n
     go false f k (inl g) rest = ap test g ∙ f
     go false f k (inr j) rest = rest k j
 
--- where none is the first cause, no cause holds
+-- if none is the first cause, no cause holds
 pub no_cause : (r : Repository) (command : Command) → first_cause r command ≡ None → (cause : Cause) → In cause in_order → holds cause r command ≡ false
 no_cause r command e cause i = found_none (λ cause. holds cause r command) in_order e cause i
 
--- where each cause stands among the tests
+-- each cause's place among the tests
 pub tests_bad_name : In BadName in_order
 tests_bad_name = inl refl
 
@@ -160,7 +160,7 @@ module _ (r : Repository) (whole : IsWholeStore r) (written : IsWritten r) where
 
 -- ---- edits
 
--- what stands at a path after an edit stood there before, or was put there
+-- what is at a path after an edit was there before, or was put there
 kept_there : (m : FileMap) (test : Bytes → Bool) (path : Bytes) (content : Content) → get (retain_keys m test) path ≡ Some content → get m path ≡ Some content
 kept_there m test path content h = go (test path) (sym (get_retained m test path) ∙ h)
   where

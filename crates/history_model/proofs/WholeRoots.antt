@@ -1,4 +1,4 @@
--- Where equal ids give equal texts, one root is that of one file map.
+-- If equal ids are of equal texts, one root is that of one file map.
 use Rattle.std.proofs.Common.{◌≡◌, ℕ, zero, suc, ◌+◌, ◌<◌, ◌≤◌, ◌⊎◌, Bool, true, false, cond, List, [], ◌∷◌, ◌++◌, map, length, refl, sym, ◌∙◌, ap, subst, arith, inl, inr, Some, None, ◌==◌, append_assoc, drop, max, fold, length-append, codes, drop-drop, ap₂}
 use Rattle.std.specs.List.{flat_map, cons_option, AllByRecursion}
 use Rattle.std.specs.FinMap.{entries, keys, values, same_entries_map}
@@ -179,7 +179,7 @@ inside_has P files h path content folder i j = record {
 
 -- ---- one root
 
--- no zero byte stands in a path
+-- no path has a zero byte
 abbrev pub ArePlain : List Entry → Type 0
 ArePlain es = (e : Entry) → In e es → has_byte 0 e.0 ≡ false
 
@@ -227,7 +227,7 @@ pub plain_inside : (folder : Bytes) (m : FileMap) → ArePlain (entries m) → A
 plain_inside folder m plain e i = (or_parts (47 == 0) (has_byte 0 e.0) (no_zero_after folder (47 ∷ e.0) (plain (folder ++ 47 ∷ e.0, e.1) (of_inside folder m e.0 e.1 i)))).1
 
 module _ (kind : Kind) (P : Value → Type 0) (same : (v w : Value) → P v → P w → id_of kind v ≡ id_of kind w → value_text kind v ≡ value_text kind w) where
-  -- P holds of what the items stand for, folders nested at most so deep
+  -- P holds of the values of the items, folders nested at most so deep
   abbrev ItemGood : ℕ → (List Entry → Type 0) → TreeEntry → Type 0
   ItemGood n good (FileEntry path content) = (has_byte 0 path ≡ false) × P (StoredBytes content.bytes)
   ItemGood n good (FolderEntry name files) = (has_byte 0 name ≡ false) × ((m : FileMap) × (entries m ≡ files) × P (StoredFolder m)) × AreShorter n files × good files

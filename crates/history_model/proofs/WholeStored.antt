@@ -1,4 +1,4 @@
--- What a command stores stands afterwards, each value under its own id.
+-- What a command stores is stored after it, each value under its own id.
 use Rattle.std.proofs.Common.{◌≡◌, false, refl, sym, ◌∙◌, ap, inl, inr, Some, None}
 use Rattle.std.specs.FinMap.{get}
 use Rattle.history_model.specs.FileMap.{FileMap}
@@ -62,7 +62,7 @@ module _ (r : Repository) (sound : IsSound r) (command : Command) (none : first_
   near_there (StoredTag c) i (StoredBytes x, at, same) = texts_differ _ _ refl (text_same r.kind (StoredBytes x) (StoredTag c) same).0
   near_there (StoredTag c) i (StoredFolder x, at, same) = texts_differ _ _ refl (text_same r.kind (StoredFolder x) (StoredTag c) same).0
 
-  -- each value that the command stores stands under its own id
+  -- each value that the command stores is stored under its own id
   pub stored_there : (v : Value) → In v (stored_by r command) → IsStored (after r command) v
   stored_there v i = near_there v i (all_near r.kind r.objects (stored_by r command) free v i)
 

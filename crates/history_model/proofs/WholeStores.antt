@@ -81,7 +81,7 @@ in_get m q x i = get-entries m q ∙ found_there (entries m) (sorted_entries m) 
 
 -- ---- storing
 
--- where a value stands under its id there is one of the same text
+-- under the value's id a value of the same text is stored
 abbrev pub Near : Kind → FinMap by_id Value → Value → Type 0
 Near kind objects v = (w : Value) × (get objects (id_of kind v) ≡ Some w) × (value_text kind w ≡ value_text kind v)
 
@@ -157,7 +157,8 @@ module _ (kind : Kind) where
       go true e k = inl k
       go false e k = new (id_eq q (id_of kind v)) refl e (sym (get_with_id objects (id_of kind v) v q) ∙ k)
 
-  -- what is stored then stood before, or is one of the values under its own id, where nothing stood
+  -- what is stored then was stored before, or is one of the values, under its own id, which was
+  -- free
   pub all_from : (objects : FinMap by_id Value) (vs : List Value) (q : Id) (x : Value) → get (store_all kind objects vs) q ≡ Some x → (get objects q ≡ Some x) ⊎ (In x vs × (q ≡ id_of kind x) × (get objects q ≡ None))
   all_from objects [] q x h = inl h
   all_from objects (v ∷ vs) q x h = go (all_from (store_one kind objects v) vs q x h)

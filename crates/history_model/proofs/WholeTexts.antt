@@ -36,12 +36,12 @@ digits_high d h (suc k) base n acc none =
     either_high d (n / base == 0) (digit_glyph false (n % base) ∷ acc) (digits_onto k base false (n / base) (digit_glyph false (n % base) ∷ acc)) more
     (digits_high d h k base (n / base) (digit_glyph false (n % base) ∷ acc) more)
 
--- no byte below the digits stands in a decimal number
+-- a decimal number has no byte below the digits
 pub decimal_high : (d : ℕ) → d < 48 → (n : ℕ) → has_byte d (decimal n) ≡ false
 unfolding digits
 decimal_high d h n = digits_high d h 64 10 n [] refl
 
--- a text of a word and a content tells both
+-- equal texts of a word and a content have equal words and contents
 pub word_same : (v w a b : Bytes) → has_byte 32 v ≡ false → has_byte 32 w ≡ false → v ++ 32 ∷ decimal (length a) ++ 0 ∷ a ≡ w ++ 32 ∷ decimal (length b) ++ 0 ∷ b → (v ≡ w) × (a ≡ b)
 word_same v w a b hv hw e =
     let cut = split_at 32 v w (decimal (length a) ++ 0 ∷ a) (decimal (length b) ++ 0 ∷ b) hv hw
@@ -67,7 +67,7 @@ text_same kind v w e = let same = object_same (object_kind v) (object_kind w) (c
 
 -- ---- ids
 
--- texts of one length, each with more behind it
+-- equal texts whose first parts have one length are equal part by part
 pub cut_same : (a b x y : Bytes) → length a ≡ length b → a ++ x ≡ b ++ y → (a ≡ b) × (x ≡ y)
 cut_same [] [] x y n e = (refl, e)
 cut_same [] (c ∷ b) x y n e = absurd (omega arith)
