@@ -20,7 +20,7 @@ module _ (kind : Kind) where
   abbrev is_kept : Value → Bool
   is_kept value = id_eq (id_of kind value) (null_id kind) || (id_eq (id_of kind value) (empty_tree_id kind) && is_other kind (value_text kind (StoredFolder empty)) value)
 
-  -- another text stands under the value's id
+  -- another text is stored under the value's id
   abbrev is_unlike : Value → Option Value → Bool
   is_unlike value found = unwrap_or (option_map (is_other kind (value_text kind value)) found) false
 
@@ -34,7 +34,7 @@ module _ (kind : Kind) where
       by_test true = refl
       by_test false = get_with_id base (id_of kind value) value id
 
-  -- what stands under an id after a value is stored stood before, or is the value
+  -- what is stored under an id after a value is stored was so before, or is the value
   after_one : (base : Values) (value : Value) (id : Id) (found : Value) → get (store_one kind base value) id ≡ Some found → (get base id ≡ Some found) ⊎ ((found ≡ value) × (id ≡ id_of kind value))
   after_one base value id found at = by_tests (contains_key base (id_of kind value)) (id_eq id (id_of kind value)) refl (sym (get_one base value id) ∙ at)
     where
@@ -46,7 +46,7 @@ module _ (kind : Kind) where
       by_tests false true e h = inr (some_same h, one_id id (id_of kind value) e)
       by_tests false false e h = inl h
 
-  -- what stood stays
+  -- what was stored is still stored
   stays_one : (base : Values) (value : Value) (id : Id) (found : Value) → get base id ≡ Some found → get (store_one kind base value) id ≡ Some found
   stays_one base value id found at = get_one base value id ∙ by_tests (contains_key base (id_of kind value)) refl (id_eq id (id_of kind value)) refl
     where
@@ -60,7 +60,7 @@ module _ (kind : Kind) where
   stays_all [] base id found at = at
   stays_all (value ∷ more) base id found at = stays_all more (store_one kind base value) id found (stays_one base value id found at)
 
-  -- a value whose id isn't taken stands then, or one of its text
+  -- after a value whose id isn't taken is stored, its text is stored under its id
   stands_then : (base : Values) (value : Value) → is_unlike value (get base (id_of kind value)) ≡ false → (found : Value) × (get (store_one kind base value) (id_of kind value) ≡ Some found) × (value_text kind value ≡ value_text kind found)
   stands_then base value free = by_found (get base (id_of kind value)) refl free
     where
@@ -139,7 +139,7 @@ module _ (kind : Kind) where
       (not_unlike first (get base (id_of kind first)) (λ found at. h.base_agrees first found (inl refl) at)))
       (fits_to more (store_one kind base first) (fits_rest first more base h))
 
-  -- ---- what stands under an id then
+  -- ---- what is stored under an id then
 
   text_under : (more : List Value) (base : Values) → Fits base more → (value : Value) → In value more → option_map (value_text kind) (get (store_all kind base more) (id_of kind value)) ≡ Some (value_text kind value)
   text_under [] base h value i = absurd i
@@ -186,7 +186,7 @@ module _ (kind : Kind) where
     some_same : {X : Type 0} {x y : X} → Some x ≡ Some y → x ≡ y
     some_same e = cc
 
-    -- one that stands has the text of what is found under its id
+    -- a value whose text is stored has the text of what is found under its id
     stood_agrees : (value found : Value) → HasText kind base value → get base (id_of kind value) ≡ Some found → value_text kind value ≡ value_text kind found
     stood_agrees value found has at = sym has.2 ∙ ap (value_text kind) (some_same (sym has.1 ∙ at))
 
@@ -236,7 +236,8 @@ is_some_text : (kind : Kind) (o : Option Value) → is_some o ≡ is_some (optio
 is_some_text kind None = refl
 is_some_text kind (Some value) = refl
 
--- What stands in a whole store has neither the null id nor, but for the empty tree, the empty tree's.
+-- A value whose text is in a whole store has neither the null id nor, but for the empty tree, the
+-- empty tree's.
 module _ (r : Repository) (whole : IsWholeStore r) where
   stood_free : (value : Value) → HasText r.kind r.objects value → is_kept r.kind value ≡ false
   stood_free value has = or_from (id_eq (id_of r.kind value) (null_id r.kind)) (id_eq (id_of r.kind value) (empty_tree_id r.kind) && is_other r.kind (value_text r.kind (StoredFolder empty)) value)

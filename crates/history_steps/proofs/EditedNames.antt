@@ -69,11 +69,11 @@ log_of_any path (x ∷ xs) e = elim (either (bytes_eq path (log_place x))) [
 pub state_of : (kind : Kind) (t : Tree) (q : Bytes) (o : Option Bytes) → is_name q ≡ true → file_at t q ≡ o → name_state kind t q ≡ unwrap_or (option_map (loose_state kind) o) (packed_read kind q (file_at t packed_place))
 state_of kind t q o named e = λ i. state_by kind q (named i) (e i) (file_at t packed_place)
 
--- where a file stands, it alone counts
+-- if a name's file exists, it alone counts
 pub loose_same : (kind : Kind) (old tree : Tree) (q text : Bytes) → is_name q ≡ true → file_at old q ≡ Some text → file_at tree q ≡ file_at old q → name_state kind tree q ≡ name_state kind old q
 loose_same kind old tree q text named is same = state_of kind tree q (Some text) named (same ∙ is) ∙ sym (state_of kind old q (Some text) named is)
 
--- where its file and what is packed of it are as before, so is its state
+-- if its file and what is packed of it are as before, so is its state
 pub state_kept : (kind : Kind) (old tree : Tree) (q : Bytes) → (is_name q ≡ true → file_at tree q ≡ file_at old q) → packed_read kind q (file_at tree packed_place) ≡ packed_read kind q (file_at old packed_place)
     → name_state kind tree q ≡ name_state kind old q
 state_kept kind old tree q same packed = go (is_name q) refl

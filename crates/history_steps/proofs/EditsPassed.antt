@@ -50,7 +50,7 @@ fifth false false true d e h = refl
 fifth false false false true e h = refl
 fifth false false false false e h = h
 
--- ---- a name that moves, where its state is as before while its file is
+-- ---- a name that moves, whose state is as before if its file is
 
 module _ (r : Repository) (command : Command) (pair : Pair) (tree : Tree) (s : StandsFor r.kind pair r) (written_then : IsWritten (after r command)) (m : MovedName) (to : MovesTo r command m) (way : NameMoves pair.names tree m)
     (kept_state : file_at tree m.name ≡ file_at pair.names m.name → name_state r.kind tree m.name ≡ name_state r.kind pair.names m.name) where
@@ -136,7 +136,7 @@ all_shown : (old tree : Tree) (moved : List MovedName) → AllByRecursion (Shows
 all_shown t tree [] h = tt
 all_shown t tree (m ∷ moved) h = (inr h.0, all_shown t tree moved h.1)
 
--- ---- what is told of the name that goes, if any
+-- ---- what is known of the deleted name, if any
 
 -- its state, its log and its record
 record Told (r : Repository) (command : Command) (pair : Pair) (tree : Tree) (q : Bytes) : Type 0 where

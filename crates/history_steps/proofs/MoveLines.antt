@@ -35,7 +35,7 @@ use Rattle.history_steps.proofs.PassedMoves.{Passed, passed}
 use Rattle.history_steps.proofs.TreeMoves.{files_move_names}
 use Rattle.history_steps.proofs.TreePuts.{halves_stand}
 
--- ---- names that stand once
+-- ---- names that occur once
 
 later_apart : (q : Bytes) (xs ys : List Bytes) → has_twice bytes_eq (xs ++ ys) ≡ false → list_any (bytes_eq q) ys ≡ true → list_any (bytes_eq q) xs ≡ false
 later_apart q [] ys once among = refl
@@ -172,7 +172,7 @@ module _ (r : Repository) (c : MoveCommand) (first rest : List To) (to : To) (pa
       (subst (λ b. list_all (is_log_entry r.kind) (cond b (moves_at r to.name) (line_entry r c to ∷ moves_at r to.name)) ≡ true) (ids_apart (line_entry r c to).before id differ)
       (and_parts (is_id r.kind id) (list_all (is_log_entry r.kind) (moved_reference r to.name id actor c.message).moves) own_form.1).1)).0
 
-  -- ---- the names that stand then
+  -- ---- the names that exist then
 
   stood_or_made : (q : Bytes) → stands mid q ≡ true → (stands r q ≡ true) ⊎ In q (targets r (Move c))
   stood_or_made q there = elim (each q) [

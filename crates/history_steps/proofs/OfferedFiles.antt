@@ -32,7 +32,7 @@ module _ (p : Bytes → Bool) where
       go rest true f g = ap p (one_text q k f) ∙ (and_parts (p k) (list_all p ks) h).0
       go rest false f g = rest g
 
-  -- all keys of a map pass exactly where each key that it has does
+  -- all keys of a map pass if each key that it has does, and the other way round
   pub all_keys : {X : Type 0} (m : FinMap by_bytes X) → ((q : Bytes) → contains_key m q ≡ true → p q ≡ true) → list_all p (keys m) ≡ true
   all_keys m h = keys_pass (keys m) (λ q e. h q (contains_key-keys m q ∙ e))
 

@@ -1,4 +1,4 @@
--- What names and ids stand for in a whole repository.
+-- What names and ids mean in a whole repository.
 use Rattle.std.proofs.Common.{◌≡◌, true, false, not, refl, sym, ◌∙◌, ap, subst, Option, Some, None, is_some, option_map, option_and_then, unwrap_or}
 use Rattle.std.specs.FinMap.{get}
 use Rattle.std.proofs.lemmas.Option.{same_Some}

@@ -1,4 +1,4 @@
--- The pair of trees that a command leaves which moves one name stands for the repository after it.
+-- The pair of trees that a command leaves which moves one name represents the repository after it.
 use Rattle.std.proofs.Common.{◌≡◌, ◌⊎◌, inl, inr, false, refl, sym, ◌∙◌, subst, Some}
 use Rattle.gix_ref_file.specs.Tree.{Tree}
 use Rattle.history_model.specs.Objects.{Value, StoredCommit, StoredTag, value_text, id_of}
@@ -17,7 +17,7 @@ use Rattle.history_steps.proofs.TreeMoves.{files_move_names}
 use Rattle.history_model.proofs.IdLemmas.{digest_is_id}
 use Rattle.history_model.proofs.WholeStores.{all_keep}
 
--- a value is put, or its text stands already and nothing changes
+-- a value is put, or its text is stored already and nothing changes
 pub one_held : (kind : Kind) (old mid : Tree) (values : Values) (value : Value) → HaveOwnIds kind values → is_taken kind values value ≡ false → HoldsValues kind old values
     → PutsValue kind value old mid ⊎ ((file_at old (object_place (id_of kind value)) ≡ Some (value_text kind value)) × (mid ≡ old)) → HoldsValues kind mid (store_one kind values value)
 one_held kind old mid values value own free h (inl puts) = puts_store kind old mid values value own free h puts
@@ -34,7 +34,7 @@ tags_move_one_name r c = record { names = refl; branch = refl; formed = digest_i
 
 -- ---- what is left
 
--- the repository where the name has moved, and all the command's values are stored
+-- the repository after the name has moved and all the command's values are stored
 abbrev pub moved_so : Repository → Command → NameMove → Repository
 moved_so r command move = record r { names = with_name r move.name move.id move.actor move.message r.names; objects = store_all r.kind r.objects (stored_by r command) }
 

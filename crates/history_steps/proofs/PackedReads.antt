@@ -1,4 +1,5 @@
--- What names read as in a tree that stands for a repository: the id that each holds, and the others as absent, whatever is packed.
+-- What names read as in a tree that represents a repository: the id that each holds, and the others
+-- as absent, whatever is packed.
 use Rattle.std.proofs.Common.{◌≡◌, ◌⊎◌, inl, inr, Bool, true, false, cond, not, ◌&&◌, ◌||◌, refl, sym, ◌∙◌, ap, subst, Option, Some, None, option_map, is_some, unwrap_or, bytes_eq, MatchOption, find}
 use Rattle.std.specs.FinMap.{get}
 use Rattle.gix_ref_file.specs.Tree.{Tree}
@@ -27,7 +28,7 @@ plain_record true o = inr refl
 plain_record false None = inr refl
 plain_record false (Some found) = inl (found.target, refl)
 
--- a file at a name stands for it
+-- a file at a name's place is that name's
 name_file : (a b here log there : Bool) → a ≡ false → b ≡ false → log ≡ false → (a || b || here || (log && there)) ≡ true → here ≡ true
 name_file true b here log there e f g k = cc
 name_file false true here log there e f g k = cc

@@ -1,4 +1,4 @@
--- What the records of a `packed-refs` tell that was made of another one, or of all names.
+-- What holds of the records of a `packed-refs` that was made of another one, or of all names.
 use Rattle.std.proofs.Common.{◌≡◌, Bool, true, false, cond, not, ◌&&◌, List, [], ◌∷◌, map, refl, sym, ◌∙◌, ap, subst, Option, Some, None, option_map, unwrap_or, bytes_eq, MatchOption, IfSome, IsTrue, find}
 use Rattle.std.specs.List.{list_any, list_all, AllByRecursion}
 use Rattle.std.specs.FinMap.{is_sorted}
@@ -26,7 +26,7 @@ name_in e = e.name
 none_some : {A X : Type 0} {x : X} → None ≡ Some x → A
 none_some e = cc
 
--- what is told of none of the names isn't told of one that is found
+-- what holds of none of the names doesn't hold of one that is found
 pub not_found : (p : Bytes → Bool) (records : List Record) (name : Bytes) (e : Record) → list_any p (map name_in records) ≡ false → hit records name ≡ Some e → p e.name ≡ false
 not_found p [] name e none found = none_some found
 not_found p (r ∷ records) name e none found =
@@ -36,7 +36,7 @@ not_found p (r ∷ records) name e none found =
     go here rest true is = ap (λ (x : Record). p x.name) (sym (same_Some r e is)) ∙ here
     go here rest false is = rest is
 
--- what is told of all is told of one that is found
+-- what holds of all records holds of one that is found
 pub all_found : (P : Record → Type 0) (records : List Record) (name : Bytes) (e : Record) → AllByRecursion P records → hit records name ≡ Some e → P e
 all_found P [] name e all found = none_some found
 all_found P (r ∷ records) name e all found = go (all_found P records name e all.1) (bytes_eq r.name name) found
@@ -45,7 +45,7 @@ all_found P (r ∷ records) name e all found = go (all_found P records name e al
     go rest true is = subst P (same_Some r e is) all.0
     go rest false is = rest is
 
--- where no name stands twice, each is found by its name
+-- if no name occurs twice, each is found by its name
 pub all_by_finds : (P : Record → Type 0) (records : List Record) → has_twice bytes_eq (map name_in records) ≡ false → ((e : Record) → hit records e.name ≡ Some e → P e) → AllByRecursion P records
 all_by_finds P [] once told = tt
 all_by_finds P (r ∷ records) once told = (told r (ap (λ b. cond b (Some r) (hit records r.name)) (text_itself r.name)), all_by_finds P records parts.1 later)

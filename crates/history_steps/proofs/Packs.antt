@@ -51,11 +51,11 @@ module _ (r : Repository) (pair : Pair) (s : StandsFor r.kind pair r) where
   abbrev old : Tree
   old = pair.names
 
-  -- what stands is a name
+  -- what exists is a name
   named : (q : Bytes) → stands r q ≡ true → is_name q ≡ true
   named q there = let has = held r pair s q there in named_so (is_name q) _ has.0 has.1
 
-  -- what is no name doesn't stand
+  -- what is no name doesn't exist
   unnamed : (q : Bytes) → is_name q ≡ false → stands r q ≡ false
   unnamed q away = elim (either (stands r q)) [
     | inl there ↦ let is = named q there in absurd (cc (sym away ∙ is))
@@ -75,7 +75,7 @@ module _ (r : Repository) (pair : Pair) (s : StandsFor r.kind pair r) where
     state_of : (t : Tree) (q : Bytes) (o : Option Bytes) → is_name q ≡ true → file_at t q ≡ o → name_state r.kind t q ≡ unwrap_or (option_map (loose_state r.kind) o) (packed_read r.kind q (file_at t packed_place))
     state_of t q o is e = λ i. state_by r.kind q (is i) (e i) (file_at t packed_place)
 
-    -- where all names are packed and no file stands, a name that isn't private reads as before
+    -- if all names are packed and its file is missing, a name that isn't private reads as before
     state_packed : (q : Bytes) → is_name q ≡ true → HasPacked r tree → is_private q ≡ false → file_at tree q ≡ None → name_state r.kind tree q ≡ name_state r.kind old q
     state_packed q is packed public gone =
         state_of tree q None is gone ∙ all_read r q (file_at tree packed_place) packed
@@ -143,7 +143,7 @@ module _ (r : Repository) (pair : Pair) (s : StandsFor r.kind pair r) where
     is_place : Bytes → NameState → Bool
     is_place path state = bytes_eq path head_place || bytes_eq path packed_place || is_lock_file path || is_log_place path || not (is_absent state)
 
-    -- where a file stands that stood
+    -- if a file exists that existed before
     place_kept : (path text : Bytes) → file_at tree path ≡ file_at old path → file_at tree path ≡ Some text → is_place path (name_state r.kind tree path) ≡ true
     unfolding is_place
     place_kept path text same at =

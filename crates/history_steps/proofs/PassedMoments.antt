@@ -1,4 +1,5 @@
--- What commands did to the files, where the files went on since, and commands after others.
+-- What commands did to the files, if the files were changed further since, and commands after
+-- others.
 use Rattle.std.proofs.Common.{◌≡◌, ◌⊎◌, ℕ, zero, suc, ◌-◌, ◌^◌, ◌<◌, ◌≤◌, ◌≢◌, inl, inr, Bool, true, false, not, ◌&&◌, ◌||◌, List, [], ◌∷◌, ◌++◌, length, refl, sym, ◌∙◌, ap, subst, Contains, IsTrue, slice_get, arith, length-append}
 use Rattle.gix_ref_file.specs.Tree.{Tree}
 use Rattle.gix_ref_file.specs.History.{History, trees, moment}

@@ -191,7 +191,7 @@ module _ (r : Repository) (name : Bytes) (id : Id) (actor : Actor) (message : By
       go false false (Some (file bytes)) e = cc
       go false false (Some folder) e = refl
 
-  -- where the name doesn't read as absent its log stays, cut to whole lines
+  -- if the name doesn't read as absent its log stays, cut to whole lines
   log_now : is_absent (name_state r.kind tree name) ≡ false → (o : Option Bytes) → file_at tree log ≡ o → file_at now log ≡ option_map whole_lines o
   log_now held o e =
       recovery_keeps r.kind tree log ∙ stays whole_lines (file_at tree log) (is_lock_file log) (is_absent (name_state r.kind tree name)) (log-lock name is_one) held ∙ ap (option_map whole_lines) e
@@ -313,7 +313,7 @@ module _ (r : Repository) (name : Bytes) (id : Id) (actor : Actor) (message : By
         ∙ (λ i. cond (is_some (same i) && (is_lock_file log || is_absent (all_reads name i))) None (option_map whole_lines (same i)))
         ∙ sym (recovery_keeps r.kind old log)
 
-    -- ---- the name stands, and its log has grown
+    -- ---- the name exists, and its log has grown
     module _ (stands_there : stands r name ≡ true) (differ : entry.before ≢ id) (entry_formed : is_log_entry r.kind entry ≡ true) (n : ℕ) (grown : file_at tree log ≡ Some (bytes_at old log ++ take n (log_line entry))) where
       abbrev i : Id
       i = (holds pair r s name stands_there).0
@@ -382,7 +382,7 @@ module _ (r : Repository) (name : Bytes) (id : Id) (actor : Actor) (message : By
         }
       ]
 
-    -- ---- the name doesn't stand
+    -- ---- the name doesn't exist
     module _ (absent : stands r name ≡ false) where
       reads_absent : name_state r.kind tree name ≡ Absent
       reads_absent = all_reads name ∙ reads_begin r pair s name ∙ ap (λ o. reads_as (option_map (λ (f : Reference). f.id) o)) (none_there (get r.names name) absent)

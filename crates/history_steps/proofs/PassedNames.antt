@@ -178,7 +178,7 @@ module _ (old : Repository) (command : Command) (pair : Pair) (sound : IsSound o
 pub moving_stops : MovingStops
 moving_stops old command pair sound changing none free values held = stopped old command pair sound changing none free values held
 
--- ---- what stood before
+-- ---- files as before the command
 
 -- a stop before any change leaves all as it was
 pub nothing_stops : (old : Repository) (command : Command) (pair : Pair) → StandsWhole old.kind pair old → LeavesStopped old command pair

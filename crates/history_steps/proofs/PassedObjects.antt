@@ -1,4 +1,4 @@
--- What is stored so far, where a command is stopped while it stores its values.
+-- What is stored so far, if a command is stopped while it stores its values.
 use Rattle.std.proofs.Common.{◌≡◌, ◌≢◌, ◌⊎◌, inl, inr, Bool, true, false, [], ◌∷◌, refl, sym, ◌∙◌, ap, Some, bytes_eq}
 use Rattle.std.specs.FinMap.{get}
 use Rattle.gix_ref_file.specs.Tree.{Tree, folder}
@@ -20,7 +20,7 @@ use Rattle.std.proofs.lemmas.Bool.{or_parts}
 use Rattle.std.proofs.lemmas.Option.{same_Some}
 
 module _ (tree : Tree) where
-  -- where each file but the unfinished one is as before, the same values are held
+  -- if each file but the unfinished one is as before, the same values are held
   pub still_holds : (kind : Kind) (old : Tree) (values : Values) → HaveOwnIds kind values → HoldsValues kind old values → ((path : Bytes) → path ≢ unfinished_place → file_at tree path ≡ file_at old path)
       → ((path : Bytes) → get tree path ≡ Some folder → Rattle.history_model.specs.Places.is_object_folder path ≡ true) → HoldsValues kind (recovered_objects tree) values
   still_holds kind old values own h same folders = record {

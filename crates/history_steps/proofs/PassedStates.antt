@@ -1,4 +1,4 @@
--- What the names part holds, once recovered, while names move: told by what they read as.
+-- What the names part holds, once recovered, while names move: by what the names read as.
 use Rattle.std.proofs.Common.{◌≡◌, ◌⊎◌, inl, inr, Bool, true, false, cond, not, ◌&&◌, ◌||◌, List, [], ◌∷◌, ◌++◌, refl, sym, ◌∙◌, ap, subst, Option, Some, None, option_map, is_some, unwrap_or, bytes_eq, MatchOption, reverse, find}
 use Rattle.std.specs.List.{list_any}
 use Rattle.std.specs.FinMap.{entries, keys, get, get-empty, insert, empty}
@@ -65,7 +65,7 @@ get_built choose (k ∷ ks) q = go (choose k) refl (bytes_eq q k) refl (get_buil
 
 -- ---- states of names
 
--- the id that a state tells
+-- the id that a state holds
 abbrev id_in : NameState → Option Id
 id_in (Holds id) = Some id
 id_in (Symbolic name) = None
@@ -89,7 +89,7 @@ named false x id e = cc
 
 -- ---- logs
 
--- the moves that a text tells, of these two
+-- those of these two lists of moves whose text it is
 abbrev pick : Bytes → List LogEntry → List LogEntry → List LogEntry
 pick text new old = cond (bytes_eq text (log_text new)) new (cond (bytes_eq text (log_text old)) old [])
 
@@ -164,7 +164,7 @@ module _ (old : Repository) (command : Command) (tree : Tree) (sound : IsSound o
   abbrev now : Tree
   now = recovered_names old.kind tree
 
-  -- each name that stands holds an id
+  -- each name holds an id or is absent
   plain : (name : Bytes) → ((id : Id) × (name_state old.kind tree name ≡ Holds id)) ⊎ (name_state old.kind tree name ≡ Absent)
   plain name = elim (way.reads name) [
     | inl e ↦ from (id_at old name) e
@@ -194,7 +194,7 @@ module _ (old : Repository) (command : Command) (tree : Tree) (sound : IsSound o
   abbrev names : References
   names = built chosen known
 
-  -- a name that holds an id stood before or stands after
+  -- a name that holds an id exists before or after
   held_known : (name : Bytes) (id : Id) → name_state old.kind tree name ≡ Holds id → In name known
   held_known name id e = elim (way.reads name) [
     | inl h ↦ in_left name (keys old.names) (keys new.names) (in_keys old.names name (there old h))

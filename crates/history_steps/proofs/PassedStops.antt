@@ -33,7 +33,7 @@ use Rattle.history_model.proofs.WholeSteps.{contains_in, in_contains, stops_keep
 
 -- ---- beginnings of a list
 
--- a beginning of two lists, one behind the other, ends in the first, or in the second
+-- a beginning of two lists, joined, ends in the first or in the second
 begins_in : {X : Type 0} (xs ys first rest : List X) → xs ++ ys ≡ first ++ rest
     → ((more : List X) × (xs ≡ first ++ more)) ⊎ ((more : List X) × (first ≡ xs ++ more) × (ys ≡ more ++ rest))
 begins_in xs ys [] rest e = inl (xs, refl)
@@ -51,7 +51,7 @@ begins_mapped f (x ∷ xs) (y ∷ first) rest e =
     let more = begins_mapped f xs first rest (tail_same e) in
     (x ∷ more.0, more.1, ap (λ ys. x ∷ ys) more.2, λ i. sym (head_same e) i ∷ more.3 i)
 
--- an element stands between others
+-- an element of a list, with those before and those after it
 stands_between : {X : Type 0} (x : X) (xs : List X) → In x xs → (before after : List X) × (xs ≡ before ++ x ∷ after)
 stands_between x [] i = absurd i
 stands_between x (y ∷ xs) (inl e) = ([], xs, ap (λ z. z ∷ xs) (sym e))

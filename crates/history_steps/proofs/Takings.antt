@@ -103,7 +103,7 @@ module _ (r : Repository) (name : Bytes) (at : Option Bytes) (pair : Pair) (s : 
     state_of : (t : Tree) (q : Bytes) (o : Option Bytes) → is_name q ≡ true → file_at t q ≡ o → name_state r.kind t q ≡ unwrap_or (option_map (loose_state r.kind) o) (packed_read r.kind q (file_at t packed_place))
     state_of t q o named e = λ i. state_by r.kind q (named i) (e i) (file_at t packed_place)
 
-    -- where a file stands, it alone counts
+    -- if a name's file exists, it alone counts
     loose_same : (q : Bytes) (text : Bytes) → is_name q ≡ true → file_at old q ≡ Some text → file_at tree q ≡ file_at old q → name_state r.kind tree q ≡ name_state r.kind old q
     loose_same q text named is same = state_of tree q (Some text) named (same ∙ is) ∙ sym (state_of old q (Some text) named is)
 
@@ -122,7 +122,7 @@ module _ (r : Repository) (name : Bytes) (at : Option Bytes) (pair : Pair) (s : 
             state_of tree q (file_at old q) named (may.others q (apart_texts q name e) (no_log q named) (λ same. packed_apart q named (sym same)) (name-lock q named))
             ∙ ap (unwrap_or (option_map (loose_state r.kind) (file_at old q))) (packed_there q e) ∙ sym (state_of old q (file_at old q) named refl)
 
-    -- the name's record is gone, and no file stands
+    -- the name's record is gone, and its file is missing
     state_gone : file_at tree name ≡ None → TakesRecord r.kind name old tree → name_state r.kind tree name ≡ Absent
     state_gone none_here took = state_of tree name None is_one none_here ∙ lacks_own r.kind name (file_at old packed_place) (file_at tree packed_place) took
 

@@ -67,7 +67,7 @@ id_reads kind id h =
     no_symbol true b e = cc
     no_symbol false b e = refl
 
--- a name's state is told by its own file and by `packed-refs`
+-- a name's state by its own file and by `packed-refs`
 abbrev pub state_by : Kind → Bytes → Bool → Option Bytes → Option Bytes → NameState
 state_by kind name named own packed = cond named (unwrap_or (option_map (loose_state kind) own) (unwrap_or (option_map (packed_text_state kind name) packed) Absent)) Absent
 

@@ -1,4 +1,5 @@
--- The two halves of what stands for a repository, and what a put of a value does to the one of values.
+-- The two halves of what represents a repository, and what a put of a value does to the half of
+-- values.
 use Rattle.std.proofs.Common.{◌≡◌, ◌≢◌, Bool, true, false, cond, not, ◌&&◌, ◌||◌, refl, sym, ◌∙◌, ap, subst, Option, Some, None, option_map, is_some, unwrap_or, bytes_eq, codes, take, drop, [], ◌∷◌, ◌++◌}
 use Rattle.std.specs.FinMap.{get, insert, contains_key, empty}
 use Rattle.gix_ref_file.specs.Tree.{Tree}

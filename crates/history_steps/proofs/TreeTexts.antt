@@ -1,4 +1,4 @@
--- What an object's file tells of the value that is stored.
+-- Which value is stored, by the text of its object's file.
 use Rattle.std.proofs.Common.{◌≡◌, true, false, refl, sym, ◌∙◌, ap, ◌∷◌, ◌++◌, length, decimal, Option, Some, None, option_map, codes, bytes_eq}
 use Rattle.std.specs.FinMap.{get}
 use Rattle.history_model.specs.Bytes.{Bytes}
