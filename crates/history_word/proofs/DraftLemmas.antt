@@ -1,4 +1,4 @@
--- What a line and the fields behind it leave in the draft.
+-- What a line and the fields after it leave in the draft.
 use Rattle.std.proofs.Common.{◌≡◌, ℕ, ◌<◌, true, not, List, [], ◌∷◌, ◌++◌, length, map, Option, Some, None, if◌then◌else◌, ◌⊎◌, inl, inr, refl, sym, ap, subst, ◌∙◌, append_assoc, arith, codes, flat_map}
 use Rattle.std.specs.Prelude.{IfSome}
 use Rattle.std.specs.List.{join_with_byte}
@@ -41,7 +41,7 @@ use Rattle.history_word.proofs.LineEndLemmas.{fields_text, heading_sizes_are, on
 abbrev Word : Type 0
 Word = Option (Vec ℕ Global)
 
--- ---- a line and the fields behind it
+-- ---- a line and the fields after it
 
 leads_fields : (fields : List Bytes) (q : table.Place) → run_from (at (map length fields) q) (map spelling.Field fields) ≡ Some (at [] q)
 leads_fields [] q = refl
@@ -102,7 +102,7 @@ move_goes new f h i q e = absurd i
 pub move_opens : (new : Draft) → ((order : model.MoveCommand) → order.to ≡ [] → IsDraft new (model.Move order)) → TakesOpening opening.Move new []
 move_opens new f = record { fields = []; heads = refl; spelled = refl; begins = move_goes new f }
 
--- a command of one line is done behind it
+-- after its line, a command of one line is done
 done_come : (d : Draft) (order : model.Command) (parts : List spelling.Part) (q : Place) → Some table.Done ≡ Some (place_of q) → parts ≡ spelling.parts_of order → spelling.has_enough order ≡ true → IsDraft d order → HasCome q d parts
 done_come d order parts place.Done e spelled enough has = (order, spelled, record { enough = enough; has = has })
 done_come d order parts q e spelled enough has = cc
@@ -218,7 +218,7 @@ log_goes said log ys took h i q e = absurd i
 pub log_opens : (said : LogLine) (log : Option LogCommand) (ys : Bytes) → TakesLog said log ys → TakesOpening (opening.Log said) (draft.Log log) ys
 log_opens said log ys took = record { fields = took.paths; heads = took.heads; spelled = took.spelled; begins = log_goes said log ys took }
 
--- such a line stands at the start alone
+-- such a line is only at a command's start
 
 at_start : (said : Opening) (h : lines.Heading) → IsOpening said h → (p q : Place) → next_offered (place_of p) h ≡ Some (place_of q) → p ≡ place.Start
 at_start (opening.Commit name expect) (lines.CommitHeading n x) i place.Start q e = refl
@@ -281,11 +281,11 @@ parent_goes word old new f h i p q e before come = absurd i
 pub parent_fields : (word : Word) (old new : Draft) → ((order : model.CommitCommand) (w : Bytes) → IsDraft old (model.Commit order) → IfSome word (λ x. x.items ≡ w) → IsDraft new (model.Commit (with_parent order w))) → TakesFields (heading.Parent word) old new []
 parent_fields word old new f = record { fields = []; heads = refl; spelled = refl; come = parent_goes word old new f }
 
--- where an edit or the author may stand
+-- a place for an edit or the author
 abbrev AtEdits : Place → Type 0
 AtEdits p = (p ≡ place.Parents) ⊎ (p ≡ place.Edits)
 
--- behind the parents no edit has come
+-- after the parents, before any edit, the list of edits is empty
 come_to_edits : (p : Place) (d : Draft) (before : List spelling.Part) → AtEdits p → HasCome p d before → HasCome place.Edits d before
 come_to_edits p d before (inl e) come = no_edits (subst (λ q. HasCome q d before) e come)
   where
@@ -311,7 +311,7 @@ edit_spelled (model.RemoveLine path) = refl
 edit_spelled (model.RemoveFileLine path) = refl
 edit_spelled (model.GraftLine path word source) = refl
 
--- the line of an edit and the fields behind it are those of an edit
+-- the line of an edit and the fields after it
 record OfEdit (h : lines.Heading) (fields : List Bytes) : Type 0 where
   line_is : model.EditLine
   heads : edit_heading line_is ≡ h
@@ -354,7 +354,7 @@ edit_at l old new f p q e before here =
       f c come.2,
     )
 
--- the line and these fields behind it go on from one place to the other
+-- the line and these fields after it lead from one place to the other
 abbrev Goes : Draft → Draft → Place → Place → lines.Heading → List Bytes → Type 0
 Goes old new p q h fields = next_offered (place_of p) h ≡ Some (place_of q) → (before : List spelling.Part) → HasCome p old before → HasCome q new (before ++ parts_with h fields)
 

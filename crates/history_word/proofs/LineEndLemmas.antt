@@ -91,7 +91,7 @@ leads_some : (done : List Bytes) (later : List ℕ) (place : table.Place) → ru
 leads_some [] later place = refl
 leads_some (f ∷ done) later place = leads_field f (map length done ++ later) place (map spelling.Field done) ∙ leads_some done later place
 
--- a field behind others stops
+-- a field after others stops
 pub field_later_stops : (sizes : List ℕ) (done : List Bytes) (size : ℕ) (later : List ℕ) (place : table.Place) → sizes ≡ map length done ++ size ∷ later → (ys : Bytes) (cause : Cause) → IsNoField size ys cause
     → StopsFrom sizes place (flat_map line done ++ ys) cause
 field_later_stops sizes done size later place e ys cause bad =

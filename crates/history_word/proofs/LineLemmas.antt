@@ -38,7 +38,7 @@ size_next b line ws true e = omega (arith, e)
 size_next b line [] false e = absurd (omega (arith, e))
 size_next b line (w ∷ ws) false e = omega (arith, e)
 
--- the words of a line are as long as it is, with a byte behind the last
+-- the words of a line are as long as it is, with a byte after the last
 pub split_size : (line : Bytes) → words_size (split_words line) ≡ length line + 1
 split_size [] = refl
 split_size (b ∷ line) = size_next b line (split_words line) (b == 32) (split_size line)

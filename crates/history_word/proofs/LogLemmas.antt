@@ -115,7 +115,7 @@ none_left words sizes none e = ap items_of e ∙ ap (λ ns. Some ([], ns)) (sym 
 pub paths_left : (words left : List Bytes) (word : Bytes) (sizes : Sizes) → words ≡ word ∷ left → word ≡ codes "path" → Some (listed sizes) ≡ paths_of (codes "path" ∷ left) → items_of words ≡ Some ([], listed sizes)
 paths_left words left word sizes split is told = ap items_of (split ∙ ap (λ w. w ∷ left) is) ∙ ap (option_map (λ ns. ([], ns))) (sym told)
 
--- words that say no items say none behind others
+-- words that say no items say none after others
 pub none_said : (all words : List Bytes) (items : Option (Vec LogItem Global)) (has_tip : Bool) → HaveCome all words items has_tip → items_of words ≡ None → SaysItems None (items_of all)
 none_said all words items has_tip h e = subst (SaysItems None) (sym (h.said ∙ ap (before h.done) e)) tt
 

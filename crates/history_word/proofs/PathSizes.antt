@@ -1,15 +1,15 @@
--- The sizes that words tell, each behind the word `path`.
+-- The sizes that words say, each after the word `path`.
 use Rattle.std.proofs.Common.{◌≡◌, ℕ, ◌+◌, ◌*◌, ◌≤◌, ◌<◌, List, [], ◌∷◌, ◌++◌, length, Option, Some, None, refl, sym, ap, ◌∙◌, append_assoc, append-nil, if◌then◌else◌, option_map, option_and_then, bytes_eq, codes, false, arith}
 use Rattle.std.proofs.lemmas.List.{length-append}
 use Rattle.history_model.specs.Bytes.{Bytes}
 use Rattle.history_word.specs.LineTable.{paths_of, number_of}
 use Rattle.history_word.specs.Lines.{words_size}
 
--- these sizes before those that words tell
+-- these sizes before those that words say
 abbrev pub sizes_before : List ℕ → Option (List ℕ) → Option (List ℕ)
 sizes_before done more = option_map (λ ns. done ++ ns) more
 
--- of the words behind a first `path` these sizes have come, and these words are left
+-- of the words after a first `path` these sizes have come, and these words are left
 pub record HaveSizes (all left : List Bytes) (done : List ℕ) : Type 0 where
   pub told : paths_of (codes "path" ∷ all) ≡ sizes_before done (paths_of left)
   pub room : 7 * length done + words_size left ≤ 4102
@@ -49,7 +49,7 @@ one_fits all words behind left word size n done h split is follows e =
 pub all_told : (all left : List Bytes) (done : List ℕ) → HaveSizes all left done → left ≡ [] → Some done ≡ paths_of (codes "path" ∷ all)
 all_told all left done h none = sym (h.told ∙ ap (λ ws. sizes_before done (paths_of ws)) none ∙ ap Some (append-nil done))
 
--- ---- where no size is told
+-- ---- if no size is said
 
 pub no_first : (all : List Bytes) → all ≡ [] → None ≡ paths_of (codes "path" ∷ all)
 no_first all none = sym (ap (λ ws. paths_of (codes "path" ∷ ws)) none)
@@ -57,7 +57,7 @@ no_first all none = sym (ap (λ ws. paths_of (codes "path" ∷ ws)) none)
 pub bad_first : (all left : List Bytes) (size : Bytes) → all ≡ size ∷ left → number_of size ≡ None → None ≡ paths_of (codes "path" ∷ all)
 bad_first all left size split e = sym (ap (λ ws. paths_of (codes "path" ∷ ws)) split ∙ ap (option_and_then (λ n. option_map (λ ns. n ∷ ns) (paths_of left))) e)
 
--- nor behind others
+-- nor after other sizes
 none_behind : (all words : List Bytes) (done : List ℕ) → HaveSizes all words done → paths_of words ≡ None → None ≡ paths_of (codes "path" ∷ all)
 none_behind all words done h none = sym (h.told ∙ ap (sizes_before done) none)
 

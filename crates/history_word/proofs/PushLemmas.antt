@@ -9,7 +9,7 @@ push P [] (i ∷ done) x item h k = absurd h
 push P (o ∷ own) [] x item h k = absurd h
 push P (o ∷ own) (i ∷ done) x item h k = (h.0, push P own done x item h.1 k)
 
--- each item of the new list stands for its own, where each of the old one and the one more does
+-- if P holds of the items of the old list and of the one more, it holds of those of the new list
 pub pushed_zip : {A B : Type 0} (P : A → B → Type 0) (old all : Option (Vec A Global)) (x : Option A) (done : List B) (item : B)
     → IfSome all (λ now. MatchOption old ⊥ (λ own. MatchOption x ⊥ (λ it. now.items ≡ own.items ++ it ∷ [])))
     → IfSome old (λ own. AllZip P own.items done) → IfSome x (λ it. P it item) → IfSome all (λ own. AllZip P own.items (done ++ item ∷ []))

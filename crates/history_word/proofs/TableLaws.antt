@@ -1,4 +1,5 @@
--- What the table of lines tells of the commands that are offered, and of all; and lemmas for a reader that follows the table.
+-- What the table of lines says of the commands that are offered, and of all; and lemmas for a
+-- reader that follows the table.
 use Rattle.std.proofs.Common.{◌≡◌, Bool, true, false, ◌&&◌, refl, subst}
 use Rattle.history_model.specs.Spelling.{has_spelling}
 use Rattle.history_model.specs.Stage.{opens}

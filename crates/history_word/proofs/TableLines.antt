@@ -1,4 +1,4 @@
--- Words say what a line of the table says exactly where they are that line's words.
+-- Words say what a line of the table says if and only if they are that line's words.
 use Rattle.std.proofs.Common.{◌≡◌, ℕ, zero, suc, ◌+◌, ◌-◌, ◌*◌, ◌^◌, ◌<◌, Bool, true, false, not, ◌&&◌, ◌==◌, List, [], ◌∷◌, ◌++◌, length, map, flat_map, get_or, refl, sym, ap, ◌∙◌, subst, Option, Some, None, option_map, option_and_then, bytes_eq, codes, decimal, nat_lt, fold, if◌then◌else◌, rules, arith, tests}
 use Rattle.std.specs.List.{list_all}
 use Rattle.std.specs.Char.{is_ascii_digit}

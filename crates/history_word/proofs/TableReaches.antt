@@ -117,7 +117,7 @@ module _ (offers : Heading → Bool) (some_offered : offers (FilesHeading (codes
       → (run_from (at [] place) (actor_parts (role_word role) a ++ rest) ≡ run_from (at [] following) rest) × (list_all is_part rest ≡ true)
   actor_reach role place following a rest stands parts = two_fields place following (ActorHeading role (length a.name) (length a.email) a.seconds a.offset) a.name a.email rest refl stands parts
 
-  -- behind the parents and behind an edit the same lines may stand
+  -- after the parents and after an edit, the same lines may follow
   EditPlace : Place → Type 0
   EditPlace place = (h : Heading) (following : Place) → next_edit h ≡ Some following → next place h ≡ Some following
 
@@ -188,7 +188,7 @@ module _ (offers : Heading → Bool) (some_offered : offers (FilesHeading (codes
       let more = to_reach lines rest first.1 in
       (first.0 ∙ more.0, more.1)
 
-  -- the line that begins a command, where it is offered
+  -- the line that begins a command, if it is offered
   begins : (h : Heading) (following : Place) → offers h ≡ true → whole.next Start h ≡ Some following → next Start h ≡ Some following
   begins h following offered stands = if_taken (offers h) (whole.next Start h) offered ∙ stands
 
@@ -209,7 +209,7 @@ module _ (offers : Heading → Bool) (some_offered : offers (FilesHeading (codes
       let both = and_parts (is_part (Field field)) (list_all is_part (map Field fields)) parts in
       and_from (is_part (Field field)) (are_sizes (map length fields)) both.0 (fields_sized fields both.1)
 
-  -- a command of one line with these fields behind it
+  -- a command of one line with these fields after it
   paths_reach : (h : Heading) (paths : List Bytes) → sizes h ≡ map length paths → whole.next Start h ≡ Some Done → offers h ≡ true → list_all is_part (Line (words_of h) ∷ map Field paths) ≡ true
       → reached (Line (words_of h) ∷ map Field paths) ≡ Some done
   paths_reach h paths told stands offered parts =

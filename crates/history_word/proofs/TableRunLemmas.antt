@@ -95,7 +95,7 @@ module _ (offers : Heading → Bool) where
   run_append progress [] ys = refl
   run_append progress (x ∷ xs) ys = under_append xs ys (λ p. run_append p xs ys) (part_step progress.fields progress.place x)
 
-  -- parts of the table are parts, where the awaited lengths are lengths
+  -- parts of the table are parts, if the awaited lengths are lengths
   pub parts_fit : (parts : List Part) (fields : List ℕ) (place : Place) (q : Progress) → are_sizes fields ≡ true → run_from (at fields place) parts ≡ Some q
       → (list_all is_part parts ≡ true) × (are_sizes q.fields ≡ true)
   parts_fit [] fields place q s e = (refl, subst (λ p. are_sizes p.fields ≡ true) (some_same e) s)
@@ -186,7 +186,7 @@ module _ (offers : Heading → Bool) where
         goes = subst (λ p. run_from p parts ≡ Some done) (λ i. at (sym line.fields i) (sym line.place_is i)) st.2;
       }
 
-  -- behind the end there is nothing
+  -- after the end there is nothing
   done_run : (parts : List Part) → run_from (at [] Done) parts ≡ Some done → parts ≡ []
   done_run [] e = refl
   done_run (Field bytes ∷ parts) e = cc

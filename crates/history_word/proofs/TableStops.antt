@@ -1,4 +1,4 @@
--- The cause for which what follows doesn't go on is told by the progress alone.
+-- The cause by which what follows stops is determined by the progress alone.
 use Rattle.std.proofs.Common.{◌≡◌, ◌≢◌, ◌↔◌, ℕ, ◌≤◌, Bool, true, List, [], ◌∷◌, length, sym, ◌∙◌, subst, Option, Some, None, inl, inr, codes}
 use Rattle.history_model.specs.Bytes.{Bytes}
 use Rattle.history_model.specs.Spelling.{Part, Line, Field}
@@ -27,7 +27,7 @@ module _ (offers : Heading → Bool) (some_offered : offers (FilesHeading (codes
   abbrev StopsAt : List ℕ → Place → Bytes → Cause → Type 0
   StopsAt = StopsAtOf offers
 
-  -- where a line stands, none of its fields is awaited, and the command isn't done
+  -- if a line may follow, no field is awaited; if a field may follow, one is
   no_line : {A : Type 0} (parts : List Part) (size : ℕ) (fields : List ℕ) (place : Place) → reached parts ≡ Some (at (size ∷ fields) place) → LineStands parts → A
   no_line parts size fields place e l = let st = step_of offers some_offered parts (Line l.0) (size ∷ fields) place e l.1 in nothing st.1
     where

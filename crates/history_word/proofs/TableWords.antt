@@ -53,7 +53,7 @@ all_words (word ∷ words) some spaces feeds =
     (and_from (not (is_empty word) && not (has_byte 32 word)) (not (has_byte 10 word)) (and_from (not (is_empty word)) (not (has_byte 32 word)) a.0 b.0) c.0)
     (all_words words a.1 b.1 c.1)
 
--- where no two spaces stand side by side, and none at an end, what stands between them is words
+-- if no word between the spaces is empty, and the text has no line feed, all are words
 pub split_words_are_words : (text : Bytes) → list_all (λ word. not (is_empty word)) (line_words text) ≡ true → has_byte 10 text ≡ false → list_all is_word (line_words text) ≡ true
 split_words_are_words text some none = all_words (line_words text) some (no_spaces text) (no_feeds text none)
 

@@ -90,7 +90,7 @@ pub took_same : {S : Type 0} (left : S → Option (List ℕ)) (readings : S → 
     → Took left readings s b t c xs → Took left readings t c u d [] → Took left readings s b u d xs
 took_same left readings s b t c u d xs h k = subst (Took left readings s b u d) (append-nil xs) (took_then left readings s b t c u d xs [] h k)
 
--- Taking n bytes that are unread asks nothing of the source.
+-- Taking n bytes that are unread reads nothing from the source.
 pub skipped : {S : Type 0} (left : S → Option (List ℕ)) (readings : S → ℕ) (s : S) (b c : Buffer) (n : ℕ) → n ≤ length (unread b) → unread c ≡ drop n (unread b) → readings_made c ≡ readings_made b → work c + n ≡ work b
     → Took left readings s b s c (take n (unread b))
 skipped left readings s b c n h e r w = record {
@@ -121,7 +121,7 @@ took_kept left readings s b c e r w = record {
 pub took_none : {S : Type 0} (left : S → Option (List ℕ)) (readings : S → ℕ) (s : S) (b : Buffer) → Took left readings s b s b []
 took_none left readings s b = took_kept left readings s b b refl refl refl
 
--- where nothing was taken, what came is what is unread
+-- if nothing was taken, what came is what is unread
 pub came_unread : {S : Type 0} (left : S → Option (List ℕ)) (readings : S → ℕ) (s : S) (b : Buffer) (t : S) (c : Buffer) (xs : List ℕ)
     → Took left readings s b t c xs → xs ≡ [] → Came left readings s b t c (unread c)
 came_unread left readings s b t c xs h e = subst (λ ys. Came left readings s b t c (ys ++ unread c)) e (came_all left readings s b t c xs h)
@@ -131,7 +131,7 @@ pub unread_failed : (Failed Last : Type 0) (old new : List ℕ) (Bad : List ℕ 
 unread_failed Failed Last old new Bad h (inl (f, e)) = inl (f, subst Bad (sym e) h)
 unread_failed Failed Last old new Bad h (inr l) = inr l
 
--- one call asks for what is missing, and then another
+-- if each of two calls reads only when bytes are missing, so do both together
 pub asks_then : {S : Type 0} (left : S → Option (List ℕ)) (readings : S → ℕ) (s : S) (b : Buffer) (t : S) (c : Buffer) (u : S) (xs ys : List ℕ)
     → Took left readings s b t c xs → AsksForMore s b t xs → AsksForMore t c u ys → AsksForMore s b u (xs ++ ys)
 asks_then left readings s b t c u xs ys took first second all =

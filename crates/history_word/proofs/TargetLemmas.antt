@@ -69,7 +69,7 @@ pub target_said : (g : Bytes → model.Expect → Bytes → lines.Heading) (said
 target_said g said is words to (name, word, e, told, split) =
     subst (Says (Some (said to))) (sym (ap (target_of_words g) split ∙ target_reads g name e word)) (is to name e word told)
 
--- words in which no name stands that is to move: none, no expectation behind the first, or more than one word behind that
+-- words that say no target: none, no expectation after the first, or not one word after that
 pub none_first : (words : List Bytes) → words ≡ [] → SaysTarget None words
 none_first words none name word e is = cc (none, is)
 

@@ -1,4 +1,4 @@
--- Bytes without a line feed, and the line that stands first.
+-- Bytes without a line feed, and the first line.
 use Rattle.std.proofs.Common.{◌≡◌, ◌⊎◌, inl, inr, ℕ, zero, suc, ◌+◌, ◌-◌, ◌≤◌, ◌<◌, Bool, true, false, ◌||◌, ◌==◌, List, [], ◌∷◌, ◌++◌, length, take, drop, get_or, min, refl, sym, ap, subst, ◌∙◌, arith}
 use Rattle.std.specs.Prelude.{nat_le}
 use borrow.Author.Tests.{leb-true}
@@ -46,7 +46,7 @@ looked_at known looked xs l =
     let e : looked ≡ known + (looked - known) = omega arith in
     ap (λ k. take k xs) e ∙ take-add known (looked - known) xs
 
--- where no line feed stands in what was looked at now
+-- if no line feed is in the bytes that were looked at now
 pub none_found : (known looked : ℕ) (xs : List ℕ) → known ≤ looked → IsUnbroken (take known xs)
     → ((k : ℕ) → 0 ≤ k → k < length (between known looked xs) → ¬ ((get_or (between known looked xs) k 0 == 10) ≡ true)) → IsUnbroken (take looked xs)
 none_found known looked xs l h f =
@@ -55,7 +55,7 @@ none_found known looked xs l h f =
 is_ten : (b : ℕ) → (b == 10) ≡ true → b ≡ 10
 is_ten b e = grind (arith, nat_tests)
 
--- where the first one does
+-- if one is, at its first place
 pub line_found : (known looked at : ℕ) (xs : List ℕ) → known ≤ looked → looked ≤ length xs → looked ≤ 4097 → IsUnbroken (take known xs) → at < length (between known looked xs)
     → ((k : ℕ) → 0 ≤ k → k < at → ¬ ((get_or (between known looked xs) k 0 == 10) ≡ true)) → (get_or (between known looked xs) at 0 == 10) ≡ true → IsLineOf (known + at) xs
 line_found known looked at xs l within limit h in_range before here =
@@ -83,7 +83,7 @@ unbroken_all known limit xs l h = cut_unbroken known limit xs l h
     cut_unbroken : (known limit : ℕ) (xs : List ℕ) → min (length xs) limit ≤ known → IsUnbroken (take known xs) → IsUnbroken (take limit xs)
     cut_unbroken known limit xs l h = subst IsUnbroken (cut limit xs) (unbroken_less (min (length xs) limit) known xs l h)
 
--- ---- what stood already, before more came behind it
+-- ---- the bytes before more followed
 
 pub unbroken_old : (old new more : List ℕ) → old ++ more ≡ new → IsUnbroken (take 4097 new) → IsUnbroken (take 4097 old)
 unbroken_old old new more same none = by_test (nat_le (length old) 4097) refl
@@ -106,7 +106,7 @@ holds_at (x ∷ xs) (suc k) l e = ap (λ o. (x == 10) || o) (holds_at xs k (omeg
     or_true true = refl
     or_true false = refl
 
--- a line that stands in the old bytes is found at once
+-- a line whose end is in the old bytes is found without a reading
 pub stands_already : {S : Type 0} (s t : S) (old new more : List ℕ) (n : ℕ) → old ++ more ≡ new → IsLineOf n new → (t ≡ s) ⊎ IsUnbroken (take 4097 old) → n < length old → t ≡ s
 stands_already s t old new more n same line (inl idle) here = idle
 stands_already s t old new more n same line (inr none) here =

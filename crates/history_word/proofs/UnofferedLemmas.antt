@@ -1,4 +1,4 @@
--- A line of the table that isn't read stands at no place of an offered command.
+-- A line of the table that isn't read is at no place of an offered command.
 use Rattle.std.proofs.Common.{◌≡◌, Bool, true, false, List, [], ◌∷◌, Option, None, refl, sym, ◌∙◌, bytes_eq, codes, if◌then◌else◌}
 use Rattle.std.proofs.lemmas.Slice.Eq.{bytes_eq-Decides}
 use Rattle.history_model.specs.Bytes.{Bytes}
@@ -14,7 +14,7 @@ use Rattle.history_word.specs.Drafts.{place_of, Says}
 abbrev pub Nowhere : lines.Heading → Type 0
 Nowhere h = (p : Place) → next_offered (place_of p) h ≡ None
 
--- it stands at none of the places, one by one
+-- it is at none of the places, one by one
 pub nowhere : (h : lines.Heading) → next_offered table.Start h ≡ None → next_offered table.Parents h ≡ None → next_offered table.Edits h ≡ None → next_offered table.ToCommitter h ≡ None → next_offered table.ToTagger h ≡ None → next_offered table.ToFirst h ≡ None
     → next_offered table.ToMore h ≡ None → next_offered table.ToMessage h ≡ None → next_offered table.ToEnd h ≡ None → Nowhere h
 nowhere h start parents edits committer tagger first more message end place.Start = start
@@ -30,7 +30,7 @@ nowhere h start parents edits committer tagger first more message end place.Done
 
 -- ---- by the first word
 
--- the first word isn't this one, where a test of them fails
+-- the first word isn't this one, if a test for this one fails
 pub is_other : (first word name : Bytes) (test : Bool) → (first ≡ word → test ≡ true) → word ≡ name → test ≡ false → bytes_eq first name ≡ false
 is_other first word name test finds is fails = at (bytes_eq first name) refl
   where
@@ -42,7 +42,7 @@ passed : (said : Option Heading) (b : Bool) (x y : Option lines.Heading) → b �
 passed said true x y e f = cc
 passed said false x y e f = f
 
--- a line whose first word is none of those that are told apart first
+-- a line whose first word is none of those that are tested first
 pub said_behind : (said : Option Heading) (first : Bytes) (words : List Bytes) → bytes_eq first (codes "commit") ≡ false → bytes_eq first (codes "parent") ≡ false → bytes_eq first (codes "put") ≡ false → bytes_eq first (codes "remove") ≡ false
     → bytes_eq first (codes "remove-file") ≡ false → bytes_eq first (codes "graft") ≡ false → bytes_eq first (codes "author") ≡ false → bytes_eq first (codes "committer") ≡ false → bytes_eq first (codes "message") ≡ false → bytes_eq first (codes "end") ≡ false
     → bytes_eq first (codes "files") ≡ false → bytes_eq first (codes "show") ≡ false → Says said (name_heading_of first words) → Says said (heading_of (first ∷ words))

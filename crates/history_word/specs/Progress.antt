@@ -9,7 +9,7 @@ use Rattle.history_model.specs.declared.Cause.{Cause}
 use Rattle.history_model.specs.declared.Cause.TheVariants.{Syntax, Truncated, LineTooLong}
 use Rattle.history_word.specs.Held.{IsUnbroken}
 
--- no line ends where one should
+-- the bytes don't begin with a line of an allowed length
 abbrev pub IsEndless : Bytes → Cause → Type 0
 IsEndless bytes Truncated = IsUnbroken bytes × (length bytes ≤ max_line)
 IsEndless bytes LineTooLong = (max_line < length bytes) × IsUnbroken (take (max_line + 1) bytes)

@@ -9,7 +9,7 @@ use Rattle.history_model.specs.Bytes.{line}
 use Rattle.history_word.proofs.TakingLemmas.{asks_then, came_all, took_then, took_same, skipped, first_byte}
 use Rattle.history_word.proofs.reader.read_field.Goals as goal
 
--- where nothing more than a front of the field is there
+-- if no more than a beginning of the field was read
 field_failed : (Failed Last : Type 0) (front new : List ℕ) (size : ℕ) → length front ≤ size → (Failed × (new ≡ [])) ⊎ Last → (Failed × (length (front ++ new) ≤ size)) ⊎ Last
 field_failed Failed Last front new size l (inl (f, e)) =
     let short : length (front ++ []) ≤ size = omega (arith, length-append front []) in
