@@ -1,4 +1,4 @@
--- What stands at a path, name by name.
+-- The entry at a path, name by name.
 use Rattle.std.proofs.Common.{◌≡◌, ◌⊎◌, ℕ, zero, suc, ◌+◌, ◌<◌, Bool, true, false, cond, List, [], ◌∷◌, ◌++◌, map, drop, get_or, Bor, length, refl, sym, ◌∙◌, ap, subst, arith, inl, inr, Option, Some, None, is_some, option_map, option_and_then, ◌==◌, codes, length-append}
 use Rattle.std.proofs.Math.Seq.{drop-cons}
 use Rattle.std.specs.List.{onto_first, before_first, after_first}
@@ -69,7 +69,7 @@ entry_inside : (kind : Kind) (m : FileMap) (folder path : Bytes) → entry_at ki
 entry_inside kind m folder path = λ i. cond (has_below_inside m folder path i) (Some (codes "40000", folder_id kind (inside_inside folder path m i)))
     (option_map (λ (content : Content). (mode_of content.kind, blob_id kind content.bytes)) (get_inside folder m path i))
 
--- nothing stands below what has nothing below it
+-- nothing is at a path below a folder that has nothing below it
 none_deeper : (kind : Kind) (m : FileMap) (folder path : Bytes) → has_below m folder ≡ false → entry_at kind m (folder ++ 47 ∷ path) ≡ None
 none_deeper kind m folder path h =
     (λ i. cond (none_below i) (Some (codes "40000", folder_id kind (inside (folder ++ 47 ∷ path) m))) (option_map (λ (content : Content). (mode_of content.kind, blob_id kind content.bytes)) (none_at i)))
@@ -117,7 +117,7 @@ at_within (suc n) kind m path less = go (λ m path less. at_within n kind m path
 pub at_path : (kind : Kind) (m : FileMap) (path : Bytes) → at_names kind m (components path) ≡ entry_at kind m path
 at_path kind m path = at_within (suc (length path)) kind m path (omega arith)
 
--- no slash stands in a component
+-- no component has a slash
 pub parts_plain : (path name : Bytes) → In name (components path) → has_byte 47 name ≡ false
 parts_plain [] name (inl e) = ap (has_byte 47) e
 parts_plain [] name (inr i) = absurd i
@@ -198,7 +198,7 @@ second_same a b e = ap (λ (p : Bytes × Id). p.1) (same_Some a b e)
 -- ---- from name to name
 
 module _ (table : Table) (kind : Kind) where
-  -- what was found has the answer for the names that are left
+  -- what was found leads to the answer by the names that are left
   abbrev pub Leads : Found → List Bytes → Option (Bytes × Id) → Type 0
   Leads (Folder id) rest answer = (m : FileMap) × IsFileMap m × HasAll (IsInTable table kind) m × (id_of id ≡ folder_id kind m) × (answer ≡ at_names kind m rest)
   Leads (File k id) [] answer = answer ≡ Some (mode_of k, id_of id)
@@ -266,7 +266,7 @@ module _ (table : Table) (kind : Kind) where
   ends (File k id) answer leads = sym leads
   ends (Folder id) answer (m, fits, has, same, is) = ap (λ i. Some (codes "40000", i)) same ∙ sym is
 
-  -- a tree that stands is read
+  -- a tree in the table isn't reported as broken
   pub own : (honest may_fail : Type 0) → honest → (found : Found) (rest : List Bytes) (answer : Option (Bytes × Id)) → Leads found rest answer → (error : ReadError)
       → ((tree : ObjectId) × (found ≡ Folder tree) × TreeFault honest may_fail table (id_of tree) error) → OwnFault may_fail error
   own honest may_fail h found rest answer leads Failed (tree, same, fault) = fault

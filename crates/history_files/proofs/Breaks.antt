@@ -1,4 +1,4 @@
--- What a broken tree is that an error tells, whatever the root is.
+-- Which broken tree an error names, whatever the root is.
 use Rattle.std.proofs.Common.{◌≡◌, ◌∙◌, ap, sym, subst, refl, inl, inr, ℕ, List, [], Some, None, option_map, Result, Ok, Err}
 use Rattle.gix_hash_id.specs.Id.{Id, id_of}
 use Rattle.gix_object_entries.specs.Entry.{Item, SpellsTree}
@@ -58,7 +58,7 @@ one_content : (table : Table) (id : Id) (a b : List ℕ) → Stands table id obj
 one_content table id a b h k = ap (λ (x : Object). x.content) (same_Some _ _ (sym h ∙ k))
 
 module _ (honest may_fail : Type 0) (table : Table) (id : Id) where
-  -- what stands under the told id spells these entries
+  -- the tree under the named id spells these entries
   there : (oid : ObjectId) → id_of oid ≡ id → (items : List Item) → StandsAs table (id_of oid) objects.Tree (Tree items) → StandsAs table id objects.Tree (Tree items)
   there oid told items at = subst (λ i. StandsAs table i objects.Tree (Tree items)) told at
 
@@ -125,7 +125,7 @@ abbrev pub from_err : {X : Type 0} → Result X ReadError → ReadError → Read
 from_err (Ok x) other = other
 from_err (Err error) other = error
 
--- where a walk ends at a failed lookup, lookups may fail
+-- lookups may fail, if a walk ends at a failed one
 abbrev FailsAs : Type 0 → End → Type 0
 FailsAs M whole = Unit {0}
 FailsAs M broken = Unit {0}

@@ -1,4 +1,4 @@
--- How many trees edits in a row ask for.
+-- How many trees edits in a row look up.
 use Rattle.std.proofs.Common.{◌≡◌, ◌∙◌, ap, sym, subst, refl, ℕ, zero, suc, ◌+◌, ◌<◌, ◌≤◌, ◌^◌, arith, true, false, Bool, cond, List, [], ◌∷◌, ◌++◌, length, take, drop, get_or, Option, Some, None}
 use Rattle.std.proofs.Math.Seq.{take-suc}
 use Rattle.gix_hash_id.specs.Id.{Id}

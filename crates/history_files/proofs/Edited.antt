@@ -18,7 +18,7 @@ use Rattle.gix_object_editor.proofs.Raised.{begins_behind}
 use Rattle.history_model.proofs.AfterFirstLemmas.{get-with}
 
 module _ (kind : Kind) (files : FileMap) (there : unfolded.FileMap) (is : IsUnfolded kind files there) (path : Bytes) where
-  -- without what stands at or below a path
+  -- without what is at or below a path
   pub removed_unfolds : IsUnfolded kind (removed path files) (unfolded.removed (components path) there)
   removed_unfolds = record {
     at = λ q. ap (λ b. cond b None (there (components q))) (is_behind path q) ∙ kept q (is_within path q)
@@ -87,7 +87,7 @@ module _ (kind : Kind) (files : FileMap) (there : unfolded.FileMap) (is : IsUnfo
         only names other None h true e = cc
         only names other None h false e = is.only names other e
 
-  -- ---- what stands below a path
+  -- ---- what is below a path
 
   below_some : (q : Bytes) (names : Path) (name : Bytes) → components q ≡ components path ++ name ∷ names → is_below path q ≡ true
   below_some q names name e = go (below_rest path q) refl (sym (behind_parts path q) ∙ ap (behind (components path)) e ∙ begins_behind (components path) (name ∷ names))

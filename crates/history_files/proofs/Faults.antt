@@ -127,7 +127,7 @@ module _ (kind : Kind) (table : Table) (folders : List FileMap) (inner : (g : Fi
               by_child (Some c) opened h = later c.0
                   (sym (ap (λ o. child_or o (λ d. files_of_node (without gone (trees_in table)) slots d rest) (files_of_entry (without gone (trees_in table)) rest (leaf_in s))) opened) ∙ h)
 
-      -- the id of a tree that stands for itself where it is gone
+      -- if an entry names the missing tree, that is the tree of one of the folders
       named_folder : (o : Option Leaf) → IsTreeNamed gone o → ((leaf : Leaf) → o ≡ Some leaf → Ends leaf) → (g : FileMap) × In g folders × (gone ≡ folder_id kind g)
       named_folder None h ends = absurd h
       named_folder (Some leaf) (id, tree) ends = go (ends leaf refl)
@@ -174,7 +174,7 @@ module _ (kind : Kind) (table : Table) (folders : List FileMap) (inner : (g : Fi
 
   -- ---- why an edit isn't made
 
-  -- a tree that stands, its text and its entries
+  -- a tree in the table: its text and its entries
   record Standing (id : Id) : Type 0 where
     content : List ℕ
     all : List Item
@@ -224,7 +224,7 @@ module _ (kind : Kind) (table : Table) (folders : List FileMap) (inner : (g : Fi
         let same = one_content id there.content content there.stands (stands answers) in
         not (subst IsWellFormed (one_tree id.kind content there.all all (subst (λ t. SpellsTree id.kind t there.all) same there.spelled) spelled) there.well)
 
-    -- of a path whose names aren't empty, where each tree that it leads through is a folder's
+    -- of a path whose names aren't empty, if each tree that it leads through is a folder's
     pub edit_fault : (path : Path) (Through : Id → Type 0) → NamesAreFull path → ((id : Id) → Through id → (g : FileMap) × In g folders × (id ≡ folder_id kind g)) → (error : editor.Error)
         → EditFault honest may_fail table path Through error → MakingFault may_fail files made (as_edited error)
     edit_fault path Through full leads refused.EmptyPathComponent h = absurd (h full)

@@ -42,7 +42,7 @@ pub map_both : {X Y : Type 0} (f : X → Y) (xs ys : List X) → map f (xs ++ ys
 map_both f [] ys = refl
 map_both f (x ∷ xs) ys = ap (λ zs. f x ∷ zs) (map_both f xs ys)
 
--- where a list of images is cut, the list is
+-- a cut of a list's images, as a cut of the list
 record IsCut {X Y : Type 0} (f : X → Y) (xs : List X) (first : List Y) (y : Y) : Type 0 where
   before : List X
   at : X
@@ -196,7 +196,7 @@ module _ (kind : Kind) (stands : List FileMap) (m : FileMap) where
           turn h names (inl i) = inl (in_contains (first ++ g ∷ []) h (subst (In h) names i))
           turn h names (inr one) = inr one
 
--- a tree with the null id is told among those that are kept
+-- if a tree that was handed out has the null id, one of the kept trees has it
 pub null_kept : (kind : Kind) (handed : List HandedOut) (kept : List EditedTree) → AreKept kind handed kept → (t : HandedOut) → In t handed → is_null t.id ≡ true → list_any (λ (k : EditedTree). is_null (id_of k.id)) kept ≡ true
 null_kept kind [] kept are t i null = absurd i
 null_kept kind (u ∷ handed) [] are t i null = absurd are
@@ -227,7 +227,8 @@ due_each kind folders slots marks each i name s at = go (slots i name) refl at
     go None e k = none_is_some s k
     go (Some x) e k = subst (λ y. names_only kind folders name (leaf_in y) ≡ true) (same_Some (slot_if (is_due marks 0) x) s k) (each i name x e)
 
--- where an editor has files among folders that stand, what is written of it is theirs, unless a tree has the null id
+-- if an editor's entries name files or folders that exist before, what is written of it is the
+-- trees of its files, unless a tree has the null id
 pub written_trees : {S : Type 0} (kind : Kind) (table : Table) (stands : List FileMap) → ((g : FileMap) → In g stands → IsInner kind table stands g) → (editor : Editor S)
     → EachEntryHas (names_only kind stands) editor → IsAsRead (trees_in table) editor → (m : FileMap) → IsFileMap m → IsUnfolded kind m (files_of (trees_in table) editor)
     → (edited : EditedFiles) → HasWritten kind editor edited

@@ -51,7 +51,7 @@ put_nowhere (e ∷ es) m q none = put_nowhere es (insert m e.0 e.1) q (λ c i. n
     go true h = absurd (none e.1 (inl (λ i. (same_text q e.0 h i, e.1))))
     go false h = refl
 
--- where the list says what is at a path at which nothing stood, it stands there
+-- if nothing was at a path, then after the puts what the list says is there
 by_list : (es : List (Bytes × Content)) (m : FileMap) (q : Bytes) (o : Option Content) → ((c : Content) → o ≡ Some c → In (q, c) es) → ((c : Content) → In (q, c) es → o ≡ Some c) → get m q ≡ None → get (with_all es m) q ≡ o
 by_list es m q None to from none = put_nowhere es m q (λ c i. none_is_some c (from c i)) ∙ none
 by_list es m q (Some c) to from none =
@@ -216,7 +216,7 @@ pub record LeafHas (kind : Kind) (trees : Trees) (leaf : Leaf) (file : Option Co
   pub inside_it : (r : Bytes) → files_of_entry trees (components r) leaf ≡ option_map (file_leaf kind) (get below r)
   pub only : (name : Bytes) (rest : Path) (found : Leaf) → files_of_entry trees (name ∷ rest) leaf ≡ Some found → (p : Bytes) × (components p ≡ name ∷ rest)
 
--- where the entry has what stands at the source, a put of it comes to the graft
+-- if the entry has what is at the source, a put of it comes to the graft
 module _ (kind : Kind) (files : FileMap) (there : unfolded.FileMap) (is : IsUnfolded kind files there) (path source : Bytes) (other : FileMap) (map : IsFileMap other) (trees : Trees) (leaf : Leaf)
     (has : LeafHas kind trees leaf (source_file source other) (source_files source other)) where
   at_case : (q : Bytes) (t : Bool) → bytes_eq path q ≡ t → (o : Option Bytes) → below_rest path q ≡ o

@@ -89,7 +89,7 @@ module _ (kind : Kind) (m : FileMap) (fits : IsFileMap m) (name : Bytes) (plain 
           ap (λ n. get m (n ++ 47 ∷ (folder.some.0).0)) (sym same) ∙ in_get m (other ++ 47 ∷ (folder.some.0).0) (folder.some.0).1 folder.some.1 in
           absurd (no_both (folder.some.0).0 content (folder.some.0).1 e there)
 
-  -- where nothing stands at or below the name, no entry has it
+  -- if nothing is at or below the name, no entry has it
   pub none_named : get m name ≡ None → (HasFile (inside name m) → ⊥) → named name (items kind m) ≡ None
   none_named nothing below = elim (named_in kind (tree_of kind m) name (tree_entries (entries m))) [
     | inl (none, others) ↦ none
@@ -176,7 +176,7 @@ file_of_items kind g differ = go (entries g) refl
 
 -- ---- trees that are handed out
 
--- a folder whose tree stands with its own, and has a file
+-- a folder that is in the table with all below it, and has a file
 pub record IsInner (kind : Kind) (table : Table) (stands : List FileMap) (g : FileMap) : Type 0 where
   pub map : IsFileMap g
   pub has : HasAll (IsInTable table kind) g
@@ -194,7 +194,8 @@ folder_files kind table trees stored stands g in_g leaf mode isnt_null id name r
 abbrev pub folder : FileMap → HandedOut → FileMap
 folder m tree = folder_at m tree.path
 
--- the tree is that of its folder, each of whose own was handed out or stands
+-- the tree is that of its folder, each of whose own was handed out, or has a tree that exists
+-- before
 pub record IsTreeKnown (kind : Kind) (stands : List FileMap) (m : FileMap) (handed : List HandedOut) (tree : HandedOut) : Type 0 where
   pub items_are : tree.items ≡ items kind (folder m tree)
   pub id_is : tree.id ≡ folder_id kind (folder m tree)
@@ -258,7 +259,7 @@ module _ (kind : Kind) (table : Table) (trees : Trees) (stored : HasStored table
     fit : IsFileMap (folder m t)
     fit = folder_map m t.path fits
 
-    -- an entry that stood unopened
+    -- an entry that wasn't opened
     unopened_case : (item : Item) → is_null item.id ≡ false → StandsUnopened slots t.path item
         → IsFileItem kind (folder m t) item.name item ⊎ IsFolderItem kind stands (map (folder m) before) (folder m t) item.name item
     unopened_case item isnt_null (j, s, leads, at, closed, same) =
@@ -350,7 +351,7 @@ module _ (kind : Kind) (table : Table) (trees : Trees) (stored : HasStored table
     own_well = root_well_formed kind (folder m t) fit (items kind (folder m t)) (items_spelled kind (folder m t) (plain_map (folder m t) fit))
 
     module _ (nonnull : (c : HandedOut) → In c before → is_null c.id ≡ false) where
-      -- where the tree has no entry nothing stands, so the folder has none
+      -- if the tree has no entry of the name, the folder's tree has none
       none_there : (name : Bytes) → named name t.items ≡ None → named name (items kind (folder m t)) ≡ None
       none_there name none = elim (named_in kind (tree_of kind (folder m t)) name (tree_entries (entries (folder m t)))) [
         | inl (nothing, others) ↦ nothing
@@ -393,7 +394,7 @@ module _ (kind : Kind) (table : Table) (trees : Trees) (stored : HasStored table
       own_items : t.items ≡ items kind (folder m t)
       own_items = one_list t.items (items kind (folder m t)) well.ordered well.once own_well.ordered own_well.once same_named
 
-      -- each folder in a name's was handed out before, or stands
+      -- each folder in a name's was handed out, or has a tree that exists before
       name_closed : (name : Bytes) → has_byte 47 name ≡ false → HasFile (inside name (folder m t)) → (h : FileMap) → In h (folders_of (inside name (folder m t)))
           → In h (map (folder m) before) ⊎ HasTreeOf kind stands h
       name_closed name flat file h i =

@@ -1,4 +1,4 @@
--- The entries of a file map's tree stand in Git's order, which is that of the paths below them.
+-- The entries of a file map's tree are in Git's order, which is that of the paths below them.
 use Rattle.std.proofs.Common.{◌≡◌, ◌≢◌, ℕ, Bool, true, false, cond, List, [], ◌∷◌, ◌++◌, refl, sym, ◌∙◌, ap, subst, arith, tests, inl, inr, None, is_some, bytes_eq, ◌==◌, nat_cmp, Less, Equal, Greater, append_assoc}
 use Rattle.std.specs.List.{AllPairs, before_first, after_first}
 use Rattle.std.specs.Ordering.{ordering_then, ordering_reverse, is_lt}
@@ -31,7 +31,7 @@ use Rattle.history_model.proofs.WholeRoots.{some_entry}
 equal_test : (a b : ℕ) → a ≡ b → (a == b) ≡ true
 equal_test a b e = grind (arith, tests)
 
--- what comes before a path in a folder comes before the folder, where it has no slash
+-- a path without a slash that comes before a path in a folder comes before the folder
 file_before : (p n rest : Bytes) → has_byte 47 p ≡ false → by_bytes p (n ++ 47 ∷ rest) ≡ Less → by_bytes p (n ++ 47 ∷ []) ≡ Less
 file_before [] [] rest h e = refl
 file_before [] (b ∷ n) rest h e = refl

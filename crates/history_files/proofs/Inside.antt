@@ -1,4 +1,4 @@
--- What stands inside a folder, and what its tree unfolds to.
+-- What is inside a folder, and what its tree unfolds to.
 use Rattle.std.proofs.Common.{◌≡◌, Bool, true, false, cond, [], ◌∷◌, ◌++◌, map, refl, sym, ◌∙◌, ap, subst, inl, inr, ◌⊎◌, Option, Some, None, option_map, bytes_eq}
 use Rattle.std.specs.List.{flat_map}
 use Rattle.std.specs.FinMap.{entries, keys, get}
@@ -21,7 +21,7 @@ use Rattle.history_files.proofs.Unfolded.{get_inside, inside_map}
 use Rattle.std.proofs.lemmas.Option.{same_Some}
 use Rattle.gix_object_editor.proofs.Raised.{begins_behind}
 
--- ---- what stands below some names
+-- ---- what is below some names
 
 abbrev pub under : unfolded.FileMap → Path → unfolded.FileMap
 under there front [] = None
@@ -124,7 +124,7 @@ file_of_beginning m folder i =
     let got : get m (folder ++ 47 ∷ parts.0) ≡ Some (as_entry.0).1 = ap (get m) (sym parts.1 ∙ as_entry.2) ∙ in_get m (as_entry.0).0 (as_entry.0).1 as_entry.1 in
     (parts.0, (as_entry.0).1, get_inside folder m parts.0 ∙ got)
 
--- a folder of the map is the map itself, or what stands inside one with a file
+-- a folder of the map is the map itself, or what is inside a folder with a file
 pub among_inside : (m g : FileMap) → In g (folders_of m) → (g ≡ m) ⊎ ((folder : Bytes) × HasFile (inside folder m) × (g ≡ inside folder m))
 among_inside m g (inl e) = inl e
 among_inside m g (inr i) =

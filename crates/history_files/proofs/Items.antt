@@ -42,7 +42,7 @@ abbrev pub name_of : TreeEntry → Bytes
 name_of (FileEntry name content) = name
 name_of (FolderEntry name files) = name
 
--- the entries of a folder's tree, where folders nest at most so deep
+-- the entries of a folder's tree, if folders nest at most so deep
 abbrev pub items_within : ℕ → Kind → List Entry → List Item
 items_within depth kind es = map (item_of kind (λ below. root_within depth kind below)) (tree_entries es)
 
@@ -93,7 +93,7 @@ into_plain name file (FolderEntry other files ∷ ts) h rest t i = go (bytes_eq 
     go false (inl e) = ap (λ u. has_byte 47 (name_of u)) e ∙ h
     go false (inr j) = rest t j
 
--- no slash stands in an entry's name
+-- no entry's name has a slash
 pub name_plain : (es : List Entry) (t : TreeEntry) → In t (tree_entries es) → has_byte 47 (name_of t) ≡ false
 name_plain [] t i = absurd i
 name_plain (e ∷ es) t i = go (has_byte 47 e.0) refl (λ u k. name_plain es u k) i
@@ -118,7 +118,7 @@ has_leaf es path content plain i =
         let inner = of_map (λ (x : Entry). (name ++ 47 ∷ x.0, x.1)) (path, content) files k in
         clash (ap (λ (x : Entry). has_byte 47 x.0) inner.2 ∙ one_is_in 47 name (inner.0).0) plain
 
--- and each first component with a slash behind it
+-- and each first component with a slash after it
 pub has_folder : (es : List Entry) (name rest : Bytes) (content : Content) → In (name ++ 47 ∷ rest, content) es
     → has_byte 47 name ≡ false → (files : List Entry) × In (FolderEntry name files) (tree_entries es)
 has_folder es name rest content i plain =
@@ -225,7 +225,7 @@ of_kind : (kind : Kind) (tree_of : List Entry → Bytes) (t : TreeEntry) → (it
 of_kind kind tree_of (FileEntry name content) = digest_kind kind _
 of_kind kind tree_of (FolderEntry name files) = digest_kind kind _
 
--- no zero byte stands in a name
+-- no name has a zero byte
 pub no_zero : (kind : Kind) (files : FileMap) → ArePlain (entries files) → (t : TreeEntry) → In t (tree_entries (entries files)) → has_byte 0 (name_of t) ≡ false
 no_zero kind files plain (FileEntry path content) i = plain (path, content) (leaf_in (entries files) path content i)
 no_zero kind files plain (FolderEntry name below) i =

@@ -22,7 +22,7 @@ pairs_head {X = X} R x xs all y i = let at = index xs i in subst (R x) at.2 (all
 pairs_tail : {X : Type 0} (R : X → X → Type 0) (x : X) (xs : List X) → AllPairs R (x ∷ xs) → AllPairs R xs
 pairs_tail R x xs all i j d less within = all (suc i) (suc j) d (omega arith) (omega arith)
 
--- what is found under a name has it, and stands in the list
+-- what is found under a name has it, and is in the list
 pub named_is : (name : Bytes) (items : List Item) (item : Item) → named name items ≡ Some item → (item.name ≡ name) × In item items
 named_is name [] item e = none_is_some item e
 named_is name (x ∷ items) item e = go (bytes_eq name x.name) refl e (named_is name items item)
@@ -42,7 +42,7 @@ named_other name item items differ = go (bytes_eq name item.name) refl
     go true t = absurd (differ (same_text name item.name t))
     go false t = ap (λ b. cond b (Some item) (named name items)) t
 
--- an entry that stands in a list with each name once is found
+-- an entry of a list with each name once is found
 pub named_in_list : (items : List Item) → HasNamesOnce items → (item : Item) → In item items → named item.name items ≡ Some item
 named_in_list [] once item i = absurd i
 named_in_list (x ∷ items) once item (inl e) = ap (λ (y : Item). named y.name (x ∷ items)) e ∙ named_first x items ∙ ap (λ y. Some y) (sym e)

@@ -17,7 +17,7 @@ use Rattle.history_files.proofs.InOrder.{root_well_formed}
 use Rattle.history_files.proofs.Items.{items, items_spelled}
 use Rattle.history_files.proofs.Unfolded.{plain_map}
 
--- the tree of a file map stands, and is well-formed
+-- the tree of a file map is in the table and well-formed, so it isn't reported as broken
 pub own_root : (honest may_fail : Type 0) (table : Table) (kind : Kind) (files : FileMap) (top : Id) → honest → IsRootOf table kind files top → (error : ReadError)
     → RootFault honest may_fail table top error → OwnFault may_fail error
 own_root honest may_fail table kind files top answers is Failed h = h

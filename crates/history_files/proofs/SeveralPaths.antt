@@ -1,4 +1,4 @@
--- What stands at several paths of a file map, by the entries to which their names lead.
+-- What is at several paths of a file map, by the entries to which their names lead.
 use Rattle.std.proofs.Common.{◌≡◌, ◌∙◌, refl, sym, ap, subst, inl, inr, ◌⊎◌, ℕ, Bool, true, false, cond, List, [], ◌∷◌, ◌++◌, map, Bor, Option, Some, None, Result, Ok, Err, option_map, option_and_then, codes, ◌==◌, ◌/◌, ◌%◌, arith, suc, if◌then◌else◌}
 use Rattle.std.specs.Bool.{MatchBool}
 use Rattle.std.specs.FinMap.{get}
@@ -78,7 +78,7 @@ first_is tree name all (Some item) spelled (front, rest, read, lacks, is) =
 
 -- ---- what entries name
 
--- the kind that the first bits of a number tell that isn't a tree's
+-- the kind by a mode's first bits, if it isn't a tree's
 abbrev kind_but_tree : ℕ → EntryKind
 kind_but_tree v = if v / 4096 == 8 then file_kind v else if v / 4096 == 10 then entries.Link else entries.Commit
 

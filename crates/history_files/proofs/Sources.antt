@@ -146,7 +146,7 @@ source_of table kind source other found is = by_entry kind source other is.map f
 
 -- ---- the files that the entry has
 
--- the files of a source that is a folder stand
+-- a source that is a folder: its files, whose values are in the table
 pub record FolderStands (table : Table) (kind : Kind) (below : FileMap) : Type 0 where
   pub map : IsFileMap below
   pub has : HasAll (IsInTable table kind) below
@@ -158,7 +158,7 @@ folder_stands table kind (b ∷ s) other map has (rest, content, at) = record {
   has = inside_has (IsInTable table kind) other has ((b ∷ s) ++ 47 ∷ rest) content (b ∷ s) (get_in other ((b ∷ s) ++ 47 ∷ rest) content (sym (get_inside (b ∷ s) other rest) ∙ at)) (is_beginning (b ∷ s) rest);
 }
 
--- where all of the files have a property, so has the folder that the source is
+-- if all of the files have a property, so has the folder that the source is
 pub folder_stored : (P : Value → Type 0) (source : Bytes) (other : FileMap) → HasAll P other → HasFile (source_files source other) → P (StoredFolder (source_files source other))
 folder_stored P [] other has file = has.itself
 folder_stored P (b ∷ s) other has (rest, content, at) =

@@ -104,7 +104,7 @@ refused_by_keys a b [] same = refl
 refused_by_keys a b (edit ∷ made) same =
     λ i. refused_same a b edit same i || refused_by_keys (edited a (emptied edit)) (edited b edit) made (edited_keys a b edit same) i
 
--- some edit is refused where one without bytes is
+-- some edit is refused if and only if one without bytes is
 pub emptied_refused : (files : FileMap) (made : List model.Edit) → some_refused files (map emptied made) ≡ some_refused files made
 emptied_refused files made = refused_by_keys files files made (λ q. refl)
 

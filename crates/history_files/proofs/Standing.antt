@@ -1,4 +1,5 @@
--- The folders that stand before edits are made: those of a base, and those of files that are grafted.
+-- The folders that exist before edits are made: those of a base, and those of files that are
+-- grafted.
 use Rattle.std.proofs.Common.{◌≡◌, Bool, true, false, cond, ◌&&◌, ◌||◌, List, [], ◌∷◌, ◌++◌, map, refl, sym, ◌∙◌, ap, subst, inl, inr, ◌⊎◌, Option, Some, None}
 use Rattle.std.specs.Prelude.{Contains, IsFalse}
 use Rattle.std.specs.List.{AllByRecursion, flat_map, list_any}
@@ -56,7 +57,7 @@ empty_tree_told = rw sha1-empty_tree refl
 null_not_empty : IsEmptyTree (null_id Sha1) → ⊥
 null_not_empty e = clash (ap is_null (sym e) ∙ id_itself (null_id Sha1)) empty_tree_told
 
--- ---- what standing folders are
+-- ---- each folder that exists before
 
 module _ (table : Table) (kind : Kind) where
   module _ (stands : List FileMap) (are : AreStanding table kind stands) (g : FileMap) (i : In g stands) where
@@ -157,7 +158,7 @@ module _ (table : Table) (kind : Kind) where
       go RemoveFile e = subst ComesFromFiles (sym e) tt
       go (Graft found) (source, other, e, is) = subst ComesFromFiles (sym e) is.map
 
-  -- what is grafted is a folder that stands
+  -- a grafted folder exists before
   pub graft_in : (stands : List FileMap) (path : Bytes) (found : Option Found) (one : model.Edit) → IsGraft table kind path found one → GraftsStand stands one → GraftIn kind stands (Graft found)
   graft_in stands path None one is stand = tt
   graft_in stands path (Some (File k id)) one is stand = tt
@@ -194,7 +195,7 @@ module _ (table : Table) (kind : Kind) where
   change_in stands path RemoveFile one is stand = tt
   change_in stands path (Graft found) one is stand = graft_in stands path found one is stand
 
--- ---- what is grafted stands
+-- ---- grafted folders exist before
 
 pub grafts_stand : (files : FileMap) (made : List model.Edit) → AllByRecursion (GraftsStand (standing files made)) made
 grafts_stand files made = in_all (GraftsStand (standing files made)) made (λ one i.
@@ -211,7 +212,7 @@ emptied_stand stands (one ∷ made) all = (go one all.0, emptied_stand stands ma
     go (model.RemoveFile path) h = tt
     go (model.Graft path source other) h = h
 
--- ---- more folders stand
+-- ---- if more folders exist before
 
 module _ (kind : Kind) (xs ys : List FileMap) (within : (g : FileMap) → In g xs → In g ys) (name : Bytes) (leaf : Leaf) where
   abbrev test : FileMap → Bool
@@ -229,7 +230,7 @@ module _ (kind : Kind) (xs ys : List FileMap) (within : (g : FileMap) → In g x
       go false true false k = let one = one_passes test xs k in passes_one test ys one.0 (within one.0 one.1) one.2
       go false false n k = cc
 
--- an editor of a base's files, while more folders stand
+-- an editor of a base's files, if more folders exist before
 pub opened_among : {S : Type 0} (table : Table) (kind : Kind) (files : FileMap) (more : List FileMap) (editor : Editor S) → EditsFiles table kind (own_folders files) files editor → AreStanding table kind (own_folders files ++ more)
     → EditsFiles table kind (own_folders files ++ more) files editor
 opened_among table kind files more editor can all = record {

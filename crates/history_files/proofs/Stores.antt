@@ -12,7 +12,7 @@ use Rattle.history_files.specs.Unfolding.{FolderStands, IsInTable, HasTrees}
 use Rattle.history_files.specs.Laws.{table_of}
 
 module _ (r : Repository) (whole : IsWholeStore r) where
-  -- what stands under an id doesn't stand under the null id
+  -- no stored value has the null id
   isnt_null : (value : Value) → IsStored r value → is_null (id_of r.kind value) ≡ false
   isnt_null value stored = go (is_null (id_of r.kind value)) refl
     where

@@ -72,7 +72,7 @@ one_kept table old new id content put stands kept key bytes at = go (is_eq (by_i
 pub none_kept : (table : Table) (contents : Contents) → contents.entries ≡ [] → AreKept table contents
 none_kept table contents none key content at = cc (sym at ∙ ap (lookup (is_at (λ k. id_cmp (id_of key) (id_of k)))) none)
 
--- a tree that was read stands
+-- a tree that was read is in the table
 pub tree_stands : (table : Table) (id : Id) (content : Vec ℕ Global) → kind_at table id ≡ Some kinds.Tree → content.items ≡ content_at table id → table id ≡ Some (tree_object content)
 tree_stands table id content kind same = go (table id) refl kind same
   where
@@ -80,7 +80,7 @@ tree_stands table id content kind same = go (table id) refl kind same
     go None at k s = cc
     go (Some o) at k s = at ∙ (λ i. Some (record { kind = same_Some o.kind kinds.Tree k i; content = sym s i }))
 
--- what the store lists is listed behind what is kept
+-- what the store lists is listed after what is kept
 pub listed_behind : (kept ids : List Id) (id : Id) (result : Result (Option object.Kind) Error) → IfOk result (λ kind. IsSome kind → Contains ids id) → IfOk result (λ kind. IsSome kind → Contains (kept ++ ids) id)
 listed_behind kept ids id (Ok kind) listed = λ some. Contains-append_right kept ids id (listed some)
 listed_behind kept ids id (Err error) listed = tt

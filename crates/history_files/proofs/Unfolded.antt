@@ -47,7 +47,7 @@ same_option None None f g = refl
 same_option None (Some x) f g = g x refl
 same_option (Some x) b f g = sym (f x refl)
 
--- what stands inside a folder
+-- what is inside a folder
 pub get_inside : (folder : Bytes) (m : FileMap) (q : Bytes) → get (inside folder m) q ≡ get m (folder ++ 47 ∷ q)
 get_inside folder m q = same_option (get (inside folder m) q) (get m (folder ++ 47 ∷ q))
     (λ x e. in_get m (folder ++ 47 ∷ q) x (of_inside folder m q x (get_in (inside folder m) q x e)))
@@ -132,7 +132,7 @@ module _ (kind : Kind) (table : Table) (trees : Trees) (stored : HasStored table
       leaf : Leaf
       leaf = leaf_of (item_of kind (λ below. root_within (longest (keys m)) kind below) (FolderEntry name below))
 
-  -- no file stands at and below one path
+  -- no file is at a path and another below it
   apart : (m : FileMap) → IsFileMap m → (name rest : Bytes) (a b : Content) → get m name ≡ Some a → get m (name ++ 47 ∷ rest) ≡ Some b → ⊥
   apart m map name rest a b h k = clash (below_front name rest) (map.apart name (name ++ 47 ∷ rest) (ap is_some h) (ap is_some k))
 
@@ -159,7 +159,7 @@ module _ (kind : Kind) (table : Table) (trees : Trees) (stored : HasStored table
           ∙ sym (ap (option_map (file_leaf kind)) (none_if (get m name)
           (λ c e. apart m map folder (inner.some).0 c (inner.some).1 (ap (get m) same ∙ e) (inner.some).2)))
 
-  -- below one, where that is told of all folders' files
+  -- below a first component, if this holds of the files of all folders
   at_below : (m : FileMap) → IsFileMap m → HasAll P m → (name rest : Bytes) → has_byte 47 name ≡ false
       → (IsFileMap (inside name m) → HasAll P (inside name m) → files_of_tree trees (items kind (inside name m)) (components rest) ≡ option_map (file_leaf kind) (get (inside name m) rest))
       → files_of_tree trees (items kind m) (name ∷ components rest) ≡ option_map (file_leaf kind) (get m (name ++ 47 ∷ rest))

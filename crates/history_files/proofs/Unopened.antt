@@ -1,5 +1,5 @@
--- Where two things have the same files without any tree, names lead into the same trees that aren't opened: over no trees each of
--- these stands as a file.
+-- If two things have the same files without any tree, names lead into the same trees that aren't
+-- opened: over no trees each of these is a file.
 use Rattle.std.proofs.Common.{◌≡◌, ◌∙◌, ap, sym, subst, refl, ℕ, ◌&&◌, not, true, false, Bool, cond, List, [], ◌∷◌, Option, Some, None}
 use Rattle.gix_hash_id.specs.Id.{Id}
 use Rattle.gix_object_entries.specs.Entry.{Item}
@@ -74,7 +74,7 @@ slot_hollow trees slots (name ∷ rest) s none = go s.child refl (λ t h. slot_h
 -- ---- an opened tree and entries with the same files
 
 module _ (trees : Trees) (slots : Slots) (rest : Path) where
-  -- a slot that stands for an entry
+  -- a slot with the files of an entry
   entry_slot : (s : Slot) (item : Item) → ((r : Path) → files_of_slot no_trees slots r s ≡ files_of_entry no_trees r (leaf_of item))
       → slot_into trees slots rest s ≡ trees_into trees rest (leaf_of item)
   entry_slot s item same = go (is_null item.id) refl

@@ -1,4 +1,5 @@
--- A walk in depth order over the trees of files, which are there: which names it tells, and how it ends.
+-- A walk in depth order over the trees of files, which are there: which names it reports, and how
+-- it ends.
 use Rattle.std.proofs.Common.{◌≡◌, ℕ, zero, suc, Bool, true, false, cond, List, [], ◌∷◌, ◌++◌, map, refl, sym, ◌∙◌, ap, subst, arith, inl, inr, Option, option_map, is_some, length-append}
 use Rattle.std.specs.List.{AllByRecursion}
 use Rattle.std.specs.FinMap.{entries, keys}
@@ -171,13 +172,13 @@ module _ (table : Table) (kind : Kind) where
 
   -- ---- along a walk
 
-  -- where a walk stands in folders that are there
+  -- the place of a walk, in folders that are there
   abbrev pub IsAt : List Id → Place → Type 0
   IsAt above (before id) = (m : FileMap) × IsThere m id × LiesUnder id above
   IsAt above (within id content) = (m : FileMap) × IsThere m id × LiesUnder id above
       × ((ts : List TreeEntry) × ((t : TreeEntry) → In t ts → In t (tree_entries (entries m))) × SpellsEntries kind content (some_items kind m ts) [])
 
-  -- a walk ends behind all, or where a lookup fails
+  -- a walk ends after all trees, or at a lookup that fails
   abbrev pub EndsWell : Type 0 → End → Type 0
   EndsWell M whole = Unit {0}
   EndsWell M broken = ⊥
