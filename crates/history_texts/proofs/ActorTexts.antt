@@ -1,4 +1,4 @@
--- What an actor's text tells.
+-- What an actor's text says.
 use Rattle.std.proofs.Common.{inl, inr, ◌≡◌, ◌≢◌, ◌∙◌, ap, refl, sym, subst, ℕ, ◌≤◌, true, not, ◌&&◌, ◌∷◌, ◌++◌, append_assoc, arith, tests}
 use Rattle.std.specs.Prelude.{nat_le, Option, Some, None, Result, Ok, Err, MatchOption, MatchResult, IsTrue, IsFalse, codes, decimal}
 use Rattle.std.specs.Result.{result_ok}
@@ -27,7 +27,7 @@ use Rattle.history_texts.proofs.Spelled.{cut_same}
 use Rattle.gix_ref_file.proofs.Rooted.{both}
 use Rattle.history_model.proofs.PartLemmas.{one_is_in}
 
--- the byte stands in a text that is cut at it
+-- a text that is cut at a byte has it
 pub stands : (byte : ℕ) (text front back : Bytes) → text ≡ front ++ byte ∷ back → IsFalse (has_byte byte text) → ⊥
 stands byte text front back is none = cc (sym none ∙ ap (has_byte byte) is ∙ one_is_in byte front back)
 
@@ -77,7 +77,7 @@ time_spelled actor told small =
       offset = told.spells;
     }
 
--- so it may stand in an object's line
+-- so it may be in an object's line
 pub person_formed : (actor : Actor) → IsTrue (is_actor actor) → IsPerson (person_of actor)
 person_formed actor formed =
     let parts = actor_parts actor formed in
@@ -98,7 +98,7 @@ person_formed actor formed =
 pub line_of_person : (actor : Actor) → actor_line (person_of actor) ≡ actor_text actor
 line_of_person actor = sym (append_assoc (actor.name ++ codes " <" ++ actor.email ++ codes "> ") (decimal actor.seconds) (32 ∷ actor.offset))
 
--- and it tells the actor
+-- actors of equal persons are equal
 pub person_tells : (a b : Actor) → IsTrue (is_actor a) → IsTrue (is_actor b) → person_of a ≡ person_of b → a ≡ b
 person_tells a b a_formed b_formed same = actor_same a b a_formed b_formed (sym (line_of_person a) ∙ ap actor_line same ∙ line_of_person b)
 
@@ -108,7 +108,7 @@ person_tells a b a_formed b_formed same = actor_same a b a_formed b_formed (sym 
 pub words_same : (actor : Actor) (time seconds offset : Bytes) → time ≡ time_words actor → time ≡ seconds ++ 32 ∷ offset → IsFalse (has_byte 32 seconds) → (seconds ≡ decimal actor.seconds) × (offset ≡ actor.offset)
 words_same actor time seconds offset is cut clear = cut_same 32 seconds (decimal actor.seconds) offset actor.offset clear (decimal_high 32 (omega arith) actor.seconds) (sym cut ∙ is)
 
--- so a time stands there
+-- so they are a time
 pub time_there : (actor : Actor) (seconds offset : Bytes) → IsTrue (is_actor actor) → (seconds ≡ decimal actor.seconds) × (offset ≡ actor.offset) → IsNoTime seconds offset → ⊥
 time_there actor seconds offset formed words (inl none) = none actor.seconds (actor_parts actor formed).seconds words.0
 time_there actor seconds offset formed words (inr none) = cc (sym none ∙ ap is_offset words.1 ∙ (actor_parts actor formed).offset)
@@ -131,7 +131,7 @@ formed_there actor name email seconds offset time formed same told = record {
   actor = ap is_actor same ∙ formed;
 }
 
--- what is made of the parts answers for them
+-- an actor that is made of the parts is the person's; if none is made, the person is no actor's
 pub answered : (person : Person) (name email : Bytes) (time : Time) (found : Option actors.Actor) → MatchOption found (¬ IsFormed name email time) (λ a. actor_of a ≡ plain_actor name email time)
     → person ≡ person_of (plain_actor name email time) → ((actor : Actor) → IsTrue (is_actor actor) → person ≡ person_of actor → IsFormed name email time)
     → MatchOption found ((a : Actor) → IsTrue (is_actor a) → person ≢ person_of a) (λ a. (person ≡ person_of (actor_of a)) × IsTrue (is_actor (actor_of a)))

@@ -1,4 +1,4 @@
--- The plain repository's text of a commit is that of its parts, which tell the commit.
+-- The plain repository's text of a commit is that of its parts, which determine the commit.
 use Rattle.std.proofs.Common.{◌≡◌, ◌≢◌, ◌∙◌, ap, refl, sym, subst, arith, zero, suc, ℕ, ◌<◌, not, ◌&&◌, List, [], ◌∷◌, ◌++◌, map, length, get_or, slice_index, append_assoc, nat_lt}
 use Rattle.std.specs.Prelude.{All, IfNone, IsTrue, MatchOption, Option, None, Some, codes, nat_le}
 use Rattle.std.specs.Char.{is_ascii_hexdigit}
@@ -151,7 +151,7 @@ value_told kind value commit formed is plain =
       message = ap (λ p. p.message) is;
     }
 
--- so a text of the value is answered with it
+-- so for a text of the value a commit is read that says the same
 pub value_answered : (kind : Kind) (value : CommitValue) (parts : Parts) (found : Option Commit) → IsTrue (is_commit_form kind value) → parts ≡ value_parts kind value
     → MatchOption found (¬ IsPlain kind parts) (λ commit. (parts ≡ parts_of commit) × IsPlainCommit kind commit) → MatchOption found ⊥ (λ commit. SaysCommit kind commit value)
 value_answered kind value parts None formed is none = none (value_plain kind value parts formed is)
@@ -163,7 +163,7 @@ pub none_answered : (kind : Kind) (content : Bytes) (read : Parts) (found : Opti
 none_answered kind content read None same none = λ parts spelled plain. none (subst (IsPlain kind) (sym (same parts spelled)) plain)
 none_answered kind content read (Some commit) same told = tt
 
--- ids are told of texts only where each text tells one
+-- if one text is no id's, the texts aren't those of a list of ids
 pub none_told : {X : Type 0} (text : X → Bytes) (kind : Kind) (texts : List X) (at : ℕ) (default : X) → at < length texts → ((id : Id) → IsTrue (is_id kind id) → text (get_or texts at default) ≢ hex id)
     → (ids : List Id) → IsTrue (list_all (is_id kind) ids) → map text texts ≡ map hex ids → ⊥
 none_told text kind [] at default less none ids are same = absurd (omega arith)

@@ -47,7 +47,7 @@ nowhere byte text found = by_test (nat_lt (place byte text) (length text)) refl 
     by_test true below is = cc
     by_test false below is = no_place byte text (omega (arith, ltb-false _ _ below))
 
--- what stands behind a front and a byte
+-- what follows a front and a byte
 pub content_behind : (text front content : Bytes) (byte : ℕ) → text ≡ front ++ byte ∷ content → drop (length text - length content) text ≡ content
 content_behind text front content byte cut =
     let behind : length text - length content ≡ length (front ++ byte ∷ []) = omega (arith, ap length cut, length-append front (byte ∷ content), length-append front (byte ∷ [])) in

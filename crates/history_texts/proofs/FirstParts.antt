@@ -1,4 +1,4 @@
--- What stands above a path whose first part ends at a slash.
+-- What is above a path whose first part ends at a slash.
 use Rattle.std.proofs.Common.{◌≡◌, ◌≢◌, ◌⊎◌, inl, inr, refl, sym, ◌∙◌, ap, ℕ, true, false, [], ◌∷◌, ◌++◌}
 use Rattle.std.specs.Prelude.{◌==◌}
 use Rattle.std.proofs.lemmas.Bool.{or_parts}

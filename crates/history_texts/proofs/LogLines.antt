@@ -36,7 +36,7 @@ no_feed (b ∷ text) lacks =
     let parts = or_parts (is_feed b) (list_any is_feed text) lacks in
     All-cons (λ byte. is_feed byte ≡ false) b text parts.0 (no_feed text parts.1)
 
--- lines that are cut at each line feed, with what stands behind the last
+-- lines that are cut at each line feed, with what follows the last
 lines_split : (lines : List Bytes) (rest : Bytes) → All (Lacks 10) lines → Lacks 10 rest → slice_split is_feed (flat_map line lines ++ rest) ≡ lines ++ rest ∷ []
 lines_split [] rest all lacks = slice_split_none is_feed rest (no_feed rest lacks)
 lines_split (text ∷ lines) rest all lacks =

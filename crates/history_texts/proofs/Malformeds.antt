@@ -1,4 +1,5 @@
--- An object in written form tells no time before 1970, and is no tag of something other than a commit.
+-- An object in written form has no time before 1970, and is no tag of something other than a
+-- commit.
 use Rattle.std.proofs.Common.{◌≡◌, ◌∙◌, ap, refl, sym, subst, arith, tests, ℕ, true, false, ◌&&◌, ◌||◌, ◌==◌, nat_eq, [], ◌∷◌, ◌++◌}
 use Rattle.std.specs.Prelude.{codes, decimal}
 use Rattle.std.proofs.lemmas.Bool.{or_parts}

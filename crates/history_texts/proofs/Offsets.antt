@@ -14,7 +14,7 @@ use Rattle.history_texts.specs.Actors.{IsOffsetOf}
 use Rattle.std.proofs.lemmas.Bool.{eqb-true, false_from_ne_true, or_cases}
 use Rattle.gix_ref_file.proofs.Rooted.{both}
 
--- what an offset of the written form tells
+-- what a word in an offset's written form says
 pub record OffsetTold (word : Bytes) : Type 0 where
   pub offset : ℤ
   pub spells : SpellsOffset word offset
@@ -132,14 +132,14 @@ written_formed (negsuc n) whole =
     four_true _ _ _ _ refl (digits_formed (suc n / 3600) (suc n / 60 % 60) (omega (arith, whole.1)) (omega arith)) (tens_low (suc n / 60 % 60 / 10) (omega arith))
     (ap not (false_from_ne_true (bytes_eq (45 ∷ two_digits (suc n / 3600) ++ two_digits (suc n / 60 % 60)) (codes "-0000")) (λ e. not_zero n whole (one_text _ _ e))))
 
--- what is spelled has it where its minutes are below 60 and it isn't `-0000`
+-- what is spelled is in written form if its minutes are below 60 and it isn't `-0000`
 pub spelled_formed : (s a b c d : ℕ) (z : ℤ) → SpellsOffset (s ∷ a ∷ b ∷ c ∷ d ∷ []) z → nat_lt c 54 ≡ true → bytes_eq (s ∷ a ∷ b ∷ c ∷ d ∷ []) (codes "-0000") ≡ false → is_offset (s ∷ a ∷ b ∷ c ∷ d ∷ []) ≡ true
 spelled_formed s a b c d z (Ahead h m hl ml spelled is) tens other =
     four_true _ _ _ _ (ap (λ t. get_or t 0 0 == 43 || get_or t 0 0 == 45) spelled) (ap (λ t. list_all is_ascii_digit (drop 1 t)) spelled ∙ digits_formed h m hl ml) tens (ap not other)
 spelled_formed s a b c d z (Behind h m hl ml spelled is) tens other =
     four_true _ _ _ _ (ap (λ t. get_or t 0 0 == 43 || get_or t 0 0 == 45) spelled) (ap (λ t. list_all is_ascii_digit (drop 1 t)) spelled ∙ digits_formed h m hl ml) tens (ap not other)
 
--- ---- an offset that is read behind a zero and a space
+-- ---- an offset that is read after a zero and a space
 
 zero_spelled : SpellsSeconds (48 ∷ []) (pos 0)
 unfolding digits

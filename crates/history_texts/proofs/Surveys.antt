@@ -1,4 +1,4 @@
--- Listings from the root reach each path that stands.
+-- Listings from the root reach each path that exists.
 use Rattle.std.proofs.Common.{◌≡◌, ℕ, ◌-◌, ◌<◌, false, List, [], length, Option, Some, None, sym, ◌∙◌, ap}
 use Rattle.std.specs.Prelude.{IsTrue, is_some, MatchOption, Result, Ok, Err, IfOk}
 use Rattle.gix_ref_file.specs.declared.files.FileError.{FileError}
@@ -23,7 +23,7 @@ module _ (part : Part) (permitted : Bytes) (tree : Tree) (rooted : IsRooted tree
   pub all_clear : (place : Bytes) (names : List Bytes) → names ≡ names_at tree place → ((i : ℕ) → i < length names → IsClearFrom part permitted tree (under place (get_or names i []))) → IsClearBelow part permitted place tree
   all_clear place names is all = all_below tree rooted (IsClearAt part permitted) (λ path. tt) place names is all
 
-  -- nothing stands below a file
+  -- nothing is below a file
   pub clear_file : (path : Bytes) (size : ℕ) → IsTrue (is_path path) → place_of (node_at tree path) ≡ places.File size → path ≡ permitted → IsClearFrom part permitted tree path
   clear_file path size is file_there same =
       (at_file (get tree path) (ap place_of (sym (node_is tree path is)) ∙ file_there), none_below_file tree rooted (IsClearAt part permitted) (λ path. tt) path size file_there)

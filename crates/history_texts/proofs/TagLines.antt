@@ -1,4 +1,4 @@
--- The content of a tag in written form: its lines, and what they tell.
+-- The content of a tag in written form: its lines, and what they say.
 use Rattle.std.proofs.Common.{◌≡◌, ◌∙◌, ap, refl, sym, subst, arith, tests, ℕ, ◌≤◌, Bool, true, false, not, ◌&&◌, ◌||◌, ◌==◌, bytes_eq, List, [], ◌∷◌, ◌++◌, append_assoc, length}
 use Rattle.std.specs.Borrow.{Bor}
 use Rattle.std.specs.Prelude.{◌≢◌, IsFalse, IsTrue, MatchOption, Option, None, Some, codes, nat_le}
@@ -24,7 +24,7 @@ use Rattle.history_model.proofs.PartLemmas.{one_is_in}
 
 -- ---- lines
 
--- lines tell what stands on them
+-- equal lines have equal parts
 pub lines_tell : (a b : TagParts) → AreLines a → AreLines b → tag_lines a ≡ tag_lines b → a ≡ b
 lines_tell a b a_are b_are same =
     let target = cut_same 10 a.target b.target _ _ a_are.target b_are.target (append_cancel_left (codes "object ") _ _ same) in
@@ -47,7 +47,7 @@ after_type parts = codes "tag " ++ (parts.name ++ 10 ∷ after_name parts)
 abbrev pub after_target : TagParts → Bytes
 after_target parts = codes "type commit\n" ++ after_type parts
 
--- one line that two texts tell ends at one place
+-- two cuts of a text into a word, a line and a rest have one rest
 pub line_rest : (word a b x y text : Bytes) → Lacks 10 a → Lacks 10 b → text ≡ word ++ (a ++ 10 ∷ x) → text ≡ word ++ (b ++ 10 ∷ y) → x ≡ y
 line_rest word a b x y text a_lacks b_lacks one other = (cut_same 10 a b x y a_lacks b_lacks (append_cancel_left word _ _ (sym one ∙ other))).1
 
@@ -71,7 +71,7 @@ module _ (parts : TagParts) (are : AreLines parts) (content target rest_1 : Byte
 pub none_so : {A : Type 0} (P : Type 0) (Q : A → Type 0) (r : Option A) → r ≡ None → P → MatchOption r P Q
 none_so P Q r is holds = subst (λ o. MatchOption o P Q) (sym is) holds
 
--- a line behind a word
+-- a line after a word
 pub line_told : (text word rest : Bytes) (found : Option (Bor (List ℕ) × Bor (List ℕ))) → text ≡ word ++ rest
     → MatchOption found (Lacks 10 rest) (λ cut. (rest ≡ cut.0.now ++ 10 ∷ cut.1.now) × Lacks 10 cut.0.now)
     → MatchOption found ((line after : Bytes) → Lacks 10 line → text ≢ word ++ (line ++ 10 ∷ after)) (λ cut. Lacks 10 cut.0.now × (text ≡ word ++ (cut.0.now ++ 10 ∷ cut.1.now)))

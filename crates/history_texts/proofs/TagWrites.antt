@@ -36,7 +36,7 @@ use Rattle.history_texts.proofs.TagLines.{content_lines, tag_form}
 use Rattle.gix_ref_file.proofs.Rooted.{both}
 use Rattle.gix_ref_file.proofs.Trees.{from_not}
 
--- ---- the name behind `refs/tags/`
+-- ---- the name after `refs/tags/`
 
 -- an end of what follows is one of the whole
 ends_behind : (front back rest : Bytes) → ends back rest ≡ true → ends back (front ++ rest) ≡ true
@@ -165,7 +165,7 @@ module _ (kind : Kind) (tag : Tag) (value : TagValue) (form : IsTrue (is_tag_for
       (λ i. head_text (hex (target i)) (kind_word (of_commit i)) ++ (name_line (name i) ++ (tagger_line (own_tagger (tagger i)) ++ (Rattle.gix_object_tag.specs.TagText.body_text (message i) (signature i) ++ []))))
       ∙ ap (λ line. head_text (hex value.target) (codes "commit") ++ (name_line value.name ++ (line ++ ((10 ∷ []) ++ [])))) (tagger_said actor value.tagger formed said)
 
-  -- with the message behind them the value's content
+  -- with the message after them they are the value's content
   whole : (text more : Bytes) → text ≡ tag_text (own_parts tag) → more ≡ value.message → text ++ more ≡ tag_content value
   whole text more written behind =
       (λ i. (written ∙ text_is) i ++ behind i) ∙ joined (hex value.target) value.name (actor_text value.tagger) value.message ∙ sym (content_lines value)

@@ -72,7 +72,7 @@ pub object_in-none : (text : Bytes) → IsNoObject text → object_in text ≡ N
 object_in-none text none =
     (λ i. option_or (as_none kinds.Blob text none i) (option_or (as_none kinds.Tree text none i) (option_or (as_none kinds.Commit text none i) (as_none kinds.Tag text none i))))
 
--- where a text is a header and what follows it
+-- if a text is a header and what follows it
 pub object_in-read : (text read : Bytes) (kind : ObjectKind) (start : ℕ) → read ≡ text → read ≡ object_text kind (drop start read) → length text < 2 ^ 64 → object_in text ≡ Some (record { kind = kind; content = drop start text })
 object_in-read text read kind start same is fits =
     let told : text ≡ object_text kind (drop start text) = subst (λ t. t ≡ object_text kind (drop start t)) same is in

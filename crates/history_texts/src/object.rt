@@ -8,7 +8,7 @@ use gix_hash::hasher::hasher;
 use gix_hash::{Kind, ObjectId};
 use gix_object_lines::{Kind as ObjectKind, decode, encode};
 
-/// An object with its id, which is its text's: it is hashed where it is made, and nowhere else.
+/// An object with its id, which is its text's: it is hashed when it is made, and never again.
 #[derive(Drop)]
 pub struct NewObject {
     pub id: ObjectId,

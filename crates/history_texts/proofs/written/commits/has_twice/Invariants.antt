@@ -4,7 +4,7 @@ use Rattle.gix_hash_id.specs.Order.{id_eq}
 use Rattle.history_model.specs.Bytes.{has_twice}
 use Rattle.history_texts.proofs.written.commits.has_twice.Given as goal
 
--- what is left tells the answer
+-- an id occurs twice if and only if one does in what is left
 abbrev pub invariant-ids : goal.invariant-ids
 invariant-ids l = has_twice id_eq (map id_of l.ids) ≡ has_twice id_eq (map id_of l.rest)
 
