@@ -1,4 +1,4 @@
--- What stands below a folder: what is listed there, and what stands below that.
+-- What is below a folder: what is listed there, and what is below that.
 use Rattle.std.proofs.Common.{◌≡◌, ◌≢◌, ◌⊎◌, inl, inr, refl, sym, ◌∙◌, ap, subst, ℕ, zero, suc, ◌+◌, ◌-◌, ◌<◌, ◌≤◌, Bool, true, false, cond, List, [], ◌∷◌, ◌++◌, length, arith, length-append, Vec, map, nat_eq, tests}
 use Rattle.std.specs.Prelude.{IsSome, not, ◌||◌}
 use Rattle.std.specs.List.{list_any}
@@ -17,16 +17,16 @@ use Rattle.gix_ref_way.proofs.Walked.{shorter}
 
 -- ---- what a folder lists
 
--- what stands at a path and below it
+-- what is at a path and below it
 abbrev pub From : (Bytes → Type 0) → Tree → Bytes → Type 0
 From P tree path = (IsSome (get tree path) → P path) × ((n : ℕ) (q : Bytes) → above (suc n) q ≡ path → IsSome (get tree q) → P q)
 
--- all that stands below the folder
+-- all that is below the folder
 pub all_below : (P : Bytes → Type 0) (tree : Tree) → IsRooted tree → (place : Bytes) (names : List Bytes) → names ≡ names_at tree place
     → ((i : ℕ) → i < length names → From P tree (under place (get_or names i []))) → (n : ℕ) (path : Bytes) → above (suc n) path ≡ place → IsSome (get tree path) → P path
 all_below P tree rooted place names is all = walked.all_below tree rooted (λ path o. IsSome o → P path) (λ path there. absurd (cc there)) place names is all
 
--- ---- a path behind a folder's is below it
+-- ---- a path after a folder's and a slash is below it
 
 above_parent : (n : ℕ) (path : Bytes) → above n (parent path) ≡ parent (above n path)
 above_parent zero path = refl
@@ -67,14 +67,14 @@ child_none tree place path empty there here =
             or_true true b h = refl
             or_true false b h = h
 
--- nothing stands below it
+-- nothing is below it
 pub none_below : (tree : Tree) (place rest : Bytes) → IsRooted tree → place ≢ [] → is_empty_at tree place ≡ true → IsSome (get tree (place ++ 47 ∷ rest)) → ⊥
 none_below tree place rest rooted some empty there =
     let path = place ++ 47 ∷ rest in
     let r = so_many (length path) place path rest (omega arith) some refl in
     walked.below tree rooted (λ path o. IsSome o → ⊥) (λ path there. absurd (cc there)) place (λ child stands here. absurd (child_none tree place child empty stands here)) r.0 path r.1 there there
 
--- where a folder lists nothing it is empty
+-- if a folder lists nothing it is empty
 pub lists_none : (tree : Tree) (place : Bytes) → is_folder (node_at tree place) ≡ true → names_at tree place ≡ [] → is_empty_at tree place ≡ true
 lists_none tree place is none = by_test (list_any (λ path. same_path (parent path) place) (keys tree)) refl
   where
@@ -100,7 +100,7 @@ lists_none tree place is none = by_test (list_any (λ path. same_path (parent pa
         let nothing : names_in place (keys tree) ≡ [] = sym (ap (λ b. cond b (names_in place (keys tree)) []) is) ∙ none in
         absurd (omega (arith, at.1, ap length nothing))
 
--- where it lists something, that stands in it
+-- if it lists something, something is in it
 pub lists_one : (tree : Tree) (place : Bytes) (names : List Bytes) → IsRooted tree → names ≡ names_at tree place → 0 < length names → (path : Bytes) × IsSome (get tree path) × (parent path ≡ place)
 lists_one tree place names rooted is some =
     go (is_folder (node_at tree place)) refl

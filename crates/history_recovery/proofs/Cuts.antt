@@ -117,7 +117,7 @@ logs_not_root place logs none = let wrong : begins (codes "logs/") (47 ∷ []) �
 
 -- ---- a log is put anew
 
--- in a tree without leftovers no lock file stands
+-- a tree without leftovers has no lock file
 pub lock_none : (kind : Kind) (tree : Tree) (k : Bytes) → AreAllKept kind tree → is_lock_file k ≡ true → is_folder (get tree k) ≡ false → get tree k ≡ None
 lock_none kind tree k kept lock plain = go (get tree k) refl
   where

@@ -74,7 +74,7 @@ below_twice a b c first second =
     (sym (below_parts b c second ∙ ap (λ p. p ++ 47 ∷ y) (below_parts a b first) ∙ append_assoc a (47 ∷ x) (47 ∷ y)))
     (below_front a (x ++ 47 ∷ y))
 
--- ---- a file that is left stood
+-- ---- a file that is left existed before
 
 left_stood : (over : Bool) (path : Bytes) (o : Option Node) → is_some (bytes_of (stays over path o)) ≡ true → is_some o ≡ true
 left_stood over path None e = cc
@@ -301,7 +301,7 @@ plain_stays kind tree [] is plain there = by_root (get tree []) refl there
     by_root (Some folder) e there = kept_plain kind tree [] e plain there
 plain_stays kind tree (b ∷ k) is plain there = kept_plain kind tree (b ∷ k) (folder_there tree (b ∷ k) (λ e. cc) is) plain there
 
--- and since something stands in it
+-- a folder that stays, since it isn't empty
 pub filled_stays : (kind : Kind) (tree : Tree) (k : Bytes) (names : List Bytes) → IsRooted tree → (is_below (codes "refs") k || is_below (codes "logs") k) ≡ true → is_folder (node_at tree k) ≡ true
     → names ≡ names_at tree k → 0 < length names → AreKeptBelow kind k tree → IsKept kind tree k
 filled_stays kind tree k names rooted named is listed filled below =

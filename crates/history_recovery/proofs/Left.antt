@@ -19,7 +19,7 @@ use Rattle.history_recovery.specs.Clearing.{lock_place, is_over}
 
 -- ---- what is left of a path
 
--- what is left of what stands there, by whether a file there is left over
+-- what is left of a path's node, by whether a file there is left over
 abbrev pub stays : Bool → Bytes → Option Node → Option Node
 stays over path o = option_map (recovered_node path) (cond (not (is_some (bytes_of o) && over)) o None)
 
@@ -39,7 +39,7 @@ pub not_some : (o : Option Node) → o ≡ None → is_some o ≡ true → ⊥
 not_some None none is = cc
 not_some (Some node) none is = cc
 
--- ---- places that tell no name's state
+-- ---- places that say nothing of a name's state
 
 abbrev pub is_aside : Bytes → Bool
 is_aside path = is_lock_file path || is_log_place path
@@ -76,7 +76,7 @@ file_from_get t u (b ∷ q) same = ap bytes_of same
 
 -- ---- a change at one such place
 
--- where the same is left of what stands there, recovery doesn't see it
+-- if the same is left of the place's node, recovery leaves the same
 pub one_differs : (kind : Kind) (t u : Tree) (k : Bytes) (new : Option Node) → is_aside k ≡ true → ((q : Bytes) → get u q ≡ cond (same_path q k) new (get t q))
     → stays (is_over kind t k) k (get t k) ≡ stays (is_over kind t k) k new → recovered_names kind u ≡ recovered_names kind t
 one_differs kind t u k new aside is here = sym (names_are kind t u (λ q. left_is kind t q ∙ at q (same_path q k) refl ∙ ap (λ b. stays b q (get u q)) (over_alike kind t u files q) ∙ sym (left_is kind u q)))

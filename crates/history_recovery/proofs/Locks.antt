@@ -1,4 +1,5 @@
--- The lock file of each log that is left has room, whatever stands: such a log is a name's, and no file is left below its lock file's path.
+-- The lock file of each log that is left has room in every tree: such a log is a name's, and no
+-- file is left below its lock file's path.
 use Rattle.std.proofs.Common.{◌≡◌, ◌≢◌, refl, sym, ◌∙◌, ap, subst, ℕ, ◌+◌, ◌≤◌, Bool, true, false, cond, not, ◌&&◌, ◌||◌, [], ◌∷◌, ◌++◌, length, length-append, append_assoc, drop, Option, Some, None, is_some, codes, bytes_eq, nat_le, arith}
 use Rattle.std.specs.Prelude.{IsTrue, IsSome}
 use Rattle.std.specs.FinMap.{get}
@@ -85,7 +86,7 @@ file_in kind tree (b ∷ p) there = go (is_deserted (recovered_files kind tree) 
     go true h = cc
     go false h = h
 
--- ---- no folder is left where its lock file is written
+-- ---- no folder is left at a lock file's path
 
 filled : (kind : Kind) (tree : Tree) (k : Bytes) → is_below (codes "logs") k ≡ true → get (recovered_names kind tree) k ≡ Some folder → has_file_below (recovered_files kind tree) k ≡ true
 filled kind tree k log stands = go (is_deserted (recovered_files kind tree) k) refl (sym (get-recovered_names kind tree k) ∙ stands)

@@ -155,14 +155,14 @@ stood_before kind old new path clears there = go (clears.goes path)
     go (inl same) = sym (ap is_some same) ∙ there
     go (inr none) = absurd (not_some (get new path) none there)
 
--- where all that a folder listed is kept, all below it is
+-- if all that a folder listed is kept, all below it is
 pub all_kept : (kind : Kind) (old new : Tree) (place : Bytes) (names : List Bytes) → IsRooted old → Clears kind old new → names ≡ names_at old place
     → ((i : ℕ) → i < length names → AreKeptFrom kind new (under place (get_or names i []))) → AreKeptBelow kind place new
 all_kept kind old new place names rooted clears listed all n path above there =
     all_below (IsKept kind new) old rooted place names listed (λ i less. let kept = all i less in (λ _. kept.0, λ m q deep _. kept.1 m q deep))
     n path above (stood_before kind old new path clears there) there
 
--- ---- what stands at a path
+-- ---- what is at a path
 
 pub file_there : (tree : Tree) (path : Bytes) (size : ℕ) → place_of (node_at tree path) ≡ places.File size → is_file_at tree path ≡ true
 file_there tree path size is = go (node_at tree path) is

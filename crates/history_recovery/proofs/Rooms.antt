@@ -82,7 +82,7 @@ lock_path path is short =
     let parts = ap (list_all is_component) (split_locked path) ∙ locked_parts (slice_split is_slash path) (none_split 0 path) (and_parts (nat_le (length path) max_path) (list_all is_component (slice_split is_slash path)) is).1 in
     λ i. fits (length (lock_place path)) short i && parts i
 
--- ---- it stands where the log does
+-- ---- it is in the log's folder
 lock_beside : (name : Bytes) → parent (lock_place name) ≡ parent name
 lock_beside name = ap (λ n. take n (name ++ lock_end)) (omega (arith, longer, length-append name lock_end)) ∙ take-append-le (length name - suffix_len (λ byte. not (is_slash byte)) name - 1) name lock_end (omega arith)
   where
@@ -94,7 +94,7 @@ lock_beside name = ap (λ n. take n (name ++ lock_end)) (omega (arith, longer, l
 
 -- ---- it has room
 
--- no folder stands there, since recovery leaves none
+-- no folder is at its path, since recovery leaves none
 no_folder_kept : (kind : Kind) (tree : Tree) (k : Bytes) → AreAllKept kind tree → get (recovered_names kind tree) k ≢ Some folder → is_folder (get tree k) ≡ false
 no_folder_kept kind tree k kept free = go (get tree k) refl
   where
@@ -118,7 +118,7 @@ some_stands tree (b ∷ path) text log stands = go (get tree (b ∷ path)) stand
     go None e = cc
     go (Some node) e = refl
 
--- a log that stands is left
+-- a log that exists is left
 file_left : (kind : Kind) (tree : Tree) (path text : Bytes) → AreAllKept kind tree → is_log_place path ≡ true → file_at tree path ≡ Some text → IsSome (file_at (recovered_names kind tree) path)
 file_left kind tree [] text kept log stands = cc
 file_left kind tree (b ∷ path) text kept log stands =

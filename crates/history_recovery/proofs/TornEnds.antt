@@ -1,4 +1,4 @@
--- Whether a log ends within a line is told by its last byte.
+-- Whether a log ends within a line depends on its last byte alone.
 use Rattle.std.proofs.Common.{◌≡◌, refl, sym, ◌∙◌, ap, subst, ℕ, zero, suc, ◌+◌, ◌-◌, ◌<◌, ◌==◌, Bool, true, false, cond, not, ◌&&◌, List, [], ◌∷◌, ◌++◌, length, take, drop, get_or, Option, Some, None, option_map, unwrap_or, bytes_eq, arith, nat_eq, tests, length-drop}
 use Rattle.std.proofs.lemmas.Bool.{false_from_ne_true}
 use Rattle.std.specs.FinMap.{get}
@@ -16,13 +16,13 @@ use Rattle.history_recovery.proofs.Lines.{line_ends}
 abbrev torn_text : Bytes → Bool
 torn_text text = not (bytes_eq text []) && not (ends (10 ∷ []) text)
 
--- ---- what stands at the path
+-- ---- what is at the path
 
 no_length : (text : Bytes) → length text ≡ 0 → text ≡ []
 no_length [] none = refl
 no_length (b ∷ text) none = cc
 
--- no file stands there, or an empty one
+-- no file is there, or an empty one
 pub untorn : (tree : Tree) (path : Bytes) (place : Place) → place ≡ place_of (node_at tree path) → ((n : ℕ) → place ≡ places.File n → n ≡ 0) → false ≡ has_torn_end tree path
 untorn tree path place is none = go (node_at tree path) (λ n at. none n (is ∙ at))
   where
@@ -39,7 +39,7 @@ file_long tree path n is = go (node_at tree path) is
     go (Some folder) e = cc
     go (Some (file bytes)) e = cc
 
--- a file that ends within a line stands
+-- a file that ends within a line exists
 pub torn_stands : (tree : Tree) (path : Bytes) → has_torn_end tree path ≡ true → file_at tree path ≡ Some (bytes_at tree path)
 torn_stands tree path torn = go (file_at tree path) torn
   where

@@ -12,7 +12,7 @@ use Rattle.history_recovery.proofs.clearing.+clear_below.Given as goal
 abbrev pub decreases-clear_below : goal.decreases-clear_below
 decreases-clear_below g l = 4096 - length l.folder.now
 
--- what went recovery doesn't see, and what stands at what is listed so far, or below it, is kept
+-- the tree still recovers to the same, and what is listed so far is kept, with all below it
 abbrev pub invariant-loop-name : goal.invariant-loop-name
 invariant-loop-name g l =
     let history = g.F.Files.history in

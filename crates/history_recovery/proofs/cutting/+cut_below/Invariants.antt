@@ -13,7 +13,7 @@ use Rattle.history_recovery.proofs.cutting.+cut_below.Given as goal
 abbrev pub decreases-cut_below : goal.decreases-cut_below
 decreases-cut_below g l = 4096 - length l.folder.now
 
--- logs were cut, and what stands at what is listed so far, or below it, is
+-- the logs that are listed so far are cut, with all below them
 abbrev pub invariant-loop-name : goal.invariant-loop-name
 invariant-loop-name g l =
     let history = g.F.Files.history in

@@ -2,7 +2,7 @@ use Rattle.std.proofs.Common.{◌≡◌, ◌≤◌, length, take}
 use Rattle.history_model.specs.Logs.{whole_lines}
 use Rattle.history_recovery.proofs.cutting.whole_lines.Given as goal
 
--- behind the end no line feed stands
+-- no line feed is after the end
 abbrev pub invariant-loop-end : goal.invariant-loop-end
 invariant-loop-end l = (l.end ≤ length l.text) × (whole_lines l.text ≡ whole_lines (take l.end l.text))
 
