@@ -13,7 +13,7 @@ use Rattle.history_texts.specs.Parts.{may_hold_folder, IsClearAt, IsClear}
 use Rattle.history_texts.specs.declared.parts.Part.{Part}
 use Rattle.history_texts.specs.declared.parts.Part.TheVariants.{Objects, Names}
 
--- what stands at the leftover's place is a file
+-- what is at the leftover's place is a file
 pub may_remove : (tree : Tree) → IsClear Objects unfinished_place tree → place_of (node_at tree unfinished_place) ≢ Absent → allows tree (to_remove_file unfinished_place) ≡ true
 may_remove tree clear there = by_case (get tree unfinished_place) (clear unfinished_place) there
   where
@@ -30,7 +30,7 @@ no_folder part permitted tree clear path none = by_case (get tree path) (clear p
     by_case (Some (file bytes)) is = refl
     by_case (Some folder) is = absurd (cc (sym none ∙ is))
 
--- no folder is where HEAD and its leftover stand, and the root is above both
+-- no folder is at the place of HEAD or of its leftover, and the root is above both
 pub lock_fits : (tree : Tree) → IsClear Names head_lock tree → IsTrue (may_hold_file tree head_lock)
 lock_fits tree clear = ap not (no_folder Names head_lock tree clear head_lock refl)
 

@@ -1,4 +1,4 @@
--- The parts of a new repository stand for the repository without names and objects.
+-- The parts of a new repository represent the repository without names and objects.
 use Rattle.std.proofs.Common.{◌≡◌, refl, sym, ◌∙◌, ap, Bool, true, false, cond, Some, None, bytes_eq, codes}
 use Rattle.std.proofs.lemmas.Slice.Eq.{bytes_eq-Decides}
 use Rattle.gix_ref_file.specs.Tree.{Tree, is_folder}

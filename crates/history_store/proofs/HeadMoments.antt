@@ -1,4 +1,4 @@
--- What stands while a repository is made.
+-- The trees while a repository is made.
 use Rattle.std.proofs.Common.{◌≡◌, ◌⊎◌, inl, inr, ◌∙◌, ap}
 use Rattle.std.specs.Prelude.{IsTrue}
 use Rattle.std.specs.FinMap.{get}
@@ -54,7 +54,7 @@ head_moments text old locked new is_text may is_locked first second =
     adds_joined old locked new (lock_moments old locked first)
     (adds_weaker locked new second (λ x left. while_renamed text old.tree locked.tree x is_text may is_locked left))
 
--- so where it stands the repository is made
+-- so if HEAD isn't as before, the repository is made
 pub head_is_last : (objects cleared : Tree) (old new : History) → IsClear Objects unfinished_place objects → IsClear Names head_lock old.tree → IsCleared objects cleared → SameFolders objects cleared
     → Adds (HeadMayStand old.tree) old new → (file_at new.tree head_place ≡ file_at old.tree head_place) ⊎ IsNew cleared new.tree
 head_is_last objects cleared old new clear_objects clear_names is_cleared folders adds = from_now (adds_now _ old new adds)
