@@ -1,4 +1,4 @@
--- Why a folder isn't a repository's, by what a look at its parts tells.
+-- Why a folder isn't a repository's, by what a look at its parts finds.
 use Rattle.std.proofs.Common.{inl, inr}
 use Rattle.gix_hash_id.specs.declared.kind.Kind.{Kind}
 use Rattle.gix_ref_file.specs.Tree.{Tree}

@@ -1,4 +1,4 @@
--- What is noted behind the line of a failure: of a stray file alone.
+-- What is noted after the line of a failure: only of a stray file.
 use Rattle.std.proofs.Common.{◌≡◌, ℕ, [], Vec, refl}
 use Rattle.std.specs.declared.alloc.Global.{Global}
 use Rattle.gix_hash_id.specs.declared.kind.Kind.{Kind}

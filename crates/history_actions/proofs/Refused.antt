@@ -1,4 +1,4 @@
--- What is told of words that `clap` refuses, and of words that it takes.
+-- What is reported of words that `clap` refuses, and of words that it takes.
 use Rattle.std.proofs.Common.{◌≡◌, ◌∙◌, List, [], Option, Some, None, Result, Ok, Err, inl, inr, true, refl, ap, sym, subst, codes}
 use Rattle.std.specs.Prelude.{MatchOption}
 use Rattle.clap.specs.Words.{App, HasKind, HasMatchesOf, IsAmong, Row, Text, fault_of, first_of, is_simple, is_simple_and_free, kind_of, subcommand_of, subcommand_rows_of}
@@ -35,7 +35,7 @@ pub found_by : (a : App) (words : List Text) (m : ArgMatches) → a ≡ line →
 found_by a words m same has =
     (has (ap is_simple same ∙ is_simple_line)).1 ∙ ap (λ l. subcommand_of l words) same
 
--- ---- what is told
+-- ---- what is reported
 
 pub told : (words : List Text) (e : Error) (r : AskError) → Tells (kind_of e) r
     → HasKind (faults_of words) e → IsRefusedFor words r
@@ -58,7 +58,7 @@ entered_as words found (Err (Line text)) same none is =
     inr (λ asked asks. is asked (subst (λ f. MatchOption f ⊥ (IsAskedBy asked)) (sym same) asks))
 entered_as words found (Err Memory) same none is = tt
 
--- an action without a folder is nothing that is asked
+-- words that enter an action without a folder enter no action with one
 pub folderless : (found : Option (Text × List Row)) (name : Text) (rows : List Row) (r : AskError)
     → found ≡ Some (name, rows) → first_of (codes "folder") rows ≡ None → IsNoHelp r
     → IsNothing found r

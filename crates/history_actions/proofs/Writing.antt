@@ -18,7 +18,7 @@ pub one : {T E : Type 0} (a b : Option Bytes) (f : Bool) (text : Bytes) (r : Res
 one a b f text (Ok x) ok err = ok
 one a b f text (Err e) ok err = err
 
--- what is written behind x
+-- what is written after x
 pub behind : {T E : Type 0} (a b c : Option Bytes) (f : Bool) (x y text : Bytes) (r : Result T E)
     → text ≡ x ++ y → Appends a b x → Writes b c f y r → Writes a c f text r
 behind a b c f x y text (Ok z) whole first then =
@@ -32,7 +32,7 @@ pub stopped : {T E : Type 0} (a b : Option Bytes) (f : Bool) (x y text : Bytes) 
 stopped a b f x y text (Ok z) is whole then = absurd (cc)
 stopped a b f x y text (Err e) is whole then = (then.0, front_of a b x y text whole then.1)
 
--- the same behind one that didn't
+-- the same after a write that didn't stop
 pub stopped_behind : {T E : Type 0} (a b c : Option Bytes) (f : Bool) (x y z text : Bytes)
     (r : Result T E) → IsErr r → text ≡ (x ++ y) ++ z → Appends a b x
     → (f ≡ true) × AppendsFewer b c y → Writes a c f text r
@@ -53,7 +53,7 @@ one_value v = ap (λ (t : Bytes). 32 ∷ t) (append-nil v)
 pub two_values : (v w : Bytes) → values_text (v ∷ w ∷ []) ≡ values_text (v ∷ []) ++ values_text (w ∷ [])
 two_values v w = ap (λ (t : Bytes). 32 ∷ (t ++ 32 ∷ (w ++ []))) (sym (append-nil v))
 
--- what isn't the end of a run is told
+-- what isn't the end of a run is reported
 pub is_told : {T : Type 0} (kind : Kind) (answer : Result T Failure) (failure : Failure)
     → answer ≡ Err failure → ((end : End) → failure ≡ Ended end → ⊥)
     → told kind answer ≡ failure_text kind failure
