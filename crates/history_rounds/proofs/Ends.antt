@@ -1,4 +1,4 @@
--- How a run ended, told of less, and what follows from it.
+-- How a run ended, of which less is said, and what follows from it.
 use Rattle.std.proofs.Common.{◌≡◌, Bool, true, false, not, ◌||◌, List, [], ◌∷◌, ◌++◌, Result, Ok, Err, sym, ◌∙◌, ap}
 use Rattle.std.specs.Bool.{⊤}
 use Rattle.history_model.specs.Bytes.{Bytes}
@@ -37,7 +37,7 @@ short_failed AtEnd Fail old (command ∷ next ∷ commands) [] rest part failed 
 short_failed AtEnd Fail old (command ∷ next ∷ commands) (reply ∷ replies) rest part failed new h = absurd h
 
 module _ (AtEnd Last Fail : Type 0) (r : Repository) (commands : List Command) (replies : List Reply) (read written : Bytes) (failed : Bool) (new : Repository) where
-  -- whether the repository has failed is told by the replies
+  -- whether the repository has failed follows from the replies
   pub ends_failed : (result : Result End RunError) → EndsRun AtEnd Last Fail r commands replies read written result failed new → failed ≡ some_failed commands replies
   ends_failed (Ok end) h = h.ran.fails
   ends_failed (Err Read) h = h.ran.fails

@@ -34,7 +34,7 @@ use Rattle.history_rounds.proofs.Ends.{ends_failed, ends_told, ends_written}
 pub grown : {P : Tree → Type 0} (old new : History) → Adds P old new → GoesOnFrom old new
 grown old new adds = (adds.during, adds.added)
 
--- the parts that a run left are honest where those that were opened are
+-- the parts that a run left are honest if those that were opened are
 pub still_honest : {F : Type 0} (IsHonest : F → Type 0) (opened ended : Repository F) (objects names left_objects left_names : F) → objects_part opened ≡ objects → names_part opened ≡ names → StaysHonest IsHonest opened ended
     → left_objects ≡ objects_part ended → left_names ≡ names_part ended → IsHonest objects → IsHonest names → IsHonest left_objects × IsHonest left_names
 still_honest IsHonest opened ended objects names left_objects left_names same_objects same_names stay is_objects is_names o n =

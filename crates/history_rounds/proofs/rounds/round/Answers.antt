@@ -43,7 +43,7 @@ returns-in-Err-recover-clause-round g c = λ r honest_objects honest_names whole
           c.run-ended.ensures.counts c.into_parts-objects.ensures.objects c.into_parts-objects.ensures.names (recovery.failed left.0 left.1 (ap Err told)),
     )
 
--- ---- where the parts aren't opened
+-- ---- if the parts aren't opened
 
 pub returns-in-Err-clause-round : goal.returns-in-Err-clause-round
 returns-in-Err-clause-round g c = λ r honest_objects honest_names whole. c.in-Err.ensures.accepted r honest_objects honest_names whole
