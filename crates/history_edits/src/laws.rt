@@ -60,7 +60,7 @@ pub fn edits_ready()
     ensures { EditsReady }
 {}
 
-/// Edits that ask for no other reference's change aren't split.
+/// Edits that don't follow symbolic references aren't split.
 pub fn unsplit_stay()
     ensures { UnsplitStay }
 {}
