@@ -58,4 +58,4 @@ if __name__ == "__main__":
     for number in range(80):
         grafts_by_chance(chance, list(KINDS)[number % 2])
     pieces()
-    write(Path(__file__), ROWS)
+    write(Path(__file__), ROWS + kept(__file__, "files", "sizes"))
