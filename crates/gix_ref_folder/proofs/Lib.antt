@@ -1,3 +1,4 @@
 mod Made
 mod Reported
 mod Sorting
+mod Written

@@ -1,5 +1,5 @@
 -- A folder over a system: which part of which folder it is, what it holds, and what is supposed of it.
-use Rattle.std.specs.Prelude.{◌≡◌, ℕ, ◌&&◌, List, Option, Some, None, String, string_bytes, Result, IsTrue, IsFalse}
+use Rattle.std.specs.Prelude.{◌≡◌, ℕ, ◌&&◌, List, Option, Some, None, String, string_bytes, Result, IfSome, IsTrue, IsFalse}
 use Rattle.std.specs.declared.io.Error.{Error}
 use Rattle.std.specs.declared.alloc.Global.{Global}
 use Rattle.gix_ref_file.specs.History.{History}
@@ -28,15 +28,28 @@ failures_of folder = count_of folder.failures
 abbrev pub history_in : {S : Type 0} → (S → List ℕ → Part → History) → Folder S → History
 history_in history folder = history folder.system (string_bytes folder.root) folder.part
 
--- it is honest if the system is, of that part
-abbrev pub IsHonestIn : {S : Type 0} → (S → List ℕ → Part → Type 0) → Folder S → Type 0
-IsHonestIn IsHonest folder = IsHonest folder.system (string_bytes folder.root) folder.part
+-- a file is at this path of the system's, if it is a path of the part
+abbrev pub IsFileThere : List ℕ → Part → Tree → List ℕ → Type 0
+IsFileThere root part tree place =
+    (path : List ℕ) → IsPlaceOf root part path place → IsTrue (is_file_at tree path)
+
+-- the file that the last change made or wrote, which is kept in mind, exists
+abbrev pub HasWritten : {S : Type 0} → (S → List ℕ → Part → History) → Folder S → Type 0
+HasWritten history folder = IfSome folder.written (λ place. IsFileThere (string_bytes folder.root)
+    folder.part (history_in history folder).tree (string_bytes place))
+
+-- it is honest if the system is, of that part, and the file that is kept in mind exists: a new
+-- folder keeps none in mind
+abbrev pub IsHonestIn : {S : Type 0} → (S → List ℕ → Part → Type 0)
+    → (S → List ℕ → Part → History) → Folder S → Type 0
+IsHonestIn IsHonest history folder =
+    IsHonest folder.system (string_bytes folder.root) folder.part × HasWritten history folder
 
 -- over an honest folder a call makes this change, and the folder stays honest
 abbrev pub Acts : {S T : Type 0} → (S → List ℕ → Part → Type 0) → (S → List ℕ → Part → History)
     → Folder S → Folder S → Change → Result T Error → Type 0
 Acts IsHonest history old new change result =
-    IsHonestIn IsHonest old → IsHonestIn IsHonest new
+    IsHonestIn IsHonest history old → IsHonestIn IsHonest history new
     × Does change (history_in history old) (history_in history new) result
 
 -- the system's path of what is at a path, and none where the path is none of the part

@@ -1,10 +1,10 @@
 //! Files of a real folder.
-ghost use Rattle.std.specs.Prelude.{◌≡◌, length, map, option_map, IfOk, IfSome, IfNone, OnOk, ◌≤◌, [], is_none, string_bytes};
+ghost use Rattle.std.specs.Prelude.{◌≡◌, ◌↔◌, length, map, option_map, IfOk, IfSome, IfNone, OnOk, ◌≤◌, [], is_none, string_bytes, IsOk, IsTrue};
 ghost use Rattle.gix_ref_file.specs.Tree.{node_at, place_of, bytes_of, bytes_at, names_at, part, overwritten};
 ghost use Rattle.gix_ref_file.specs.Changes.{Change, to_create, to_write, to_append, to_rename, to_remove_file, to_make_folder, to_remove_folder};
 ghost use Rattle.gix_ref_file.specs.Calls.{Finds};
 ghost use Rattle.gix_ref_folder.specs.Systems.{IsPlaceOf, AreNames, Reads};
-ghost use Rattle.gix_ref_folder.specs.Folders.{failures_of, root_of, part_of, system_of, history_in, IsHonestIn, IsPlaceIn, IsFileIn, Acts};
+ghost use Rattle.gix_ref_folder.specs.Folders.{failures_of, root_of, part_of, system_of, history_in, IsHonestIn, IsPlaceIn, IsFileIn, IsFileThere, Acts};
 
 use crate::failure::Failure;
 use crate::failures::Failures;
@@ -20,7 +20,8 @@ use std::io::{self, ErrorKind};
 // The most bytes that a name may have beside which `.lock` is to fit too.
 const LONGEST_NAME: usize = 250;
 
-/// A part of a real folder. What exists at a path is found out by each call anew.
+/// A part of a real folder. What exists at a path is looked up by each call anew, but for the file
+/// that the last change made or wrote: it is renamed without a look.
 ///
 /// A call answers `Failed` also for a path that isn't UTF-8, and where what is there is neither a file nor a folder, as a link. The root always
 /// counts as a folder. Nothing exists at a path that is too long for the system, so that only changes fail there.
@@ -33,6 +34,8 @@ pub struct Folder<S: System> {
     root: String,
     part: Part,
     failures: Failures,
+    // The system's path of the file that the last change made or wrote; `None` if it did neither.
+    written: Option<String>,
 }
 
 impl<S: System> Folder<S> {
@@ -42,6 +45,8 @@ impl<S: System> Folder<S> {
         ensures root { root_of result ≡ root }
         ensures part { part_of result ≡ part }
         ensures failures { failures_of result ≡ 0 }
+        ensures honest { S.is_honest system (string_bytes root) part
+            → IsHonestIn S.is_honest S.history result }
     {
         Folder {
             alloc,
@@ -49,6 +54,7 @@ impl<S: System> Folder<S> {
             root,
             part,
             failures: Failures::new(),
+            written: None,
         }
     }
 
@@ -111,7 +117,7 @@ impl<S: System> Folder<S> {
     }
 
     fn kind(&self, path: &[u8]) -> io::Result<Place>
-        ensures { Finds (IsHonestIn S.is_honest) (history_in S.history) self.now
+        ensures { Finds (IsHonestIn S.is_honest S.history) (history_in S.history) self.now
             (λ tree. IfOk result (λ found. found ≡ place_of (node_at tree path.now))) }
     {
         if path.is_empty() {
@@ -123,15 +129,30 @@ impl<S: System> Folder<S> {
         }
     }
 
+    // Returns whether the last change made or wrote the file at this path of the system's.
+    fn is_written(&self, place: &str) -> bool
+        ensures { Finds (IsHonestIn S.is_honest S.history) (history_in S.history) self.now
+            (λ tree. IsTrue result
+            → IsFileThere (string_bytes self.now.root) self.now.part tree place.now) }
+    {
+        match &self.written {
+            Some(written) => is_place(written, place),
+            None => false,
+        }
+    }
+
     // The system's path of a file; `None` if there is none.
     fn file_place(&self, path: &[u8]) -> io::Result<Option<String>>
-        ensures { Finds (IsHonestIn S.is_honest) (history_in S.history) self.now
+        ensures { Finds (IsHonestIn S.is_honest S.history) (history_in S.history) self.now
             (λ tree. IfOk result (λ file.
             IsFileIn (string_bytes self.now.root) self.now.part path.now tree file)) }
     {
         let Some(place) = self.place(path)? else {
             return Ok(None);
         };
+        if self.is_written(place.as_str()) {
+            return Ok(Some(place));
+        }
         match self.found(place.as_str())? {
             Place::File(_) => Ok(Some(place)),
             Place::Absent | Place::Folder => Ok(None),
@@ -140,7 +161,7 @@ impl<S: System> Folder<S> {
 
     // A file's bytes.
     fn bytes(&self, path: &[u8]) -> io::Result<Option<Vec<u8>>>
-        ensures { Finds (IsHonestIn S.is_honest) (history_in S.history) self.now
+        ensures { Finds (IsHonestIn S.is_honest S.history) (history_in S.history) self.now
             (λ tree. IfOk result (λ bytes. option_map (λ it. it.items) bytes
             ≡ bytes_of (node_at tree path.now))) }
     {
@@ -152,11 +173,11 @@ impl<S: System> Folder<S> {
 
     // Puts what a file has from a byte on into the beginning of a buffer, and returns how many bytes that is.
     fn bytes_from(&self, path: &[u8], at: u64, buffer: &mut [u8]) -> io::Result<Option<usize>>
-        ensures count { Finds (IsHonestIn S.is_honest) (history_in S.history) self.now
+        ensures count { Finds (IsHonestIn S.is_honest S.history) (history_in S.history) self.now
             (λ tree. IfOk result (λ count.
             count ≡ option_map (λ bytes. length (part bytes at (length buffer.old)))
             (bytes_of (node_at tree path.now)))) }
-        ensures bytes { Finds (IsHonestIn S.is_honest) (history_in S.history) self.now
+        ensures bytes { Finds (IsHonestIn S.is_honest S.history) (history_in S.history) self.now
             (λ tree. OnOk result (buffer.new
             ≡ overwritten buffer.old (part (bytes_at tree path.now) at (length buffer.old)))) }
         ensures fits { IfOk result (λ count. IfSome count (λ n. n ≤ length buffer.new)) }
@@ -170,7 +191,7 @@ impl<S: System> Folder<S> {
 
     // The names right in a folder, in any order.
     fn names(&self, alloc: Global, folder: &[u8]) -> io::Result<Vec<Vec<u8>>>
-        ensures { Finds (IsHonestIn S.is_honest) (history_in S.history) self.now
+        ensures { Finds (IsHonestIn S.is_honest S.history) (history_in S.history) self.now
             (λ tree. IfOk result (λ names. AreNames tree folder.now names.items)) }
     {
         if folder.is_empty() {
@@ -195,7 +216,7 @@ impl<S: System> Folder<S> {
 
     // Those of the root that are of the part.
     fn root_names(&self, alloc: Global) -> io::Result<Vec<Vec<u8>>>
-        ensures { Finds (IsHonestIn S.is_honest) (history_in S.history) self.now
+        ensures { Finds (IsHonestIn S.is_honest S.history) (history_in S.history) self.now
             (λ tree. IfOk result (λ names. AreNames tree [] names.items)) }
     {
         let part = self.part;
@@ -206,7 +227,7 @@ impl<S: System> Folder<S> {
 
     // The names right in a folder, ascending.
     fn sorted_names(&self, alloc: Global, folder: &[u8]) -> io::Result<Vec<Vec<u8>>>
-        ensures { Finds (IsHonestIn S.is_honest) (history_in S.history) self.now
+        ensures { Finds (IsHonestIn S.is_honest S.history) (history_in S.history) self.now
             (λ tree. IfOk result (λ names. map (λ name. name.items) names.items
             ≡ names_at tree folder.now)) }
     {
@@ -219,7 +240,7 @@ impl<S: System> Folder<S> {
     fn make_new(&mut self, path: &[u8], bytes: &[u8]) -> io::Result<bool>
         ensures change { Acts S.is_honest S.history self.old self.new
             (to_create path.now bytes.now) result }
-        ensures is_new { Finds (IsHonestIn S.is_honest) (history_in S.history) self.old
+        ensures is_new { Finds (IsHonestIn S.is_honest S.history) (history_in S.history) self.old
             (λ tree. IfOk result (λ made. made ≡ is_none (node_at tree path.now))) }
         ensures failures { failures_of self.new ≡ failures_of self.old }
     {
@@ -229,6 +250,7 @@ impl<S: System> Folder<S> {
         }
         let place = self.file_target(path)?;
         let made = self.system.create_new(place.as_str(), bytes);
+        self.written = if_written(place, &made);
         is_new(made)
     }
 
@@ -238,7 +260,9 @@ impl<S: System> Folder<S> {
         ensures failures { failures_of self.new ≡ failures_of self.old }
     {
         let place = self.file_target(path)?;
-        self.system.write(place.as_str(), bytes)
+        let done = self.system.write(place.as_str(), bytes);
+        self.written = if_written(place, &done);
+        done
     }
 
     fn lengthen(&mut self, path: &[u8], bytes: &[u8]) -> io::Result<()>
@@ -247,7 +271,9 @@ impl<S: System> Folder<S> {
         ensures failures { failures_of self.new ≡ failures_of self.old }
     {
         let place = self.file_target(path)?;
-        self.system.append(place.as_str(), bytes)
+        let done = self.system.append(place.as_str(), bytes);
+        self.written = if_written(place, &done);
+        done
     }
 
     // The system would rename a folder too.
@@ -258,7 +284,10 @@ impl<S: System> Folder<S> {
     {
         let to = self.target(to)?;
         match self.file_place(from)? {
-            Some(from) => self.system.rename(from.as_str(), to.as_str()),
+            Some(from) => {
+                self.written = None;
+                self.system.rename(from.as_str(), to.as_str())
+            }
             None => Err(io::Error::new(ErrorKind::NotFound, "no file to move here")),
         }
     }
@@ -269,6 +298,7 @@ impl<S: System> Folder<S> {
         ensures failures { failures_of self.new ≡ failures_of self.old }
     {
         let place = self.target(path)?;
+        self.written = None;
         self.system.remove_file(place.as_str())
     }
 
@@ -278,6 +308,7 @@ impl<S: System> Folder<S> {
         ensures failures { failures_of self.new ≡ failures_of self.old }
     {
         let place = self.target(path)?;
+        self.written = None;
         self.system.make_folder(place.as_str())
     }
 
@@ -287,7 +318,24 @@ impl<S: System> Folder<S> {
         ensures failures { failures_of self.new ≡ failures_of self.old }
     {
         let place = self.target(path)?;
+        self.written = None;
         self.system.remove_folder(place.as_str())
+    }
+}
+
+fn is_place(written: &String, place: &str) -> bool
+    ensures { IsTrue result ↔ (string_bytes written.now ≡ place.now) }
+{
+    written.as_bytes() == place.as_bytes()
+}
+
+// Returns the system's path of a file, if a change made or wrote it.
+fn if_written(place: String, done: &io::Result<()>) -> Option<String>
+    ensures { IfSome result (λ written. (written ≡ place) × IsOk done.now) }
+{
+    match done {
+        Ok(()) => Some(place),
+        Err(_) => None,
     }
 }
 
@@ -308,7 +356,7 @@ impl<S: System> Files for Folder<S> {
 
     ghost history = { history_in S.history };
 
-    ghost is_honest = { IsHonestIn S.is_honest };
+    ghost is_honest = { IsHonestIn S.is_honest S.history };
 
     ghost failures = { λ folder. failures_of folder };
 
@@ -373,5 +421,5 @@ impl<S: System> Files for Folder<S> {
         self.failures.changed(alloc, path, removed)
     }
 
-    ghost rooted = { λ folder honest. (S.shown (system_of folder) _ _ honest).rooted };
+    ghost rooted = { λ folder honest. (S.shown (system_of folder) _ _ honest.0).rooted };
 }

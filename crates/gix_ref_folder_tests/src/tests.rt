@@ -127,7 +127,7 @@ fn a_system_says_why_it_fails(rt: HostRuntime) -> Result<(), Fail> {
 
 /// The call of the names' files that fails, what it leaves of its bytes, words, and what they
 /// return.
-const FAILING: [(u64, Option<usize>, &str, &str); 13] = [
+const FAILING: [(u64, Option<usize>, &str, &str); 14] = [
     (
         1,
         None,
@@ -197,8 +197,14 @@ const FAILING: [(u64, Option<usize>, &str, &str); 13] = [
     (
         3,
         None,
-        "write:HEAD:ref rename:HEAD:new list:-",
-        "done failed names:HEAD",
+        "write:HEAD:ref folder:refs rename:HEAD:new list:-",
+        "done done failed names:HEAD:refs",
+    ),
+    (
+        4,
+        None,
+        "write:HEAD:ref folder:refs rename:HEAD:new list:-",
+        "done done failed names:HEAD:refs",
     ),
     (
         2,

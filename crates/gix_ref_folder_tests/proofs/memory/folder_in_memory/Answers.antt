@@ -3,15 +3,15 @@ use Rattle.std.specs.Prelude.{string_bytes}
 use Rattle.gix_ref_file.specs.Tree.{IsRooted}
 use Rattle.gix_ref_file.specs.Past.{history_of, start}
 use Rattle.gix_ref_file.specs.declared.memory.MemoryFiles.{MemoryFiles}
-use Rattle.gix_ref_folder.specs.Folders.{system_of, root_of, part_of}
+use Rattle.gix_ref_folder.specs.Folders.{part_of}
 use Rattle.gix_ref_folder_tests.specs.OverFiles.{files_of, IsHonestAt}
 use Rattle.gix_ref_folder_tests.specs.declared.over_files.OverFiles.{OverFiles}
 use Rattle.gix_ref_folder_tests.proofs.memory.folder_in_memory.Goals as goal
 
 pub returns-clause-honest : goal.returns-clause-honest
 returns-clause-honest c =
-    let is : string_bytes c.in_ok-own.own ≡ string_bytes (root_of c.new.result) = c.in_ok-own.ensures.ok ∙ sym c.in_ok-shown.ensures.ok ∙ ap string_bytes (sym c.new.ensures.root) in
-    subst (λ (s : OverFiles MemoryFiles). IsHonestAt (λ (files : MemoryFiles). IsRooted (history_of files).tree) history_of s (string_bytes (root_of c.new.result))) (sym c.new.ensures.system)
+    let is : string_bytes c.in_ok-own.own ≡ string_bytes c.in_ok-shown.shown = c.in_ok-own.ensures.ok ∙ sym c.in_ok-shown.ensures.ok in
+    c.new.ensures.honest
     (subst (λ (r : List ℕ). IsHonestAt (λ (files : MemoryFiles). IsRooted (history_of files).tree) history_of c.system_in_memory-system.result r) is (c.system_in_memory-system.ensures.honest c.args.part))
 
 pub returns-clause-empty : goal.returns-clause-empty
