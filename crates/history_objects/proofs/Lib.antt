@@ -8,5 +8,6 @@ mod Maps
 mod ObjectFiles
 pub mod ObjectParts
 mod Opens
+mod OwnFolders
 mod PrefixLists
 mod Stored

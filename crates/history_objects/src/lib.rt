@@ -1,6 +1,7 @@
 //! The store of objects: each is one file in Git's format, under its id; the ids of all are known.
 #![tactic(auto)]
 
+mod folders;
 mod ids;
 mod objects;
 mod opening;

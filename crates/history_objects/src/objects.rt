@@ -10,7 +10,7 @@ ghost use Rattle.history_objects.specs.declared.objects.PutMadeError.TheVariants
 ghost use Rattle.gix_hash_id.specs.declared.object_id.ObjectId.{ObjectId};
 ghost use Rattle.gix_ref_file.specs.declared.files.FileError.TheVariants.{Failed};
 ghost use Rattle.gix_ref_file.specs.declared.files.FileError.TheVariants as file_errors;
-ghost use Rattle.gix_ref_file.specs.Tree.{bytes_at};
+ghost use Rattle.gix_ref_file.specs.Tree.{bytes_at, is_folder, node_at, parent};
 ghost use Rattle.gix_ref_file.specs.Calls.{Achieves, Finds, HasFault, Passes};
 ghost use Rattle.gix_ref_file.specs.Changes.{to_write, after, is_file_at, may_hold_file};
 ghost use Rattle.gix_ref_file.specs.History.{HasRisen};
@@ -25,13 +25,14 @@ ghost use Rattle.gix_hash_prefix.specs.Run.{IsWithinTwiceDigits};
 ghost use Rattle.history_objects.specs.KeptIds.{kept, left};
 ghost use Rattle.history_objects.specs.KnownIds.{AreStanding};
 
+use crate::folders::{has_folder, make_missing};
 use crate::ids::{IdIter, Ids};
 use crate::prefixes::Lookup;
 use gix_hash::{Kind, ObjectId, Prefix};
 use gix_object_lines::cut::strip_prefix;
 use gix_object_lines::{Kind as ObjectKind, encode};
-use gix_ref_file::{FileError, Files, Place};
-use gix_ref_way::{make_folders, write_anew};
+use gix_ref_file::{FileError, Files};
+use gix_ref_way::{is_file, write_anew};
 use history_texts::{NewObject, UNFINISHED, object_place, parse_header};
 use std::alloc::{AllocError, Global};
 
@@ -180,26 +181,32 @@ impl<F: Files> Objects<F> {
         let place = object_place(alloc, &object.id)?;
         let content = object.content.as_slice();
         let header = encode::loose_header(object.kind, content.len() as u64);
-        if self.is_file(&place)? {
+        let (has_folder, is_file) = self.look(&place)?;
+        if is_file {
             if !self.holds(alloc, &place, &header, content)? {
                 return Err(PutMadeError::IdTaken(object.id));
             }
         } else {
-            self.write(alloc, &place, &header, content)?;
+            self.write(alloc, &place, has_folder, &header, content)?;
         }
         self.ids.insert(object.id);
         Ok(())
     }
 
-    fn is_file(&self, place: &[u8]) -> Result<bool, FileError>
-        ensures told { Finds F.is_honest F.history self.now.files
-            (λ tree. IfOk result (λ is_file. is_file ≡ is_file_at tree place.now)) }
+    // Returns whether the folder of a place exists, and whether a file exists there. In a folder that
+    // is missing none does, so no more is looked up then.
+    fn look(&self, place: &[u8]) -> Result<(bool, bool), FileError>
+        ensures folder { Finds F.is_honest F.history self.now.files (λ tree. IfOk result
+            (λ seen. seen.0 ≡ is_folder (node_at tree (parent place.now)))) }
+        ensures file { Finds F.is_honest F.history self.now.files (λ tree. IfOk result
+            (λ seen. seen.1 ≡ is_file_at tree place.now)) }
         ensures failed { IsErrOf result Failed → F.reading_may_fail }
     {
-        match self.files.kind_of(place)? {
-            Place::File(_) => Ok(true),
-            Place::Absent | Place::Folder => Ok(false),
+        if !has_folder(&self.files, place)? {
+            return Ok((false, false));
         }
+        let is_file = is_file(&self.files, place)?;
+        Ok((true, is_file))
     }
 
     // Whether the file at this place holds just these bytes: a header and a content.
@@ -228,6 +235,7 @@ impl<F: Files> Objects<F> {
         &mut self,
         alloc: Global,
         place: &[u8],
+        has_folder: bool,
         header: &[u8],
         content: &[u8],
     ) -> Result<(), FileError>
@@ -250,10 +258,12 @@ impl<F: Files> Objects<F> {
         ensures memory { IsErrOf result file_errors.Memory
             → F.failures self.new.files ≡ F.failures self.old.files }
         ensures failed { F.is_honest self.old.files → IsObjectPart (F.history self.old.files).tree
-            → IsObjectPlace place.now → IsErrOf result Failed
+            → IsObjectPlace place.now
+            → has_folder ≡ is_folder (node_at (F.history self.old.files).tree (parent place.now))
+            → IsErrOf result Failed
             → HasFault F.failures F.reading_may_fail self.old.files self.new.files }
     {
-        make_folders(alloc, &mut self.files, place)?;
+        make_missing(alloc, &mut self.files, place, has_folder)?;
         write_unfinished(alloc, &mut self.files, header, content)?;
         self.files.rename(alloc, UNFINISHED, place)
     }

@@ -10,14 +10,14 @@ use Rattle.history_texts.specs.declared.object.NewObject.{NewObject}
 use Rattle.history_objects.specs.declared.objects.PutMadeError.TheVariants as errors
 use Rattle.std.specs.Prelude.{length}
 use Rattle.gix_object_lines.specs.Header.{header_text}
-use Rattle.gix_ref_file.specs.Tree.{bytes_at}
+use Rattle.gix_ref_file.specs.Tree.{bytes_at, is_folder, node_at, parent}
 use Rattle.gix_ref_file.specs.Changes.{is_file_at}
 use Rattle.gix_ref_file.specs.History.{History, Adds}
 use Rattle.gix_ref_file.proofs.Histories.{adds_both, adds_nothing, adds_weaker}
 use Rattle.history_model.specs.Bytes.{Bytes}
 use Rattle.history_objects.proofs.Stored.{taken_by_other, none_other, same_other, untaken}
 use Rattle.history_objects.proofs.objects.Objects.put_made.Goals as goal
-use Rattle.history_objects.proofs.objects.Objects.put_made.Goals.{then-branch+in_ok-holds+else-not-branch, else-branch+in_ok-write}
+use Rattle.history_objects.proofs.objects.Objects.put_made.Goals.{then-is_file+in_ok-holds+else-not-branch, else-is_file+in_ok-write}
 use Rattle.gix_hash_id.specs.Id.{id_of}
 use Rattle.history_model.proofs.IdLemmas.{digest_is_id}
 
@@ -36,9 +36,9 @@ returns-then-not-branch-clause-refused g c = λ id is honest.
     let content = c.as_slice-content.result.now in
     inr (taken_by_other tree place _ header content _
     c.in_ok-place.ensures
-    (ap (is_file_at tree) (sym c.deref.ensures.value) ∙ sym (c.in_ok-is_file.ensures.told honest) ∙ c.if-branch.true)
+    (ap (is_file_at tree) (sym c.deref.ensures.value) ∙ sym (c.in_ok-has_folder.ensures.file honest) ∙ c.if-is_file.true)
     (λ equal.
-    let found = (c.in_ok-holds.ensures.same honest).1 (ap (bytes_at tree) c.deref-then-branch.ensures.value ∙ equal ∙ ap (λ h. h ++ content) (sym c.deref-then-branch-2.ensures.0)) in
+    let found = (c.in_ok-holds.ensures.same honest).1 (ap (bytes_at tree) c.deref-then-is_file.ensures.value ∙ equal ∙ ap (λ h. h ++ content) (sym c.deref-then-is_file-2.ensures.0)) in
     let unlike = c.if-not-branch.true in
     cc)
     (sym (spelled c.args.object.now content header c.as_slice-content.ensures.value c.loose_header-header.ensures)))
@@ -53,8 +53,9 @@ returns-in_err-write-clause-failed g c = λ honest part failed.
     let fault : put_fault c.in_err-write.field-0.0 ≡ errors.File = cc (error.1, error.2) in
     let same : c.write.result ≡ Err files.Failed = c.in_err-write.was ∙ ap Err (file_fault c.in_err-write.field-0.0 fault) in
     let id = id_of c.args.object.now.id in
-    let placed : IsObjectPlace c.deref-else-branch.result.now = (id.kind, id, ap (is_id id.kind) c.args.object.now.named ∙ digest_is_id id.kind _, c.deref-else-branch.ensures.value ∙ c.in_ok-place.ensures) in
-    c.write.ensures.failed honest part placed same
+    let placed : IsObjectPlace c.deref-else-is_file.result.now = (id.kind, id, ap (is_id id.kind) c.args.object.now.named ∙ digest_is_id id.kind _, c.deref-else-is_file.ensures.value ∙ c.in_ok-place.ensures) in
+    let folder = c.in_ok-has_folder.ensures.folder honest ∙ ap (λ p. is_folder (node_at (g.F.Files.history c.args.self.now.files).tree (parent p))) (c.deref.ensures.value ∙ sym c.deref-else-is_file.ensures.value) in
+    c.write.ensures.failed honest part placed folder same
 
 -- an object is stored where no file stands, or where its own does
 pub returns-clause-free : goal.returns-clause-free
@@ -63,13 +64,13 @@ returns-clause-free g c = λ honest.
     let content = c.as_slice-content.result.now in
     let tree = (g.F.Files.history c.args.self.now.files).tree in
     let free = untaken object tree c.is_reserved.result c.is_reserved.ensures c.if-is_reserved.false in
-    elim c.if-branch.branch [
-      | then-branch+in_ok-holds+else-not-branch w ↦
+    elim c.if-is_file.branch [
+      | then-is_file+in_ok-holds+else-not-branch w ↦
           free (same_other tree c.in_ok-place.place.items _ c.loose_header-header.result.items content _ c.in_ok-place.ensures
-          (ap (bytes_at tree) (sym w.deref-then-branch.ensures.value) ∙ (w.in_ok-holds.ensures.same honest).0 w.if-not-branch.false ∙ ap (λ h. h ++ content) w.deref-then-branch-2.ensures.0)
+          (ap (bytes_at tree) (sym w.deref-then-is_file.ensures.value) ∙ (w.in_ok-holds.ensures.same honest).0 w.if-not-branch.false ∙ ap (λ h. h ++ content) w.deref-then-is_file-2.ensures.0)
           (sym (spelled object content _ c.as_slice-content.ensures.value c.loose_header-header.ensures)))
-      | else-branch+in_ok-write w ↦
-          free (none_other tree c.deref.result.now _ _ (c.deref.ensures.value ∙ c.in_ok-place.ensures) (sym (c.in_ok-is_file.ensures.told honest) ∙ w.if-branch.false))
+      | else-is_file+in_ok-write w ↦
+          free (none_other tree c.deref.result.now _ _ (c.deref.ensures.value ∙ c.in_ok-place.ensures) (sym (c.in_ok-has_folder.ensures.file honest) ∙ w.if-is_file.false))
     ]
 
 put_at : (object : NewObject) (written : Bytes) (joined : Bytes) (old new : History) → written ≡ place_of object → joined ≡ text_of object
@@ -84,12 +85,12 @@ returns-clause-moments g c = λ honest.
     let old = g.F.Files.history c.args.self.now.files in
     let object = c.args.object.now in
     let content = c.as_slice-content.result.now in
-    elim c.if-branch.branch [
-      | then-branch+in_ok-holds+else-not-branch w ↦ subst (λ s. Adds (MayPut object old.tree) old (g.F.Files.history s.files)) (sym w.self-is) (adds_nothing old)
-      | else-branch+in_ok-write w ↦
+    elim c.if-is_file.branch [
+      | then-is_file+in_ok-holds+else-not-branch w ↦ subst (λ s. Adds (MayPut object old.tree) old (g.F.Files.history s.files)) (sym w.self-is) (adds_nothing old)
+      | else-is_file+in_ok-write w ↦
           subst (λ s. Adds (MayPut object old.tree) old (g.F.Files.history s.files)) (sym w.self-is)
-          (put_at object _ _ old _ (w.deref-else-branch.ensures.value ∙ c.in_ok-place.ensures)
-          (ap (λ h. h ++ content) w.deref-else-branch-2.ensures.0 ∙ spelled object content _ c.as_slice-content.ensures.value c.loose_header-header.ensures)
+          (put_at object _ _ old _ (w.deref-else-is_file.ensures.value ∙ c.in_ok-place.ensures)
+          (ap (λ h. h ++ content) w.deref-else-is_file-2.ensures.0 ∙ spelled object content _ c.as_slice-content.ensures.value c.loose_header-header.ensures)
           (w.write.ensures.moments honest) (w.write.ensures.folders honest) (w.write.ensures.stay honest))
     ]
 
@@ -98,6 +99,6 @@ returns-in_err-write-clause-moments g c = λ honest.
     let old = g.F.Files.history c.args.self.now.files in
     let object = c.args.object.now in
     let content = c.as_slice-content.result.now in
-    put_at object _ _ old _ (c.deref-else-branch.ensures.value ∙ c.in_ok-place.ensures)
-    (ap (λ h. h ++ content) c.deref-else-branch-2.ensures.0 ∙ spelled object content _ c.as_slice-content.ensures.value c.loose_header-header.ensures)
+    put_at object _ _ old _ (c.deref-else-is_file.ensures.value ∙ c.in_ok-place.ensures)
+    (ap (λ h. h ++ content) c.deref-else-is_file-2.ensures.0 ∙ spelled object content _ c.as_slice-content.ensures.value c.loose_header-header.ensures)
     (c.write.ensures.moments honest) (c.write.ensures.folders honest) (c.write.ensures.stay honest)
