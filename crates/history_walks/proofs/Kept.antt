@@ -1,6 +1,6 @@
 -- Commits that are read one after another, and kept.
 use Rattle.std.proofs.Common.{◌≡◌, ◌∙◌, ap, refl, sym, subst, arith, Bool, true, false, List, [], ◌∷◌, ◌++◌, ℕ, inl, inr, Some, None, option_map, cond, Vec}
-use Rattle.std.specs.Prelude.{Contains, map, ⊤}
+use Rattle.std.specs.Prelude.{Contains, IfOk, Result, Ok, Err, map, ⊤}
 use Rattle.std.specs.BTreeMap.{Updates, get, get_by, is_at}
 use Rattle.std.specs.Map.{keys_of, lookup}
 use Rattle.std.specs.Ordering.{is_eq}
@@ -23,7 +23,7 @@ use Rattle.gix_traverse_commit_graph.specs.declared.rows.Row.{Row}
 use Rattle.gix_traverse_commit_graph.specs.declared.sorting.Sorting.TheVariants.{BreadthFirst}
 use Rattle.gix_traverse_commit_graph.proofs.Lists.{at_from_contains, none_at_nil}
 use Rattle.history_walks.specs.Faults.{IsMet, WalkFault}
-use Rattle.history_walks.specs.ReadCommits.{AreKept, Contents, commit_object, ids_of, table_of}
+use Rattle.history_walks.specs.ReadCommits.{AreKept, AreOf, Contents, commit_object, ids_of, table_of}
 use Rattle.history_walks.specs.Simply.{asked}
 use Rattle.history_walks.specs.declared.error.WalkError.{WalkError}
 use Rattle.history_walks.specs.declared.error.WalkError.TheVariants.{Failed, Broken, Memory}
@@ -52,6 +52,14 @@ found_among id (e ∷ es) content found = go (λ there. found_among id es conten
 
 pub is_among : (contents : Contents) (id : Id) (content : Vec ℕ Global) → get_by (λ key. id_cmp id (id_of key)) contents ≡ Some content → Contains (ids_of contents) id
 is_among contents id content found = found_among id contents.entries content found
+
+-- one that is kept is in the table as it is kept
+pub same_there : (table kept : Table) (x : ObjectId) (id : Id) (content : List ℕ) → AreOf table kept → id_of x ≡ id → Stands kept (id_of x) kinds.Commit content → kept id ≡ table id
+same_there table kept x id content are named there = ap kept (sym named) ∙ there ∙ sym (are x content there) ∙ ap table named
+
+pub ok_more : {T E : Type 0} (result : Result T E) (P Q : T → Type 0) → ((value : T) → P value → Q value) → IfOk result P → IfOk result Q
+ok_more (Ok value) P Q more is = more value is
+ok_more (Err error) P Q more is = tt
 
 -- ---- one more is kept
 

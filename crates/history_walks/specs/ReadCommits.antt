@@ -10,6 +10,7 @@ use Rattle.gix_object_lookup.specs.Table.{Object, Table}
 use Rattle.gix_object_lines.specs.declared.kind.Kind.TheVariants as kinds
 use Rattle.gix_traverse_commit_graph.specs.Rows.{Holds}
 use Rattle.gix_traverse_commit_graph.specs.declared.rows.Row.{Row}
+use Rattle.history_walks.specs.declared.read_commits.ReadCommits.{ReadCommits}
 
 -- contents under the ids of their commits
 abbrev pub Contents : Type 0
@@ -27,11 +28,19 @@ table_of contents id =
 abbrev pub ids_of : Contents → List Id
 ids_of contents = map id_of (keys contents)
 
--- Of a table's commits some are kept: they are in the table as they are kept, and each wanted
--- commit without a row is among them.
+-- the objects of the commits that were read
+abbrev pub kept_in : ReadCommits → Table
+kept_in commits = table_of commits.contents
+
+-- each commit that is kept is the table's
+abbrev pub AreOf : Table → Table → Type 0
+AreOf table kept =
+    (x : ObjectId) (content : List ℕ) → Stands kept (id_of x) kinds.Commit content
+    → Stands table (id_of x) kinds.Commit content
+
+-- Of a table's commits some are kept, and each wanted commit without a row is among them.
 pub record AreKept (rows : List Row) (table kept : Table)
     (IsWanted : ObjectId → Type 0) : Type 0 where
-  pub stand : (x : ObjectId) (content : List ℕ) → Stands kept (id_of x) kinds.Commit content
-      → Stands table (id_of x) kinds.Commit content
+  pub stand : AreOf table kept
   pub each : (x : ObjectId) → IsWanted x → ¬ Holds rows x
       → (content : List ℕ) × Stands kept (id_of x) kinds.Commit content

@@ -12,5 +12,6 @@ mod told;
 pub use error::WalkError;
 pub use gix_traverse_commit::{Graph, Parents};
 pub use listing::{Order, Request, list_commits};
+pub use read_commits::{ReadCommits, ReadStore};
 pub use rows::rows_of;
 pub use told::Told;

@@ -1,13 +1,16 @@
 //! Commits that were read from a store.
 
-ghost use Rattle.std.specs.Prelude.{⊤, true, List, Contains, IfOk, IfErr};
+ghost use Rattle.std.specs.Prelude.{◌≡◌, ◌++◌, ⊤, true, List, None, Contains, IfOk, IfErr, MatchOption};
+ghost use Rattle.gix_hash_id.specs.Id.{Id, id_of};
 ghost use Rattle.gix_hash_id.specs.declared.object_id.ObjectId.{ObjectId};
+ghost use Rattle.gix_object_lines.specs.declared.kind.Kind.TheVariants as kinds;
+ghost use Rattle.gix_object_lookup.specs.Existing.{Stands};
 ghost use Rattle.gix_traverse_commit_known.specs.Asked.{Answers, Asked, IsSure};
 ghost use Rattle.gix_traverse_commit.specs.Simply.{IsMade, graph_of, objects_of};
 ghost use Rattle.gix_traverse_commit_known.specs.Told.{rows_of};
 ghost use Rattle.history_walks.specs.Asking.{OverTable};
 ghost use Rattle.history_walks.specs.Faults.{IsMet, WalkFault};
-ghost use Rattle.history_walks.specs.ReadCommits.{AreKept, ids_of, table_of};
+ghost use Rattle.history_walks.specs.ReadCommits.{AreKept, AreOf, ids_of, kept_in};
 
 use crate::error::WalkError;
 use gix_hash::{ObjectId, oid};
@@ -19,17 +22,26 @@ use std::collections::BTreeMap;
 
 /// The contents of commits, under their ids. A lookup of one fails only if memory runs out.
 #[derive(Drop)]
-pub(crate) struct ReadCommits {
+pub struct ReadCommits {
     contents: BTreeMap<ObjectId, Vec<u8>>,
 }
 
 impl ReadCommits {
+    /// Returns no commits.
+    pub fn new(alloc: Global) -> ReadCommits
+        ensures { (id : Id) → kept_in result id ≡ None }
+    {
+        ReadCommits {
+            contents: BTreeMap::new(alloc),
+        }
+    }
+
     /// Returns all commits without rows that the tips or the hidden commits reach, each read once
     /// from the store.
     ///
     /// The error is `Failed` if a lookup failed, `Broken` if one of these commits isn't stored or
     /// can't be read, and `Memory` if no memory is left.
-    pub(crate) fn reached<S: FindInto>(
+    pub fn reached<S: FindInto>(
         alloc: Global,
         store: &S,
         rows: Option<Graph>,
@@ -38,7 +50,7 @@ impl ReadCommits {
     ) -> Result<ReadCommits, WalkError>
         ensures reads { OverTable (S.is_honest store.now) (rows_of rows) (S.table store.now) (λ g.
             IfOk result (λ commits. AreKept (rows_of rows) (S.table store.now)
-            (table_of commits.contents) (IsMet g tips.now hidden.now))) }
+            (kept_in commits) (IsMet g tips.now hidden.now))) }
         ensures refused { OverTable (S.is_honest store.now) (rows_of rows) (S.table store.now) (λ g.
             IfErr result (WalkFault (S.may_fail store.now) (rows_of rows) (S.table store.now) g
             tips.now hidden.now)) }
@@ -46,6 +58,14 @@ impl ReadCommits {
         let mut starts = Vec::from_slice(alloc, tips)?;
         starts.extend_from_slice(hidden)?;
         read_all(alloc, Simple::new(starts, store)?.commit_graph(rows))
+    }
+
+    /// Returns the content of the commit of this id, if it is kept.
+    pub fn content(&self, id: &ObjectId) -> Option<&[u8]>
+        ensures { MatchOption result (kept_in self.now (id_of id.now) ≡ None) (λ content.
+            Stands (kept_in self.now) (id_of id.now) kinds.Commit content.now) }
+    {
+        Some(self.contents.get(id)?.as_slice())
     }
 }
 
@@ -59,7 +79,7 @@ fn read_all<F: FindInto + Drop>(
         → IsSure (F.may_fail (objects_of walk)) a → IsMade (λ _ _. true) a walk
         → IfOk result (λ commits. (ids : List ObjectId) × Answers g a ids
         × AreKept (rows_of (graph_of walk)) (F.table (objects_of walk))
-        (table_of commits.contents) (Contains ids))) }
+        (kept_in commits) (Contains ids))) }
     ensures refused { OverTable (F.is_honest (objects_of walk)) (rows_of (graph_of walk))
         (F.table (objects_of walk)) (λ g. (a : Asked)
         → IsSure (F.may_fail (objects_of walk)) a → IsMade (λ _ _. true) a walk
@@ -79,7 +99,7 @@ fn read_all<F: FindInto + Drop>(
 }
 
 impl Lookup for ReadCommits {
-    ghost table = { λ commits. table_of commits.contents };
+    ghost table = { kept_in };
 
     ghost ids = { λ commits. ids_of commits.contents };
 
@@ -96,5 +116,34 @@ impl FindInto for ReadCommits {
         };
         buffer.extend_from_slice(content)?;
         Ok(Some(Kind::Commit))
+    }
+}
+
+/// A store, and commits that were read from it: they are looked up in it no more.
+#[derive(Drop)]
+pub struct ReadStore<'a, S> {
+    /// The store.
+    pub store: &'a S,
+    /// The commits that were read.
+    pub read: &'a ReadCommits,
+}
+
+impl<S: Lookup> Lookup for ReadStore<'_, S> {
+    ghost table = { λ it. S.table it.store.now };
+
+    ghost ids = { λ it. ids_of it.read.now.contents ++ S.ids it.store.now };
+
+    ghost is_honest = { λ it. S.is_honest it.store.now
+        × AreOf (S.table it.store.now) (kept_in it.read.now) };
+
+    ghost may_fail = { λ it. S.may_fail it.store.now };
+}
+
+impl<S: FindInto> FindInto for ReadStore<'_, S> {
+    fn find_into(&self, id: oid<'_>, buffer: &mut Vec<u8>) -> Result<Option<Kind>, find::Error> {
+        match self.read.content(&ObjectId::from(id)) {
+            Some(_) => self.read.find_into(id, buffer),
+            None => self.store.find_into(id, buffer),
+        }
     }
 }
