@@ -3,8 +3,8 @@ against this.
 
 Each word looks up once the object that its name holds, or whose id it begins, since that may be a commit, a tag or neither. Besides, a
 command looks up once each commit, tree and content that its answer is made of, but for a commit that was looked up as a word's object or
-has a row. A log walks, and with paths looks up then what it compares: of a commit, and of its first parent, unless that is the commit that
-comes next. `index` reads the first bytes of each object, and twice for each commit that has no row. A graft looks up its word's commit,
+has a row. A log with paths looks up besides the trees that it compares: of a commit, and of its first parent, unless that is the commit
+that comes next. `index` reads the first bytes of each object, and then each commit that has no row. A graft looks up its word's commit,
 the trees on the way to its source, and each different tree below it once."""
 
 from plain import Plain, Reader
@@ -36,9 +36,9 @@ def of_walk(plain, rows, commits):
     return found
 
 
-def of_log(plain, rows, command):
-    """The commits that a log with paths compares, but for those that have rows, and of each the trees on the paths: each commit that it
-    walks and its first parent, unless that comes next."""
+def of_log(plain, command):
+    """Of the commits that a log with paths compares the trees on the paths: of each commit that it walks and of its first parent, unless
+    that comes next."""
     if not command[5]:
         return []
     met, last = [], None
@@ -46,7 +46,7 @@ def of_log(plain, rows, command):
         first = plain.commits[digits]["parents"][:1]
         met += ([] if digits == last else [digits]) + first
         last = first[0] if first else None
-    return [it for it in met if it not in rows] + [it for at in met for it in of_folders(plain, plain.commits[at]["files"], command[5])]
+    return [it for at in met for it in of_folders(plain, plain.commits[at]["files"], command[5])]
 
 
 def of_grafts(plain, edits):
@@ -64,14 +64,14 @@ def objects(plain, rows, command):
     """The objects that a command looks up, as often as it does."""
     name, *parts = command
     if name == "index":
-        return [*plain.objects, *(2 * [it for it in plain.commits if it not in rows])]
+        return [*plain.objects, *(it for it in plain.commits if it not in rows)]
     if name == "commit":
         # One with grafts alone, on a new name, without parents, and refused before it stores anything.
         return [it for edit in parts[3] for it in of_word(plain, edit[2])] + of_grafts(plain, parts[3])
     words = [target for _, target in parts[3]] if name == "log" else [parts[0]]
     held = [it for word in words for it in of_word(plain, word)]
     if name == "log":
-        return held + of_walk(plain, rows, map(plain.peeled, held)) + of_log(plain, rows, command)
+        return held + of_walk(plain, rows, map(plain.peeled, held)) + of_log(plain, command)
     commit = plain.peeled(held[0])
     files, path = plain.commits[commit]["files"], parts[1] if name == "show" else None
     content = [files[path][1]] if path in files else []

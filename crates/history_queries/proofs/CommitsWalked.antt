@@ -1,5 +1,5 @@
 -- The commits of a repository that stands, as walks read them from its store.
-use Rattle.std.proofs.Common.{◌≡◌, ◌∙◌, ap, refl, sym, subst, ℕ, zero, suc, pos, Bool, ◌||◌, true, false, List, [], ◌∷◌, map, Option, Some, None, option_map, inl, inr, Vec, arith}
+use Rattle.std.proofs.Common.{◌≡◌, ◌∙◌, ap, refl, sym, subst, ℕ, zero, suc, pos, Bool, ◌||◌, true, false, List, [], ◌∷◌, map, Option, Some, None, is_some, option_map, inl, inr, Vec, arith}
 use Rattle.std.specs.declared.alloc.Global.{Global}
 use Rattle.std.specs.Prelude.{ℤ, Contains, IfErr, IsErrAnd, IsTrue, IsSome, Result, Ok, Err, ⊤, option_and_then, unwrap_or}
 use Rattle.std.specs.List.{AllZip, AllByRecursion, list_all, list_any}
@@ -13,6 +13,7 @@ use Rattle.gix_hash_id.proofs.LawLemmas.{hex_text-IsHexOf}
 use Rattle.gix_hash_id.specs.declared.kind.Kind.{Kind}
 use Rattle.gix_hash_id.specs.declared.object_id.ObjectId.{ObjectId}
 use Rattle.gix_ref_file.proofs.Rooted.{both}
+use Rattle.gix_ref_file.specs.History.{History}
 use Rattle.gix_object_commit_tokens.specs.ReadingOn.{Reads, TellsNone, committer_told}
 use Rattle.gix_object_commit_tokens.specs.Tokens.{Part, start}
 use Rattle.gix_object_commit_tokens.proofs.OnePart.{one_id}
@@ -28,7 +29,7 @@ use Rattle.gix_traverse_commit_graph.specs.Walks.{InSomeOrder, breadth, newest, 
 use Rattle.gix_traverse_commit_known.specs.Painting.{ReachedFrom}
 use Rattle.gix_traverse_commit_graph.specs.RowCommits.{commit_of}
 use Rattle.gix_traverse_commit_graph.specs.Rows.{AllHeld, Holds}
-use Rattle.gix_traverse_commit_known.specs.Told.{AreTold, IsNoCommit, TellsCommit}
+use Rattle.gix_traverse_commit_known.specs.Told.{AreTold, IsNoCommit, TellsCommit, rows_of}
 use Rattle.gix_traverse_commit_graph.specs.declared.rows.Row.{Row}
 use Rattle.gix_traverse_commit_graph.proofs.Listing.{asked_parent, has_listed}
 use Rattle.gix_traverse_commit_graph.proofs.Lists.{at_from_contains}
@@ -38,6 +39,7 @@ use Rattle.history_model.specs.Bytes.{Bytes}
 use Rattle.history_model.specs.Forms.{IsWritten, is_commit_form, is_id}
 use Rattle.history_model.specs.Objects.{CommitValue, Value, StoredCommit, StoredTag, StoredBytes, StoredFolder, object_kind, content_of, commit_content, folder_id, hex, value_text}
 use Rattle.history_model.specs.Repository.{Repository, HoldsCommit, IsWholeStore, Reaches, as_commit, named, by_way_of, named_ids}
+use Rattle.history_model.proofs.WholeLists.{clash}
 use Rattle.history_model.proofs.IdLemmas.{digest_is_id, digits_of-raw_bytes, has_kind, id_itself, length-hex}
 use Rattle.history_texts.proofs.ActorTexts.{actor_parts, time_spelled}
 use Rattle.history_texts.proofs.CommitTexts.{value_forms, value_parts, value_spelled}
@@ -47,14 +49,21 @@ use Rattle.history_walks.specs.Asking.{IsInOrder, parents_in, walk_from}
 use Rattle.history_walks.specs.declared.listing.Request.{Request}
 use Rattle.history_walks.specs.Faults.{IsMet, IsUnread, WalkFault, absent, lines, time}
 use Rattle.history_walks.specs.Naming.{AreNamed}
+use Rattle.history_walks.specs.ReadCommits.{kept_in}
+use Rattle.history_walks.specs.declared.read_commits.ReadCommits.{ReadCommits}
 use Rattle.history_walks.specs.declared.error.WalkError.{WalkError}
 use Rattle.history_walks.specs.declared.error.WalkError.TheVariants.{Failed, Broken, Memory}
 use Rattle.history_walks.proofs.Named.{contains_from_map, contains_map}
 use Rattle.history_walks.proofs.Spelled.{line, commit_told, no_parent_fault, no_time_fault}
+use Rattle.history_objects.specs.KnownObjects as known
+use Rattle.history_repository.proofs.Tables.{tables_same}
+use Rattle.history_repository.specs.Face.{rows_in}
 use Rattle.history_repository.specs.Reads.{GivesMeant, IsReadingFault}
+use Rattle.history_repository.specs.Stands as standing
+use Rattle.history_repository.specs.declared.repository.Repository as face
 use Rattle.history_repository.specs.Faults.{walk_fault}
 use Rattle.history_repository.specs.KeptRows.{AgreeRows, TellsRow}
-use Rattle.history_queries.specs.Walked.{AllHold, IsLogged}
+use Rattle.history_queries.specs.Walked.{AllHold, AreRead, IsLogged}
 use Rattle.history_repository.specs.declared.stopped.Stopped.{Stopped}
 use Rattle.history_repository.specs.declared.stopped.Stopped.TheVariants.{Fault}
 use Rattle.gix_hash_id.specs.declared.kind.Kind.TheVariants as hash
@@ -358,3 +367,48 @@ module _ (r : Repository) (store : IsWholeStore r) (written : IsWritten r) where
     walk_rowed tips hidden tips_held hidden_held MayFail (Err stopped) Failed is (may, (x, met, unheld)) = absurd (unheld (met_held tips hidden tips_held hidden_held x met))
     walk_rowed tips hidden tips_held hidden_held MayFail (Err stopped) Broken is (x, met, unheld, unread) = absurd (unheld (met_held tips hidden tips_held hidden_held x met))
     walk_rowed tips hidden tips_held hidden_held MayFail (Err stopped) Memory is fails = is
+
+-- ---- a walk over the store of a repository that stands, with its rows
+
+module _ {F : Type 0} (IsHonest : F → Type 0) (history : F → History) (repository : face.Repository F) (r : Repository) (stands : standing.Stands IsHonest history repository r) (rows : Option (List Row)) (copied : rows ≡ rows_in repository) where
+  abbrev pub commits_there : Commits ObjectId
+  commits_there = read_commits r stands.whole.whole.store stands.whole.written
+
+  abbrev looked_up : Table
+  looked_up = known.table_of history repository.objects
+
+  pub told_there : AreTold (rows_of rows) looked_up commits_there
+  told_there =
+      subst (λ (t : Table). AreTold (rows_of rows) t commits_there) (sym (tables_same IsHonest history repository r stands))
+      (subst (λ (o : Option (List Row)). AreTold (rows_of o) (laws.table_of r) commits_there) (sym copied) (are_told r stands.whole.whole.store stands.whole.written (rows_of (rows_in repository)) stands.rows))
+
+  pub stopped_there : (tips hidden : List ObjectId) → AllHold r tips → AllHold r hidden → {T : Type 0} (MayFail : Type 0) (IsMeant : T → Type 0) (result : Result T Stopped) (error : WalkError)
+      → IsErrAnd result (λ stopped. stopped ≡ Fault (walk_fault error)) → WalkFault MayFail (rows_of rows) looked_up commits_there tips hidden error → GivesMeant MayFail IsMeant result
+  stopped_there tips hidden tips_hold hidden_hold MayFail IsMeant result error is fault =
+      walk_stopped r stands.whole.whole.store stands.whole.written (rows_of rows) tips hidden tips_hold hidden_hold MayFail IsMeant result error is
+      (subst (λ (t : Table). WalkFault MayFail (rows_of rows) t commits_there tips hidden error) (tables_same IsHonest history repository r stands) fault)
+
+  pub rowed_there : (tips hidden : List ObjectId) → AllHeld (rows_of (rows_in repository)) tips → AllHeld (rows_of (rows_in repository)) hidden → {T : Type 0} (MayFail : Type 0) (result : Result T Stopped) (error : WalkError)
+      → IsErrAnd result (λ stopped. stopped ≡ Fault (walk_fault error)) → WalkFault MayFail (rows_of rows) looked_up commits_there tips hidden error → IfErr result (λ stopped. stopped ≡ Fault model_faults.Memory)
+  rowed_there tips hidden tips_held hidden_held MayFail result error is fault =
+      walk_rowed r stands.whole.whole.store stands.whole.written (rows_of (rows_in repository)) stands.rows tips hidden tips_held hidden_held MayFail result error is
+      (subst (λ (o : Option (List Row)). WalkFault MayFail (rows_of o) (laws.table_of r) commits_there tips hidden error) copied
+      (subst (λ (t : Table). WalkFault MayFail (rows_of rows) t commits_there tips hidden error) (tables_same IsHonest history repository r stands) fault))
+
+-- what is stored as a commit's content is that of its value
+pub content_so : (r : Repository) (id : Id) (value : CommitValue) (content : Bytes) → get r.objects id ≡ Some (StoredCommit value) → Stands (laws.table_of r) id kinds.Commit content → content ≡ commit_content r.kind value
+content_so r id value content at there = ap content_or_none (sym there ∙ ap (option_map (λ (v : Value). record { kind = object_kind v; content = content_of r.kind v })) at)
+
+-- where nothing was read, what was read is as it is stored
+pub none_read : (r : Repository) (read : ReadCommits) → ((id : Id) → kept_in read id ≡ None) → AreRead r read
+none_read r read none x content there = clash (ap is_some there) (ap is_some (none (id_of x)))
+
+-- a call that gives what is meant stops for a fault of reading
+pub fails_so : {T : Type 0} (MayFail : Type 0) (IsMeant : T → Type 0) (result : Result T Stopped) → GivesMeant MayFail IsMeant result → IfErr result (IsReadingFault MayFail)
+fails_so MayFail IsMeant (Ok value) gives = tt
+fails_so MayFail IsMeant (Err stopped) gives = gives
+
+-- why a call stopped, if memory alone may be wanting, is handed on
+pub memory_told : {T : Type 0} (result : Result T Stopped) (stopped : Stopped) → IsErrAnd result (λ other. other ≡ stopped) → stopped ≡ Fault model_faults.Memory → IfErr result (λ other. other ≡ Fault model_faults.Memory)
+memory_told (Ok value) stopped same is = tt
+memory_told (Err other) stopped same is = same ∙ is

@@ -35,8 +35,9 @@ use Rattle.history_repository.specs.Reads.{GivesMeant, IsReadingFault, OnlyAnswe
 use Rattle.history_repository.specs.Meanings.{words_cause, commit_in, commit_or_cause, meaning_of}
 use Rattle.history_repository.specs.Fields.{kept_bytes}
 use Rattle.history_queries.specs.Logs.{AreEnds, IsOrderOf, followed, meanings_in, order_cause}
-use Rattle.history_queries.specs.Walked.{AllHold, IsLogged, IsWalkOf, Walks}
+use Rattle.history_queries.specs.Walked.{AllHold, IsFollowed, IsLogged, IsWalkOf, Walks}
 use Rattle.history_queries.specs.declared.logs.Ends.{Ends}
+use Rattle.history_queries.specs.declared.reading.Walk.{Walk}
 use Rattle.history_repository.specs.declared.stopped.Stopped.{Stopped}
 use Rattle.history_repository.specs.declared.stopped.Stopped.TheVariants.{Refused, Fault}
 use Rattle.history_repository.proofs.WordCauses.{any_map, by_words, commit_is, commits_told, passed, refused, told_by, words_told}
@@ -183,8 +184,8 @@ walk_fault MayFail r order (Refused cause) h = absurd h
 walk_fault MayFail r order (Fault fault) h = h
 
 -- what a call stopped for is handed on
-pub walk_stops : (MayFail : Type 0) (r : Repository) (order : LogCommand) (result : Result (Vec ObjectId Global) Stopped) (stopped : Stopped) → IsErrAnd result (λ other. other ≡ stopped) → Walks MayFail r order (Err stopped) → Walks MayFail r order result
-walk_stops MayFail r order (Ok ids) stopped same h = absurd same
+pub walk_stops : (MayFail : Type 0) (r : Repository) (order : LogCommand) (result : Result Walk Stopped) (stopped : Stopped) → IsErrAnd result (λ other. other ≡ stopped) → Walks MayFail r order (Err stopped) → Walks MayFail r order result
+walk_stops MayFail r order (Ok walked) stopped same h = absurd same
 walk_stops MayFail r order (Err other) stopped same h = subst (λ (x : Stopped). Walks MayFail r order (Err x)) (sym same) h
 
 -- where no walk is given, its cause is the log's
@@ -205,12 +206,13 @@ module _ (r : Repository) (order : LogCommand) (ends : Ends) (are : AreEnds r or
       (subst (λ (tips : List Id). IsInOrder request.order (commits_of r) (walk_from request.order tips stops) (map id_of ids.items)) from_tips
       (subst (λ (hidden : List Id). IsInOrder request.order (commits_of r) (walk_from request.order (map id_of request.tips.items) hidden) (map id_of ids.items)) from_hidden walked))
 
-  pub walk_given : (MayFail : Type 0) (request : Request) (store : IsWholeStore r) (written : IsWritten r) (result : Result (Vec ObjectId Global) Stopped) → words_cause (meanings_in ends) ≡ None → list_any is_bad_path order.paths ≡ false
+  pub walk_given : (MayFail : Type 0) (request : Request) (store : IsWholeStore r) (written : IsWritten r) (result : Result Walk Stopped) → words_cause (meanings_in ends) ≡ None → list_any is_bad_path order.paths ≡ false
       → order_cause order.order order.first_parents (list_any is_hidden order.items) ≡ None → IsOrderOf order.order order.first_parents request.order
-      → request.tips.items ≡ filter_map commit_in ends.tips.items → request.hidden.items ≡ filter_map commit_in ends.hidden.items → AllHold r request.tips.items → GivesMeant MayFail (IsLogged r request) result → Walks MayFail r order result
-  walk_given MayFail request store written (Ok ids) read good suits is_order tips_are hidden_are hold walked = (
+      → request.tips.items ≡ filter_map commit_in ends.tips.items → request.hidden.items ≡ filter_map commit_in ends.hidden.items → AllHold r request.tips.items → GivesMeant MayFail (IsFollowed r request) result → Walks MayFail r order result
+  walk_given MayFail request store written (Ok walked) read good suits is_order tips_are hidden_are hold is = (
     told_by_order r order ends are read good ∙ suits,
-    record { walk = walk_of request ids is_order tips_are hidden_are walked; hold = logged_hold r store written request ids walked hold },
+    record { walk = walk_of request walked.ids is_order tips_are hidden_are is.lists; hold = logged_hold r store written request walked.ids is.lists hold },
+    is.read,
   )
   walk_given MayFail request store written (Err stopped) read good suits is_order tips_are hidden_are hold fault = walk_fault MayFail r order stopped fault
 

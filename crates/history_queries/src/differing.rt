@@ -11,7 +11,7 @@ ghost use Rattle.history_model.specs.Repository.{HoldsCommit};
 ghost use Rattle.history_repository.specs.Reads.{GivesMeant};
 ghost use Rattle.history_repository.specs.Stands.{Stands};
 ghost use Rattle.history_queries.specs.Seen.{IsCompared, IsSeen, IsSeenAt};
-ghost use Rattle.history_queries.specs.Walked.{AllHold};
+ghost use Rattle.history_queries.specs.Walked.{AllHold, AreRead};
 ghost use Rattle.history_model.specs.Repository as plain;
 
 use crate::rows::told_of;
@@ -20,6 +20,7 @@ use gix_ref_file::Files;
 use gix_traverse_commit_graph::ParentIds;
 use history_files::{EntriesState, Found, entries_at};
 use history_repository::{Repository, Stopped};
+use history_walks::ReadCommits;
 use std::alloc::{AllocError, Global};
 
 // Returns nothing at each of so many paths. Fails only if memory runs out.
@@ -66,20 +67,21 @@ struct Compared {
 
 /// Returns the parents of a stored commit, and what it has at some paths.
 ///
-/// Its content is read, unless it has a row, and the trees on the paths, each once. It is a fault
-/// if a call of the files failed, or if no memory is left.
+/// Its content is read, unless it has a row or is kept, and the trees on the paths, each once. It
+/// is a fault if a call of the files failed, or if no memory is left.
 fn see<F: Files>(
     repository: &Repository<F>,
     alloc: Global,
+    read: &ReadCommits,
     id: &ObjectId,
     paths: &[&[u8]],
     state: &mut EntriesState,
 ) -> Result<Seen, Stopped>
     ensures { (r : plain.Repository) → Stands F.is_honest F.history repository.now r
-        → HoldsCommit r (id_of id.now) → GivesMeant F.reading_may_fail
+        → AreRead r read.now → HoldsCommit r (id_of id.now) → GivesMeant F.reading_may_fail
         (IsSeenAt r paths.now (id_of id.now)) result }
 {
-    let told = told_of(repository, alloc, id)?;
+    let told = told_of(repository, alloc, read, id)?;
     let found = found_each(repository, alloc, &told.tree, paths, state)?;
     Ok(Seen {
         id: told.id,
@@ -92,13 +94,14 @@ fn see<F: Files>(
 fn see_next<F: Files>(
     repository: &Repository<F>,
     alloc: Global,
+    read: &ReadCommits,
     last: Option<Seen>,
     id: &ObjectId,
     paths: &[&[u8]],
     state: &mut EntriesState,
 ) -> Result<Seen, Stopped>
     ensures { (r : plain.Repository) → Stands F.is_honest F.history repository.now r
-        → HoldsCommit r (id_of id.now) → IfSome last (IsSeen r paths.now)
+        → AreRead r read.now → HoldsCommit r (id_of id.now) → IfSome last (IsSeen r paths.now)
         → GivesMeant F.reading_may_fail (IsSeenAt r paths.now (id_of id.now)) result }
 {
     if let Some(seen) = last {
@@ -106,7 +109,7 @@ fn see_next<F: Files>(
             return Ok(seen);
         }
     }
-    see(repository, alloc, id, paths, state)
+    see(repository, alloc, read, id, paths, state)
 }
 
 /// Returns whether what a commit has at some paths isn't what its first parent has there.
@@ -116,12 +119,13 @@ fn see_next<F: Files>(
 fn compare<F: Files>(
     repository: &Repository<F>,
     alloc: Global,
+    read: &ReadCommits,
     here: &Seen,
     paths: &[&[u8]],
     state: &mut EntriesState,
 ) -> Result<Compared, Stopped>
     ensures { (r : plain.Repository) → Stands F.is_honest F.history repository.now r
-        → IsSeen r paths.now here.now → GivesMeant F.reading_may_fail
+        → AreRead r read.now → IsSeen r paths.now here.now → GivesMeant F.reading_may_fail
         (IsCompared r paths.now (id_of here.now.id)) result }
 {
     let Some(parent) = here.parents.as_slice().first() else {
@@ -131,7 +135,7 @@ fn compare<F: Files>(
             before: None,
         });
     };
-    let before = see(repository, alloc, parent, paths, state)?;
+    let before = see(repository, alloc, read, parent, paths, state)?;
     Ok(Compared {
         differs: here.found.as_slice() != before.found.as_slice(),
         before: Some(before),
@@ -141,17 +145,18 @@ fn compare<F: Files>(
 /// Returns those of some commits that differ at some paths from their first parents, in their
 /// order.
 ///
-/// The commits are stored. Of each, its content is read, unless it has a row, and the trees on the
-/// paths; and of its first parent the same, unless it is the commit that comes next, which is then
-/// read once. It is a fault if a call of the files failed, or if no memory is left.
+/// The commits are stored. Of each, its content is read, unless it has a row or is kept, and the
+/// trees on the paths; and of its first parent the same, unless it is the commit that comes next,
+/// which is then read once. It is a fault if a call of the files failed, or if no memory is left.
 pub(crate) fn differing<F: Files>(
     repository: &Repository<F>,
     alloc: Global,
+    read: &ReadCommits,
     ids: &[ObjectId],
     paths: &[&[u8]],
 ) -> Result<Vec<ObjectId>, Stopped>
     ensures { (r : plain.Repository) → Stands F.is_honest F.history repository.now r
-        → AllHold r ids.now → GivesMeant F.reading_may_fail
+        → AreRead r read.now → AllHold r ids.now → GivesMeant F.reading_may_fail
         (λ differing. map id_of differing.items
         ≡ filter (differs_at r (map (λ path. path.now) paths.now)) (map id_of ids.now)) result }
 {
@@ -159,8 +164,10 @@ pub(crate) fn differing<F: Files>(
     let mut differing = Vec::new(alloc);
     let mut last = None;
     for id in ids {
-        let here = see_next(repository, alloc, last.take(), id, paths, &mut state)?;
-        let Compared { differs, before } = compare(repository, alloc, &here, paths, &mut state)?;
+        let here = see_next(repository, alloc, read, last.take(), id, paths, &mut state)?;
+        let Compared { differs, before } = compare(
+            repository, alloc, read, &here, paths, &mut state,
+        )?;
         if differs {
             differing.push(*id)?;
         }

@@ -18,7 +18,7 @@ ghost use Rattle.history_model.specs.Repository as plain;
 
 use crate::differing::differing;
 use crate::lines::line;
-use crate::reading::commits;
+use crate::reading::{Walk, commits};
 use gix_hash::{Kind, ObjectId};
 use gix_ref_file::Files;
 use history_model::Cause;
@@ -177,6 +177,12 @@ fn read_ends<F: Files>(
     Ok(Ends { tips, hidden })
 }
 
+/// Returns whether the walk's commits are compared with their first parents, and all parents are
+/// followed: then what the walk reads is kept. Along first parents it reads less than that.
+fn compares_all(command: &LogCommand) -> bool {
+    !command.paths.is_empty() && !command.first_parents
+}
+
 /// Returns the commits of a log's walk, whatever its paths: those that its tips reach and no hidden
 /// one reaches, in its order.
 ///
@@ -189,7 +195,7 @@ fn walked<F: Files>(
     repository: &Repository<F>,
     alloc: Global,
     command: &LogCommand,
-) -> Result<Vec<ObjectId>, Stopped>
+) -> Result<Walk, Stopped>
     ensures { (r : plain.Repository) (order : model.LogCommand)
         → Stands F.is_honest F.history repository.now r → IsLog command.now order
         → Walks F.reading_may_fail r order result }
@@ -205,7 +211,7 @@ fn walked<F: Files>(
         tips: ids_of(alloc, &ends.tips)?,
         hidden: ids_of(alloc, &ends.hidden)?,
     };
-    commits(repository, alloc, request)
+    commits(repository, alloc, request, compares_all(command))
 }
 
 /// Returns the reply to `log`: the commits of its walk, and with paths only those that differ at
@@ -227,9 +233,9 @@ pub fn log<F: Files>(
 {
     let walked = walked(repository, alloc, command)?;
     if command.paths.is_empty() {
-        return Ok(log_text(alloc, &walked)?);
+        return Ok(log_text(alloc, &walked.ids)?);
     }
     let paths = kept_each(alloc, &command.paths)?;
-    let listed = differing(repository, alloc, &walked, &paths)?;
+    let listed = differing(repository, alloc, &walked.read, &walked.ids, &paths)?;
     Ok(log_text(alloc, &listed)?)
 }

@@ -13,9 +13,9 @@ ghost use Rattle.gix_traverse_commit_known.specs.Told.{rows_of};
 ghost use Rattle.history_model.specs.declared.Fault.TheVariants.{Memory};
 ghost use Rattle.history_repository.specs.Stands.{Stands};
 ghost use Rattle.history_repository.specs.Meant.{HasContent};
-ghost use Rattle.history_repository.specs.Reads.{GivesMeant};
+ghost use Rattle.history_repository.specs.Reads.{GivesMeant, IsReadingFault};
 ghost use Rattle.history_repository.specs.Face.{rows_in};
-ghost use Rattle.history_queries.specs.Walked.{AllHold, IsLogged};
+ghost use Rattle.history_queries.specs.Walked.{AllHold, AreRead, IsFollowed};
 ghost use Rattle.history_repository.specs.declared.stopped.Stopped.TheVariants as why;
 ghost use Rattle.history_model.specs.Repository as plain;
 
@@ -27,8 +27,15 @@ use history_files::{File, files};
 use history_model::Fault;
 use history_repository::{MeantCommit, Repository, Stopped, content};
 use history_store::parse_commit;
-use history_walks::{Request, list_commits};
+use history_walks::{ReadCommits, ReadStore, Request, list_commits};
 use std::alloc::{AllocError, Global};
+
+/// The commits that a walk lists, and those that were read for it and are kept.
+#[derive(Drop)]
+pub(crate) struct Walk {
+    pub ids: Vec<ObjectId>,
+    pub read: ReadCommits,
+}
 
 // In a whole repository each id that is read names an object of its kind, so only a failed call
 // leads to `fault File`.
@@ -82,6 +89,25 @@ pub(crate) fn commit_meant<F: Files>(
     }
 }
 
+/// Returns a stored commit. Its content is read only if it isn't kept. The faults are those of
+/// `read_commit`.
+pub(crate) fn commit_kept<F: Files>(
+    repository: &Repository<F>,
+    alloc: Global,
+    read: &ReadCommits,
+    id: &ObjectId,
+) -> Result<Commit, Stopped>
+    ensures { (r : plain.Repository) (value : CommitValue)
+        → Stands F.is_honest F.history repository.now r → AreRead r read.now
+        → get r.objects (id_of id.now) ≡ Some (StoredCommit value)
+        → GivesMeant F.reading_may_fail (λ commit. SaysCommit r.kind commit value) result }
+{
+    match read.content(id) {
+        Some(content) => commit_in(repository, alloc, content),
+        None => read_commit(repository, alloc, id),
+    }
+}
+
 /// Returns the files below a stored tree, their paths ascending. No content of theirs is read. The
 /// faults are those of `read_commit`.
 pub(crate) fn files_below<F: Files>(
@@ -107,8 +133,40 @@ fn copied_rows<F: Files>(repository: &Repository<F>) -> Result<Option<Graph>, Al
     }
 }
 
+/// Returns the commits without rows that tips or hidden commits reach, each read once; none, if
+/// none is to be kept. The tips, the hidden ones and the faults are those of `commits`.
+fn read_ahead<F: Files>(
+    repository: &Repository<F>,
+    alloc: Global,
+    request: &Request,
+    keeps: bool,
+) -> Result<ReadCommits, Stopped>
+    ensures reads { (r : plain.Repository) → Stands F.is_honest F.history repository.now r
+        → IfOk result (AreRead r) }
+    ensures stopped { (r : plain.Repository) → Stands F.is_honest F.history repository.now r
+        → AllHold r request.now.tips.items → AllHold r request.now.hidden.items
+        → IfErr result (IsReadingFault F.reading_may_fail) }
+    ensures rowed { (r : plain.Repository) → Stands F.is_honest F.history repository.now r
+        → AllHeld (rows_of (rows_in repository.now)) request.now.tips.items
+        → AllHeld (rows_of (rows_in repository.now)) request.now.hidden.items
+        → IfErr result (λ stopped. stopped ≡ why.Fault Memory) }
+{
+    if !keeps {
+        return Ok(ReadCommits::new(alloc));
+    }
+    let rows = copied_rows(repository)?;
+    Ok(ReadCommits::reached(
+        alloc,
+        &repository.objects,
+        rows,
+        &request.tips,
+        &request.hidden,
+    )?)
+}
+
 /// Returns the commits that some tips reach and no hidden commit reaches, each once, in the
-/// requested order. Of a commit that has a row no file is read.
+/// requested order; and, if they are to be kept, those without rows that the walk comes to, of
+/// which each is read once. Of a commit that has a row no file is read.
 ///
 /// The tips and the hidden ones are stored commits. It is a fault if a call of the files failed, or
 /// if no memory is left.
@@ -116,16 +174,23 @@ pub(crate) fn commits<F: Files>(
     repository: &Repository<F>,
     alloc: Global,
     request: Request,
-) -> Result<Vec<ObjectId>, Stopped>
+    keeps: bool,
+) -> Result<Walk, Stopped>
     ensures lists { (r : plain.Repository) → Stands F.is_honest F.history repository.now r
         → AllHold r request.tips.items → AllHold r request.hidden.items
-        → GivesMeant F.reading_may_fail (IsLogged r request) result }
+        → GivesMeant F.reading_may_fail (IsFollowed r request) result }
     // If all of them have rows, the walk looks up no object, so that no failed call stops it.
     ensures rowed { (r : plain.Repository) → Stands F.is_honest F.history repository.now r
         → AllHeld (rows_of (rows_in repository.now)) request.tips.items
         → AllHeld (rows_of (rows_in repository.now)) request.hidden.items
         → IfErr result (λ stopped. stopped ≡ why.Fault Memory) }
 {
+    let read = read_ahead(repository, alloc, &request, keeps)?;
     let rows = copied_rows(repository)?;
-    Ok(list_commits(alloc, &repository.objects, rows, request)?)
+    let store = ReadStore {
+        store: &repository.objects,
+        read: &read,
+    };
+    let ids = list_commits(alloc, &store, rows, request)?;
+    Ok(Walk { ids, read })
 }

@@ -13,18 +13,18 @@ ghost use Rattle.history_repository.specs.Face.{rows_in};
 ghost use Rattle.history_repository.specs.Reads.{GivesMeant};
 ghost use Rattle.history_queries.specs.Indexing.{AreTheCommits, AreToldOf};
 ghost use Rattle.history_repository.specs.Stands.{Stands};
-ghost use Rattle.history_queries.specs.Walked.{AllHold};
+ghost use Rattle.history_queries.specs.Walked.{AllHold, AreRead};
 ghost use Rattle.history_model.specs.Answers as model;
 ghost use Rattle.history_model.specs.Repository as plain;
 
-use crate::reading::{commits, read_commit};
+use crate::reading::{commit_kept, commits};
 use gix_hash::ObjectId;
 use gix_object::Commit;
 use gix_ref_file::Files;
 use gix_traverse_commit_graph::{ParentIds, Row};
 use history_repository::{Repository, Stopped};
 use history_store::object_place;
-use history_walks::{Order, Parents, Request, Told, rows_of};
+use history_walks::{Order, Parents, ReadCommits, Request, Told, rows_of};
 use std::alloc::Global;
 
 /// How a commit's text begins, and that of no other object.
@@ -72,15 +72,16 @@ fn row_of<'a, F: Files>(repository: &'a Repository<F>, id: &ObjectId) -> Option<
     repository.rows()?.commit_by_id(id)
 }
 
-/// Returns what a stored commit says: by its row, if it has one; else its content is read. It is a
-/// fault if a call of the files failed, or if no memory is left.
+/// Returns what a stored commit says: by its row, if it has one; else by its content, which is read
+/// only if it isn't kept. It is a fault if a call of the files failed, or if no memory is left.
 pub(crate) fn told_of<F: Files>(
     repository: &Repository<F>,
     alloc: Global,
+    read: &ReadCommits,
     id: &ObjectId,
 ) -> Result<Told, Stopped>
     ensures { (r : plain.Repository) → Stands F.is_honest F.history repository.now r
-        → HoldsCommit r (id_of id.now) → GivesMeant F.reading_may_fail
+        → AreRead r read.now → HoldsCommit r (id_of id.now) → GivesMeant F.reading_may_fail
         (λ told. (told.id ≡ id.now) × TellsStored r told) result }
 {
     if let Some(row) = row_of(repository, id) {
@@ -96,7 +97,7 @@ pub(crate) fn told_of<F: Files>(
         parents,
         committer,
         ..
-    } = read_commit(repository, alloc, id)?;
+    } = commit_kept(repository, alloc, read, id)?;
     Ok(Told {
         id: *id,
         tree,
@@ -109,21 +110,23 @@ pub(crate) fn told_of<F: Files>(
 fn told<F: Files>(
     repository: &Repository<F>,
     alloc: Global,
+    read: &ReadCommits,
     ids: &[ObjectId],
 ) -> Result<Vec<Told>, Stopped>
     ensures { (r : plain.Repository) → Stands F.is_honest F.history repository.now r
-        → AllHold r ids.now
+        → AreRead r read.now → AllHold r ids.now
         → GivesMeant F.reading_may_fail (λ told. AreToldOf r ids.now told.items) result }
 {
     let mut commits = Vec::new(alloc);
     'ids: for id in ids {
-        commits.push(told_of(repository, alloc, id)?)?;
+        commits.push(told_of(repository, alloc, read, id)?)?;
     }
     Ok(commits)
 }
 
-/// Returns the rows of all stored commits. They are read in an order in which each comes before its
-/// parents. It is a fault if a call of the files failed, or if no memory is left.
+/// Returns the rows of all stored commits. Of each object the first bytes are read, and the content
+/// of each commit without a row once. It is a fault if a call of the files failed, or if no memory
+/// is left.
 pub fn all_rows<F: Files>(repository: &Repository<F>, alloc: Global) -> Result<Vec<Row>, Stopped>
     ensures rows { (r : plain.Repository) → Stands F.is_honest F.history repository.now r
         → GivesMeant F.reading_may_fail (λ rows. AreTheRows (model.rows_of r) rows.items)
@@ -136,6 +139,6 @@ pub fn all_rows<F: Files>(repository: &Repository<F>, alloc: Global) -> Result<V
         tips: stored_commits(repository, alloc)?,
         hidden: Vec::new(alloc),
     };
-    let ids = commits(repository, alloc, request)?;
-    Ok(rows_of(alloc, told(repository, alloc, &ids)?)?)
+    let walk = commits(repository, alloc, request, true)?;
+    Ok(rows_of(alloc, told(repository, alloc, &walk.read, &walk.ids)?)?)
 }

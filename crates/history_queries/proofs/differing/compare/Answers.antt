@@ -10,7 +10,7 @@ use Rattle.history_queries.proofs.FoundLemmas.{each_found_same}
 use Rattle.history_queries.proofs.differing.compare.Goals as goal
 
 pub returns-in_default : goal.returns-in_default
-returns-in_default g c = λ r s seen.
+returns-in_default g c = λ r s read seen.
     let here = c.args.here.now in
     let none = none_of c.as_slice.result.now c.first.result c.in_default.is c.first.ensures.value in
     let alone = sym seen.parents ∙ ap (map id_of) (sym c.as_slice.ensures ∙ none) in
@@ -22,19 +22,19 @@ returns-in_default g c = λ r s seen.
     }
 
 pub returns-in_err-before : goal.returns-in_err-before
-returns-in_err-before g c = λ r s seen.
+returns-in_err-before g c = λ r s read seen.
     let first = first_of c.as_slice.result.now c.first.result c.in-Some.parent c.in-Some.is c.first.ensures.value in
     let are = sym seen.parents ∙ ap (map id_of) (sym c.as_slice.ensures ∙ first.1) in
     let holds = (subst (AllByRecursion (HoldsCommit r)) are (parents_held _ _ c.args.repository.now r s (id_of c.args.here.now.id) seen.holds)).0 in
-    fault_told g.F.Files.reading_may_fail _ c.from_residual-in_err-before.result _ c.from_residual-in_err-before.ensures.1 (c.in_err-before.ensures r s holds)
+    fault_told g.F.Files.reading_may_fail _ c.from_residual-in_err-before.result _ c.from_residual-in_err-before.ensures.1 (c.in_err-before.ensures r s read holds)
 
 pub returns : goal.returns
-returns g c = λ r s seen.
+returns g c = λ r s read seen.
     let here = c.args.here.now in
     let first = first_of c.as_slice.result.now c.first.result c.in-Some.parent c.in-Some.is c.first.ensures.value in
     let are = sym seen.parents ∙ ap (map id_of) (sym c.as_slice.ensures ∙ first.1) in
     let holds = (subst (AllByRecursion (HoldsCommit r)) are (parents_held _ _ c.args.repository.now r s (id_of here.id) seen.holds)).0 in
-    let before = c.in_ok-before.ensures r s holds in
+    let before = c.in_ok-before.ensures r s read holds in
     let own = ap (map (option_map entry_of)) c.as_slice-2.ensures.value ∙ seen.found in
     let there = ap (map (option_map entry_of)) c.as_slice-3.ensures.value ∙ before_first r (id_of here.id) c.args.paths.now c.in_ok-before.before (id_of (c.in-Some.parent).now) (map id_of first.0) are before in
     record {

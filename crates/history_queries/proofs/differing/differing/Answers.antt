@@ -12,27 +12,27 @@ use Rattle.history_queries.proofs.differing.differing.Goals.{then-differs+in_ok-
 use Rattle.history_queries.proofs.differing.differing.Goals as goal
 
 pub returns-in_err-here : goal.returns-in_err-here
-returns-in_err-here g c = λ r s hold.
+returns-in_err-here g c = λ r s read hold.
     let holds = hold _ (among c.args.ids.now c.loop-id.id-index (Sha1 []) c.loop-id-test.true) in
-    let last = subst (λ (o : Option Seen). IfSome o (IsSeen r c.args.paths.now)) (sym c.take.ensures.value) (c.loop-id.invariant r s hold).1 in
-    fault_told g.F.Files.reading_may_fail _ c.from_residual.result _ c.from_residual.ensures.1 (c.in_err-here.ensures r s holds last)
+    let last = subst (λ (o : Option Seen). IfSome o (IsSeen r c.args.paths.now)) (sym c.take.ensures.value) (c.loop-id.invariant r s read hold).1 in
+    fault_told g.F.Files.reading_may_fail _ c.from_residual.result _ c.from_residual.ensures.1 (c.in_err-here.ensures r s read holds last)
 
 pub returns-in_err-differs : goal.returns-in_err-differs
-returns-in_err-differs g c = λ r s hold.
+returns-in_err-differs g c = λ r s read hold.
     let holds = hold _ (among c.args.ids.now c.loop-id.id-index (Sha1 []) c.loop-id-test.true) in
-    let last = subst (λ (o : Option Seen). IfSome o (IsSeen r c.args.paths.now)) (sym c.take.ensures.value) (c.loop-id.invariant r s hold).1 in
-    let here = c.in_ok-here.ensures r s holds last in
-    fault_told g.F.Files.reading_may_fail _ c.from_residual-in_err-differs.result _ c.from_residual-in_err-differs.ensures.1 (c.in_err-differs.ensures r s here.1)
+    let last = subst (λ (o : Option Seen). IfSome o (IsSeen r c.args.paths.now)) (sym c.take.ensures.value) (c.loop-id.invariant r s read hold).1 in
+    let here = c.in_ok-here.ensures r s read holds last in
+    fault_told g.F.Files.reading_may_fail _ c.from_residual-in_err-differs.result _ c.from_residual-in_err-differs.ensures.1 (c.in_err-differs.ensures r s read here.1)
 
 pub loop-id-preserved : goal.loop-id-preserved
-loop-id-preserved g c = λ r s hold.
+loop-id-preserved g c = λ r s read hold.
     let ids = c.args.ids.now in
     let i = c.loop-id.id-index in
     let test = differs_at r (map (λ path. path.now) c.args.paths.now) in
     let holds = hold _ (among ids i (Sha1 []) c.loop-id-test.true) in
-    let so_far = c.loop-id.invariant r s hold in
-    let here = c.in_ok-here.ensures r s holds (subst (λ (o : Option Seen). IfSome o (IsSeen r c.args.paths.now)) (sym c.take.ensures.value) so_far.1) in
-    let compared = c.in_ok-differs.ensures r s here.1 in
+    let so_far = c.loop-id.invariant r s read hold in
+    let here = c.in_ok-here.ensures r s read holds (subst (λ (o : Option Seen). IfSome o (IsSeen r c.args.paths.now)) (sym c.take.ensures.value) so_far.1) in
+    let compared = c.in_ok-differs.ensures r s read here.1 in
     let differs = compared.differs ∙ ap test here.0 in (
       elim c.if-differs.branch [
         | then-differs+in_ok-push w ↦
@@ -44,5 +44,5 @@ loop-id-preserved g c = λ r s hold.
     )
 
 pub returns : goal.returns
-returns g c = λ r s hold.
-    (c.loop-id.invariant r s hold).0 ∙ ap (λ some. filter (differs_at r (map (λ path. path.now) c.args.paths.now)) (map id_of some)) (take_all c.loop-id.id-index c.args.ids.now c.loop-id-test.false)
+returns g c = λ r s read hold.
+    (c.loop-id.invariant r s read hold).0 ∙ ap (λ some. filter (differs_at r (map (λ path. path.now) c.args.paths.now)) (map id_of some)) (take_all c.loop-id.id-index c.args.ids.now c.loop-id-test.false)

@@ -1,57 +1,51 @@
-use Rattle.std.proofs.Common.{◌≡◌, ap, sym, subst, List, Option}
+use Rattle.std.proofs.Common.{sym, subst}
 use Rattle.gix_hash_id.specs.Id.{id_of}
 use Rattle.gix_hash_id.specs.Packed.{object_id_of, object_id_of-id_of}
 use Rattle.gix_object_lookup.specs.Table.{Table}
-use Rattle.gix_traverse_commit_known.specs.Told.{AreTold, rows_of}
-use Rattle.gix_traverse_commit_graph.specs.declared.rows.Row.{Row}
 use Rattle.history_model.specs.Answers.{commits_of}
-use Rattle.history_objects.specs.KnownObjects.{table_of}
 use Rattle.history_walks.specs.Asking.{request_of}
-use Rattle.history_walks.specs.Faults.{WalkFault}
+use Rattle.history_walks.specs.ReadCommits.{AreOf, kept_in}
 use Rattle.history_walks.proofs.Named.{named_in_order}
-use Rattle.history_repository.specs.Face.{rows_in}
-use Rattle.history_queries.proofs.CommitsWalked.{are_named, are_told, none_reaches, read_commits, walk_rowed, walk_stopped}
+use Rattle.history_queries.proofs.CommitsWalked.{are_named, commits_there, memory_told, none_reaches, rowed_there, stopped_there, told_there}
+use Rattle.history_repository.proofs.ReadingFaults.{fault_told}
 use Rattle.history_repository.proofs.Tables.{holds_known, tables_same}
 use Rattle.history_queries.proofs.reading.commits.Goals as goal
+
+pub returns-in_err-read-clause-lists : goal.returns-in_err-read-clause-lists
+returns-in_err-read-clause-lists g c = λ r stands tips hidden.
+    fault_told g.F.Files.reading_may_fail _ c.from_residual.result _ c.from_residual.ensures.1 (c.in_err-read.ensures.stopped r stands tips hidden)
+
+pub returns-in_err-read-clause-rowed : goal.returns-in_err-read-clause-rowed
+returns-in_err-read-clause-rowed g c = λ r stands tips hidden.
+    memory_told c.from_residual.result _ c.from_residual.ensures.1 (c.in_err-read.ensures.rowed r stands tips hidden)
 
 pub returns-clause-lists : goal.returns-clause-lists
 returns-clause-lists g c = λ r stands tips hidden.
     let request = c.args.request in
+    let own = c.args.repository.now in
     let store = stands.whole.whole.store in
     let written = stands.whole.written in
-    let commits = read_commits r store written in
-    let table = table_of g.F.Files.history c.args.repository.now.objects in
-    let same = tables_same _ _ c.args.repository.now r stands in
-    let over_rows = subst (λ (t : Table). AreTold (rows_of (rows_in c.args.repository.now)) t commits) (sym same) (are_told r store written (rows_of (rows_in c.args.repository.now)) stands.rows) in
-    let told = subst (λ (rows : Option (List Row)). AreTold (rows_of rows) table commits) (sym c.in_ok-rows.ensures) over_rows in
-    named_in_order id_of object_id_of object_id_of-id_of commits (commits_of r) (are_named r store written) request.order request.tips.items request.hidden.items c.in_ok-list_commits.field-0.items
-    (c.in_ok-list_commits.ensures.lists (holds_known _ _ c.args.repository.now r stands) commits told (none_reaches r store written (request_of request)))
+    let commits = commits_there _ _ own r stands c.in_ok-rows.rows c.in_ok-rows.ensures in
+    let read = c.in_ok-read.ensures.reads r stands in
+    let kept = subst (λ (t : Table). AreOf t (kept_in c.in_ok-read.read)) (sym (tables_same _ _ own r stands)) read in
+    record {
+      lists = named_in_order id_of object_id_of object_id_of-id_of commits (commits_of r) (are_named r store written) request.order request.tips.items request.hidden.items c.in_ok-ids.ids.items
+          (c.in_ok-ids.ensures.lists (holds_known _ _ own r stands, kept) commits (told_there _ _ own r stands c.in_ok-rows.rows c.in_ok-rows.ensures) (none_reaches r store written (request_of request)));
+      read = read;
+    }
 
-pub returns-in_err-list_commits-clause-lists : goal.returns-in_err-list_commits-clause-lists
-returns-in_err-list_commits-clause-lists g c = λ r stands tips hidden.
+pub returns-in_err-ids-clause-lists : goal.returns-in_err-ids-clause-lists
+returns-in_err-ids-clause-lists g c = λ r stands tips hidden.
     let request = c.args.request in
-    let store = stands.whole.whole.store in
-    let written = stands.whole.written in
-    let commits = read_commits r store written in
-    let table = table_of g.F.Files.history c.args.repository.now.objects in
-    let same = tables_same _ _ c.args.repository.now r stands in
-    let over_rows = subst (λ (t : Table). AreTold (rows_of (rows_in c.args.repository.now)) t commits) (sym same) (are_told r store written (rows_of (rows_in c.args.repository.now)) stands.rows) in
-    let told = subst (λ (rows : Option (List Row)). AreTold (rows_of rows) table commits) (sym c.in_ok-rows.ensures) over_rows in
-    let fault = c.in_err-list_commits.ensures.refused (holds_known _ _ c.args.repository.now r stands) commits told in
-    walk_stopped r store written (rows_of c.in_ok-rows.rows) request.tips.items request.hidden.items tips hidden g.F.Files.reading_may_fail _ c.from_residual-in_err-list_commits.result c.in_err-list_commits.field-0.0 c.from_residual-in_err-list_commits.ensures.1
-    (subst (λ (t : Table). WalkFault g.F.Files.reading_may_fail (rows_of c.in_ok-rows.rows) t commits request.tips.items request.hidden.items c.in_err-list_commits.field-0.0) same fault)
+    let own = c.args.repository.now in
+    let kept = subst (λ (t : Table). AreOf t (kept_in c.in_ok-read.read)) (sym (tables_same _ _ own r stands)) (c.in_ok-read.ensures.reads r stands) in
+    stopped_there _ _ own r stands c.in_ok-rows.rows c.in_ok-rows.ensures request.tips.items request.hidden.items tips hidden g.F.Files.reading_may_fail _ c.from_residual-in_err-ids.result c.in_err-ids.field-0.0 c.from_residual-in_err-ids.ensures.1
+    (c.in_err-ids.ensures.refused (holds_known _ _ own r stands, kept) _ (told_there _ _ own r stands c.in_ok-rows.rows c.in_ok-rows.ensures))
 
-pub returns-in_err-list_commits-clause-rowed : goal.returns-in_err-list_commits-clause-rowed
-returns-in_err-list_commits-clause-rowed g c = λ r stands tips hidden.
+pub returns-in_err-ids-clause-rowed : goal.returns-in_err-ids-clause-rowed
+returns-in_err-ids-clause-rowed g c = λ r stands tips hidden.
     let request = c.args.request in
-    let store = stands.whole.whole.store in
-    let written = stands.whole.written in
-    let commits = read_commits r store written in
-    let table = table_of g.F.Files.history c.args.repository.now.objects in
-    let same = tables_same _ _ c.args.repository.now r stands in
-    let over_rows = subst (λ (t : Table). AreTold (rows_of (rows_in c.args.repository.now)) t commits) (sym same) (are_told r store written (rows_of (rows_in c.args.repository.now)) stands.rows) in
-    let told = subst (λ (rows : Option (List Row)). AreTold (rows_of rows) table commits) (sym c.in_ok-rows.ensures) over_rows in
-    let fault = c.in_err-list_commits.ensures.refused (holds_known _ _ c.args.repository.now r stands) commits told in
-    let over_table = subst (λ (t : Table). WalkFault g.F.Files.reading_may_fail (rows_of c.in_ok-rows.rows) t commits request.tips.items request.hidden.items c.in_err-list_commits.field-0.0) same fault in
-    walk_rowed r store written (rows_of (rows_in c.args.repository.now)) stands.rows request.tips.items request.hidden.items tips hidden g.F.Files.reading_may_fail c.from_residual-in_err-list_commits.result c.in_err-list_commits.field-0.0 c.from_residual-in_err-list_commits.ensures.1
-    (subst (λ (rows : Option (List Row)). WalkFault g.F.Files.reading_may_fail (rows_of rows) (Rattle.history_files.specs.Laws.table_of r) commits request.tips.items request.hidden.items c.in_err-list_commits.field-0.0) c.in_ok-rows.ensures over_table)
+    let own = c.args.repository.now in
+    let kept = subst (λ (t : Table). AreOf t (kept_in c.in_ok-read.read)) (sym (tables_same _ _ own r stands)) (c.in_ok-read.ensures.reads r stands) in
+    rowed_there _ _ own r stands c.in_ok-rows.rows c.in_ok-rows.ensures request.tips.items request.hidden.items tips hidden g.F.Files.reading_may_fail c.from_residual-in_err-ids.result c.in_err-ids.field-0.0 c.from_residual-in_err-ids.ensures.1
+    (c.in_err-ids.ensures.refused (holds_known _ _ own r stands, kept) _ (told_there _ _ own r stands c.in_ok-rows.rows c.in_ok-rows.ensures))

@@ -12,13 +12,13 @@ pub returns-in-Some-clause-kind : goal.returns-in-Some-clause-kind
 returns-in-Some-clause-kind g c = λ honest.
     let own = c.args.self.now in
     subst (λ (o : Option Object). IfOk c.find_into.result (λ kind. kind ≡ option_map (λ (object : Object). object.kind) o))
-    (same_there (g.S.Lookup.table own.store.now) (kept_in own.read.now) c.from.result (viewed_id c.args.id) c.in-Some.field-0.now honest.1 c.from.ensures c.in-Some.ensures) (c.find_into.ensures.kind tt)
+    (same_there (g.S.Lookup.table own.store.now) (kept_in own.read.now) c.from.result (viewed_id c.args.id) _ honest.1 c.from.ensures c.in-Some.ensures) (c.find_into.ensures.kind tt)
 
 pub returns-in-Some-clause-content : goal.returns-in-Some-clause-content
 returns-in-Some-clause-content g c = λ honest.
     let own = c.args.self.now in
     subst (λ (o : Option Object). OnOk c.find_into.result (c.find_into.new.buffer.items ≡ content_or_none o))
-    (same_there (g.S.Lookup.table own.store.now) (kept_in own.read.now) c.from.result (viewed_id c.args.id) c.in-Some.field-0.now honest.1 c.from.ensures c.in-Some.ensures) (c.find_into.ensures.content tt)
+    (same_there (g.S.Lookup.table own.store.now) (kept_in own.read.now) c.from.result (viewed_id c.args.id) _ honest.1 c.from.ensures c.in-Some.ensures) (c.find_into.ensures.content tt)
 
 pub returns-in-Some-clause-listed : goal.returns-in-Some-clause-listed
 returns-in-Some-clause-listed g c =
