@@ -4,8 +4,8 @@ against this.
 Each word looks up once the object that its name holds, or whose id it begins, since that may be a commit, a tag or neither. Besides, a
 command looks up once each commit, tree and content that its answer is made of, but for a commit that was looked up as a word's object or
 has a row. A log with paths looks up besides the trees that it compares: of a commit, and of its first parent, unless that is the commit
-that comes next. `index` reads the first bytes of each object, and then each commit that has no row. A graft looks up its word's commit,
-the trees on the way to its source, and each different tree below it once."""
+that comes next. `index` reads the first bytes of each object, and then each commit that has no row. A graft looks up the commit after a
+tag, the trees on the way to its source, and each different tree below it once."""
 
 from plain import Plain, Reader
 
@@ -50,13 +50,15 @@ def of_log(plain, command):
 
 
 def of_grafts(plain, edits):
-    """Of each graft its word's commit, the trees in which the names of its source are looked up, and each different tree below it once."""
+    """Of each graft the commit after its word's tag, the trees in which the names of its source are looked up, and each different tree below
+    it once."""
     found = []
     for _, _, target, source in edits:
-        commit = plain.peeled(of_word(plain, target)[0])
+        held = of_word(plain, target)
+        commit = plain.peeled(held[0])
         files, front = plain.commits[commit]["files"], source + b"/" if source else b""
         below = {it[len(front):]: file for it, file in files.items() if it.startswith(front)}
-        found += [commit, *(of_folders(plain, files, [source]) if source else []), *(set(of_folders(plain, below)) if below else [])]
+        found += [*([] if commit in held else [commit]), *(of_folders(plain, files, [source]) if source else []), *(set(of_folders(plain, below)) if below else [])]
     return found
 
 

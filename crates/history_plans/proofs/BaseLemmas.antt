@@ -1,9 +1,9 @@
 -- What a commit stands on, and the causes that its words, its name and its parents tell.
 use Rattle.std.specs.declared.alloc.Global.{Global}
-use Rattle.std.specs.Prelude.{Vec, Result, IsErrOf, option_and_then}
+use Rattle.std.specs.Prelude.{Vec, Result, IsErrOf, MatchOption, ⊤, option_and_then}
 use Rattle.std.proofs.lemmas.Option.{same_Some}
 use Rattle.std.proofs.Common.{◌≡◌, ℕ, ◌+◌, ◌<◌, length, take, drop, get_or, Bool, true, false, cond, not, ◌||◌, ◌==◌, List, [], ◌∷◌, ◌++◌, map, filter, refl, sym, ◌∙◌, ap, subst, Option, Some, None, is_some, option_map, option_to_list, Err}
-use Rattle.std.specs.List.{cons_option, list_any, filter_map, flat_map}
+use Rattle.std.specs.List.{AllByRecursion, cons_option, list_any, filter_map, flat_map}
 use Rattle.std.proofs.lemmas.List.{map-append, take_more}
 use Rattle.history_model.specs.Bytes.{Bytes, has_twice}
 use Rattle.gix_hash_id.specs.Id.{Id, id_of}
@@ -19,12 +19,14 @@ use Rattle.history_model.specs.declared.Cause.TheVariants.{NoSuchName, Taken, No
 use Rattle.history_word.specs.Commands.{IsExpect}
 use Rattle.gix_hash_id.specs.declared.object_id.ObjectId.{ObjectId}
 use Rattle.history_repository.specs.Reads.{IsReadingFault, GivesMeant}
-use Rattle.history_plans.specs.Bases.{IsExpected, expected_meanings, line_word, source_id, held_cause, parents_cause}
-use Rattle.history_repository.specs.Meanings.{words_cause, reads_as, commit_in, commit_or_cause, meaning_of}
+use Rattle.history_plans.specs.Bases.{IsExpected, IsRootedSource, IsRootedWord, expected_meanings, line_word, source_id, held_cause, parents_cause}
+use Rattle.history_repository.specs.Meanings.{HasRootIn, words_cause, reads_as, commit_in, commit_or_cause, meaning_of, peeled_in}
+use Rattle.history_repository.specs.Meant.{HasRoot, peeled_id}
+use Rattle.history_repository.specs.declared.stored.PeeledCommit.{PeeledCommit}
 use Rattle.history_plans.specs.CommitCauses.{first_among, word_causes, held_causes, parent_causes, IsToldBy, Tests}
 use Rattle.history_repository.specs.declared.words.WordMeaning as own
 use Rattle.history_repository.specs.declared.words.WordMeaning.TheVariants as read
-use Rattle.history_repository.specs.Held.{IsHeld, held_commit}
+use Rattle.history_repository.specs.Held.{IsHeld, held_commit, held_peeled}
 use Rattle.history_repository.specs.declared.held.Held.{Held}
 use Rattle.history_plans.specs.declared.base.Expected.{Expected}
 use Rattle.history_plans.specs.declared.base.Expected.TheVariants as expected
@@ -95,7 +97,14 @@ module _ (r : Repository) where
       ∙ ap (λ xs. map (commit_or_cause r) (edit_words line) ++ xs) (sources_meant lines sources (rest_options e))
       ∙ sym (map-append (commit_or_cause r) (edit_words line) (flat_map edit_words lines))
 
-  one_id : (line : EditLine) (source : Option own.WordMeaning) → option_map meaning_of source ≡ option_map (commit_or_cause r) (line_word line) → option_map id_of (option_and_then commit_in source) ≡ source_id r line
+  peeled_told : (m : own.WordMeaning) → option_map peeled_id (peeled_in m) ≡ option_map id_of (commit_in m)
+  peeled_told (read.Commit commit) = refl
+  peeled_told read.NoCommit = refl
+  peeled_told read.Unborn = refl
+  peeled_told read.Unknown = refl
+  peeled_told read.Ambiguous = refl
+
+  one_id : (line : EditLine) (source : Option own.WordMeaning) → option_map meaning_of source ≡ option_map (commit_or_cause r) (line_word line) → option_map peeled_id (option_and_then peeled_in source) ≡ source_id r line
   one_id (PutLine kind path bytes) None e = refl
   one_id (PutLine kind path bytes) (Some m) e = cc
   one_id (RemoveLine path) None e = refl
@@ -103,15 +112,57 @@ module _ (r : Repository) where
   one_id (RemoveFileLine path) None e = refl
   one_id (RemoveFileLine path) (Some m) e = cc
   one_id (GraftLine path word source) None e = cc
-  one_id (GraftLine path word source) (Some m) e = sym (commit_told r word m (same_Some (meaning_of m) (commit_or_cause r word) e))
+  one_id (GraftLine path word source) (Some m) e = peeled_told m ∙ sym (commit_told r word m (same_Some (meaning_of m) (commit_or_cause r word) e))
 
   -- and the commits that are meant
   pub source_ids_told : (lines : List EditLine) (sources : List (Option own.WordMeaning)) → map (option_map meaning_of) sources ≡ map (λ line. option_map (commit_or_cause r) (line_word line)) lines
-      → map (option_map id_of) (map (option_and_then commit_in) sources) ≡ map (source_id r) lines
+      → map (option_map peeled_id) (map (option_and_then peeled_in) sources) ≡ map (source_id r) lines
   source_ids_told [] [] e = refl
   source_ids_told [] (source ∷ sources) e = cc
   source_ids_told (line ∷ lines) [] e = cc
   source_ids_told (line ∷ lines) (source ∷ sources) e = λ i. one_id line source (first_option e) i ∷ source_ids_told lines sources (rest_options e) i
+
+  one_rooted : (source : Option own.WordMeaning) → IsRootedWord r source → IsRootedSource r (option_and_then peeled_in source)
+  one_rooted None rooted = tt
+  one_rooted (Some m) rooted = rooted
+
+  -- with their roots
+  pub sources_rooted : (sources : List (Option own.WordMeaning)) → AllByRecursion (IsRootedWord r) sources → AllByRecursion (IsRootedSource r) (map (option_and_then peeled_in) sources)
+  sources_rooted [] rooted = tt
+  sources_rooted (source ∷ sources) rooted = (one_rooted source rooted.0, sources_rooted sources rooted.1)
+
+  -- ---- the commits of parents, with their roots
+
+  peeled_ids : (meanings : List own.WordMeaning) → map peeled_id (filter_map peeled_in meanings) ≡ map id_of (filter_map commit_in meanings)
+  peeled_ids [] = refl
+  peeled_ids (m ∷ meanings) = go m (peeled_ids meanings)
+    where
+      go : (m : own.WordMeaning) → map peeled_id (filter_map peeled_in meanings) ≡ map id_of (filter_map commit_in meanings) → map peeled_id (filter_map peeled_in (m ∷ meanings)) ≡ map id_of (filter_map commit_in (m ∷ meanings))
+      go (read.Commit commit) rest = ap (λ ids. peeled_id commit ∷ ids) rest
+      go read.NoCommit rest = rest
+      go read.Unborn rest = rest
+      go read.Unknown rest = rest
+      go read.Ambiguous rest = rest
+
+  words_rooted : (meanings : List own.WordMeaning) → AllByRecursion (HasRootIn r) meanings → AllByRecursion (HasRoot r) (filter_map peeled_in meanings)
+  words_rooted [] rooted = tt
+  words_rooted (m ∷ meanings) rooted = go m rooted.0 (words_rooted meanings rooted.1)
+    where
+      go : (m : own.WordMeaning) → HasRootIn r m → AllByRecursion (HasRoot r) (filter_map peeled_in meanings) → AllByRecursion (HasRoot r) (filter_map peeled_in (m ∷ meanings))
+      go (read.Commit commit) has rest = (has, rest)
+      go read.NoCommit has rest = rest
+      go read.Unborn has rest = rest
+      go read.Unknown has rest = rest
+      go read.Ambiguous has rest = rest
+
+  pub parents_rooted : (held : Option Held) (first : Option PeeledCommit) (meanings : List own.WordMeaning) (commits : List PeeledCommit) → first ≡ option_map held_peeled held
+      → MatchOption held ⊤ (λ (held : Held). HasRoot r held.commit) → AllByRecursion (HasRootIn r) meanings → commits ≡ option_to_list first ++ filter_map peeled_in meanings → AllByRecursion (HasRoot r) commits
+  parents_rooted held first meanings commits same has rooted is =
+      subst (λ (commits : List PeeledCommit). AllByRecursion (HasRoot r) commits) (sym (is ∙ ap (λ (first : Option PeeledCommit). option_to_list first ++ filter_map peeled_in meanings) same)) (of_held held has)
+    where
+      of_held : (held : Option Held) → MatchOption held ⊤ (λ (held : Held). HasRoot r held.commit) → AllByRecursion (HasRoot r) (option_to_list (option_map held_peeled held) ++ filter_map peeled_in meanings)
+      of_held None has = words_rooted meanings rooted
+      of_held (Some held) has = (has, words_rooted meanings rooted)
 
 module _ (r : Repository) (order : CommitCommand) where
   -- the words of the parents, and then those of the edits
@@ -162,7 +213,7 @@ module _ (r : Repository) (name : Bytes) where
       (cond (list_any (is_elsewhere r) ((name, expect) ∷ [])) (Some NotExpected) None))
 
   compared : (id : Id) (meaning : own.WordMeaning) → cond (not (same_id (Some id) (option_map id_of (commit_in meaning))) || false) (Some NotExpected) None ≡ reads_as id (meaning_of meaning)
-  compared id (read.Commit other) = go (id_eq id (id_of other))
+  compared id (read.Commit other) = go (id_eq id (id_of other.id))
     where
       go : (b : Bool) → cond (not b || false) (Some NotExpected) None ≡ cond b None (Some NotExpected)
       go true = refl
@@ -204,21 +255,28 @@ module _ (r : Repository) (order : CommitCommand) where
 
   -- ---- the parents
 
-  pub parents_told : (held : Option ObjectId) (meanings : List own.WordMeaning) (parents : List ObjectId) → option_map id_of held ≡ name_commit r name → map meaning_of meanings ≡ map (commit_or_cause r) order.parents
-      → parents ≡ option_to_list held ++ filter_map commit_in meanings → map id_of parents ≡ parents_of r order
-  parents_told held meanings parents at are is =
-      ap (map id_of) is ∙ map-append id_of (option_to_list held) (filter_map commit_in meanings)
-      ∙ (λ i. first i ++ second i)
+  pub parents_told : (held : Option Held) (first : Option PeeledCommit) (meanings : List own.WordMeaning) (commits : List PeeledCommit) → first ≡ option_map held_peeled held → option_map held_commit held ≡ name_commit r name
+      → map meaning_of meanings ≡ map (commit_or_cause r) order.parents → commits ≡ option_to_list first ++ filter_map peeled_in meanings → map peeled_id commits ≡ parents_of r order
+  parents_told held first meanings commits same at are is =
+      ap (map peeled_id) is ∙ map-append peeled_id (option_to_list first) (filter_map peeled_in meanings)
+      ∙ (λ i. front i ++ behind i)
     where
-      told : (held : Option ObjectId) → map id_of (option_to_list held) ≡ option_to_list (option_map id_of held)
+      told : (first : Option PeeledCommit) → map peeled_id (option_to_list first) ≡ option_to_list (option_map peeled_id first)
       told None = refl
-      told (Some id) = refl
+      told (Some commit) = refl
 
-      first : map id_of (option_to_list held) ≡ option_to_list (name_commit r name)
-      first = told held ∙ ap option_to_list at
+      of_held : (held : Option Held) → option_map peeled_id (option_map held_peeled held) ≡ option_map held_commit held
+      of_held None = refl
+      of_held (Some held) = refl
 
-      second : map id_of (filter_map commit_in meanings) ≡ filter_map (commit_of r) order.parents
-      second = commits_told r meanings order.parents are
+      front : map peeled_id (option_to_list first) ≡ option_to_list (name_commit r name)
+      front = told first ∙ ap option_to_list (ap (option_map peeled_id) same ∙ of_held held ∙ at)
+
+      behind : map peeled_id (filter_map peeled_in meanings) ≡ filter_map (commit_of r) order.parents
+      behind = peeled_ids r meanings ∙ commits_told r meanings order.parents are
+
+  pub ids_told : (commits : List PeeledCommit) (ids : List ObjectId) → map peeled_id commits ≡ parents_of r order → ids ≡ map (λ (commit : PeeledCommit). commit.id) commits → map id_of ids ≡ parents_of r order
+  ids_told commits ids are is = ap (map id_of) is ∙ map_twice id_of (λ (commit : PeeledCommit). commit.id) commits ∙ are
 
   pub parents_so : (parents : List ObjectId) → map id_of parents ≡ parents_of r order → first_among parent_causes r (Commit order) ≡ parents_cause (map id_of parents)
   parents_so parents is = ap parents_cause (sym is)
@@ -232,6 +290,14 @@ pub meaning_added : (r : Repository) (words : List (Vec ℕ Global)) (i : ℕ) (
 meaning_added r words i word meaning meanings more less is read so_far added =
     ap (map meaning_of) added ∙ map-append meaning_of meanings (meaning ∷ []) ∙ (λ j. so_far j ++ read j ∷ [])
     ∙ sym (ap (map (λ (word : Vec ℕ Global). commit_or_cause r word.items)) (take_more words i word less ∙ ap (λ (x : Vec ℕ Global). take i words ++ x ∷ []) (sym is)) ∙ map-append (λ (word : Vec ℕ Global). commit_or_cause r word.items) (take i words) (word ∷ []))
+
+-- one more of which the same holds
+pub all_more : {X : Type 0} (P : X → Type 0) (xs more : List X) (x : X) → AllByRecursion P xs → P x → more ≡ xs ++ x ∷ [] → AllByRecursion P more
+all_more {X} P xs more x all one is = subst (λ (ys : List X). AllByRecursion P ys) (sym is) (go xs all)
+  where
+    go : (xs : List X) → AllByRecursion P xs → AllByRecursion P (xs ++ x ∷ [])
+    go [] all = (one, tt)
+    go (y ∷ ys) all = (all.0, go ys all.1)
 
 -- ---- ids that stand twice
 

@@ -63,7 +63,7 @@ module _ (r : plain.Repository) (name : Bytes) where
   words_told (Some word) expected.New is = absurd is
 
   compared : (id : Id) (meaning : meant.WordMeaning) → cond (not (same_id (Some id) (option_map id_of (commit_in meaning))) || false) (Some NotExpected) None ≡ reads_as id (meaning_of meaning)
-  compared id (read.Commit other) = go (id_eq id (id_of other))
+  compared id (read.Commit other) = go (id_eq id (id_of other.id))
     where
       go : (b : Bool) → cond (not b || false) (Some NotExpected) None ≡ cond b None (Some NotExpected)
       go true = refl

@@ -6,7 +6,6 @@ use Rattle.std.proofs.lemmas.Bool.{or_from, or_parts}
 use Rattle.std.proofs.lemmas.Grind.{flat_map-append}
 use Rattle.std.proofs.lemmas.List.{length-append, length-map, map-append}
 use Rattle.std.proofs.lemmas.List.Folds.{list_any-append}
-use Rattle.gix_hash_id.specs.declared.object_id.ObjectId.{ObjectId}
 use Rattle.history_model.specs.FileMap as model
 use Rattle.history_model.specs.FileMap.{grafted_paths}
 use Rattle.history_model.specs.Repository as plain
@@ -22,6 +21,7 @@ use Rattle.history_word.specs.declared.command.Edit.{Edit}
 use Rattle.history_plans.specs.Files.{AreReadAs, HasSource, IsChangeOf, IsFoundFor, TellsRead, grafts_badly, kept_edit}
 use Rattle.history_plans.specs.declared.editing.Changes.{Changes}
 use Rattle.history_plans.specs.declared.editing.PathChange.{PathChange}
+use Rattle.history_repository.specs.declared.stored.PeeledCommit.{PeeledCommit}
 use Rattle.history_repository.specs.declared.stopped.Stopped.{Stopped}
 use Rattle.history_repository.specs.declared.stopped.Stopped.TheVariants.{Refused, Fault}
 use Rattle.history_plans.proofs.Edits.{AreSoFar, no_paths, read_more}
@@ -29,14 +29,14 @@ use Rattle.history_plans.proofs.LineLemmas.{zip_split}
 use Rattle.history_plans.proofs.Zipped.{zip_get, zip_length}
 
 -- the words of the lines stand for these commits
-abbrev pub SourcesAt : plain.Repository → List EditLine → List (Option ObjectId) → Type 0
+abbrev pub SourcesAt : plain.Repository → List EditLine → List (Option PeeledCommit) → Type 0
 SourcesAt r lines sources = (i : ℕ) (line : EditLine) → i < length lines → HasSource r (get_or lines i line) (get_or sources i None)
 
 -- the edits so far are read, and none of them grafts at a bad path
 abbrev pub ReadSoFar : plain.Repository → List Edit → List PathChange → List NewObject → Type 0
 ReadSoFar r edits made blobs = AreSoFar r edits made blobs × (grafts_badly (map (kept_edit r) edits) ≡ false)
 
-pub all_sources : (r : plain.Repository) (lines : List EditLine) (sources : List (Option ObjectId)) → AllZip (HasSource r) lines sources → SourcesAt r lines sources
+pub all_sources : (r : plain.Repository) (lines : List EditLine) (sources : List (Option PeeledCommit)) → AllZip (HasSource r) lines sources → SourcesAt r lines sources
 all_sources r lines sources all i line less = zip_get (HasSource r) lines sources all i line None less
 
 -- ---- lists
@@ -50,12 +50,12 @@ get_last : {X : Type 0} (xs : List X) (x d : X) → get_or (xs ++ x ∷ []) (len
 get_last [] x d = refl
 get_last (y ∷ xs) x d = get_last xs x d
 
-front_sources : (r : plain.Repository) (front : List EditLine) (line : EditLine) (sources : List (Option ObjectId)) → SourcesAt r (front ++ line ∷ []) sources → SourcesAt r front sources
+front_sources : (r : plain.Repository) (front : List EditLine) (line : EditLine) (sources : List (Option PeeledCommit)) → SourcesAt r (front ++ line ∷ []) sources → SourcesAt r front sources
 front_sources r front line sources at i d less =
     let sum = length-append front (line ∷ []) in
     subst (λ (l : EditLine). HasSource r l (get_or sources i None)) (get_front front line i d less) (at i d (omega arith))
 
-last_source : (r : plain.Repository) (front : List EditLine) (line : EditLine) (sources : List (Option ObjectId)) → SourcesAt r (front ++ line ∷ []) sources → HasSource r line (get_or sources (length front) None)
+last_source : (r : plain.Repository) (front : List EditLine) (line : EditLine) (sources : List (Option PeeledCommit)) → SourcesAt r (front ++ line ∷ []) sources → HasSource r line (get_or sources (length front) None)
 last_source r front line sources at =
     let sum = length-append front (line ∷ []) in
     subst (λ (l : EditLine). HasSource r l (get_or sources (length front) None)) (get_last front line line) (at (length front) line (omega arith))
@@ -100,7 +100,7 @@ get_mapped f (x ∷ xs) (suc i) d = get_mapped f xs i d
 made_length : (r : plain.Repository) (edits : List Edit) (made : List PathChange) (blobs : List NewObject) → AreSoFar r edits made blobs → length made ≡ length edits
 made_length r edits made blobs so_far = zip_length (IsChangeOf r) made (map (kept_edit r) edits) so_far.0 ∙ length-map edits (kept_edit r)
 
-module _ (MayFail : Type 0) (r : plain.Repository) (edits : List Edit) (edit : Edit) (sources : List (Option ObjectId)) (made : List PathChange) (blobs : List NewObject) where
+module _ (MayFail : Type 0) (r : plain.Repository) (edits : List Edit) (edit : Edit) (sources : List (Option PeeledCommit)) (made : List PathChange) (blobs : List NewObject) where
   -- what its line and its source are
   pub one_asked : (lines : List EditLine) → AreEdits (edits ++ edit ∷ []) lines → list_any is_bad_path (flat_map edit_paths lines) ≡ false → SourcesAt r lines sources
       → ((front : List EditLine) → AreEdits edits front → list_any is_bad_path (flat_map edit_paths front) ≡ false → SourcesAt r front sources → ReadSoFar r edits made blobs)
@@ -127,7 +127,7 @@ good_at (line ∷ lines) zero d less good = (no_paths is_bad_path edit_paths lin
 good_at (line ∷ lines) (suc i) d less good = good_at lines i d (omega arith) (no_paths is_bad_path edit_paths line lines good).1
 
 -- what the line and the source of an edit among them are
-pub one_there : (r : plain.Repository) (edits : List Edit) (lines : List EditLine) (sources : List (Option ObjectId)) → AreEdits edits lines → list_any is_bad_path (flat_map edit_paths lines) ≡ false → SourcesAt r lines sources
+pub one_there : (r : plain.Repository) (edits : List Edit) (lines : List EditLine) (sources : List (Option PeeledCommit)) → AreEdits edits lines → list_any is_bad_path (flat_map edit_paths lines) ≡ false → SourcesAt r lines sources
     → (i : ℕ) (edit : Edit) → i < length edits → edit ≡ get_or edits i edit → (line : EditLine) × IsEdit edit line × (list_any is_bad_path (edit_paths line) ≡ false) × HasSource r line (get_or sources i None)
 one_there r edits lines sources are good at i edit less is =
     let within : i < length lines = subst (λ n. i < n) (zip_length IsEdit edits lines are) less in (

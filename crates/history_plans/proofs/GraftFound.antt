@@ -28,6 +28,8 @@ use Rattle.history_word.specs.declared.command.Edit.TheVariants.{Put, Remove, Re
 use Rattle.history_word.specs.declared.command.Graft as sent
 use Rattle.history_repository.specs.Reads.{GivesMeant, IsReadingFault}
 use Rattle.history_repository.specs.Fields.{kept_bytes}
+use Rattle.history_repository.specs.Meant.{HasRoot, peeled_id}
+use Rattle.history_repository.specs.declared.stored.PeeledCommit.{PeeledCommit}
 use Rattle.history_plans.specs.Files.{HasSource, IsFoundFor, StandsWithFolders, TellsRead, kept_edit}
 use Rattle.history_repository.specs.declared.stopped.Stopped.{Stopped}
 use Rattle.history_repository.specs.declared.stopped.Stopped.TheVariants.{Refused, Fault}
@@ -59,14 +61,14 @@ stopped_as MayFail made IsRead AreRead (Fault reason) told = told
 
 module _ (r : plain.Repository) (graft : sent.Graft) where
   -- the commit of a graft's word, and its path
-  pub commit_there : (line : EditLine) (commit : ObjectId) → IsEdit (Graft graft) line → list_any is_bad_path (edit_paths line) ≡ false → HasSource r line (Some commit)
-      → (commit_of r graft.word.items ≡ Some (id_of commit)) × (is_bad_path (kept_bytes graft.path) ≡ false)
+  pub commit_there : (line : EditLine) (commit : PeeledCommit) → IsEdit (Graft graft) line → list_any is_bad_path (edit_paths line) ≡ false → HasSource r line (Some commit)
+      → (commit_of r graft.word.items ≡ Some (peeled_id commit)) × (is_bad_path (kept_bytes graft.path) ≡ false) × HasRoot r commit
   commit_there (PutLine kind path bytes) commit is good has = absurd is
   commit_there (RemoveLine path) commit is good has = absurd is
   commit_there (RemoveFileLine path) commit is good has = absurd is
   commit_there (GraftLine path word from) commit is good has =
       let parts = or_parts (is_bad_path path) (list_any is_bad_path (source_paths from)) good in
-      (ap (commit_of r) is.1 ∙ has, ap is_bad_path (whole_path graft.path path is.0 parts.0) ∙ parts.0)
+      (ap (commit_of r) is.1 ∙ has.0, ap is_bad_path (whole_path graft.path path is.0 parts.0) ∙ parts.0, has.1)
 
   -- a graft has a commit
   pub no_commit : (line : EditLine) → IsEdit (Graft graft) line → HasSource r line None → ⊥
@@ -75,18 +77,18 @@ module _ (r : plain.Repository) (graft : sent.Graft) where
   no_commit (RemoveFileLine path) is has = is
   no_commit (GraftLine path word from) is has = has
 
-  module _ (whole : IsWholeStore r) (written : IsWritten r) (commit : ObjectId) (reads : commit_of r graft.word.items ≡ Some (id_of commit)) where
-    pub word_holds : HoldsCommit r (id_of commit)
-    word_holds = read_holds r whole (word_meaning r graft.word.items) (id_of commit) reads
+  module _ (whole : IsWholeStore r) (written : IsWritten r) (commit : PeeledCommit) (reads : commit_of r graft.word.items ≡ Some (peeled_id commit)) where
+    pub word_holds : HoldsCommit r (peeled_id commit)
+    word_holds = read_holds r whole (word_meaning r graft.word.items) (peeled_id commit) reads
 
     -- the files that it has
-    word_files_are : word_files r graft.word.items ≡ files_at r (id_of commit)
+    word_files_are : word_files r graft.word.items ≡ files_at r (peeled_id commit)
     word_files_are = ap (λ o. first_files r (option_to_list o)) reads
 
     pub word_stands : StandsWithFolders r (word_files r graft.word.items)
-    word_stands = subst (StandsWithFolders r) (sym word_files_are) (files_folder r whole written (id_of commit) word_holds)
+    word_stands = subst (StandsWithFolders r) (sym word_files_are) (files_folder r whole written (peeled_id commit) word_holds)
 
-    pub found_is : (source : Bytes) → source ≡ kept_bytes graft.source → (found : Option Found) → IsSource (table_of r) r.kind source (files_at r (id_of commit)) found → IsFoundFor r (Graft graft) found
+    pub found_is : (source : Bytes) → source ≡ kept_bytes graft.source → (found : Option Found) → IsSource (table_of r) r.kind source (files_at r (peeled_id commit)) found → IsFoundFor r (Graft graft) found
     found_is source same found is =
         subst (λ s. IsSource (table_of r) r.kind s (word_files r graft.word.items) found) same
         (subst (λ (files : FileMap). IsSource (table_of r) r.kind source files found) (sym word_files_are) is)

@@ -1,9 +1,10 @@
 -- The commits of the words of edits.
 use Rattle.std.proofs.Common.{◌≡◌, ℕ, ◌+◌, ◌<◌, length, take, get_or, ◌∙◌, sym, ap, subst, refl, Bool, true, false, cond, List, [], ◌∷◌, ◌++◌, map, find, Option, Some, None, option_map, inl, inr, ◌⊎◌}
 use Rattle.std.specs.Prelude.{IsSome, is_none}
-use Rattle.std.specs.List.{AllZip, flat_map, list_any}
-use Rattle.gix_hash_id.specs.Id.{Id, id_of}
-use Rattle.gix_hash_id.specs.declared.object_id.ObjectId.{ObjectId}
+use Rattle.std.specs.List.{AllByRecursion, AllZip, flat_map, list_any}
+use Rattle.gix_hash_id.specs.Id.{Id}
+use Rattle.history_repository.specs.Meant.{peeled_id}
+use Rattle.history_repository.specs.declared.stored.PeeledCommit.{PeeledCommit}
 use Rattle.history_model.specs.Bytes.{Bytes}
 use Rattle.history_model.specs.Repository.{Repository, peeled}
 use Rattle.history_model.specs.Words.{WordMeaning, ReadsAs, Unborn, Unknown, Ambiguous, commit_of, commit_read, word_meaning}
@@ -18,7 +19,7 @@ use Rattle.history_word.specs.Commands.{AreEdits, IsEdit}
 use Rattle.history_word.specs.declared.command.Edit.{Edit}
 use Rattle.history_word.specs.declared.command.Edit.TheVariants.{Graft}
 use Rattle.history_word.specs.declared.command.Graft as received
-use Rattle.history_plans.specs.Bases.{line_word, source_id}
+use Rattle.history_plans.specs.Bases.{IsRootedSource, line_word, source_id}
 use Rattle.history_repository.specs.Meanings.{commit_or_cause, meaning_of}
 use Rattle.history_repository.specs.declared.words.WordMeaning as own
 use Rattle.history_plans.proofs.Zipped.{zip_get, zip_length}
@@ -26,24 +27,24 @@ use Rattle.history_plans.specs.CommitCauses.{first_among, name_causes}
 use Rattle.history_plans.specs.Files.{HasSource}
 
 module _ (r : Repository) where
-  one_read : (line : EditLine) (source : Option ObjectId) → option_map id_of source ≡ source_id r line → ((word : Bytes) → In word (edit_words line) → IsSome (commit_of r word)) → HasSource r line source
-  one_read (PutLine kind path bytes) source same read = tt
-  one_read (RemoveLine path) source same read = tt
-  one_read (RemoveFileLine path) source same read = tt
-  one_read (GraftLine path word from) (Some id) same read = sym same
-  one_read (GraftLine path word from) None same read = go (commit_of r word) same (read word (inl refl))
+  one_read : (line : EditLine) (source : Option PeeledCommit) → option_map peeled_id source ≡ source_id r line → IsRootedSource r source → ((word : Bytes) → In word (edit_words line) → IsSome (commit_of r word)) → HasSource r line source
+  one_read (PutLine kind path bytes) source same rooted read = tt
+  one_read (RemoveLine path) source same rooted read = tt
+  one_read (RemoveFileLine path) source same rooted read = tt
+  one_read (GraftLine path word from) (Some commit) same rooted read = (sym same, rooted)
+  one_read (GraftLine path word from) None same rooted read = go (commit_of r word) same (read word (inl refl))
     where
       go : (o : Option Id) → None ≡ o → IsSome o → ⊥
       go None e some = cc
       go (Some id) e some = cc
 
-  all_read : (lines : List EditLine) (sources : List (Option ObjectId)) → map (option_map id_of) sources ≡ map (source_id r) lines → ((word : Bytes) → In word (flat_map edit_words lines) → IsSome (commit_of r word)) → AllZip (HasSource r) lines sources
-  all_read [] [] same read = tt
-  all_read [] (source ∷ sources) same read = cc
-  all_read (line ∷ lines) [] same read = cc
-  all_read (line ∷ lines) (source ∷ sources) same read = (
-    one_read line source (first same) (λ word i. read word (in_left word (edit_words line) (flat_map edit_words lines) i)),
-    all_read lines sources (rest same) (λ word i. read word (in_right word (edit_words line) (flat_map edit_words lines) i)),
+  all_read : (lines : List EditLine) (sources : List (Option PeeledCommit)) → map (option_map peeled_id) sources ≡ map (source_id r) lines → AllByRecursion (IsRootedSource r) sources → ((word : Bytes) → In word (flat_map edit_words lines) → IsSome (commit_of r word)) → AllZip (HasSource r) lines sources
+  all_read [] [] same rooted read = tt
+  all_read [] (source ∷ sources) same rooted read = cc
+  all_read (line ∷ lines) [] same rooted read = cc
+  all_read (line ∷ lines) (source ∷ sources) same rooted read = (
+    one_read line source (first same) rooted.0 (λ word i. read word (in_left word (edit_words line) (flat_map edit_words lines) i)),
+    all_read lines sources (rest same) rooted.1 (λ word i. read word (in_right word (edit_words line) (flat_map edit_words lines) i)),
   )
     where
       first : {a b : Option Id} {xs ys : List (Option Id)} → a ∷ xs ≡ b ∷ ys → a ≡ b
@@ -85,8 +86,8 @@ module _ (r : Repository) (order : CommitCommand) (none : first_among name_cause
       go Ambiguous a b c d = cc
 
   -- so each edit's word reads as the commit that is given
-  pub sources_told : (sources : List (Option ObjectId)) → map (option_map id_of) sources ≡ map (source_id r) order.edits → AllZip (HasSource r) order.edits sources
-  sources_told sources same = all_read r order.edits sources same (λ word i.
+  pub sources_told : (sources : List (Option PeeledCommit)) → map (option_map peeled_id) sources ≡ map (source_id r) order.edits → AllByRecursion (IsRootedSource r) sources → AllZip (HasSource r) order.edits sources
+  sources_told sources same rooted = all_read r order.edits sources same rooted (λ word i.
       word_reads word (in_right word (at_word order.expect) (order.parents ++ flat_map edit_words order.edits) (in_right word order.parents (flat_map edit_words order.edits) i)))
 
 -- ---- one edit after another

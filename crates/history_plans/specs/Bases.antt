@@ -1,5 +1,6 @@
 -- What a commit is based on, and why it can't be based on it.
-use Rattle.std.specs.Prelude.{◌≡◌, ⊤, List, [], ◌∷◌, map, length, nat_lt, Option, Some, None, Result, option_map, option_and_then, if◌then◌else◌}
+use Rattle.std.specs.Prelude.{◌≡◌, ⊤, List, [], ◌∷◌, map, length, nat_lt, Option, Some, None, Result, MatchOption, option_map, option_and_then, if◌then◌else◌}
+use Rattle.std.specs.List.{AllByRecursion}
 use Rattle.history_model.specs.Bytes.{Bytes, has_twice}
 use Rattle.history_model.specs.Repository as plain
 use Rattle.history_model.specs.Repository.{id_at}
@@ -11,7 +12,11 @@ use Rattle.history_model.specs.declared.Cause.{Cause}
 use Rattle.history_model.specs.declared.Cause.TheVariants.{NoSuchName, Taken, TooManyParents, DuplicateParent}
 use Rattle.gix_hash_id.specs.Id.{Id, id_of}
 use Rattle.gix_hash_id.specs.Order.{id_eq}
-use Rattle.history_repository.specs.Meanings.{commit_or_cause, meaning_of, reads_as}
+use Rattle.history_repository.specs.Meanings.{HasRootIn, commit_or_cause, meaning_of, reads_as}
+use Rattle.history_repository.specs.Meant.{HasRoot, peeled_id}
+use Rattle.history_repository.specs.TreesBefore.{IsTreeBefore}
+use Rattle.history_repository.specs.declared.stored.PeeledCommit.{PeeledCommit}
+use Rattle.history_repository.specs.declared.words.WordMeaning.{WordMeaning}
 use Rattle.history_plans.specs.declared.base.Base.{Base}
 use Rattle.history_plans.specs.declared.base.Expected.{Expected}
 use Rattle.history_plans.specs.declared.base.Expected.TheVariants.{Any, New, At}
@@ -51,11 +56,20 @@ line_word _ = None
 abbrev pub source_id : plain.Repository → orders.EditLine → Option Id
 source_id r line = option_and_then (commit_of r) (line_word line)
 
--- the name that the commit moves, what it holds, the commit's parents, and of each edit the commit
--- of its word, if it has one
+-- the root is that of the commit of an edit's word, if it is known
+abbrev pub IsRootedWord : plain.Repository → Option WordMeaning → Type 0
+IsRootedWord r word = MatchOption word ⊤ (HasRootIn r)
+
+abbrev pub IsRootedSource : plain.Repository → Option PeeledCommit → Type 0
+IsRootedSource r source = MatchOption source ⊤ (HasRoot r)
+
+-- the name that the commit moves, what it holds, the commit's parents, the tree of the first, and
+-- of each edit the commit of its word, if it has one
 pub record IsCommitBase (r : plain.Repository) (order : orders.CommitCommand)
     (base : Base) : Type 0 where
   pub name : base.name.items ≡ branch_or_name r order.name
   pub held : option_map id_of base.held ≡ id_at r (branch_or_name r order.name)
   pub parents : map id_of base.parents.items ≡ parents_of r order
-  pub sources : map (option_map id_of) base.sources.items ≡ map (source_id r) order.edits
+  pub tree : IsTreeBefore r (parents_of r order) base.tree
+  pub sources : map (option_map peeled_id) base.sources.items ≡ map (source_id r) order.edits
+  pub rooted : AllByRecursion (IsRootedSource r) base.sources.items

@@ -2,8 +2,7 @@
 use Rattle.std.specs.Prelude.{◌≡◌, ⊤, Bool, true, false, List, Option, Some, None, Result, Ok, Err, IsTrue, IsFalse}
 use Rattle.std.specs.List.{AllZip, flat_map, list_any}
 use Rattle.std.specs.FinMap.{get}
-use Rattle.gix_hash_id.specs.Id.{Id, id_of}
-use Rattle.gix_hash_id.specs.declared.object_id.ObjectId.{ObjectId}
+use Rattle.gix_hash_id.specs.Id.{Id}
 use Rattle.history_model.specs.Bytes.{Bytes}
 use Rattle.history_model.specs.FileMap as model
 use Rattle.history_model.specs.FileMap.{FileMap, grafted_paths, some_refused}
@@ -28,10 +27,12 @@ use Rattle.history_files.specs.declared.trees.EditedFiles.{EditedFiles}
 use Rattle.history_objects.specs.Stores.{AreObjectsOf}
 use Rattle.history_word.specs.declared.command.Edit.{Edit}
 use Rattle.history_word.specs.declared.command.Edit.TheVariants.{Put, Remove, RemoveFile, Graft}
+use Rattle.history_repository.specs.Meant.{HasRoot, peeled_id}
 use Rattle.history_repository.specs.Reads.{IsReadingFault}
 use Rattle.history_repository.specs.Fields.{kept_bytes}
 use Rattle.history_plans.specs.declared.editing.Changes.{Changes}
 use Rattle.history_plans.specs.declared.editing.PathChange.{PathChange}
+use Rattle.history_repository.specs.declared.stored.PeeledCommit.{PeeledCommit}
 use Rattle.history_repository.specs.declared.stopped.Stopped.{Stopped}
 use Rattle.history_repository.specs.declared.stopped.Stopped.TheVariants.{Refused, Fault}
 
@@ -51,9 +52,10 @@ IsFoundFor r (Graft graft) found =
     IsSource (table_of r) r.kind (kept_bytes graft.source) (word_files r graft.word.items) found
 IsFoundFor r _ found = ⊤
 
--- the commit of the line's word, if it has one
-abbrev pub HasSource : plain.Repository → EditLine → Option ObjectId → Type 0
-HasSource r (GraftLine path word source) (Some id) = commit_of r word ≡ Some (id_of id)
+-- the commit of the line's word, if it has one, with its root, if that is known
+abbrev pub HasSource : plain.Repository → EditLine → Option PeeledCommit → Type 0
+HasSource r (GraftLine path word source) (Some commit) =
+    (commit_of r word ≡ Some (peeled_id commit)) × HasRoot r commit
 HasSource r (GraftLine path word source) None = ⊥
 HasSource r _ source = ⊤
 

@@ -3,16 +3,17 @@
 ghost use Rattle.std.specs.Prelude.{◌≡◌, MatchResult, None, Some, ◌++◌, ⊤, IfOk, IsTrue, List, map, option_and_then, option_map, option_to_list};
 ghost use Rattle.history_plans.specs.CommitCauses.{IsNamed, Tests, name_form_causes, name_causes, place_causes};
 ghost use Rattle.history_repository.specs.Stands.{Stands};
-ghost use Rattle.std.specs.List.{filter_map};
+ghost use Rattle.std.specs.List.{AllByRecursion, filter_map};
 ghost use Rattle.history_model.specs.Forms.{is_name};
 ghost use Rattle.history_model.specs.Meaning.{branch_or_name};
 ghost use Rattle.history_word.specs.Commands.{AreEdits, IsEdit, IsExpect};
 ghost use Rattle.history_repository.specs.Reads.{GivesMeant};
 ghost use Rattle.history_plans.specs.Asked.{AskedCommit};
-ghost use Rattle.history_plans.specs.Bases.{IsCommitBase, IsExpected, expected_meanings, held_cause, line_word, parents_cause};
-ghost use Rattle.history_repository.specs.Meanings.{words_cause, commit_in, commit_or_cause, meaning_of};
+ghost use Rattle.history_plans.specs.Bases.{IsCommitBase, IsExpected, IsRootedWord, expected_meanings, held_cause, line_word, parents_cause};
+ghost use Rattle.history_repository.specs.Meanings.{HasRootIn, words_cause, commit_or_cause, meaning_of, peeled_in};
 ghost use Rattle.history_repository.specs.Held.{IsHeld};
 ghost use Rattle.gix_hash_id.specs.Id.{id_of};
+ghost use Rattle.history_repository.specs.declared.stored.PeeledCommit.{PeeledCommit};
 ghost use Rattle.history_model.specs.Repository as plain;
 ghost use Rattle.history_model.specs.Commands as orders;
 
@@ -22,8 +23,8 @@ use history_model::Cause;
 use history_model::limits::MAX_PARENTS;
 use history_model::names::HEAD;
 use history_repository::{
-    Held, Repository, Stopped, WordMeaning, commit_held, id_held, read_held, read_word, test_all,
-    test_name,
+    Held, PeeledCommit, Repository, Stopped, WordMeaning, commit_held, id_held, peeled_held,
+    read_held, read_word, test_all, test_name, tree_before,
 };
 use history_store::has_twice;
 use history_word::{CommitCommand, Edit, Expect};
@@ -48,14 +49,15 @@ pub(crate) fn name_of<F: Files>(
     Ok(Vec::from_slice(alloc, name)?)
 }
 
-/// The name that a commit moves, what it holds, the commit's parents, and of each edit the commit
-/// of its word, if it has one.
+/// The name that a commit moves, what it holds, the commit's parents, the tree of the first, and of
+/// each edit the commit of its word, if it has one.
 #[derive(Drop)]
 pub(crate) struct Base {
     pub(crate) name: Vec<u8>,
     pub(crate) held: Option<ObjectId>,
     pub(crate) parents: Vec<ObjectId>,
-    pub(crate) sources: Vec<Option<ObjectId>>,
+    pub(crate) tree: Option<ObjectId>,
+    pub(crate) sources: Vec<Option<PeeledCommit>>,
 }
 
 /// What is expected of a name, its word read.
@@ -103,23 +105,24 @@ fn all_words(
 }
 
 /// Returns the commits of the edits' words.
-fn source_ids(
+fn peeled_sources(
     alloc: Global,
     sources: &[Option<WordMeaning>],
-) -> Result<Vec<Option<ObjectId>>, AllocError>
-    ensures { IfOk result (λ ids. ids.items ≡ map (option_and_then commit_in) sources.now) }
+) -> Result<Vec<Option<PeeledCommit>>, AllocError>
+    ensures { IfOk result
+        (λ commits. commits.items ≡ map (option_and_then peeled_in) sources.now) }
 {
     sources
         .iter()
-        .map(|source| source_id(*source))
+        .map(|source| peeled_source(*source))
         .collect(alloc)
 }
 
-fn source_id(source: Option<WordMeaning>) -> Option<ObjectId>
-    ensures { result ≡ option_and_then commit_in source }
+fn peeled_source(source: Option<WordMeaning>) -> Option<PeeledCommit>
+    ensures { result ≡ option_and_then peeled_in source }
 {
     match source {
-        Some(meaning) => meaning.id(),
+        Some(meaning) => meaning.peeled(),
         None => None,
     }
 }
@@ -141,16 +144,23 @@ pub(crate) fn test_words(expected: Expected, parents: &[WordMeaning]) -> Result<
 /// Returns the parents of a commit: that of its name, and then what its words read as.
 fn parents_of(
     alloc: Global,
-    held: Option<ObjectId>,
+    held: Option<PeeledCommit>,
     words: &[WordMeaning],
-) -> Result<Vec<ObjectId>, AllocError>
+) -> Result<Vec<PeeledCommit>, AllocError>
     ensures { IfOk result
-        (λ parents. parents.items ≡ option_to_list held ++ filter_map commit_in words.now) }
+        (λ parents. parents.items ≡ option_to_list held ++ filter_map peeled_in words.now) }
 {
     let mut parents = Vec::new(alloc);
     parents.extend(held)?;
-    parents.extend(words.iter().filter_map(|word| word.id()))?;
+    parents.extend(words.iter().filter_map(|word| word.peeled()))?;
     Ok(parents)
+}
+
+fn ids_of(alloc: Global, commits: &[PeeledCommit]) -> Result<Vec<ObjectId>, AllocError>
+    ensures { IfOk result
+        (λ ids. ids.items ≡ map (λ (commit : PeeledCommit). commit.id) commits.now) }
+{
+    commits.iter().map(|commit| commit.id).collect(alloc)
 }
 
 /// Tests that the parents aren't too many, and that none occurs twice. Otherwise returns
@@ -192,9 +202,11 @@ fn read_words<F: Files>(
     alloc: Global,
     words: &[Vec<u8>],
 ) -> Result<Vec<WordMeaning>, Stopped>
-    ensures { (r : plain.Repository) → Stands F.is_honest F.history repository.now r
+    ensures means { (r : plain.Repository) → Stands F.is_honest F.history repository.now r
         → GivesMeant F.reading_may_fail (λ meanings. map meaning_of meanings.items
         ≡ map (λ word. commit_or_cause r word.items) words.now) result }
+    ensures rooted { (r : plain.Repository) → Stands F.is_honest F.history repository.now r
+        → IfOk result (λ meanings. AllByRecursion (HasRootIn r) meanings.items) }
 {
     let mut meanings = Vec::new(alloc);
     for word in words {
@@ -210,10 +222,12 @@ fn read_source<F: Files>(
     alloc: Global,
     edit: &Edit,
 ) -> Result<Option<WordMeaning>, Stopped>
-    ensures { (r : plain.Repository) (line : orders.EditLine)
+    ensures means { (r : plain.Repository) (line : orders.EditLine)
         → Stands F.is_honest F.history repository.now r → IsEdit edit.now line
         → GivesMeant F.reading_may_fail (λ source. option_map meaning_of source
         ≡ option_map (commit_or_cause r) (line_word line)) result }
+    ensures rooted { (r : plain.Repository) → Stands F.is_honest F.history repository.now r
+        → IfOk result (IsRootedWord r) }
 {
     match edit {
         Edit::Graft(graft) => Ok(Some(read_word(repository, alloc, &graft.word)?)),
@@ -230,10 +244,12 @@ fn read_sources<F: Files>(
     alloc: Global,
     edits: &[Edit],
 ) -> Result<Vec<Option<WordMeaning>>, Stopped>
-    ensures { (r : plain.Repository) (lines : List orders.EditLine)
+    ensures means { (r : plain.Repository) (lines : List orders.EditLine)
         → Stands F.is_honest F.history repository.now r → AreEdits edits.now lines
         → GivesMeant F.reading_may_fail (λ sources. map (option_map meaning_of) sources.items
         ≡ map (λ line. option_map (commit_or_cause r) (line_word line)) lines) result }
+    ensures rooted { (r : plain.Repository) → Stands F.is_honest F.history repository.now r
+        → IfOk result (λ sources. AllByRecursion (IsRootedWord r) sources.items) }
 {
     let mut sources = Vec::new(alloc);
     for edit in edits {
@@ -288,13 +304,16 @@ pub(crate) fn read_base<F: Files>(
     let held = read_held(repository, alloc, &name)?;
     expected.test(commit_held(held))?;
     test_place(repository, alloc, &name, held)?;
-    let parents = parents_of(alloc, commit_held(held), &words)?;
+    let commits = parents_of(alloc, peeled_held(held), &words)?;
+    let parents = ids_of(alloc, &commits)?;
     test_parents(&parents)?;
-    let sources = source_ids(alloc, &sources)?;
+    let tree = tree_before(repository, alloc, &commits)?;
+    let sources = peeled_sources(alloc, &sources)?;
     Ok(Base {
         name,
         held: id_held(held),
         parents,
+        tree,
         sources,
     })
 }

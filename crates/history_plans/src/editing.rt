@@ -1,18 +1,18 @@
 //! What a commit's edits put, and what they make of its first parent's files.
 
 ghost use Rattle.std.specs.Prelude.{◌≡◌, IfOk, IsFalse, List, map, option_to_list};
-ghost use Rattle.std.specs.List.{AllByRecursion, AllZip, flat_map, list_any};
-ghost use Rattle.gix_hash_id.specs.Id.{id_of};
+ghost use Rattle.std.specs.List.{AllZip, flat_map, list_any};
+ghost use Rattle.gix_hash_id.specs.Id.{Id};
 ghost use Rattle.history_model.specs.Causes.{is_bad_path};
 ghost use Rattle.history_model.specs.CommandParts.{edit_paths};
 ghost use Rattle.history_model.specs.Commands.{EditLine};
 ghost use Rattle.history_model.specs.Meaning.{put_bytes};
-ghost use Rattle.history_model.specs.Repository.{HoldsCommit};
 ghost use Rattle.history_files.specs.Editing.{HavePaths};
 ghost use Rattle.history_objects.specs.Stores.{AreObjectsOf};
 ghost use Rattle.history_word.specs.Commands.{AreEdits};
 ghost use Rattle.history_plans.specs.Files.{AreChangesOf, AreReadAs, HasSource, IsFoundFor, TellsEdited, TellsRead, IsChangeOf, change_parts, edit_parts, grafts_none, kept_edit, unmade};
 ghost use Rattle.history_repository.specs.Stands.{Stands};
+ghost use Rattle.history_repository.specs.TreesBefore.{IsTreeBefore};
 ghost use Rattle.history_model.specs.FileMap as model;
 ghost use Rattle.history_model.specs.Repository as plain;
 
@@ -21,7 +21,7 @@ use gix_hash::{Kind, ObjectId};
 use gix_ref_file::Files;
 use history_files::{Change, EditError, EditedFiles, Found, edit_files};
 use history_model::{Cause, Fault};
-use history_repository::{Repository, Stopped, into_kept, tree_before};
+use history_repository::{PeeledCommit, Repository, Stopped, into_kept};
 use history_store::NewObject;
 use history_word::Edit;
 use std::alloc::{AllocError, Global};
@@ -83,7 +83,7 @@ pub(crate) fn read_edits<F: Files>(
     repository: &Repository<F>,
     alloc: Global,
     edits: Vec<Edit>,
-    sources: &[Option<ObjectId>],
+    sources: &[Option<PeeledCommit>],
 ) -> Result<Changes, Stopped>
     ensures { (r : plain.Repository) (lines : List EditLine)
         → Stands F.is_honest F.history repository.now r → AreEdits edits.items lines
@@ -150,22 +150,20 @@ fn unmade(error: EditError) -> Result<Option<EditedFiles>, Stopped>
     }
 }
 
-/// Returns what changes make of the first parent's files, or of none; `None` if what is put or a
-/// tree would have the null id. It is refused with `IsFolder` if there is a folder where a file is
-/// to be removed. The faults are those of `read_edits`.
+/// Returns what changes make of the files of the first parent's tree, or of none; `None` if what is
+/// put or a tree would have the null id. It is refused with `IsFolder` if there is a folder where a
+/// file is to be removed. The faults are those of `read_edits`.
 pub(crate) fn edited<F: Files>(
     repository: &Repository<F>,
     alloc: Global,
-    parents: &[ObjectId],
+    tree: Option<ObjectId>,
     changes: &[PathChange],
 ) -> Result<Option<EditedFiles>, Stopped>
-    ensures { (r : plain.Repository) (made : List model.Edit)
-        → Stands F.is_honest F.history repository.now r
-        → AllByRecursion (HoldsCommit r) (map id_of parents.now)
+    ensures { (r : plain.Repository) (parents : List Id) (made : List model.Edit)
+        → Stands F.is_honest F.history repository.now r → IsTreeBefore r parents tree
         → AreChangesOf r changes.now made → HavePaths made
-        → TellsEdited F.reading_may_fail r (map id_of parents.now) made result }
+        → TellsEdited F.reading_may_fail r parents made result }
 {
-    let tree = tree_before(repository, alloc, parents)?;
     let edits = edits_of(alloc, changes)?;
     match edit_files(
         alloc,

@@ -4,6 +4,7 @@ ghost use Rattle.std.specs.Prelude.{◌≡◌, ◌∷◌, [], ◌+◌, ⊤, IsFa
 ghost use Rattle.std.specs.FinMap.{entries, get};
 ghost use Rattle.std.specs.List.{list_any};
 ghost use Rattle.gix_hash_id.specs.Id.{id_of};
+ghost use Rattle.history_repository.specs.Meant.{HasRoot, peeled_id};
 ghost use Rattle.history_model.specs.Answers.{file_line};
 ghost use Rattle.history_model.specs.Bytes.{Bytes};
 ghost use Rattle.history_model.specs.Causes.{is_bad_path};
@@ -29,12 +30,12 @@ use gix_ref_file::Files;
 use history_files::{File, Found, files_by_trees};
 use history_model::limits::MAX_PATH;
 use history_model::{Cause, Fault};
-use history_repository::{Repository, Stopped, found_below, kept, root_of};
+use history_repository::{PeeledCommit, Repository, Stopped, found_below, kept, root_peeled};
 use history_word::Edit;
 use std::alloc::Global;
 
 /// Returns the commit of the word of the edit at a place, if it has one.
-pub(crate) fn source_at(sources: &[Option<ObjectId>], at: usize) -> Option<ObjectId>
+pub(crate) fn source_at(sources: &[Option<PeeledCommit>], at: usize) -> Option<PeeledCommit>
     ensures { result ≡ get_or sources.now at None }
 {
     match sources.get(at) {
@@ -49,7 +50,7 @@ pub(crate) fn found_for<F: Files>(
     repository: &Repository<F>,
     alloc: Global,
     edit: &Edit,
-    source: Option<ObjectId>,
+    source: Option<PeeledCommit>,
 ) -> Result<Option<Found>, Stopped>
     ensures { (r : plain.Repository) (line : EditLine)
         → Stands F.is_honest F.history repository.now r → IsEdit edit.now line
@@ -69,15 +70,15 @@ pub(crate) fn found_for<F: Files>(
 fn found_in<F: Files>(
     repository: &Repository<F>,
     alloc: Global,
-    commit: &ObjectId,
+    commit: &PeeledCommit,
     source: &[u8],
 ) -> Result<Option<Found>, Stopped>
     ensures { (r : plain.Repository) → Stands F.is_honest F.history repository.now r
-        → HoldsCommit r (id_of commit.now)
+        → HoldsCommit r (peeled_id commit.now) → HasRoot r commit.now
         → GivesMeant F.reading_may_fail
-        (IsSource (table_of r) r.kind source.now (files_at r (id_of commit.now))) result }
+        (IsSource (table_of r) r.kind source.now (files_at r (peeled_id commit.now))) result }
 {
-    let root = root_of(repository, alloc, commit)?;
+    let root = root_peeled(repository, alloc, commit)?;
     if !source.is_empty() {
         return found_below(repository, alloc, &root, source);
     }

@@ -31,7 +31,7 @@ use gix_ref_file::Files;
 use history_files::{EditedFiles, EditedTree};
 use history_model::limits::MAX_CONTENT;
 use history_model::{Cause, Fault};
-use history_repository::{Repository, Stopped, into_kept};
+use history_repository::{PeeledCommit, Repository, Stopped, into_kept};
 use history_store::{Actor, LogEntry, NewObject, commit_bytes, plain_commit, title};
 use history_word::{ActorLine, CommitCommand, Edit, Field};
 use std::alloc::{AllocError, Global};
@@ -256,18 +256,18 @@ fn make_commit<F: Files>(
 fn new_files<F: Files>(
     repository: &Repository<F>,
     alloc: Global,
-    parents: &[ObjectId],
-    sources: &[Option<ObjectId>],
+    tree: Option<ObjectId>,
+    sources: &[Option<PeeledCommit>],
     edits: Vec<Edit>,
 ) -> Result<NewFiles, Stopped>
     ensures { (r : plain.Repository) (order : orders.CommitCommand)
-        → AskedFiles F.is_honest F.history repository.now parents.now sources.now edits.items r order
+        → AskedFiles F.is_honest F.history repository.now tree sources.now edits.items r order
         → MatchResult result (AreNewFiles r order) (IsUnplanned F.reading_may_fail r order) }
 {
     test_paths(&edits)?;
     let has_long_content = have_long_content(&edits);
     let changes = read_edits(repository, alloc, edits, sources)?;
-    let edited = edited(repository, alloc, parents, &changes.made)?;
+    let edited = edited(repository, alloc, tree, &changes.made)?;
     if graft_nothing(&changes.made) {
         return Err(Stopped::Refused(Cause::NoSuchPath));
     }
@@ -295,13 +295,7 @@ pub fn plan_commit<F: Files>(
         → Plans F.reading_may_fail r order result }
 {
     let base = read_base(repository, alloc, &command)?;
-    let files = new_files(
-        repository,
-        alloc,
-        &base.parents,
-        &base.sources,
-        command.edits,
-    )?;
+    let files = new_files(repository, alloc, base.tree, &base.sources, command.edits)?;
     let actors = read_actors(
         command.author,
         command.committer,

@@ -147,8 +147,8 @@ ids_hold r store meanings words e x c = let (k, a) = at_from_contains (filter_ma
         by_meaning m head k a (λ j b. go meanings words tail j b)
       where
         by_meaning : (m : own.WordMeaning) → meaning_of m ≡ commit_or_cause r word → (k : ℕ) → At (filter_map commit_in (m ∷ meanings)) k x → ((j : ℕ) → At (filter_map commit_in meanings) j x → HoldsCommit r (id_of x)) → HoldsCommit r (id_of x)
-        by_meaning (read.Commit id) head zero a rest = let same : id ≡ x = cc in read_holds r store (model.word_meaning r word) (id_of x) (commit_is r word (id_of x) (sym head ∙ ap (λ y. Ok (id_of y)) same))
-        by_meaning (read.Commit id) head (suc k) a rest = rest k a
+        by_meaning (read.Commit commit) head zero a rest = let same : commit.id ≡ x = cc in read_holds r store (model.word_meaning r word) (id_of x) (commit_is r word (id_of x) (sym head ∙ ap (λ y. Ok (id_of y)) same))
+        by_meaning (read.Commit commit) head (suc k) a rest = rest k a
         by_meaning read.NoCommit head k a rest = rest k a
         by_meaning read.Unborn head k a rest = rest k a
         by_meaning read.Unknown head k a rest = rest k a

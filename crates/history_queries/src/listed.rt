@@ -48,7 +48,7 @@ fn names_text(alloc: Global, branch: &[u8], names: &[Shown]) -> Result<Vec<u8>, 
         let mut id_digits = Kind::hex_buf();
         let mut commit_digits = Kind::hex_buf();
         let id = hex_digits(&shown.held.id, &mut id_digits);
-        let commit = hex_digits(&shown.held.commit, &mut commit_digits);
+        let commit = hex_digits(&shown.held.commit.id, &mut commit_digits);
         line(&mut text, &[id, commit, &shown.name])?;
     }
     Ok(text)

@@ -7,7 +7,9 @@ use Rattle.history_model.specs.FileMap.{Content}
 use Rattle.history_model.specs.Objects.{Value, CommitValue, StoredCommit, StoredTag, StoredBytes, StoredFolder, folder_id}
 use Rattle.gix_hash_id.specs.Id.{Id, id_of}
 use Rattle.history_model.specs.Meaning.{files_at}
-use Rattle.history_model.specs.Repository.{HoldsCommit, IsWholeStore, as_commit}
+use Rattle.history_model.specs.Repository.{HoldsCommit, IsWholeStore, as_commit, peeled}
+use Rattle.history_model.specs.Words.{ReadsAs}
+use Rattle.history_model.proofs.WholeReads.{read_holds}
 use Rattle.gix_hash_id.specs.declared.object_id.ObjectId.{ObjectId}
 use Rattle.history_repository.specs.Reads.{IsReadingFault, GivesMeant}
 use Rattle.history_repository.specs.declared.stopped.Stopped.{Stopped}
@@ -60,3 +62,7 @@ module _ (r : plain.Repository) (store : IsWholeStore r) (id : Id) (holds : Hold
 
   pub held_root : (root : ObjectId) → id_of root ≡ folder_id r.kind (held_commit.0).files → get r.objects (id_of root) ≡ Some (StoredFolder (held_commit.0).files)
   held_root root is = ap (get r.objects) is ∙ (store.closed id (StoredCommit held_commit.0) held_commit.1).1
+
+-- the commit that an id peels to is stored
+pub peels_to_commit : (r : plain.Repository) → IsWholeStore r → (id commit : Id) → peeled r id ≡ Some commit → (value : CommitValue) × (get r.objects commit ≡ Some (StoredCommit value))
+peels_to_commit r store id commit is = held_commit r store commit (read_holds r store (ReadsAs id) commit is)

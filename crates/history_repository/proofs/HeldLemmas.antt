@@ -9,7 +9,9 @@ use Rattle.history_model.specs.Objects.{TagValue, Value, StoredBytes, StoredComm
 use Rattle.history_model.specs.Repository.{Repository, HasWholeNames, IsWholeStore, id_at, is_tag, peeled, peeled_value, stands}
 use Rattle.history_steps.proofs.OfferedReads.{tags_stand_for_others}
 use Rattle.history_repository.specs.Held.{IsHeld, held_commit, held_id}
+use Rattle.history_repository.specs.Meant.{peeled_id}
 use Rattle.history_repository.specs.declared.held.Held.{Held}
+use Rattle.history_repository.specs.declared.stored.PeeledCommit.{PeeledCommit}
 use Rattle.history_repository.proofs.WordReads.{stands_so}
 use Rattle.gix_object_lines.specs.declared.kind.Kind.TheVariants as kinds
 
@@ -50,7 +52,7 @@ commit_stands r name held is = held_stands r name held is ∙ same_commit held
 pub none_held : (r : Repository) (name : Bytes) → None ≡ id_at r name → IsHeld r name None
 none_held r name none = record { id = none; commit = ap (option_and_then (peeled r)) none }
 
-pub some_held : (r : Repository) (name : Bytes) (id commit : ObjectId) → Some (id_of id) ≡ id_at r name → Some (id_of commit) ≡ peeled r (id_of id) → IsHeld r name (Some (record { id = id; commit = commit }))
+pub some_held : (r : Repository) (name : Bytes) (id : ObjectId) (commit : PeeledCommit) → Some (id_of id) ≡ id_at r name → Some (peeled_id commit) ≡ peeled r (id_of id) → IsHeld r name (Some (record { id = id; commit = commit }))
 some_held r name id commit at is = record { id = at; commit = is ∙ ap (option_and_then (peeled r)) at }
 
 -- ---- tags

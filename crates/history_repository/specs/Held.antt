@@ -6,13 +6,17 @@ use Rattle.history_model.specs.Bytes.{Bytes}
 use Rattle.history_model.specs.Repository.{id_at}
 use Rattle.history_model.specs.Meaning.{name_commit}
 use Rattle.history_repository.specs.declared.held.Held.{Held}
+use Rattle.history_repository.specs.declared.stored.PeeledCommit.{PeeledCommit}
 use Rattle.history_model.specs.Repository as plain
 
 abbrev pub held_id : Held → Id
 held_id held = id_of held.id
 
 abbrev pub held_commit : Held → Id
-held_commit held = id_of held.commit
+held_commit held = id_of held.commit.id
+
+abbrev pub held_peeled : Held → PeeledCommit
+held_peeled held = held.commit
 
 -- the commit of the tag that is held; none if a commit is held
 abbrev pub tagged_commit : Held → Option Id

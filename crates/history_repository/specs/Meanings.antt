@@ -1,5 +1,5 @@
 -- What a word was read as, the commit that it means, and why words that were read mean none.
-use Rattle.std.specs.Prelude.{◌≡◌, Bool, true, false, List, Option, Some, None, Result, Ok, Err, IsTrue, find, ok_or, if◌then◌else◌}
+use Rattle.std.specs.Prelude.{◌≡◌, ⊤, Bool, true, false, List, Option, Some, None, Result, Ok, Err, IsTrue, MatchOption, find, ok_or, if◌then◌else◌}
 use Rattle.std.specs.FinMap.{get}
 use Rattle.history_model.specs.Bytes.{Bytes}
 use Rattle.history_model.specs.Objects.{Value}
@@ -7,6 +7,8 @@ use Rattle.history_model.specs.Repository.{Repository, id_at, peeled, stands}
 use Rattle.history_model.specs.Words.{candidates, is_short_id, word_meaning}
 use Rattle.history_model.specs.declared.Cause.{Cause}
 use Rattle.history_model.specs.declared.Cause.TheVariants.{UnknownWord, AmbiguousWord, UnbornHead, NotACommit, NotExpected}
+use Rattle.history_repository.specs.Meant.{HasRoot}
+use Rattle.history_repository.specs.declared.stored.PeeledCommit.{PeeledCommit}
 use Rattle.history_repository.specs.declared.words.LookedUp.{LookedUp}
 use Rattle.history_repository.specs.declared.words.Standing.{Standing}
 use Rattle.history_repository.specs.declared.words.WordMeaning.{WordMeaning}
@@ -33,7 +35,7 @@ commit_or_cause r word = stands_for r (word_meaning r word)
 
 -- the same, of a word that was read
 abbrev pub meaning_of : WordMeaning → Result Id Cause
-meaning_of (Commit id) = Ok (id_of id)
+meaning_of (Commit commit) = Ok (id_of commit.id)
 meaning_of NoCommit = Err NotACommit
 meaning_of Unborn = Err UnbornHead
 meaning_of Unknown = Err UnknownWord
@@ -52,13 +54,24 @@ IsLookedUp r meaning looked.Unborn = meaning ≡ model.Unborn
 IsLookedUp r meaning looked.Unknown = meaning ≡ model.Unknown
 IsLookedUp r meaning looked.Ambiguous = meaning ≡ model.Ambiguous
 
--- the commit that a word was read as
+-- the commit that a word was read as, and its id
+abbrev pub peeled_in : WordMeaning → Option PeeledCommit
+peeled_in (Commit commit) = Some commit
+peeled_in NoCommit = None
+peeled_in Unborn = None
+peeled_in Unknown = None
+peeled_in Ambiguous = None
+
 abbrev pub commit_in : WordMeaning → Option ObjectId
-commit_in (Commit id) = Some id
+commit_in (Commit commit) = Some commit.id
 commit_in NoCommit = None
 commit_in Unborn = None
 commit_in Unknown = None
 commit_in Ambiguous = None
+
+-- the root is that commit's, if it is known
+abbrev pub HasRootIn : Repository → WordMeaning → Type 0
+HasRootIn r meaning = MatchOption (peeled_in meaning) ⊤ (HasRoot r)
 
 -- whether a word means no commit for this cause
 abbrev pub is_unknown_word : Result Id Cause → Bool

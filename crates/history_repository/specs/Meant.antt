@@ -3,11 +3,13 @@ use Rattle.std.specs.Prelude.{◌≡◌, ⊤, Option, Some, None, MatchOption}
 use Rattle.std.specs.FinMap.{get}
 use Rattle.gix_hash_id.specs.Id.{Id, id_of}
 use Rattle.gix_hash_id.specs.declared.kind.Kind.{Kind}
+use Rattle.gix_hash_id.specs.declared.object_id.ObjectId.{ObjectId}
 use Rattle.history_model.specs.Bytes.{Bytes}
-use Rattle.history_model.specs.Objects.{CommitValue, StoredCommit, Value, commit_content, content_of, object_kind}
+use Rattle.history_model.specs.Objects.{CommitValue, StoredCommit, Value, commit_content, content_of, folder_id, object_kind}
 use Rattle.history_model.specs.Repository.{Repository, peeled}
 use Rattle.history_objects.specs.declared.objects.Object.{Object}
 use Rattle.history_repository.specs.declared.stored.MeantCommit.{MeantCommit}
+use Rattle.history_repository.specs.declared.stored.PeeledCommit.{PeeledCommit}
 
 -- this is the object of a value
 abbrev pub IsObject : Kind → Value → Object → Type 0
@@ -29,3 +31,16 @@ HasContent r meant =
 abbrev pub IsMeantBy : Repository → Id → Option MeantCommit → Type 0
 IsMeantBy r id (Some meant) = (peeled r id ≡ Some (id_of meant.id)) × HasContent r meant
 IsMeantBy r id None = peeled r id ≡ None
+
+-- a commit is stored under the id, and this is its root
+pub record IsRootOf (r : Repository) (id : Id) (root : ObjectId) : Type 0 where
+  pub value : CommitValue
+  pub stored : get r.objects id ≡ Some (StoredCommit value)
+  pub tree : id_of root ≡ folder_id r.kind value.files
+
+-- the root is the commit's, if it is known
+abbrev pub HasRoot : Repository → PeeledCommit → Type 0
+HasRoot r commit = MatchOption commit.root ⊤ (IsRootOf r (id_of commit.id))
+
+abbrev pub peeled_id : PeeledCommit → Id
+peeled_id commit = id_of commit.id

@@ -1,17 +1,18 @@
 //! What a name holds.
 
-ghost use Rattle.std.specs.Prelude.{◌≡◌, not, option_map, unwrap_or, IsTrue};
+ghost use Rattle.std.specs.Prelude.{◌≡◌, ⊤, not, option_map, unwrap_or, IfOk, IsTrue, MatchOption};
 ghost use Rattle.gix_hash_id.specs.Id.{id_of, null_id};
 ghost use Rattle.gix_hash_id.specs.Order.{id_eq};
 ghost use Rattle.history_model.specs.Forms.{is_name};
+ghost use Rattle.history_repository.specs.Meant.{HasRoot};
 ghost use Rattle.history_repository.specs.Reads.{GivesMeant};
-ghost use Rattle.history_repository.specs.Held.{IsHeld, held_commit, held_id, tagged_commit};
+ghost use Rattle.history_repository.specs.Held.{IsHeld, held_commit, held_id, held_peeled, tagged_commit};
 ghost use Rattle.history_repository.specs.Stands.{Stands};
 ghost use Rattle.history_model.specs.Repository as plain;
 
 use crate::repository::Repository;
 use crate::stopped::Stopped;
-use crate::stored::peeled;
+use crate::stored::{PeeledCommit, peeled};
 use gix_hash::{Kind, ObjectId};
 use gix_ref_file::Files;
 use history_model::Fault;
@@ -21,7 +22,7 @@ use std::alloc::Global;
 #[derive(Clone, Copy)]
 pub struct Held {
     pub id: ObjectId,
-    pub commit: ObjectId,
+    pub commit: PeeledCommit,
 }
 
 impl Held {
@@ -29,7 +30,7 @@ impl Held {
     pub fn is_tag(self) -> bool
         ensures { result ≡ not (id_eq (held_id self) (held_commit self)) }
     {
-        self.id != self.commit
+        self.id != self.commit.id
     }
 
     /// Returns the commit of the tag that is held; `None` if a commit is held.
@@ -37,7 +38,7 @@ impl Held {
         ensures { option_map id_of result ≡ tagged_commit self }
     {
         if self.is_tag() {
-            Some(self.commit)
+            Some(self.commit.id)
         } else {
             None
         }
@@ -47,6 +48,13 @@ impl Held {
 /// Returns the commit that a name peels to, if the name exists.
 pub fn commit_held(held: Option<Held>) -> Option<ObjectId>
     ensures { option_map id_of result ≡ option_map held_commit held }
+{
+    Some(held?.commit.id)
+}
+
+/// Returns the same commit with its root.
+pub fn peeled_held(held: Option<Held>) -> Option<PeeledCommit>
+    ensures { result ≡ option_map held_peeled held }
 {
     Some(held?.commit)
 }
@@ -75,9 +83,12 @@ pub fn read_held<F: Files>(
     alloc: Global,
     name: &[u8],
 ) -> Result<Option<Held>, Stopped>
-    ensures { (r : plain.Repository) → Stands F.is_honest F.history repository.now r
+    ensures held { (r : plain.Repository) → Stands F.is_honest F.history repository.now r
         → IsTrue (is_name name.now)
         → GivesMeant F.reading_may_fail (IsHeld r name.now) result }
+    ensures rooted { (r : plain.Repository) → Stands F.is_honest F.history repository.now r
+        → IsTrue (is_name name.now)
+        → IfOk result (λ held. MatchOption held ⊤ (λ held. HasRoot r held.commit)) }
 {
     let Some(id) = repository.names.find(alloc, name)? else {
         return Ok(None);

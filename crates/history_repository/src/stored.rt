@@ -1,6 +1,6 @@
 //! The objects that a repository reads.
 
-ghost use Rattle.std.specs.Prelude.{◌≡◌, Some, map, option_map};
+ghost use Rattle.std.specs.Prelude.{◌≡◌, ⊤, IfOk, MatchOption, Some, map, option_map};
 ghost use Rattle.std.specs.FinMap.{get};
 ghost use Rattle.history_model.specs.FileMap.{FileMap};
 ghost use Rattle.history_model.specs.Objects.{CommitValue, StoredCommit, StoredFolder, StoredTag, TagValue, Value, commit_content, content_of, entry_at, folder_id, object_kind, tag_content};
@@ -10,7 +10,7 @@ ghost use Rattle.history_repository.specs.Stands.{Stands};
 ghost use Rattle.history_repository.specs.Reads.{GivesMeant};
 ghost use Rattle.std.specs.List.{AllByRecursion};
 ghost use Rattle.history_model.specs.Repository.{HoldsCommit};
-ghost use Rattle.history_repository.specs.Meant.{HasContent, IsMeantBy, IsObject};
+ghost use Rattle.history_repository.specs.Meant.{HasContent, HasRoot, IsMeantBy, IsObject, IsRootOf, peeled_id};
 ghost use Rattle.history_repository.specs.TreesBefore.{IsTreeBefore};
 ghost use Rattle.history_model.specs.Repository as plain;
 
@@ -102,19 +102,47 @@ pub(crate) fn read_meant<F: Files>(
     }
 }
 
+/// A commit that a word or a name means, as `MeantCommit` is, with its root in place of its content.
+#[derive(Clone, Copy)]
+pub struct PeeledCommit {
+    pub id: ObjectId,
+    pub root: Option<ObjectId>,
+}
+
 /// Returns the commit that a stored object peels to, as `read_meant` does.
 pub(crate) fn peeled<F: Files>(
     repository: &Repository<F>,
     alloc: Global,
     id: ObjectId,
-) -> Result<Option<ObjectId>, Stopped>
-    ensures { (r : plain.Repository) (value : Value) → Stands F.is_honest F.history repository.now r
-        → get r.objects (id_of id) ≡ Some value
+) -> Result<Option<PeeledCommit>, Stopped>
+    ensures peels { (r : plain.Repository) (value : Value)
+        → Stands F.is_honest F.history repository.now r → get r.objects (id_of id) ≡ Some value
         → GivesMeant F.reading_may_fail
-        (λ commit. option_map id_of commit ≡ plain.peeled r (id_of id)) result }
+        (λ commit. option_map peeled_id commit ≡ plain.peeled r (id_of id)) result }
+    ensures rooted { (r : plain.Repository) (value : Value)
+        → Stands F.is_honest F.history repository.now r → get r.objects (id_of id) ≡ Some value
+        → IfOk result (λ commit. MatchOption commit ⊤ (HasRoot r)) }
 {
-    match read_meant(repository, alloc, id)? {
-        Some(meant) => Ok(Some(meant.id)),
+    let Some(meant) = read_meant(repository, alloc, id)? else {
+        return Ok(None);
+    };
+    let root = root_read(repository, &meant)?;
+    Ok(Some(PeeledCommit { id: meant.id, root }))
+}
+
+/// Returns the root of a commit that is meant, if its content was read.
+fn root_read<F: Files>(
+    repository: &Repository<F>,
+    meant: &MeantCommit,
+) -> Result<Option<ObjectId>, Stopped>
+    ensures { (r : plain.Repository) (value : CommitValue)
+        → Stands F.is_honest F.history repository.now r
+        → get r.objects (id_of meant.now.id) ≡ Some (StoredCommit value)
+        → HasContent r meant.now → GivesMeant F.reading_may_fail
+        (λ root. MatchOption root ⊤ (IsRootOf r (id_of meant.now.id))) result }
+{
+    match &meant.content {
+        Some(content) => Ok(Some(root_in(repository, content)?)),
         None => Ok(None),
     }
 }
@@ -132,7 +160,7 @@ fn root_in<F: Files>(repository: &Repository<F>, content: &[u8]) -> Result<Objec
 }
 
 /// Returns the root of a stored commit, whose content is read. The faults are those of `content`.
-pub fn root_of<F: Files>(
+fn root_of<F: Files>(
     repository: &Repository<F>,
     alloc: Global,
     id: &ObjectId,
@@ -166,19 +194,39 @@ pub fn root_meant<F: Files>(
     }
 }
 
+/// Returns the root of a commit that was peeled. The commit is read only if its root isn't known.
+/// The faults are those of `content`.
+pub fn root_peeled<F: Files>(
+    repository: &Repository<F>,
+    alloc: Global,
+    commit: &PeeledCommit,
+) -> Result<ObjectId, Stopped>
+    ensures { (r : plain.Repository) (value : CommitValue)
+        → Stands F.is_honest F.history repository.now r
+        → get r.objects (peeled_id commit.now) ≡ Some (StoredCommit value)
+        → HasRoot r commit.now → GivesMeant F.reading_may_fail
+        (λ root. id_of root ≡ folder_id r.kind value.files) result }
+{
+    match commit.root {
+        Some(root) => Ok(root),
+        None => root_of(repository, alloc, &commit.id),
+    }
+}
+
 /// Returns the tree of the first of these parents; `None` without parents. The faults are those of
 /// `content`.
 pub fn tree_before<F: Files>(
     repository: &Repository<F>,
     alloc: Global,
-    parents: &[ObjectId],
+    parents: &[PeeledCommit],
 ) -> Result<Option<ObjectId>, Stopped>
     ensures { (r : plain.Repository) → Stands F.is_honest F.history repository.now r
-        → AllByRecursion (HoldsCommit r) (map id_of parents.now)
-        → GivesMeant F.reading_may_fail (IsTreeBefore r (map id_of parents.now)) result }
+        → AllByRecursion (HoldsCommit r) (map peeled_id parents.now)
+        → AllByRecursion (HasRoot r) parents.now
+        → GivesMeant F.reading_may_fail (IsTreeBefore r (map peeled_id parents.now)) result }
 {
     match parents.first() {
-        Some(id) => Ok(Some(root_of(repository, alloc, id)?)),
+        Some(commit) => Ok(Some(root_peeled(repository, alloc, commit)?)),
         None => Ok(None),
     }
 }

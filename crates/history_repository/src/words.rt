@@ -5,7 +5,7 @@ ghost use Rattle.std.specs.List.{list_any};
 ghost use Rattle.history_model.specs.Bytes.{begins};
 ghost use Rattle.history_model.specs.Forms.{is_private, refs_front};
 ghost use Rattle.history_model.specs.Words.{is_short_id, ReadsAs, id_meaning, word_meaning};
-ghost use Rattle.history_repository.specs.Meanings.{reads_as, words_cause, commit_in, is_ambiguous_word, is_not_a_commit, is_unborn_head, is_unknown_word, meaning_of, SpellsPrefix, commit_or_cause, stands_for, IsFirstStanding, IsLookedUp};
+ghost use Rattle.history_repository.specs.Meanings.{reads_as, words_cause, commit_in, peeled_in, HasRootIn, is_ambiguous_word, is_not_a_commit, is_unborn_head, is_unknown_word, meaning_of, SpellsPrefix, commit_or_cause, stands_for, IsFirstStanding, IsLookedUp};
 ghost use Rattle.gix_hash_id.specs.Id.{id_of};
 ghost use Rattle.history_repository.specs.Stands.{Stands};
 ghost use Rattle.history_repository.specs.Reads.{GivesMeant, ReadsMeant};
@@ -16,7 +16,7 @@ ghost use Rattle.history_model.specs.Repository as plain;
 use crate::naming::is_private;
 use crate::repository::Repository;
 use crate::stopped::Stopped;
-use crate::stored::{MeantCommit, peeled, read_meant};
+use crate::stored::{MeantCommit, PeeledCommit, peeled, read_meant};
 use gix_hash::{Kind, ObjectId, Prefix};
 use gix_ref_file::Files;
 use history_model::Cause;
@@ -28,8 +28,8 @@ use std::str;
 /// What a word reads as.
 #[derive(Clone, Copy)]
 pub enum WordMeaning {
-    /// The id of a commit.
-    Commit(ObjectId),
+    /// A commit.
+    Commit(PeeledCommit),
     /// The id of an object that is neither a commit nor a tag of one.
     NoCommit,
     /// HEAD, whose branch doesn't exist.
@@ -113,8 +113,8 @@ impl WordMeaning {
             (λ cause. reads_as (id_of held) (meaning_of self) ≡ Some cause) }
     {
         match self {
-            WordMeaning::Commit(id) => {
-                if held == id {
+            WordMeaning::Commit(commit) => {
+                if held == commit.id {
                     Ok(())
                 } else {
                     Err(Cause::NotExpected)
@@ -128,11 +128,24 @@ impl WordMeaning {
     }
 
     /// Returns the commit that the word means; `None` if it means none.
+    pub fn peeled(self) -> Option<PeeledCommit>
+        ensures { result ≡ peeled_in self }
+    {
+        match self {
+            WordMeaning::Commit(commit) => Some(commit),
+            WordMeaning::NoCommit => None,
+            WordMeaning::Unborn => None,
+            WordMeaning::Unknown => None,
+            WordMeaning::Ambiguous => None,
+        }
+    }
+
+    /// Returns the id of the commit that the word means; `None` if it means none.
     pub fn id(self) -> Option<ObjectId>
         ensures { result ≡ commit_in self }
     {
         match self {
-            WordMeaning::Commit(id) => Some(id),
+            WordMeaning::Commit(commit) => Some(commit.id),
             WordMeaning::NoCommit => None,
             WordMeaning::Unborn => None,
             WordMeaning::Unknown => None,
@@ -170,7 +183,7 @@ impl WordMeaning {
             (λ cause. meaning_of self ≡ Err cause) }
     {
         match self {
-            WordMeaning::Commit(id) => Ok(id),
+            WordMeaning::Commit(commit) => Ok(commit.id),
             WordMeaning::NoCommit => Err(Cause::NotACommit),
             WordMeaning::Unborn => Err(Cause::UnbornHead),
             WordMeaning::Unknown => Err(Cause::UnknownWord),
@@ -293,9 +306,11 @@ pub fn read_word<F: Files>(
     alloc: Global,
     word: &[u8],
 ) -> Result<WordMeaning, Stopped>
-    ensures { (r : plain.Repository) → Stands F.is_honest F.history repository.now r
+    ensures means { (r : plain.Repository) → Stands F.is_honest F.history repository.now r
         → GivesMeant F.reading_may_fail (λ meaning.
         meaning_of meaning ≡ commit_or_cause r word.now) result }
+    ensures rooted { (r : plain.Repository) → Stands F.is_honest F.history repository.now r
+        → IfOk result (HasRootIn r) }
 {
     match look_up(repository, alloc, word)? {
         LookedUp::Object(id) => read_stored(repository, alloc, id),
@@ -312,10 +327,13 @@ fn read_stored<F: Files>(
     alloc: Global,
     id: ObjectId,
 ) -> Result<WordMeaning, Stopped>
-    ensures { (r : plain.Repository) (value : Value) → Stands F.is_honest F.history repository.now r
-        → get r.objects (id_of id) ≡ Some value
+    ensures means { (r : plain.Repository) (value : Value)
+        → Stands F.is_honest F.history repository.now r → get r.objects (id_of id) ≡ Some value
         → GivesMeant F.reading_may_fail (λ meaning.
         meaning_of meaning ≡ stands_for r (ReadsAs (id_of id))) result }
+    ensures rooted { (r : plain.Repository) (value : Value)
+        → Stands F.is_honest F.history repository.now r → get r.objects (id_of id) ≡ Some value
+        → IfOk result (HasRootIn r) }
 {
     Ok(match peeled(repository, alloc, id)? {
         Some(commit) => WordMeaning::Commit(commit),

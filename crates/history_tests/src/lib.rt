@@ -18,6 +18,8 @@ mod names;
 #[cfg(test)]
 mod opened;
 #[cfg(test)]
+mod readings;
+#[cfg(test)]
 mod rounds;
 #[cfg(test)]
 mod texts;

@@ -40,7 +40,7 @@ returns-in_err-held g c = λ r name at h is.
     let place : c.deref-2.result.now ≡ name = c.deref-2.ensures.value ∙ is.name_is in
     let stopped = err_from_is_err_and c.from_residual-in_err-held.result c.from_residual-in_err-held.ensures.1 in
     fault_told MayFail r (Delete name at) c.from_residual-in_err-held.result c.in_err-held.field-0.0 (stopped.1 ∙ ap Err stopped.2)
-    (gave_fault MayFail (IsHeld r c.deref-2.result.now) c.read_held.result c.in_err-held.field-0.0 c.in_err-held.was (c.read_held.ensures r h (ap is_name place ∙ formed_name name named)))
+    (gave_fault MayFail (IsHeld r c.deref-2.result.now) c.read_held.result c.in_err-held.field-0.0 c.in_err-held.was (c.read_held.ensures.held r h (ap is_name place ∙ formed_name name named)))
 
 pub returns-in_err-test_gone : goal.returns-in_err-test_gone
 returns-in_err-test_gone g c = λ r name at h is.
@@ -49,7 +49,7 @@ returns-in_err-test_gone g c = λ r name at h is.
     let expects = c.in_ok-expected.ensures r (option_expect at) h is.expect in
     let words = words_told r name at c.in_ok-expected.expected expects ∙ c.in_ok-test_words.ensures in
     let place : c.deref-2.result.now ≡ name = c.deref-2.ensures.value ∙ is.name_is in
-    let held = subst (λ (n : Bytes). IsHeld r n c.in_ok-held.held) place (c.in_ok-held.ensures r h (ap is_name place ∙ formed_name name named)) in
+    let held = subst (λ (n : Bytes). IsHeld r n c.in_ok-held.held) place (c.in_ok-held.ensures.held r h (ap is_name place ∙ formed_name name named)) in
     let stopped = err_from_is_err_and c.from_residual-in_err-test_gone.result c.from_residual-in_err-test_gone.ensures.1 in
     refusal_told g.F.Files.reading_may_fail r (Delete name at) c.from_residual-in_err-test_gone.result cause (stopped.1 ∙ ap Err stopped.2)
     (by_held r name at named words _ (held_told r name at c.in_ok-expected.expected c.in_ok-held.held c.commit_held.result expects held c.commit_held.ensures ∙ c.in_err-test_gone.ensures))
@@ -60,5 +60,5 @@ returns g c = λ r name at h is.
     let expects = c.in_ok-expected.ensures r (option_expect at) h is.expect in
     let words = words_told r name at c.in_ok-expected.expected expects ∙ c.in_ok-test_words.ensures in
     let place : c.deref-2.result.now ≡ name = c.deref-2.ensures.value ∙ is.name_is in
-    let held = subst (λ (n : Bytes). IsHeld r n c.in_ok-held.held) place (c.in_ok-held.ensures r h (ap is_name place ∙ formed_name name named)) in
+    let held = subst (λ (n : Bytes). IsHeld r n c.in_ok-held.held) place (c.in_ok-held.ensures.held r h (ap is_name place ∙ formed_name name named)) in
     by_held r name at named words _ (held_told r name at c.in_ok-expected.expected c.in_ok-held.held c.commit_held.result expects held c.commit_held.ensures ∙ c.in_ok-test_gone.ensures)

@@ -16,16 +16,14 @@ root_so None = refl
 root_so (Some root) = refl
 
 pub returns-in-Ok : goal.returns-in-Ok
-returns-in-Ok g c = λ r made s hold are paths.
-    let ids = map id_of c.args.parents.now in
+returns-in-Ok g c = λ r ids made s before are paths.
     let named : NameEdits (table_of r) r.kind c.deref.result.now made = changes_named r c.deref.result.now c.args.changes.now made (ap (map edit_parts) c.deref.ensures.value ∙ c.in_ok-edits.ensures) are in
-    edited_told _ _ c.args.repository.now r s g.F.Files.reading_may_fail ids c.in_ok-tree.tree (c.in_ok-tree.ensures r s hold) c.deref.result.now made named c.kind.result (c.kind.ensures ∙ s.objects_kind)
+    edited_told _ _ c.args.repository.now r s g.F.Files.reading_may_fail ids c.args.tree before c.deref.result.now made named c.kind.result (c.kind.ensures ∙ s.objects_kind)
     (root_id c.as_ref.result) (root_so c.as_ref.result ∙ ap (option_map id_of) c.as_ref.ensures.value) c.edit_files.result c.edit_files.ensures.edited c.in-Ok.edited c.in-Ok.is
 
 pub returns : goal.returns
-returns g c = λ r made s hold are paths.
-    let ids = map id_of c.args.parents.now in
+returns g c = λ r ids made s before are paths.
     let named : NameEdits (table_of r) r.kind c.deref.result.now made = changes_named r c.deref.result.now c.args.changes.now made (ap (map edit_parts) c.deref.ensures.value ∙ c.in_ok-edits.ensures) are in
-    let fault = refused_told _ _ c.args.repository.now r s g.F.Files.reading_may_fail ids c.in_ok-tree.tree (c.in_ok-tree.ensures r s hold) c.deref.result.now made named c.kind.result (c.kind.ensures ∙ s.objects_kind)
+    let fault = refused_told _ _ c.args.repository.now r s g.F.Files.reading_may_fail ids c.args.tree before c.deref.result.now made named c.kind.result (c.kind.ensures ∙ s.objects_kind)
     (root_id c.as_ref.result) (root_so c.as_ref.result ∙ ap (option_map id_of) c.as_ref.ensures.value) c.edit_files.result c.edit_files.ensures.refused c.in-Err.error c.in-Err.is in
     subst (λ (x : Result (Option EditedFiles) Stopped). TellsEdited g.F.Files.reading_may_fail r ids made x) (sym c.unmade.ensures) (unmade_told r g.F.Files.reading_may_fail ids made paths c.in-Err.error fault)

@@ -25,7 +25,7 @@ returns-in_err-found g c = λ r line h is good has.
     let graft = c.in-Graft.graft in
     let commit = c.in_ok-commit.commit in
     let there = commit_there r graft line commit (subst (λ (e : Edit). IsEdit e line) c.in-Graft.is is) good (subst (HasSource r line) c.in_ok-commit.ensures.ok_part has) in
-    let fault = c.in_err-found.ensures r h (word_holds r graft h.whole.whole.store h.whole.written commit there.0) in
+    let fault = c.in_err-found.ensures r h (word_holds r graft h.whole.whole.store h.whole.written commit there.0) there.2 in
     let stopped = err_from_is_err_and c.from_residual-in_err-found.result c.from_residual-in_err-found.ensures.1 in
     subst (TellsRead g.F.Files.reading_may_fail (kept_edit r c.args.edit.now ∷ []) (IsFoundFor r c.args.edit.now)) (sym (stopped.1 ∙ ap Err stopped.2))
     (fault_told g.F.Files.reading_may_fail (kept_edit r c.args.edit.now ∷ []) (IsFoundFor r c.args.edit.now) c.in_err-found.field-0.0 fault)
@@ -37,7 +37,7 @@ returns-in_err-test_graft g c = λ r line h is good has.
     let commit = c.in_ok-commit.commit in
     let store = h.whole.whole.store in
     let there = commit_there r graft line commit (subst (λ (e : Edit). IsEdit e line) c.in-Graft.is is) good (subst (HasSource r line) c.in_ok-commit.ensures.ok_part has) in
-    let found = found_is r graft store h.whole.written commit there.0 c.kept.result.now c.kept.ensures c.in_ok-found.found (c.in_ok-found.ensures r h (word_holds r graft store h.whole.written commit there.0)) in
+    let found = found_is r graft store h.whole.written commit there.0 c.kept.result.now c.kept.ensures c.in_ok-found.found (c.in_ok-found.ensures r h (word_holds r graft store h.whole.written commit there.0) there.2) in
     let told = c.in_err-test_graft.ensures r (kept_bytes graft.source) (word_files r graft.word.items) h (ap is_bad_path c.kept-2.ensures ∙ there.1) found (word_stands r graft store h.whole.written commit there.0) in
     let at_path = subst (λ (path : Bytes). TellsRead {T = Unit {0}} MayFail (model.Graft path (kept_bytes graft.source) (word_files r graft.word.items) ∷ []) (λ _. ⊤) (Err c.in_err-test_graft.field-0.0)) c.kept-2.ensures told in
     let stopped = err_from_is_err_and c.from_residual-in_err-test_graft.result c.from_residual-in_err-test_graft.ensures.1 in
@@ -52,7 +52,7 @@ returns g c = λ r line h is good has.
     let commit = c.in_ok-commit.commit in
     let store = h.whole.whole.store in
     let there = commit_there r graft line commit (subst (λ (e : Edit). IsEdit e line) c.in-Graft.is is) good (subst (HasSource r line) c.in_ok-commit.ensures.ok_part has) in
-    let found = found_is r graft store h.whole.written commit there.0 c.kept.result.now c.kept.ensures c.in_ok-found.found (c.in_ok-found.ensures r h (word_holds r graft store h.whole.written commit there.0)) in
+    let found = found_is r graft store h.whole.written commit there.0 c.kept.result.now c.kept.ensures c.in_ok-found.found (c.in_ok-found.ensures r h (word_holds r graft store h.whole.written commit there.0) there.2) in
     let tested = c.in_ok-test_graft.ensures r (kept_bytes graft.source) (word_files r graft.word.items) h (ap is_bad_path c.kept-2.ensures ∙ there.1) found (word_stands r graft store h.whole.written commit there.0) in
     let passed = subst (λ (path : Bytes). grafts_badly (model.Graft path (kept_bytes graft.source) (word_files r graft.word.items) ∷ []) ≡ false) c.kept-2.ensures tested.0 in
     subst (λ (e : Edit). TellsRead MayFail (kept_edit r e ∷ []) (IsFoundFor r e) (Ok c.in_ok-found.found)) (sym c.in-Graft.is) (passed, found)

@@ -9,6 +9,7 @@ use Rattle.history_files.specs.Edits.{IsSource}
 use Rattle.history_files.specs.Laws.{table_of}
 use Rattle.history_files.specs.Reading.{entry_of}
 use Rattle.history_files.specs.declared.found.Found.{Found}
+use Rattle.history_repository.specs.Meant.{peeled_id}
 use Rattle.history_repository.proofs.Befores.{gives_stopped, held_commit}
 use Rattle.history_repository.proofs.FieldLemmas.{no_length, not_empty}
 use Rattle.history_plans.proofs.GraftFound.{gives_as, root_is, root_stands}
@@ -16,32 +17,32 @@ use Rattle.history_plans.proofs.SourcesStand.{all_told, found_below_told, none_t
 use Rattle.history_plans.proofs.grafts.found_in.Goals as goal
 
 pub returns-in_err-root : goal.returns-in_err-root
-returns-in_err-root g c = λ r h holds.
-    let id = id_of c.args.commit.now in
+returns-in_err-root g c = λ r h holds has.
+    let id = peeled_id c.args.commit.now in
     let held = held_commit r h.whole.whole.store id holds in
     let stopped = err_from_is_err_and c.from_residual.result c.from_residual.ensures.1 in
-    gives_stopped g.F.Files.reading_may_fail (λ (root : ObjectId). id_of root ≡ folder_id r.kind (held.0).files) (IsSource (table_of r) r.kind c.args.source.now (files_at r id)) c.root_of.result c.from_residual.result
-    c.in_err-root.field-0.0 c.in_err-root.was (stopped.1 ∙ ap Err stopped.2) (c.root_of.ensures r held.0 h held.1)
+    gives_stopped g.F.Files.reading_may_fail (λ (root : ObjectId). id_of root ≡ folder_id r.kind (held.0).files) (IsSource (table_of r) r.kind c.args.source.now (files_at r id)) c.root_peeled.result c.from_residual.result
+    c.in_err-root.field-0.0 c.in_err-root.was (stopped.1 ∙ ap Err stopped.2) (c.root_peeled.ensures r held.0 h held.1 has)
 
 pub returns-then-not-is_empty : goal.returns-then-not-is_empty
-returns-then-not-is_empty g c = λ r h holds.
-    let id = id_of c.args.commit.now in
+returns-then-not-is_empty g c = λ r h holds has.
+    let id = peeled_id c.args.commit.now in
     let source = c.args.source.now in
-    let stands = root_stands r h.whole.whole.store h.whole.written id holds c.in_ok-root.root (λ value at. c.in_ok-root.ensures r value h at) in
+    let stands = root_stands r h.whole.whole.store h.whole.written id holds c.in_ok-root.root (λ value at. c.in_ok-root.ensures r value h at has) in
     gives_as g.F.Files.reading_may_fail (λ (found : Option Found). option_map entry_of found ≡ entry_at r.kind (files_at r id) source) (IsSource (table_of r) r.kind source (files_at r id)) c.found_below.result
     (λ found told. found_below_told r h.whole.whole.store h.whole.written id holds source found (not_empty source (sym c.is_empty.ensures ∙ c.if-not-is_empty.true)) told)
     (c.found_below.ensures r (files_at r id) h stands)
 
 pub returns-then-is_empty_tree : goal.returns-then-is_empty_tree
-returns-then-is_empty_tree g c = λ r h holds.
-    let id = id_of c.args.commit.now in
+returns-then-is_empty_tree g c = λ r h holds has.
+    let id = peeled_id c.args.commit.now in
     let source = c.args.source.now in
-    let same = root_is r h.whole.whole.store h.whole.written id holds c.in_ok-root.root (λ value at. c.in_ok-root.ensures r value h at) in
+    let same = root_is r h.whole.whole.store h.whole.written id holds c.in_ok-root.root (λ value at. c.in_ok-root.ensures r value h at has) in
     none_told r h.whole.whole.store h.whole.written id holds source (no_length source (sym c.is_empty.ensures ∙ c.if-not-is_empty.false)) (subst IsEmptyTree same (c.is_empty_tree.ensures.0 c.if-is_empty_tree.true))
 
 pub returns : goal.returns
-returns g c = λ r h holds.
-    let id = id_of c.args.commit.now in
+returns g c = λ r h holds has.
+    let id = peeled_id c.args.commit.now in
     let source = c.args.source.now in
-    let same = root_is r h.whole.whole.store h.whole.written id holds c.in_ok-root.root (λ value at. c.in_ok-root.ensures r value h at) in
+    let same = root_is r h.whole.whole.store h.whole.written id holds c.in_ok-root.root (λ value at. c.in_ok-root.ensures r value h at has) in
     all_told r h.whole.whole.store h.whole.written id holds source c.in_ok-root.root (no_length source (sym c.is_empty.ensures ∙ c.if-not-is_empty.false)) same (λ tree. cc (sym c.if-is_empty_tree.false ∙ c.is_empty_tree.ensures.1 tree))

@@ -22,7 +22,7 @@ returns-in_err-word g c = λ r order h is named.
     let MayFail = g.F.Files.reading_may_fail in
     let stopped = err_from_is_err_and c.from_residual-in_err-word.result c.from_residual-in_err-word.ensures.1 in
     gives_fault MayFail (IsLine r order) c.from_residual-in_err-word.result c.in_err-word.field-0.0 (stopped.1 ∙ ap Err stopped.2)
-    (gave_fault MayFail (λ meaning. meaning_of meaning ≡ commit_or_cause r c.deref.result.now) c.read_word.result c.in_err-word.field-0.0 c.in_err-word.was (c.read_word.ensures r h))
+    (gave_fault MayFail (λ meaning. meaning_of meaning ≡ commit_or_cause r c.deref.result.now) c.read_word.result c.in_err-word.field-0.0 c.in_err-word.was (c.read_word.ensures.means r h))
 
 pub returns-in_err-held : goal.returns-in_err-held
 returns-in_err-held g c = λ r order h is named.
@@ -30,16 +30,16 @@ returns-in_err-held g c = λ r order h is named.
     let place : c.deref-2.result.now ≡ order.name = c.deref-2.ensures.value ∙ is.name in
     let stopped = err_from_is_err_and c.from_residual-in_err-held.result c.from_residual-in_err-held.ensures.1 in
     gives_fault MayFail (IsLine r order) c.from_residual-in_err-held.result c.in_err-held.field-0.0 (stopped.1 ∙ ap Err stopped.2)
-    (gave_fault MayFail (IsHeld r c.deref-2.result.now) c.read_held.result c.in_err-held.field-0.0 c.in_err-held.was (c.read_held.ensures r h (ap is_name place ∙ named)))
+    (gave_fault MayFail (IsHeld r c.deref-2.result.now) c.read_held.result c.in_err-held.field-0.0 c.in_err-held.was (c.read_held.ensures.held r h (ap is_name place ∙ named)))
 
 pub returns : goal.returns
 returns g c = λ r order h is named.
-    let word = c.in_ok-word.ensures r h ∙ ap (commit_or_cause r) (c.deref.ensures.value ∙ is.word) in
+    let word = c.in_ok-word.ensures.means r h ∙ ap (commit_or_cause r) (c.deref.ensures.value ∙ is.word) in
     let place : c.deref-2.result.now ≡ order.name = c.deref-2.ensures.value ∙ is.name in
     record {
       name = is.name;
       expected = c.in_ok-expected.ensures r order.expect h is.expect;
-      held = subst (λ (n : Bytes). IsHeld r n c.in_ok-held.held) place (c.in_ok-held.ensures r h (ap is_name place ∙ named));
+      held = subst (λ (n : Bytes). IsHeld r n c.in_ok-held.held) place (c.in_ok-held.ensures.held r h (ap is_name place ∙ named));
       word = word;
       commit = sym (commit_told r order.word c.in_ok-word.word word);
     }

@@ -1,16 +1,13 @@
-use Rattle.std.proofs.Common.{◌≡◌, List, sym, ◌∙◌, ap, subst, map, Err, false}
-use Rattle.std.specs.List.{AllByRecursion, list_any, flat_map}
+use Rattle.std.proofs.Common.{◌≡◌, List, sym, ◌∙◌, ap, subst, map, refl, Err, false}
+use Rattle.std.specs.List.{list_any, flat_map}
 use Rattle.std.specs.Prelude.{MatchResult, Ok, Result}
 use Rattle.std.proofs.lemmas.Result.{err_from_is_err_and}
-use Rattle.gix_hash_id.specs.Id.{id_of}
 use Rattle.history_model.specs.Causes.{is_bad_path}
 use Rattle.history_model.specs.CommandParts.{paths_in}
 use Rattle.history_model.specs.Commands as commands
 use Rattle.history_model.specs.FileMap as model
-use Rattle.history_model.specs.Meaning.{put_bytes}
+use Rattle.history_model.specs.Meaning.{parents_of, put_bytes}
 use Rattle.history_model.specs.Repository as plain
-use Rattle.history_model.specs.Repository.{HoldsCommit}
-use Rattle.history_steps.proofs.OfferedReads.{parents_are_commits}
 use Rattle.history_objects.specs.Stores.{AreObjectsOf}
 use Rattle.history_word.specs.Commands.{AreEdits}
 use Rattle.history_word.specs.declared.command.Edit.{Edit}
@@ -45,7 +42,7 @@ returns-in_err-changes g c = λ r order asked.
     let paths_of : AreEdits c.deref.result.now order.edits = subst (λ (es : List Edit). AreEdits es order.edits) (sym c.deref.ensures.value) asked.edits_are in
     let good : list_any is_bad_path (paths_in (commands.Commit order)) ≡ false = c.in_ok-test_paths.ensures order.edits paths_of in
     let made = map (kept_edit r) edits in
-    let told = c.in_err-changes.ensures r order.edits asked.serves asked.edits_are good (sources_told r order asked.unrefused c.args.sources.now asked.sources_are) in
+    let told = c.in_err-changes.ensures r order.edits asked.serves asked.edits_are good (sources_told r order asked.unrefused c.args.sources.now asked.sources_are asked.rooted) in
     let stopped = err_from_is_err_and c.from_residual-in_err-changes.result c.from_residual-in_err-changes.ensures.1 in
     subst (Gives g.F.Files.reading_may_fail r order) (sym (stopped.1 ∙ ap Err stopped.2))
     (reading_refused r order asked.unrefused good edits asked.edits_are g.F.Files.reading_may_fail (λ (changes : Changes). AreReadAs r changes made) c.in_err-changes.field-0.0 told)
@@ -57,15 +54,14 @@ returns-in_err-edited g c = λ r order asked.
     let paths_of : AreEdits c.deref.result.now order.edits = subst (λ (es : List Edit). AreEdits es order.edits) (sym c.deref.ensures.value) asked.edits_are in
     let good : list_any is_bad_path (paths_in (commands.Commit order)) ≡ false = c.in_ok-test_paths.ensures order.edits paths_of in
     let made = map (kept_edit r) edits in
-    let read = c.in_ok-changes.ensures r order.edits h asked.edits_are good (sources_told r order asked.unrefused c.args.sources.now asked.sources_are) in
+    let read = c.in_ok-changes.ensures r order.edits h asked.edits_are good (sources_told r order asked.unrefused c.args.sources.now asked.sources_are asked.rooted) in
     let changes : AreReadAs r c.in_ok-changes.changes made = read.1 in
-    let ids = map id_of c.args.parents.now in
-    let hold : AllByRecursion (HoldsCommit r) ids = subst (AllByRecursion (HoldsCommit r)) (sym asked.parents_are) (parents_are_commits r order h.whole.whole.store) in
+    let ids = parents_of r order in
     let are : AreChangesOf r c.deref-3.result.now made = subst (λ (cs : List PathChange). AreChangesOf r cs made) (sym c.deref-3.ensures.value) changes.changes_are in
-    let told : TellsEdited g.F.Files.reading_may_fail r ids made (Err c.in_err-edited.field-0.0) = c.in_err-edited.ensures r made h hold are (have_paths r edits order.edits asked.edits_are good) in
+    let told : TellsEdited g.F.Files.reading_may_fail r ids made (Err c.in_err-edited.field-0.0) = c.in_err-edited.ensures r ids made h asked.tree_is are (have_paths r edits order.edits asked.edits_are good) in
     let stopped = err_from_is_err_and c.from_residual-in_err-edited.result c.from_residual-in_err-edited.ensures.1 in
     subst (Gives g.F.Files.reading_may_fail r order) (sym (stopped.1 ∙ ap Err stopped.2))
-    (edits_planned r order asked.unrefused good edits asked.edits_are read.0 ids asked.parents_are g.F.Files.reading_may_fail c.in_err-edited.field-0.0 told)
+    (edits_planned r order asked.unrefused good edits asked.edits_are read.0 ids refl g.F.Files.reading_may_fail c.in_err-edited.field-0.0 told)
 
 pub returns-then-graft_nothing : goal.returns-then-graft_nothing
 returns-then-graft_nothing g c = λ r order asked.
@@ -74,15 +70,14 @@ returns-then-graft_nothing g c = λ r order asked.
     let paths_of : AreEdits c.deref.result.now order.edits = subst (λ (es : List Edit). AreEdits es order.edits) (sym c.deref.ensures.value) asked.edits_are in
     let good : list_any is_bad_path (paths_in (commands.Commit order)) ≡ false = c.in_ok-test_paths.ensures order.edits paths_of in
     let made = map (kept_edit r) edits in
-    let read = c.in_ok-changes.ensures r order.edits h asked.edits_are good (sources_told r order asked.unrefused c.args.sources.now asked.sources_are) in
+    let read = c.in_ok-changes.ensures r order.edits h asked.edits_are good (sources_told r order asked.unrefused c.args.sources.now asked.sources_are asked.rooted) in
     let changes : AreReadAs r c.in_ok-changes.changes made = read.1 in
-    let ids = map id_of c.args.parents.now in
-    let hold : AllByRecursion (HoldsCommit r) ids = subst (AllByRecursion (HoldsCommit r)) (sym asked.parents_are) (parents_are_commits r order h.whole.whole.store) in
+    let ids = parents_of r order in
     let are : AreChangesOf r c.deref-3.result.now made = subst (λ (cs : List PathChange). AreChangesOf r cs made) (sym c.deref-3.ensures.value) changes.changes_are in
-    let given : TellsEdited g.F.Files.reading_may_fail r ids made (Ok c.in_ok-edited.edited) = c.in_ok-edited.ensures r made h hold are (have_paths r edits order.edits asked.edits_are good) in
+    let given : TellsEdited g.F.Files.reading_may_fail r ids made (Ok c.in_ok-edited.edited) = c.in_ok-edited.ensures r ids made h asked.tree_is are (have_paths r edits order.edits asked.edits_are good) in
     let there : AreChangesOf r c.deref-4.result.now made = subst (λ (cs : List PathChange). AreChangesOf r cs made) (sym c.deref-4.ensures.value) changes.changes_are in
     let nothing = sym (nothing_in r c.deref-4.result.now made there) ∙ sym c.graft_nothing.ensures in
-    nothing_refused r order asked.unrefused good edits asked.edits_are read.0 ids asked.parents_are g.F.Files.reading_may_fail c.in_ok-edited.edited given (nothing ∙ c.if-graft_nothing.true)
+    nothing_refused r order asked.unrefused good edits asked.edits_are read.0 ids refl g.F.Files.reading_may_fail c.in_ok-edited.edited given (nothing ∙ c.if-graft_nothing.true)
 
 pub returns : goal.returns
 returns g c = λ r order asked.
@@ -91,17 +86,16 @@ returns g c = λ r order asked.
     let paths_of : AreEdits c.deref.result.now order.edits = subst (λ (es : List Edit). AreEdits es order.edits) (sym c.deref.ensures.value) asked.edits_are in
     let good : list_any is_bad_path (paths_in (commands.Commit order)) ≡ false = c.in_ok-test_paths.ensures order.edits paths_of in
     let made = map (kept_edit r) edits in
-    let read = c.in_ok-changes.ensures r order.edits h asked.edits_are good (sources_told r order asked.unrefused c.args.sources.now asked.sources_are) in
+    let read = c.in_ok-changes.ensures r order.edits h asked.edits_are good (sources_told r order asked.unrefused c.args.sources.now asked.sources_are asked.rooted) in
     let changes : AreReadAs r c.in_ok-changes.changes made = read.1 in
-    let ids = map id_of c.args.parents.now in
-    let hold : AllByRecursion (HoldsCommit r) ids = subst (AllByRecursion (HoldsCommit r)) (sym asked.parents_are) (parents_are_commits r order h.whole.whole.store) in
+    let ids = parents_of r order in
     let are : AreChangesOf r c.deref-3.result.now made = subst (λ (cs : List PathChange). AreChangesOf r cs made) (sym c.deref-3.ensures.value) changes.changes_are in
-    let given : TellsEdited g.F.Files.reading_may_fail r ids made (Ok c.in_ok-edited.edited) = c.in_ok-edited.ensures r made h hold are (have_paths r edits order.edits asked.edits_are good) in
+    let given : TellsEdited g.F.Files.reading_may_fail r ids made (Ok c.in_ok-edited.edited) = c.in_ok-edited.ensures r ids made h asked.tree_is are (have_paths r edits order.edits asked.edits_are good) in
     let there : AreChangesOf r c.deref-4.result.now made = subst (λ (cs : List PathChange). AreChangesOf r cs made) (sym c.deref-4.ensures.value) changes.changes_are in
     let nothing = sym (nothing_in r c.deref-4.result.now made there) ∙ sym c.graft_nothing.ensures in
     record {
-      paths = edits_pass r order asked.unrefused good edits asked.edits_are read.0 ids asked.parents_are g.F.Files.reading_may_fail c.in_ok-edited.edited given (nothing ∙ c.if-graft_nothing.false);
+      paths = edits_pass r order asked.unrefused good edits asked.edits_are read.0 ids refl g.F.Files.reading_may_fail c.in_ok-edited.edited given (nothing ∙ c.if-graft_nothing.false);
       long = c.have_long_content-has_long_content.ensures order.edits (subst (λ (es : List Edit). AreEdits es order.edits) (sym c.deref-2.ensures.value) asked.edits_are);
       blobs = λ short. subst (λ (es : List model.Edit). AreObjectsOf r.kind (flat_map put_bytes es) c.in_ok-changes.changes.blobs.items) (edits_same r edits order.edits asked.edits_are good short) changes.blobs_are;
-      edited = λ short. edits_meant r order g.F.Files.reading_may_fail edits asked.edits_are good short ids asked.parents_are c.in_ok-edited.edited given;
+      edited = λ short. edits_meant r order g.F.Files.reading_may_fail edits asked.edits_are good short ids refl c.in_ok-edited.edited given;
     }

@@ -1,10 +1,13 @@
-use Rattle.std.proofs.Common.{sym, ◌∙◌, ap, subst, map, option_map, Err}
+use Rattle.std.proofs.Common.{sym, ◌∙◌, ap, subst, map, option_map, Err, List, Option}
+use Rattle.std.specs.List.{AllByRecursion}
 use Rattle.std.proofs.lemmas.Result.{err_from_is_err_and}
-use Rattle.gix_hash_id.specs.Id.{id_of}
 use Rattle.history_model.specs.Forms.{max_content}
 use Rattle.history_model.specs.Wholeness.{IsSound}
 use Rattle.history_model.specs.Meaning.{new_commit}
 use Rattle.history_steps.specs.OneNameSteps.{commit_move}
+use Rattle.history_repository.specs.Meant.{peeled_id}
+use Rattle.history_repository.specs.declared.stored.PeeledCommit.{PeeledCommit}
+use Rattle.history_plans.specs.Bases.{IsRootedSource}
 use Rattle.history_plans.specs.Plans.{IsMadeOf, IsMove, Plans}
 use Rattle.history_plans.specs.declared.planning.Committed.{Committed}
 use Rattle.history_repository.proofs.FieldLemmas.{kept_whole}
@@ -22,7 +25,7 @@ returns-in_err-base g c = λ r order asked.
 pub returns-in_err-files : goal.returns-in_err-files
 returns-in_err-files g c = λ r order asked.
     let base = c.in_ok-base.ensures r order asked in
-    let told = c.in_err-files.ensures r order (record { serves = asked.serves; unrefused = base.0; parents_are = ap (map id_of) c.deref.ensures.value ∙ base.1.parents; sources_are = ap (map (option_map id_of)) c.deref-2.ensures.value ∙ base.1.sources; edits_are = asked.reads.edits }) in
+    let told = c.in_err-files.ensures r order (record { serves = asked.serves; unrefused = base.0; tree_is = base.1.tree; sources_are = ap (map (option_map peeled_id)) c.deref.ensures.value ∙ base.1.sources; rooted = subst (λ (sources : List (Option PeeledCommit)). AllByRecursion (IsRootedSource r) sources) (sym c.deref.ensures.value) base.1.rooted; edits_are = asked.reads.edits }) in
     let stopped = err_from_is_err_and c.from_residual-in_err-files.result c.from_residual-in_err-files.ensures.1 in
     subst (Plans g.F.Files.reading_may_fail r order) (sym (stopped.1 ∙ ap Err stopped.2)) told
 
@@ -31,7 +34,7 @@ returns-in_err-actors g c = λ r order asked.
     let h = asked.serves in
     let is = asked.reads in
     let base = c.in_ok-base.ensures r order asked in
-    let files = c.in_ok-files.ensures r order (record { serves = h; unrefused = base.0; parents_are = ap (map id_of) c.deref.ensures.value ∙ base.1.parents; sources_are = ap (map (option_map id_of)) c.deref-2.ensures.value ∙ base.1.sources; edits_are = is.edits }) in
+    let files = c.in_ok-files.ensures r order (record { serves = h; unrefused = base.0; tree_is = base.1.tree; sources_are = ap (map (option_map peeled_id)) c.deref.ensures.value ∙ base.1.sources; rooted = subst (λ (sources : List (Option PeeledCommit)). AllByRecursion (IsRootedSource r) sources) (sym c.deref.ensures.value) base.1.rooted; edits_are = is.edits }) in
     let stopped = err_from_is_err_and c.from_residual-in_err-actors.result c.from_residual-in_err-actors.ensures.1 in
     subst (Plans g.F.Files.reading_may_fail r order) (sym (stopped.1 ∙ ap Err stopped.2))
     (refused_by_form r order c.in_err-actors.field-0.0 base.0 (c.in_err-actors.ensures r order is.author is.committer is.message files.long files.paths))
@@ -42,7 +45,7 @@ returns-in_err-below g c = λ r order asked.
     let is = asked.reads in
     let sound : IsSound r = record { whole = h.whole.whole; written = h.whole.written } in
     let base = c.in_ok-base.ensures r order asked in
-    let files = c.in_ok-files.ensures r order (record { serves = h; unrefused = base.0; parents_are = ap (map id_of) c.deref.ensures.value ∙ base.1.parents; sources_are = ap (map (option_map id_of)) c.deref-2.ensures.value ∙ base.1.sources; edits_are = is.edits }) in
+    let files = c.in_ok-files.ensures r order (record { serves = h; unrefused = base.0; tree_is = base.1.tree; sources_are = ap (map (option_map peeled_id)) c.deref.ensures.value ∙ base.1.sources; rooted = subst (λ (sources : List (Option PeeledCommit)). AllByRecursion (IsRootedSource r) sources) (sym c.deref.ensures.value) base.1.rooted; edits_are = is.edits }) in
     let actors = c.in_ok-actors.ensures r order is.author is.committer is.message files.long files.paths in
     let stopped = err_from_is_err_and c.from_residual-in_err-below.result c.from_residual-in_err-below.ensures.1 in
     subst (Plans g.F.Files.reading_may_fail r order) (sym (stopped.1 ∙ ap Err stopped.2))
@@ -56,7 +59,7 @@ returns-in_err-committed g c = λ r order asked.
     let w = h.whole.whole.names in
     let sound : IsSound r = record { whole = h.whole.whole; written = h.whole.written } in
     let base = c.in_ok-base.ensures r order asked in
-    let files = c.in_ok-files.ensures r order (record { serves = h; unrefused = base.0; parents_are = ap (map id_of) c.deref.ensures.value ∙ base.1.parents; sources_are = ap (map (option_map id_of)) c.deref-2.ensures.value ∙ base.1.sources; edits_are = is.edits }) in
+    let files = c.in_ok-files.ensures r order (record { serves = h; unrefused = base.0; tree_is = base.1.tree; sources_are = ap (map (option_map peeled_id)) c.deref.ensures.value ∙ base.1.sources; rooted = subst (λ (sources : List (Option PeeledCommit)). AllByRecursion (IsRootedSource r) sources) (sym c.deref.ensures.value) base.1.rooted; edits_are = is.edits }) in
     let actors = c.in_ok-actors.ensures r order is.author is.committer is.message files.long files.paths in
     let below = below_told r order actors.formed actors.contents base.0 sound c.in_ok-files.files.edited (files.edited actors.contents)
     c.in_ok-files.files.blobs.items (files.blobs actors.contents) c.in_ok-below.below c.in_ok-below.ensures in
@@ -78,7 +81,7 @@ returns g c = λ r order asked.
     let w = h.whole.whole.names in
     let sound : IsSound r = record { whole = h.whole.whole; written = h.whole.written } in
     let base = c.in_ok-base.ensures r order asked in
-    let files = c.in_ok-files.ensures r order (record { serves = h; unrefused = base.0; parents_are = ap (map id_of) c.deref.ensures.value ∙ base.1.parents; sources_are = ap (map (option_map id_of)) c.deref-2.ensures.value ∙ base.1.sources; edits_are = is.edits }) in
+    let files = c.in_ok-files.ensures r order (record { serves = h; unrefused = base.0; tree_is = base.1.tree; sources_are = ap (map (option_map peeled_id)) c.deref.ensures.value ∙ base.1.sources; rooted = subst (λ (sources : List (Option PeeledCommit)). AllByRecursion (IsRootedSource r) sources) (sym c.deref.ensures.value) base.1.rooted; edits_are = is.edits }) in
     let actors = c.in_ok-actors.ensures r order is.author is.committer is.message files.long files.paths in
     let below = below_told r order actors.formed actors.contents base.0 sound c.in_ok-files.files.edited (files.edited actors.contents)
     c.in_ok-files.files.blobs.items (files.blobs actors.contents) c.in_ok-below.below c.in_ok-below.ensures in

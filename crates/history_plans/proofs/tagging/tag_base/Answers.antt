@@ -35,13 +35,13 @@ returns-in_err-meaning g c = λ r order h name expect word named.
     let MayFail = g.F.Files.reading_may_fail in
     let stopped = err_from_is_err_and c.from_residual-in_err-meaning.result c.from_residual-in_err-meaning.ensures.1 in
     fault_based MayFail r order c.from_residual-in_err-meaning.result c.in_err-meaning.field-0.0 (stopped.1 ∙ ap Err stopped.2)
-    (gave_fault MayFail (λ meaning. meaning_of meaning ≡ commit_or_cause r c.args.word.now) c.read_word.result c.in_err-meaning.field-0.0 c.in_err-meaning.was (c.read_word.ensures r h))
+    (gave_fault MayFail (λ meaning. meaning_of meaning ≡ commit_or_cause r c.args.word.now) c.read_word.result c.in_err-meaning.field-0.0 c.in_err-meaning.was (c.read_word.ensures.means r h))
 
 pub returns-in_err-test_words : goal.returns-in_err-test_words
 returns-in_err-test_words g c = λ r order h name expect word named.
     let MayFail = g.F.Files.reading_may_fail in
     let expects = c.in_ok-expected.ensures r order.expect h expect in
-    let reads = c.in_ok-meaning.ensures r h ∙ ap (commit_or_cause r) word in
+    let reads = c.in_ok-meaning.ensures.means r h ∙ ap (commit_or_cause r) word in
     let words = words_so r order c.in_ok-expected.expected c.in_ok-meaning.meaning expects reads in
     let stopped = err_from_is_err_and c.from_residual-in_err-test_words.result c.from_residual-in_err-test_words.ensures.1 in
     let told = Refused c.in_err-test_words.field-0.0 in
@@ -53,15 +53,15 @@ returns-in_err-held g c = λ r order h name expect word named.
     let MayFail = g.F.Files.reading_may_fail in
     let stopped = err_from_is_err_and c.from_residual-in_err-held.result c.from_residual-in_err-held.ensures.1 in
     fault_based MayFail r order c.from_residual-in_err-held.result c.in_err-held.field-0.0 (stopped.1 ∙ ap Err stopped.2)
-    (gave_fault MayFail (IsHeld r c.args.name.now) c.read_held.result c.in_err-held.field-0.0 c.in_err-held.was (c.read_held.ensures r h (ap is_name name ∙ named)))
+    (gave_fault MayFail (IsHeld r c.args.name.now) c.read_held.result c.in_err-held.field-0.0 c.in_err-held.was (c.read_held.ensures.held r h (ap is_name name ∙ named)))
 
 pub returns-in_err-test : goal.returns-in_err-test
 returns-in_err-test g c = λ r order h name expect word named.
     let MayFail = g.F.Files.reading_may_fail in
     let expects = c.in_ok-expected.ensures r order.expect h expect in
-    let reads = c.in_ok-meaning.ensures r h ∙ ap (commit_or_cause r) word in
+    let reads = c.in_ok-meaning.ensures.means r h ∙ ap (commit_or_cause r) word in
     let words = words_so r order c.in_ok-expected.expected c.in_ok-meaning.meaning expects reads in
-    let held_is = subst (λ (n : Bytes). IsHeld r n c.in_ok-held.held) name (c.in_ok-held.ensures r h (ap is_name name ∙ named)) in
+    let held_is = subst (λ (n : Bytes). IsHeld r n c.in_ok-held.held) name (c.in_ok-held.ensures.held r h (ap is_name name ∙ named)) in
     let held = held_so r order c.in_ok-expected.expected c.in_ok-held.held c.commit_held.result expects held_is c.commit_held.ensures in
     let stopped = err_from_is_err_and c.from_residual-in_err-test.result c.from_residual-in_err-test.ensures.1 in
     let told = Refused c.in_err-test.field-0.0 in
@@ -73,9 +73,9 @@ pub returns-then-branch : goal.returns-then-branch
 returns-then-branch g c = λ r order h name expect word named.
     let MayFail = g.F.Files.reading_may_fail in
     let expects = c.in_ok-expected.ensures r order.expect h expect in
-    let reads = c.in_ok-meaning.ensures r h ∙ ap (commit_or_cause r) word in
+    let reads = c.in_ok-meaning.ensures.means r h ∙ ap (commit_or_cause r) word in
     let words = words_so r order c.in_ok-expected.expected c.in_ok-meaning.meaning expects reads in
-    let held_is = subst (λ (n : Bytes). IsHeld r n c.in_ok-held.held) name (c.in_ok-held.ensures r h (ap is_name name ∙ named)) in
+    let held_is = subst (λ (n : Bytes). IsHeld r n c.in_ok-held.held) name (c.in_ok-held.ensures.held r h (ap is_name name ∙ named)) in
     let held = held_so r order c.in_ok-expected.expected c.in_ok-held.held c.commit_held.result expects held_is c.commit_held.ensures in
     let tree = (g.F.Files.history (names_part c.args.repository.now)).tree in
     let new = held_stands r order.name c.in_ok-held.held held_is ∙ c.is_none.ensures ∙ ap not c.if-is_none.true in
@@ -93,9 +93,9 @@ pub returns : goal.returns
 returns g c = λ r order h name expect word named.
     let MayFail = g.F.Files.reading_may_fail in
     let expects = c.in_ok-expected.ensures r order.expect h expect in
-    let reads = c.in_ok-meaning.ensures r h ∙ ap (commit_or_cause r) word in
+    let reads = c.in_ok-meaning.ensures.means r h ∙ ap (commit_or_cause r) word in
     let words = words_so r order c.in_ok-expected.expected c.in_ok-meaning.meaning expects reads in
-    let held_is = subst (λ (n : Bytes). IsHeld r n c.in_ok-held.held) name (c.in_ok-held.ensures r h (ap is_name name ∙ named)) in
+    let held_is = subst (λ (n : Bytes). IsHeld r n c.in_ok-held.held) name (c.in_ok-held.ensures.held r h (ap is_name name ∙ named)) in
     let held = held_so r order c.in_ok-expected.expected c.in_ok-held.held c.commit_held.result expects held_is c.commit_held.ensures in
     let tree = (g.F.Files.history (names_part c.args.repository.now)).tree in
     let free : one_collides r order.name ≡ false = elim c.else-is_none.branch [

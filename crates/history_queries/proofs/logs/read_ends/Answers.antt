@@ -14,13 +14,13 @@ loop-item-preserved g c = λ r s.
     elim c.match-item.branch [
       | in-Tip+in_ok-read_word-in-Tip+in_ok-push-in-Tip w ↦ (
         word_added r tip_in items i item c.loop-item-test.true c.item-item.is c.loop-item.tips.items c.match-item.tips.items w.in_ok-read_word-in-Tip.field-0 w.in-Tip.word.items
-            (ap tip_in w.in-Tip.is) (w.in_ok-read_word-in-Tip.ensures r s ∙ ap (commit_or_cause r) w.deref.ensures.value) (ap (λ v. v.items) w.tips-is ∙ w.in_ok-push-in-Tip.ensures.items) (c.loop-item.invariant r s).0,
+            (ap tip_in w.in-Tip.is) (w.in_ok-read_word-in-Tip.ensures.means r s ∙ ap (commit_or_cause r) w.deref.ensures.value) (ap (λ v. v.items) w.tips-is ∙ w.in_ok-push-in-Tip.ensures.items) (c.loop-item.invariant r s).0,
         another_kept r hidden_in items i item c.loop-item-test.true c.item-item.is c.match-item.hidden.items (ap hidden_in w.in-Tip.is) (ap (λ v. map meaning_of v.items) w.hidden-is ∙ (c.loop-item.invariant r s).1),
       )
       | in-Hidden+in_ok-read_word-in-Hidden+in_ok-push-in-Hidden w ↦ (
         another_kept r tip_in items i item c.loop-item-test.true c.item-item.is c.match-item.tips.items (ap tip_in w.in-Hidden.is) (ap (λ v. map meaning_of v.items) w.tips-is ∙ (c.loop-item.invariant r s).0),
         word_added r hidden_in items i item c.loop-item-test.true c.item-item.is c.loop-item.hidden.items c.match-item.hidden.items w.in_ok-read_word-in-Hidden.field-0 w.in-Hidden.word.items
-            (ap hidden_in w.in-Hidden.is) (w.in_ok-read_word-in-Hidden.ensures r s ∙ ap (commit_or_cause r) w.deref-in-Hidden.ensures.value) (ap (λ v. v.items) w.hidden-is ∙ w.in_ok-push-in-Hidden.ensures.items) (c.loop-item.invariant r s).1,
+            (ap hidden_in w.in-Hidden.is) (w.in_ok-read_word-in-Hidden.ensures.means r s ∙ ap (commit_or_cause r) w.deref-in-Hidden.ensures.value) (ap (λ v. v.items) w.hidden-is ∙ w.in_ok-push-in-Hidden.ensures.items) (c.loop-item.invariant r s).1,
       )
     ]
 
