@@ -95,7 +95,13 @@ impl<R: fs::Files + AllocGlobal + Clone + Drop> Disk<R> {
     fn names(&self, alloc: Global, place: &str) -> io::Result<Vec<Vec<u8>>> {
         let mut names = Vec::new(alloc);
         for entry in fs::read_dir(&self.rt, place)? {
-            let entry = entry?;
+            let entry = match entry {
+                // A name that isn't UTF-8: its kind would say that there is no folder.
+                Err(error) if error.kind() == ErrorKind::InvalidFilename => {
+                    return Err(io::Error::other("a name in it isn't UTF-8"));
+                }
+                entry => entry?,
+            };
             names.push(Vec::from_slice(alloc, entry.file_name().as_bytes())?)?;
         }
         Ok(names)
