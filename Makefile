@@ -9,7 +9,7 @@ ENGINE ?= $(PROGRAM)
 UNPROVED := out/unproved/wunthavel-history
 
 .PHONY: help test quick wrong-bodies demo folder-demo clients-test bench faults install install-unproved install-files deb \
-	program unproved
+	program unproved unchecked
 
 help: ## lists the targets, each with what it takes
 	@sed -n 's/^\([a-z-]*\):[^#]*## \(.*\)$$/\1	\2/p' $(MAKEFILE_LIST) | while IFS='	' read -r name text; do printf '%-17s %s\n' "$$name" "$$text"; done
@@ -48,12 +48,16 @@ deb: SCRIPT = package/deb ## a Debian package of the proved program, its manual 
 folder-demo bench faults deb: program
 	$(SCRIPT) $(PROGRAM)
 
-# It is built of a copy, in which the version says that it isn't proved.
+# They are built of a copy, in which the version says that it isn't proved.
 unproved: ## compiles the program without a proof, as out/unproved/wunthavel-history; minutes
+unchecked: ## the same without the checks of rt try, as out/unchecked/wunthavel-history: for bench/report alone, before the proofs are done
+unproved: FLAGS =
+unchecked: FLAGS = --unchecked
+unproved unchecked:
 	@room=$$(mktemp -d) && trap 'rm -rf "$$room"' EXIT && \
 	find crates.txt HANDLES crates scripts -name out -prune -o -type f -print0 | xargs -0 cp --parents -t "$$room" && \
-	sed -i 's/, proved)/, unproved)/' "$$room/crates/history_actions/src/command_line/version.rt" && \
-	"$$room/scripts/unproved-build" $(UNPROVED)
+	sed -i 's/, proved)/, $@)/' "$$room/crates/history_actions/src/command_line/version.rt" && \
+	"$$room/scripts/unproved-build" out/$@/wunthavel-history $(FLAGS)
 
 # `history` alone is a builtin of bash, so the program's own name is another.
 install: program ## proves the program, and puts it as PREFIX/bin/wunthavel-history, with a link history; hours the first time
