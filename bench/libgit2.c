@@ -72,19 +72,28 @@ static void check(void)
 	git_odb_free(objects);
 }
 
-static void names(void)
+// With the commit of each name, which is looked up, though only the name's own id is printed.
+static void list(int has_commits)
 {
 	git_reference_iterator *every;
 	git_reference *found;
+	git_object *commit;
 	char rest[1100];
 	must(git_reference_iterator_new(&every, repository));
 	while (git_reference_next(&found, every) == 0) {
+		if (has_commits) {
+			must(git_reference_peel(&commit, found, GIT_OBJECT_COMMIT));
+			git_object_free(commit);
+		}
 		snprintf(rest, sizeof rest, " %s", git_reference_name(found));
 		print_id(git_reference_target(found), rest);
 		git_reference_free(found);
 	}
 	git_reference_iterator_free(every);
 }
+
+static void names(void) { list(0); }
+static void names_peeled(void) { list(1); }
 
 // The changes of a line are made at its `commit`, in one transaction.
 static void change(void)
@@ -121,7 +130,7 @@ static void open_only(void) {}
 
 static const struct { const char *name; void (*act)(void); } actions[] = {
 	{ "open", open_only }, { "topological", walk_topological }, { "newest", walk_newest }, { "show", show }, { "check", check },
-	{ "names", names }, { "move", change }, { "delete", change }, { "pack", pack },
+	{ "names", names }, { "names-peeled", names_peeled }, { "move", change }, { "delete", change }, { "pack", pack },
 };
 
 int main(int count, char **words)

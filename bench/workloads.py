@@ -135,9 +135,15 @@ class Workloads:
         (folder, repository), times = self.named(state), 10
         ours = self.ours.run(folder, b"names refs\n" * times, {"names": lambda it: facts.ids_and_names(facts.reply(it.output, b"names"))}, times)
         says = {"names": lambda it: facts.ids_and_names(facts.lines(it, times))}
-        words = ["for-each-ref", "--format=%(objectname) %(refname)"]
-        return Workload(f"list of names, {state}", self.names, ours, [self.git.run(repository, words, says, b"", times, times),
-                                                                        *self.others.libgit2_ways("names", repository, says, b"", times, times)])
+        # The reply names the commit of each name, for which an object is read; the others do so only if they are asked.
+        peers = [*self.listing(repository, says, times, "", "names"), *self.listing(repository, says, times, "%(*objectname) ", "names-peeled")]
+        return Workload(f"list of names, {state}", self.names, ours, peers)
+
+    def listing(self, repository, says, times, peeled, action):
+        git = self.git.run(repository, ["for-each-ref", f"--format=%(objectname) {peeled}%(refname)"], says, b"", times, times)
+        for way in [git, *self.others.libgit2_ways(action, repository, says, b"", times, times)]:
+            way.label += ", peeled" if peeled else ""
+            yield way
 
     def change_names(self, name, size, state, commands, words, given, action, parts=1):
         """Commands that change names, after which all names have to be the same."""
