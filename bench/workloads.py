@@ -61,12 +61,12 @@ class Workloads:
         folder, _ = self.merging
         repository = self.git.kept("graph", streams.fast_import(streams.merging(self.history)))
         self.git.call(repository, "commit-graph", "write", "--reachable")
-        ours, peers = self.log_ways("topological", ["--topo-order"], folder, repository, b"index\n")
+        # So many that what `index` takes, which is taken off, doesn't hide them.
+        ours, peers = self.log_ways("topological", ["--topo-order"], folder, repository, b"index\n", 50)
         return Workload("log topological, after index", self.history, ours, peers)
 
-    def log_ways(self, order, flags, folder, repository, before):
-        """Five logs, without what comes before them."""
-        times = 5
+    def log_ways(self, order, flags, folder, repository, before, times=5):
+        """So many logs, without what comes before them."""
         says = {"list": lambda it: facts.reply(it.output, b"log"), "objects": facts.objects}
         ours = self.ours.run(folder, before + b"log %s all +main\n" % order.encode() * times, says, times, before)
         says = {"list": lambda it: facts.lines(it, times)}
