@@ -20,7 +20,7 @@ neither false b (inl e) = refl
 neither true b (inr e) = ap not e
 neither false b (inr e) = refl
 
--- what two words tell of a time is what the line tells
+-- a time read from the line's seconds and offset is the line's time
 pub time_read : (line : ActorLine) (seconds offset : Bytes) (found : Option Time) → seconds ≡ line.seconds → offset ≡ line.offset → MatchOption found (IsNoTime seconds offset) (IsTimeOf seconds offset) → ReadsTime line found
 time_read line seconds offset None same also (inl none) = neither (is_seconds line.seconds) (is_offset line.offset) (inl (ap is_seconds (sym same) ∙ spells_none seconds none))
 time_read line seconds offset None same also (inr none) = neither (is_seconds line.seconds) (is_offset line.offset) (inr (ap is_offset (sym also) ∙ none))

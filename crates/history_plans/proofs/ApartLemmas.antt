@@ -203,7 +203,7 @@ one_found place name kept above found =
 
 -- ---- lines that collide
 
--- what is told of one of the names is told of one of the others
+-- of two lists of the same names, one has a name that passes a test if the other has
 same_any : (p : Bytes → Bool) (kept names : List Bytes) → HaveAll kept names → list_any p kept ≡ list_any p names
 same_any p kept names same = go (list_any p kept) (list_any p names) refl refl
   where
@@ -292,7 +292,7 @@ module _ (r : plain.Repository) where
         ∙ and_or (not (stands r to.name)) (list_any (do_collide to.name) (keys r.names)) (list_any (do_collide to.name) (map name_of order.to))
         ∙ turned (bars r to) (own to)
 
-    -- the names collide among themselves, or one does with those that stand
+    -- the names collide among themselves, or one does with those that exist
     pub collide_parts : (lines : List Line) → AreLines r order.to lines → some_collide r (Move order) ≡ (do_lines_collide lines || list_any (bars r) order.to)
     collide_parts lines are =
         any_filter meets (λ name. not (stands r name)) (map name_of order.to) ∙ any_map (λ name. not (stands r name) && meets name) name_of order.to

@@ -1,4 +1,4 @@
--- What a commit stands on, and the causes that its words, its name and its parents tell.
+-- What a commit is based on, and the causes that its words, its name and its parents give.
 use Rattle.std.specs.declared.alloc.Global.{Global}
 use Rattle.std.specs.Prelude.{Vec, Result, IsErrOf, MatchOption, ⊤, option_and_then}
 use Rattle.std.proofs.lemmas.Option.{same_Some}
@@ -58,7 +58,7 @@ at_sent r word meaning Any h is = absurd h
 at_sent r word meaning New h is = absurd h
 at_sent r word meaning (At bytes) h is = is ∙ ap (commit_or_cause r) h
 
--- a fault of reading is told whatever the causes
+-- a fault of reading is reported whatever the causes are
 pub fault_told : (MayFail : Type 0) (causes : List Cause) (r : Repository) (order : CommitCommand) (stopped : Stopped) → IsReadingFault MayFail stopped → IsToldBy MayFail causes r order stopped
 fault_told MayFail causes r order (Refused cause) h = absurd h
 fault_told MayFail causes r order (Fault fault) h = h
@@ -185,7 +185,7 @@ module _ (r : Repository) (order : CommitCommand) where
   at_meanings (At word) expected.Any is = absurd is
   at_meanings (At word) expected.New is = absurd is
 
-  -- what the parents' words stand for
+  -- what the parents' words mean
   pub parent_meanings : (words : List (Vec ℕ Global)) (meanings : List own.WordMeaning) → map (λ (word : Vec ℕ Global). word.items) words ≡ order.parents
       → map meaning_of meanings ≡ map (λ (word : Vec ℕ Global). commit_or_cause r word.items) words → map meaning_of meanings ≡ map (commit_or_cause r) order.parents
   parent_meanings words meanings are is = is ∙ sym (map_twice (commit_or_cause r) (λ (word : Vec ℕ Global). word.items) words) ∙ ap (map (commit_or_cause r)) are

@@ -1,4 +1,4 @@
--- When a name collides with those that stand.
+-- When a name collides with those that exist.
 use Rattle.std.proofs.Common.{◌≡◌, Bool, true, false, cond, not, ◌&&◌, ◌||◌, List, [], ◌∷◌, ◌++◌, length, drop, refl, sym, ◌∙◌, ap, Some, None, append_assoc, nat_eq}
 use Rattle.std.specs.List.{list_any, list_all}
 use Rattle.std.specs.FinMap.{keys}
@@ -52,7 +52,7 @@ below_itself name = go name
 pub above_it : (place path : Bytes) → is_below place path ≡ true → IsAbove place path
 above_it place path h = (drop (length (place ++ 47 ∷ [])) path, begins_parts (place ++ 47 ∷ []) path h ∙ append_assoc place (47 ∷ []) (drop (length (place ++ 47 ∷ [])) path))
 
--- a name that collides with none that stands may stand beside them
+-- a name that collides with no existing name fits among them
 pub fits_free : (r : plain.Repository) (name : Bytes) → is_name name ≡ true → list_any (do_collide name) (keys r.names) ≡ false → FitsAmong r name
 fits_free r name formed none = record {
   named = formed;
@@ -65,11 +65,11 @@ module _ (r : plain.Repository) (name : Bytes) where
   abbrev by_standing : Bool → Bool
   by_standing s = list_any (λ made. list_any (do_collide made) (keys r.names ++ name ∷ [])) (cond (not s) (name ∷ []) [])
 
-  -- whether the name collides with those that stand, where it is to be made
+  -- whether the name collides with those that exist, if it is to be made
   abbrev pub one_collides : Bool
   one_collides = by_standing (stands r name)
 
-  -- a name that stands doesn't collide, and one to be made does where it does with one that stands
+  -- an existing name doesn't collide, and a new one does if it collides with an existing one
   pub standing_free : stands r name ≡ true → one_collides ≡ false
   standing_free is = ap by_standing is
 
@@ -83,7 +83,7 @@ module _ (r : plain.Repository) (name : Bytes) where
       last true = refl
       last false = refl
 
-  -- where it doesn't collide, none of those that stand is in its way
+  -- if it doesn't collide, no existing name is in its way
   pub fits_so : HasWholeNames r → is_name name ≡ true → one_collides ≡ false → FitsAmong r name
   fits_so whole formed none = record { named = formed; apart = by_standing_name (stands r name) refl }
     where
@@ -91,7 +91,7 @@ module _ (r : plain.Repository) (name : Bytes) where
       by_standing_name true is other there = or_from (is_below name other) (is_below other name) (whole.apart name other is there) (whole.apart other name there is)
       by_standing_name false is other there = (fits_free r name formed (sym (new_collides is) ∙ none)).apart other there
 
--- what the place of a commit's name tells, and what the name holds
+-- the first cause of a commit's place, by whether its name collides and whether it holds a tag
 pub place_told : (r : plain.Repository) (order : CommitCommand) (collides tag : Bool) → some_collide r (Commit order) ≡ collides → holds_tag r (Commit order) ≡ tag
     → first_among place_causes r (Commit order) ≡ cond collides (Some Collides) (cond tag (Some HoldsTag) None)
 place_told r order collides tag is holds = λ i. cond (is i) (Some Collides) (cond (holds i) (Some HoldsTag) None)

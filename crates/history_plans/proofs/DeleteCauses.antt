@@ -33,7 +33,7 @@ use Rattle.history_repository.specs.declared.words.WordMeaning as meant
 use Rattle.history_repository.specs.declared.words.WordMeaning.TheVariants as read
 use Rattle.history_repository.specs.declared.stopped.Stopped.TheVariants as why
 
--- ---- what the name, the word and the files tell of the causes
+-- ---- the causes that the name, the word and the files give
 
 pub formed_name : (name : Bytes) → form_cause name ≡ None → is_name name ≡ true
 formed_name name none = go (is_name name) _ none
@@ -116,7 +116,7 @@ module _ (r : plain.Repository) (name : Bytes) where
       pub by_held : Tells word_causes ≡ None → (first : Option Cause) → Tells held_causes ≡ first → first_cause r (Delete name at) ≡ first
       by_held words first e = past_form ∙ find_after_none P word_causes held_causes words ∙ e
 
--- ---- what is told
+-- ---- what is reported
 
 pub refusal_told : (MayFail : Type 0) (r : plain.Repository) (command : Command) (ends : Result (Unit {0}) Stopped) (cause : Cause) → ends ≡ Err (why.Refused cause) → first_cause r command ≡ Some cause → TestsAll MayFail r command ends
 refusal_told MayFail r command ends cause is_end first = subst (TestsAll MayFail r command) (sym is_end) first

@@ -1,4 +1,4 @@
--- The edits of a commit, as they are read, and as its lines tell them.
+-- The edits of a commit, as they are read, and as its lines give them.
 use Rattle.std.proofs.Common.{◌≡◌, ℕ, ◌+◌, ◌<◌, refl, sym, ◌∙◌, ap, subst, Bool, true, false, ◌&&◌, ◌||◌, List, [], ◌∷◌, ◌++◌, map, length, take, get_or, append-nil, Option}
 use Rattle.std.specs.List.{list_any, flat_map, AllZip}
 use Rattle.std.proofs.lemmas.Grind.{flat_map-append}

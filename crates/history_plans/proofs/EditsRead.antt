@@ -1,4 +1,4 @@
--- The edits of a commit and what their words stand for, read one after another.
+-- The edits of a commit and what their words mean, read one after another.
 use Rattle.std.proofs.Common.{◌≡◌, ℕ, zero, suc, ◌+◌, ◌<◌, refl, sym, ◌∙◌, ap, subst, arith, Bool, true, false, ◌||◌, List, [], ◌∷◌, ◌++◌, map, length, get_or, append-nil, Option, None, Err}
 use Rattle.std.specs.Prelude.{Ok}
 use Rattle.std.specs.List.{list_any, flat_map, AllZip}

@@ -1,4 +1,4 @@
--- What edits of files tell where they fail.
+-- What edits of files report if they fail.
 use Rattle.std.proofs.Common.{◌≡◌, refl, sym, ◌∙◌, subst, List, [], ◌∷◌}
 use Rattle.std.specs.Prelude.{Option, Some, None, Result, Ok, Err, IfOk, IfErr, option_map}
 use Rattle.gix_hash_id.specs.Id.{Id, id_of}
@@ -56,7 +56,7 @@ module _ {F : Type 0} (IsHonest : F → Type 0) (history : F → History) (repos
       subst (λ (x : Result EditedFiles EditError). IfErr x (EditsFault MayFail r.kind (first_files r ids) made)) is
       (at_files (λ k o files made. IfErr result (EditsFault MayFail k files made)) told)
 
--- such an error, where all paths are paths, is told so
+-- if all paths are paths, such an error is reported as `TellsEdited` says
 pub unmade_told : (r : plain.Repository) (MayFail : Type 0) (ids : List Id) (made : List model.Edit) → HavePaths made → (error : EditError) → EditsFault MayFail r.kind (first_files r ids) made error
     → TellsEdited MayFail r ids made (unmade error)
 unmade_told r MayFail ids made paths refused.BadPath h = absurd (cc (sym paths ∙ h))

@@ -59,7 +59,7 @@ module _ (r : Repository) (order : CommitCommand) where
   refused_by_form cause none e =
       find_after_none (λ cause. holds cause r (Commit order)) name_causes (form_causes ++ TooLarge ∷ []) none ∙ e
 
-  -- where all but the last cause are ruled out, it decides
+  -- if all but the last cause are ruled out, it decides
   pub refused_by_size : first_among name_causes r (Commit order) ≡ None → first_among form_causes r (Commit order) ≡ None → first_cause r (Commit order) ≡ first_among (TooLarge ∷ []) r (Commit order)
   refused_by_size none formed =
       find_after_none (λ cause. holds cause r (Commit order)) name_causes (form_causes ++ TooLarge ∷ []) none
@@ -96,7 +96,7 @@ module _ (r : Repository) (order : CommitCommand) where
       or_true true = refl
       or_true false = refl
 
--- ---- what no cause of the form tells of the rest
+-- ---- what follows if no cause of the form holds
 
 module _ (r : Repository) (order : CommitCommand) (formed : first_among form_causes r (Commit order) ≡ None) where
   pub good_paths : list_any is_bad_path (paths_in (Commit order)) ≡ false

@@ -54,7 +54,7 @@ none_found MayFail r (Remove path) apart = (refl, tt)
 none_found MayFail r (RemoveFile path) apart = (refl, tt)
 none_found MayFail r (Graft graft) apart = absurd (apart graft refl)
 
--- what stops is told so whatever was to be read
+-- a stopped reading is reported alike, whatever was to be read
 pub stopped_as : {S T : Type 0} (MayFail : Type 0) (made : List model.Edit) (IsRead : S → Type 0) (AreRead : T → Type 0) (stopped : Stopped) → TellsRead MayFail made IsRead (Err stopped) → TellsRead MayFail made AreRead (Err stopped)
 stopped_as MayFail made IsRead AreRead (Refused cause) told = told
 stopped_as MayFail made IsRead AreRead (Fault reason) told = told

@@ -165,7 +165,7 @@ module _ (MayFail : Type 0) (table : Table) (kind : Kind) (path source : Bytes) 
   abbrev one : List model.Edit
   one = Graft path source other ∷ []
 
-  -- where what is found is no folder, no path is longer than the target
+  -- if what is found is no folder, no path is longer than the target
   pub no_folder_passes : ((id : ObjectId) → found ≡ Some (Folder id) → ⊥) → grafts_badly one ≡ false
   no_folder_passes other_found = go (source_of table kind source other found is)
     where

@@ -1,4 +1,4 @@
--- The lines of a move: what is read of them, and what they tell of the causes.
+-- The lines of a move: what is read of them, and the causes that they give.
 use Rattle.std.proofs.Common.{◌≡◌, ℕ, zero, suc, ◌<◌, length, get_or, arith, Bool, true, false, cond, not, ◌&&◌, ◌||◌, List, [], ◌∷◌, ◌++◌, map, filter, refl, sym, ◌∙◌, ap, subst, Option, Some, None, option_map, is_some, is_none, unwrap_or}
 use Rattle.std.specs.Prelude.{Vec, Result, Err, IsErrOf, ⊤}
 use Rattle.std.specs.declared.alloc.Global.{Global}
@@ -75,7 +75,7 @@ names_told r order = alone (list_any (λ name. not (is_name name)) (map name_of 
     alone true rest = refl
     alone false rest = refl
 
--- where none of these causes holds each name is one
+-- if none of these causes holds, each name is a valid one
 pub all_named : (names : List Bytes) → names_cause names ≡ None → list_any (λ name. not (is_name name)) names ≡ false
 all_named names none = go (list_any (λ name. not (is_name name)) names) _ none
   where

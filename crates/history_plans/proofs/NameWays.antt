@@ -1,4 +1,4 @@
--- What may stand in the way of a name.
+-- What may be in the way of a name.
 use Rattle.std.proofs.Common.{◌≡◌, ◌⊎◌, inl, inr, ◌||◌, ◌&&◌, not, bytes_eq, codes, [], ◌∷◌, ◌++◌, drop, append_assoc, Bool, true, false, None, Some, Option, refl, sym, ◌∙◌, ap}
 use Rattle.history_model.specs.Repository.{stands}
 use Rattle.gix_ref_file.specs.Tree.{Tree}
@@ -19,13 +19,13 @@ use Rattle.history_model.proofs.WholePaths.{begins_front, begins_parts}
 use Rattle.gix_ref_file.specs.declared.files.FileError.TheVariants as files
 use Rattle.history_model.specs.Repository as plain
 
--- ---- where files of names stand
+-- ---- the places of the files of names
 
 pub is_below_it : (place path : Bytes) → IsAbove place path → is_below place path ≡ true
 is_below_it place path (rest, is) = ap (begins (place ++ 47 ∷ [])) (is ∙ sym (append_assoc place (47 ∷ []) rest)) ∙ begins_front (place ++ 47 ∷ []) rest
 
 module _ (r : plain.Repository) (tree : Tree) (holds : HoldsNames tree r) (formed : (name : Bytes) → stands r name ≡ true → is_name name ≡ true) where
-  -- what is told of HEAD, of `packed-refs`, of each name and of its log is told of each file's path
+  -- a test that fails for HEAD, `packed-refs`, each name and its log fails for each file's path
   of_places : (p : Bytes → Bool) → p head_place ≡ false → p packed_place ≡ false → ((name : Bytes) → stands r name ≡ true → p name ≡ false) → ((name : Bytes) → stands r name ≡ true → p (log_place name) ≡ false)
       → (path text : Bytes) → file_at tree path ≡ Some text → p path ≡ false
   of_places p head packed own log path text is = by_four (or_cases _ (is_log_place path && stands r (log_name path)) (holds.places path text is))
@@ -55,7 +55,7 @@ module _ (r : plain.Repository) (tree : Tree) (holds : HoldsNames tree r) (forme
   pub no_lock_stands : (path : Bytes) → is_lock_file path ≡ true → file_at tree path ≡ None
   no_lock_stands = none_at is_lock_file refl refl (λ name stood. name-lock name (formed name stood)) (λ name stood. log-lock name (formed name stood))
 
-  -- ---- a name that may stand beside these
+  -- ---- a name that fits among these
   module _ (name : Bytes) (fits : FitsAmong r name) where
     abbrev refs : name ≡ codes "refs" ++ 47 ∷ drop 5 name
     refs = refs_of name fits.named
@@ -83,7 +83,7 @@ module _ (r : plain.Repository) (tree : Tree) (holds : HoldsNames tree r) (forme
           (λ another stood. ap (λ o. is_below (log_place name) o) (other_refs another stood)) (λ another stood. (apart another stood).0) other (is_below_it (log_place name) other below);
     }
 
-    -- nothing stands where its file is written beside
+    -- no folder is at the place of its lock file
     pub lock_room : HasLockRoom name tree
     lock_room stood =
         let parts = and_parts _ (not (is_lock_file (lock_place name))) (holds.folders (lock_place name) stood) in

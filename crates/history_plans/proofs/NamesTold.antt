@@ -1,4 +1,4 @@
--- What a commit's name tells of the causes.
+-- The causes that a commit's name gives.
 use Rattle.std.proofs.Common.{◌≡◌, Bool, true, false, cond, not, ◌||◌, [], ◌∷◌, refl, sym, ◌∙◌, ap, Option, Some, None, bytes_eq, codes}
 use Rattle.std.specs.List.{list_any}
 use Rattle.history_model.specs.Bytes.{begins}

@@ -43,7 +43,7 @@ pub none_pass : {X : Type 0} (p : X → Bool) (xs : List X) → ((x : X) → In 
 none_pass p [] h = refl
 none_pass p (x ∷ xs) h = or_from (p x) (list_any p xs) (h x (inl refl)) (none_pass p xs (λ y i. h y (inr i)))
 
--- ---- the folders that stood
+-- ---- the folders that were stored before
 
 module _ (r : Repository) (whole : IsWholeStore r) where
   -- each folder of a stored commit's files is stored
@@ -78,7 +78,7 @@ module _ (r : Repository) (whole : IsWholeStore r) where
       by_word (Some id) e i = by_keys id e (is_empty (keys (files_at r id))) i
 
   module _ (ids : List Id) (hold : AllByRecursion (HoldsCommit r) ids) (lines : List EditLine) where
-    -- the folders that stand before the edits
+    -- the folders before the edits
     abbrev stands : List FileMap
     stands = standing (first_files r ids) (map (read_edit r) lines)
 

@@ -64,7 +64,7 @@ module _ (r : plain.Repository) (whole : IsWhole r) (written : IsWritten r) wher
   formed : (name : Bytes) (ref : Reference) → get r.names name ≡ Some ref → (is_name name ≡ true) × (not (is_private name) ≡ true)
   formed name ref at = and_parts (is_name name) (not (is_private name)) (and_parts (is_name name && not (is_private name)) (is_reference r.kind ref) (written.names name ref at)).0
 
-  -- the record of one that stands
+  -- the record of an existing name
   one_record : (name : Bytes) (ref : Reference) → get r.names name ≡ Some ref → Some (line_record (name_line r (name, ref))) ≡ record_for r name
   one_record name ref at = by_commit (peeled r ref.id) refl (whole.names.held name ref.id held)
     where

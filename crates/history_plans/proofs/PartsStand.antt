@@ -1,4 +1,4 @@
--- What stands in each of the two parts, before and after a command that moves one name.
+-- What is true of each of the two parts, before and after a command that moves one name.
 use Rattle.std.proofs.Common.{◌≡◌, refl, sym, ◌∙◌, ap, subst, true, List, None}
 use Rattle.std.specs.Prelude.{IsFalse, Option, Some, is_some, not, ◌&&◌}
 use Rattle.gix_ref_file.specs.History.{History}
@@ -39,7 +39,7 @@ use Rattle.history_repository.specs.declared.repository.Repository.{Repository}
 use Rattle.std.proofs.lemmas.Bool.{and_parts}
 use Rattle.history_model.specs.Repository as plain
 
--- a name that stands is one
+-- an existing name is a valid one
 pub name_formed : (r : plain.Repository) → IsWritten r → (name : Bytes) → stands r name ≡ true → is_name name ≡ true
 name_formed r written name stood = of_ref (get r.names name) refl stood
   where
@@ -62,7 +62,7 @@ pub tag_accepted : (r : plain.Repository) (order : TagCommand) → first_cause r
 tag_accepted r order none free = record { no_cause = none; not_taken = free; answer = refl; result = refl }
 
 module _ {F : Type 0} (IsHonest : F → Type 0) (history : F → History) where
-  -- what stands for a repository stands in each part
+  -- each part of a repository represents its half of what the whole represents
   pub objects_stand : (repository : Repository F) (r : plain.Repository) → Stands IsHonest history repository r → ObjectsStand IsHonest history repository r.objects
   objects_stand repository r h =
       let same = sym h.objects_kind in record {

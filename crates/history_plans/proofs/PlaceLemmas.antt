@@ -1,4 +1,5 @@
--- Whether a name may stand beside the others, by the files that stand above it and below it, and by what is packed.
+-- Whether a name may exist beside the others, by the files at places above and below it, and by
+-- what is packed.
 use Rattle.std.proofs.Common.{◌≡◌, ◌⊎◌, inl, inr, Bool, true, false, not, refl, sym, ◌∙◌, ap, subst, None, is_some}
 use Rattle.std.specs.Prelude.{IsTrue}
 use Rattle.std.specs.FinMap.{keys, contains_key}
@@ -40,11 +41,11 @@ module _ {F : Type 0} (IsHonest : F → Type 0) (history : F → History) (repos
   no_file : {A : Type 0} (path : Bytes) → IsTrue (is_file_at tree path) → file_at tree path ≡ None → A
   no_file path there none = absurd (cc (sym there ∙ ap is_some none))
 
-  -- what a name reads as tells whether it stands
+  -- a name exists if an id is read for it
   read_there : (other : Bytes) → is_some (told_id (name_state r.kind tree other)) ≡ stands r other
   read_there other = ap is_some (state_told (pair_of history repository) r stand.whole.stands other) ∙ sym (stands_held r other)
 
-  -- a file that stands in the way, or a name that is packed there, is another name's
+  -- a file in the way, or a packed name there, is another name's
   in_the_way : TellsMeeting r.kind name tree true → list_any (do_collide name) (keys r.names) ≡ true
   in_the_way (other, beside, there) = go (list_any (do_collide name) (keys r.names)) refl
     where

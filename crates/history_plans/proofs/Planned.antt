@@ -127,14 +127,14 @@ commit_said r order store base on root root_is actors are message same = record 
   message_is = same;
 }
 
--- what is told of it by the store's kind is told by the repository's
+-- the store's kind is the repository's, so what is said for one kind is said for the other
 pub commit_told : (kind : Kind) (r : plain.Repository) (order : CommitCommand) → kind ≡ r.kind → (base : Base) (root : ObjectId) (actors : Actors) (message : Bytes) (result : Result NewObject Stopped)
     → (Says kind root base.parents.items actors message (new_commit r order) → MakesCommit kind (new_commit r order) result)
     → Says r.kind root base.parents.items actors message (new_commit r order) → MakesCommit r.kind (new_commit r order) result
 commit_told kind r order same base root actors message result told said =
     subst (λ (k : Kind). Says k root base.parents.items actors message (new_commit r order) → MakesCommit k (new_commit r order) result) same told said
 
--- where the object isn't made, nothing is to move
+-- if the object isn't made, nothing is to move
 pub not_made : (r : plain.Repository) (order : CommitCommand) (stopped : Stopped) → MakesCommit r.kind (new_commit r order) (Err stopped) → GivesCommitted r order (Err stopped)
 not_made r order (Refused cause) h = h
 not_made r order (why.Fault Memory) h = h
@@ -183,7 +183,7 @@ module _ (r : plain.Repository) (order : CommitCommand) where
       pub graft_refused : grafts_badly (edits_of r order) ≡ true → first_cause r (Commit order) ≡ Some BadPath
       graft_refused bad = refused_by_form r order BadPath none (here _ _ _ (paths_so false true good bad))
 
-      -- where the edits that are read are those of the lines, but for long contents
+      -- if the edits that are read are those of the lines, but for long contents
       module _ (edits : List Edit) (are : AreEdits edits order.edits) where
         alike : AllZip IsAlike (map (kept_edit r) edits) (edits_of r order)
         alike = edits_alike r edits order.edits are good
@@ -259,7 +259,7 @@ module _ (r : plain.Repository) (order : CommitCommand) where
         by_size true e = inr e
         by_size false e = inl e
 
-    -- where what is put or a tree has the null id
+    -- if what is put or a tree has the null id
     pub null_planned : HaveNull r.kind (first_files r (parents_of r order)) (edits_of r order) → MayTake r (Commit order)
     null_planned null = may_take (null_taken r order null)
 
@@ -321,7 +321,7 @@ module _ (r : plain.Repository) (order : CommitCommand) where
         refused_by_size r order none formed
         ∙ passed (is_too_large r (Commit order)) TooLarge None None (sizes ∙ (λ i. folders_fit i || (within max_content (length (commit_content r.kind (new_commit r order))) commit_fits i || false))) refl
 
-  -- what the edits come to, where no content is over its limit
+  -- what the edits come to, if no content is over its limit
   pub edits_meant : (MayFail : Type 0) (edits : List Edit) → AreEdits edits order.edits → list_any is_bad_path (paths_in (Commit order)) ≡ false
       → list_any is_long (contents_in (Commit order)) ≡ false → (ids : List Id) → ids ≡ parents_of r order
       → (edited : Option EditedFiles) → TellsEdited MayFail r ids (map (kept_edit r) edits) (Ok edited)

@@ -34,9 +34,9 @@ use Rattle.history_repository.proofs.NameReads.{held}
 use Rattle.history_repository.proofs.WordReads.{stands_so}
 use Rattle.history_model.specs.Repository as plain
 
--- ---- what the names and the files tell of the causes
+-- ---- the causes that the names and the files give
 
--- the causes that the names tell by themselves come first
+-- the causes that the names give by themselves come first
 told_by : Option Cause → (stood taken collides : Bool) → Option Cause
 told_by (Some cause) stood taken collides = Some cause
 told_by None stood taken collides = cond (not stood) (Some NoSuchName) (cond taken (Some Taken) (cond collides (Some Collides) None))
@@ -87,7 +87,7 @@ module _ (r : plain.Repository) (from to : Bytes) where
       pub by_taken : is_some (id_at r to) ≡ true → first_cause r (Rename from to) ≡ Some Taken
       by_taken e = past_old ∙ ap (λ s. cond s (Some Taken) (cond (some_collide r (Rename from to)) (Some Collides) None)) (stands_so r to (id_at r to) refl ∙ e)
 
-      -- the new name doesn't stand, and collides or doesn't
+      -- the new name doesn't exist, and collides or doesn't
       pub by_place : id_at r to ≡ None → (found : Bool) → list_any (do_collide to) (keys r.names) ≡ found → first_cause r (Rename from to) ≡ cond found (Some Collides) None
       by_place e found told =
           let free = stands_so r to None e in
@@ -100,7 +100,7 @@ module _ {F : Type 0} (IsHonest : F → Type 0) (history : F → History) (old :
   held_at name path same formed found tells =
       ap (id_at r) (sym same) ∙ sym (held IsHonest history old r h path found tells)
 
--- whether it stands, by that
+-- a name exists if an id was found for it
 pub stands_told : (held : Option Id) (found : Option ObjectId) → held ≡ option_map id_of found → is_some found ≡ true → is_some held ≡ true
 stands_told held None e there = cc
 stands_told held (Some id) e there = ap is_some e
@@ -109,7 +109,7 @@ pub free_told : (held : Option Id) (found : Option ObjectId) → held ≡ option
 free_told held None e none = e
 free_told held (Some id) e none = cc
 
--- ---- what is told
+-- ---- what is reported
 
 pub refusal_told : (MayFail : Type 0) (r : plain.Repository) (from to : Bytes) (ends : Result ObjectId Stopped) (cause : Cause) → ends ≡ Err (Refused cause) → first_cause r (Rename from to) ≡ Some cause → TestsRename MayFail r from to ends
 refusal_told MayFail r from to ends cause is_end first = subst (TestsRename MayFail r from to) (sym is_end) first

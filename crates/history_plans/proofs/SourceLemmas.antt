@@ -53,7 +53,7 @@ module _ (r : Repository) where
       rest : {a b : Option Id} {xs ys : List (Option Id)} → a ∷ xs ≡ b ∷ ys → xs ≡ ys
       rest e = cc
 
--- ---- where no cause of words holds
+-- ---- if no cause of words holds
 
 none_among : {X : Type 0} (test : X → Bool) (xs : List X) → find test xs ≡ None → (x : X) → In x xs → test x ≡ false
 none_among test [] e x i = absurd i

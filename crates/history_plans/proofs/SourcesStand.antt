@@ -77,7 +77,7 @@ module _ (r : Repository) (whole : IsWholeStore r) (files : FileMap) (map_is : I
           (not_empty_tree (StoredFolder (source_files source files)) (id_of id) same (ap (λ (i : Id). i.kind) same ∙ digest_kind r.kind _)
           (folder_stored (IsStored r) source files all some) (no_file (source_files source files) some))
 
-  -- the folder that a source is stands
+  -- the folder that a source is, is stored
   pub source_stands : (source : Bytes) (found : Option Found) (id : ObjectId) → IsSource (table_of r) r.kind source files found → found ≡ Some (Folder id) → get r.objects (id_of id) ≡ Some (StoredFolder (source_files source files))
   source_stands source found id is e = go (source_of (table_of r) r.kind source files found is)
     where
@@ -105,7 +105,7 @@ module _ (r : Repository) (whole : IsWholeStore r) (written : IsWritten r) (id :
   pub found_at : (source : Bytes) (found : Option Found) → option_map entry_of found ≡ source_entry r.kind (files_at r id) source → IsSource (table_of r) r.kind source (files_at r id) found
   found_at source found told = source_is r whole (files_at r id) files_map files_folder source found told
 
-  -- what stands at a source, by whether it is empty, and whether there are files
+  -- what is at a source, by whether it is empty, and whether there are files
   abbrev as_folder : Id → Option (Bytes × Id)
   as_folder root = Some (codes "40000", root)
 

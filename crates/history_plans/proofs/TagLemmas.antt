@@ -250,7 +250,7 @@ module _ (r : plain.Repository) (order : TagCommand) (store : IsWholeStore r) (c
   pub tag_said : (own message : Bytes) → own ≡ tag_rest order.name → message ≡ order.message → SaysTag r.kind commit own tagger message (new_tag r order)
   tag_said own message own_is message_is = record { form = tag_formed; target_is = target_is; name_is = own_is; tagger_is = told; message_is = message_is }
 
--- what is told of its object by the store's kind is told by the repository's
+-- the store's kind is the repository's, so what is said for one kind is said for the other
 pub tag_told : (kind : Kind) (r : plain.Repository) (order : TagCommand) → kind ≡ r.kind → (commit : ObjectId) (own : Bytes) (tagger : Actor) (message : Bytes) (result : Result NewObject Stopped)
     → ((value : TagValue) → SaysTag kind commit own tagger message value → MakesTag kind value result) → SaysTag r.kind commit own tagger message (new_tag r order) → MakesTag r.kind (new_tag r order) result
 tag_told kind r order same commit own tagger message result told said =
@@ -272,7 +272,7 @@ same_told r order held found object held_is is made = λ i. same_id ((is ∙ hel
 
 -- ---- words and name
 
--- a word that stands for no commit is refused among all words
+-- a word that means no commit is refused among all words
 pub all_commits : (front : List (Result Id Cause)) (meaning : WordMeaning) (cause : Cause) → words_cause (front ++ meaning_of meaning ∷ []) ≡ None → meaning_of meaning ≡ Err cause → ⊥
 all_commits front meaning cause none = go meaning none
   where
@@ -310,7 +310,7 @@ module _ (r : plain.Repository) (order : TagCommand) where
 
 -- ---- stops
 
--- where it isn't based, nothing is planned
+-- if it isn't based, nothing is planned
 pub base_planned : (r : plain.Repository) (order : TagCommand) → first_among name_form_causes r (Tag order) ≡ None → (MayFail : Type 0) (result : Result TagBase Stopped) (ends : Result Tagged Stopped) (stopped : Stopped)
     → result ≡ Err stopped → ends ≡ Err stopped → TestsOf MayFail target_causes r (Tag order) (IsTagBase r order) result → PlansTag MayFail r order ends
 base_planned r order named MayFail result ends stopped was is_end tests =
@@ -320,7 +320,7 @@ base_planned r order named MayFail result ends stopped was is_end tests =
     by_case (why.Refused cause) h = target_refused r order named cause h
     by_case (why.Fault fault) h = h
 
--- a fault of reading is one of what it stands on
+-- a fault of reading is one of reading the base
 pub fault_based : (MayFail : Type 0) (r : plain.Repository) (order : TagCommand) (ends : Result TagBase Stopped) (stopped : Stopped) → ends ≡ Err stopped → IsReadingFault MayFail stopped → TestsOf MayFail target_causes r (Tag order) (IsTagBase r order) ends
 fault_based MayFail r order ends stopped is_end told = subst (λ (x : Result TagBase Stopped). TestsOf MayFail target_causes r (Tag order) (IsTagBase r order) x) (sym is_end) (by_case stopped told)
   where
@@ -328,7 +328,7 @@ fault_based MayFail r order ends stopped is_end told = subst (λ (x : Result Tag
     by_case (why.Refused cause) h = absurd h
     by_case (why.Fault fault) h = h
 
--- where its object isn't made, nothing is planned
+-- if its object isn't made, nothing is planned
 pub object_planned : (r : plain.Repository) (order : TagCommand) → (max_content < length (tag_content (new_tag r order)) → first_cause r (Tag order) ≡ Some TooLarge) → (MayFail : Type 0) (result : Result NewObject Stopped) (ends : Result Tagged Stopped) (stopped : Stopped)
     → result ≡ Err stopped → ends ≡ Err stopped → MakesTag r.kind (new_tag r order) result → PlansTag MayFail r order ends
 object_planned r order large MayFail result ends stopped was is_end makes =

@@ -25,13 +25,13 @@ module _ (MayFail : Type 0) (r : Repository) (command : Command) where
   pub none_joined : (front back : List Cause) → first_among front r command ≡ None → first_among back r command ≡ None → first_among (front ++ back) r command ≡ None
   none_joined front back none more = find_after_none p front back none ∙ more
 
-  -- what a part stopped for is told by the whole
+  -- the whole reports what a part stopped for
   pub stopped_by : {A B : Type 0} (causes more : List Cause) (P : A → Type 0) (Q : B → Type 0) (result : Result A Stopped) (ends : Result B Stopped) (stopped : Stopped) → result ≡ Err stopped → ends ≡ Err stopped
       → (IsToldOf MayFail causes r command stopped → IsToldOf MayFail more r command stopped) → TestsOf MayFail causes r command P result → TestsOf MayFail more r command Q ends
   stopped_by {A} {B} causes more P Q result ends stopped was is_end on tests =
       subst (λ (x : Result B Stopped). TestsOf MayFail more r command Q x) (sym is_end) (on (subst (λ (x : Result A Stopped). TestsOf MayFail causes r command P x) was tests))
 
-  -- a stop that is told
+  -- a stop that is reported
   pub ends_told : {B : Type 0} (causes : List Cause) (Q : B → Type 0) (ends : Result B Stopped) (stopped : Stopped) → ends ≡ Err stopped → IsToldOf MayFail causes r command stopped → TestsOf MayFail causes r command Q ends
   ends_told {B} causes Q ends stopped is_end told = subst (λ (x : Result B Stopped). TestsOf MayFail causes r command Q x) (sym is_end) told
 

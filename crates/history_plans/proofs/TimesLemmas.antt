@@ -1,4 +1,4 @@
--- What the tests of a command's edits and actors tell of the causes.
+-- The causes that the tests of a command's edits and actors give.
 use Rattle.std.proofs.Common.{◌≡◌, ℕ, zero, suc, ◌<◌, Bool, true, false, not, ◌||◌, List, [], ◌∷◌, length, refl, sym, ◌∙◌, ap, arith, Option, Some, None, MatchOption, Err}
 use Rattle.std.specs.Bool.{MatchBool}
 use Rattle.std.specs.List.{list_any, flat_map, AllWithin, HoldsAt}
@@ -23,7 +23,7 @@ or_true false = refl
 
 -- ---- edits
 
--- what a test of each edit answers, where it answers by the edit's line
+-- a test of an edit returns what the test of its line returns
 abbrev pub Answers : (EditLine → Bool) → Bool → Edit → Type 0
 Answers test answer edit = (line : EditLine) → IsEdit edit line → answer ≡ test line
 
@@ -42,7 +42,7 @@ module _ (test : EditLine → Bool) where
       ap (λ b. b || list_any test lines) (sym (h 0 edit (omega arith) (omega arith) line are.0))
       ∙ no_line edits lines are.1 (λ k d low less. h (suc k) d (omega arith) (omega arith))
 
-  -- whether a test of the edits finds one tells whether a line passes
+  -- a test finds one of the edits if one of the lines passes
   pub any_line : (edits : List Edit) (lines : List EditLine) → AreEdits edits lines → (answer : Bool)
       → MatchBool answer ((k : ℕ) × (k < length edits) × HoldsAt (Answers test true) edits k) (AllWithin (Answers test false) edits 0 (length edits)) → answer ≡ list_any test lines
   any_line edits lines are true h = sym (some_line edits lines are h.0 h.1 h.2)
@@ -58,7 +58,7 @@ module _ (r : Repository) (order : CommitCommand) where
   abbrev Holds : Cause → Bool
   Holds cause = holds cause r (Commit order)
 
-  -- where none of those that its paths tell holds
+  -- if none of the causes of its paths holds
   module _ (none : first_among path_causes r (Commit order) ≡ None) where
     path : Holds BadPath ≡ false
     path = (none_of _ _ _ none).0
@@ -103,11 +103,11 @@ neither_bad false false e f = refl
 pub time_good : (line : ActorLine) (time : Time) → IsTime line time → (not (is_seconds line.seconds) || not (is_offset line.offset)) ≡ false
 time_good line time h = ap (λ b. not b || not (is_offset line.offset)) h.good_seconds ∙ ap not h.good_offset
 
--- an absent value is told as the error
+-- a missing value gives the error that was passed
 pub absent : {A E : Type 0} (o : Option A) (given error : E) → Err given ≡ ok_or o error → (given ≡ error) × (o ≡ None)
 absent None given error e = (cc, refl)
 absent (Some x) given error e = cc
 
--- and so there is none, where the value is there
+-- and so there is no error if the value exists
 pub never_absent : {A E : Type 0} (P : A → Type 0) (found : Option A) (given error : E) → Err given ≡ ok_or found error → MatchOption found ⊥ P → ⊥
 never_absent P found given error is there = rw (absent found given error is).1 at there

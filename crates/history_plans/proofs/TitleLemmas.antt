@@ -1,4 +1,4 @@
--- Where a message's title ends, and what its first 1,025 bytes tell of it.
+-- Where a message's title ends, and what its first 1,025 bytes say of it.
 use Rattle.std.proofs.Common.{◌≡◌, ℕ, zero, suc, ◌<◌, ◌≤◌, Bool, true, false, cond, not, ◌||◌, [], ◌∷◌, length, take, refl, sym, ◌∙◌, ap, nat_lt, ◌==◌, Some, None, arith, length-take}
 use Rattle.std.specs.List.{list_any, position, position_or_len}
 use Rattle.std.proofs.lemmas.Bool.{or_parts}
@@ -58,7 +58,7 @@ bad_front text = by_test (nat_lt max_kept (length text)) refl
     by_test true large = too_long (take max_kept text) (omega (arith, length-take max_kept text, ltb-true _ _ large)) ∙ sym (too_long text (omega (arith, ltb-true _ _ large)))
     by_test false small = ap is_bad_title (take_all max_kept text (omega (arith, ltb-false _ _ small)))
 
--- What is kept of a message tells whether its title is bad.
+-- The title of a message is bad exactly if that of what is kept of it is.
 pub bad_kept : (limit : ℕ) (field : Field) (message : Bytes) → Keeps limit field message → is_bad_title (title (kept_bytes field)) ≡ is_bad_title (title message)
 bad_kept limit (Whole kept) message h = ap (λ m. is_bad_title (title m)) h.1
 bad_kept limit (TooLong kept) message h = ap (λ m. is_bad_title (title m)) h.1 ∙ ap is_bad_title (title_front max_kept message) ∙ bad_front (title message)
@@ -83,7 +83,7 @@ line_told message = go (has_byte 10 message) refl
     go true e = (λ i. is_bad_title (title message) || e i) ∙ or_true (is_bad_title (title message)) ∙ sym ((λ i. is_bad_title message || e i) ∙ or_true (is_bad_title message))
     go false e = ap (λ t. is_bad_title t || has_byte 10 message) (one_line message e)
 
--- What is kept of a message tells whether it is one line that can be a title.
+-- A message is one line that can be a title exactly if what is kept of it is.
 pub bad_line_kept : (limit : ℕ) (field : Field) (message : Bytes) → max_title ≤ limit → Keeps limit field message → (is_bad_title (kept_bytes field) || has_byte 10 (kept_bytes field)) ≡ (is_bad_title (title message) || has_byte 10 message)
 bad_line_kept limit (Whole kept) message wide h = ap (λ m. is_bad_title m || has_byte 10 m) h.1 ∙ sym (line_told message)
 bad_line_kept limit (TooLong kept) message wide h =
@@ -97,7 +97,7 @@ good_line_kept limit (Whole kept) message wide h good = h.1
 good_line_kept limit (TooLong kept) message wide h good =
     let bad = line_told message ∙ ap (λ b. b || has_byte 10 message) (too_long message (omega (arith, wide, h.0))) in absurd (cc (sym good ∙ bad))
 
--- ---- bytes that stand in no title
+-- ---- bytes that no title may have
 
 pub barred_in_title : (text : Bytes) → list_any (λ b. (b == 0 || b == 9) || b == 13) text ≡ ((has_byte 9 text || has_byte 13 text) || has_byte 0 text)
 barred_in_title [] = refl

@@ -4,7 +4,7 @@ use Rattle.history_plans.specs.Moving.{to_name}
 use Rattle.history_plans.proofs.ApartLemmas.{comes_again}
 use Rattle.history_plans.proofs.apart.have_twice.Given as goal
 
--- two are of one name where one that is left comes again
+-- two are of one name if one that is left comes again
 abbrev pub invariant-lines : goal.invariant-lines
 invariant-lines l = has_twice bytes_eq (map to_name l.to) ≡ comes_again l.names.keys (map to_name l.rest)
 
