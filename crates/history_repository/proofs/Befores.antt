@@ -23,14 +23,14 @@ no_entries (file ∷ files) none = absurd (omega arith)
 pub entries-empty : entries (empty {X = Content} {R = by_bytes}) ≡ []
 entries-empty = no_entries (entries (empty {X = Content} {R = by_bytes})) (sym (len-entries (empty {X = Content} {R = by_bytes})) ∙ len-empty by_bytes Content)
 
--- what gives nothing is told as it is
+-- a stop is returned as it is
 pub gives_stopped : {A B : Type 0} (MayFail : Type 0) (P : A → Type 0) (Q : B → Type 0) (result : Result A Stopped) (ends : Result B Stopped) (stopped : Stopped) → result ≡ Err stopped → ends ≡ Err stopped
     → GivesMeant MayFail P result → GivesMeant MayFail Q ends
 gives_stopped {A} {B} MayFail P Q result ends stopped was is_end gives =
     let fault : IsReadingFault MayFail stopped = subst (λ (r : Result A Stopped). GivesMeant MayFail P r) was gives in
     subst (λ (r : Result B Stopped). GivesMeant MayFail Q r) (sym is_end) fault
 
--- what the call for a list's first element answers
+-- what the call for a list's first element returns
 pub first_of : {X : Type 0} (xs : List X) (found : Option (Bor X)) (x : Bor X) → found ≡ Some x → option_copied found ≡ slice_get xs 0 → (rest : List X) × (xs ≡ x.now ∷ rest)
 first_of {X} xs found x is first = go xs (sym (ap option_copied is) ∙ first)
   where

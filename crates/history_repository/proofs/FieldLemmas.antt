@@ -1,4 +1,4 @@
--- What the fields that are kept tell of those that were sent.
+-- What the fields that are kept say of those that were sent.
 use Rattle.std.proofs.Common.{◌≡◌, ℕ, ◌<◌, ◌≤◌, Bool, true, false, not, ◌&&◌, ◌||◌, [], ◌∷◌, length, refl, sym, ◌∙◌, ap, nat_lt, nat_le, ◌==◌, arith}
 use Rattle.std.specs.List.{list_any}
 use Rattle.std.proofs.lemmas.Bool.Decides.{nat_tests}
@@ -101,7 +101,7 @@ whole_actor actor order is good =
       kept_whole 512 actor.email order.email is.email (part_fits order.email (not-false (is_actor_part order.email) parts.1)),
     )
 
--- a part within its limit is good where it passes the other tests
+-- a part within its limit is good if it passes the other tests
 pub part_within : (part : Bytes) → length part ≤ 512 → list_any (λ b. has_byte b (60 ∷ 62 ∷ 0 ∷ 9 ∷ 13 ∷ 10 ∷ [])) part ≡ false → begins (32 ∷ []) part ≡ false → not (ends (32 ∷ []) part) ≡ is_actor_part part
 part_within part small clean front = sym (
     ap (λ barred. not barred && not (begins (32 ∷ []) part) && not (ends (32 ∷ []) part) && nat_le (length part) 512) clean
@@ -127,7 +127,7 @@ whole_content limit field content keeps small = kept_whole limit field content k
 
 -- ---- a graft's source
 
--- a field is kept as none exactly where it is empty
+-- a field is kept as none exactly if it is empty
 pub empty_kept : (limit : ℕ) (field : Field) (bytes : Bytes) → Keeps limit field bytes → is_empty (kept_bytes field) ≡ is_empty bytes
 empty_kept limit (Whole kept) bytes h = ap is_empty h.1
 empty_kept limit (TooLong kept) [] h = absurd (omega (arith, h.0))

@@ -1,4 +1,4 @@
--- What a name holds, and the commit that it stands for.
+-- What a name holds, and the commit that it peels to.
 use Rattle.std.proofs.Common.{◌≡◌, true, false, not, unwrap_or, refl, sym, ◌∙◌, ap, Option, Some, None, is_some, option_map, option_and_then}
 use Rattle.std.specs.FinMap.{get}
 use Rattle.gix_hash_id.specs.Id.{Id, id_of}
@@ -17,7 +17,7 @@ use Rattle.gix_object_lines.specs.declared.kind.Kind.TheVariants as kinds
 
 -- ---- what is stored under the id that a name holds
 
--- an id that stands for a commit is stored
+-- an id that peels to a commit is stored
 pub peeled_stored : (r : Repository) (id : Id) → is_some (peeled r id) ≡ true → (value : Value) × (get r.objects id ≡ Some value)
 peeled_stored r id some = go (get r.objects id) refl some
   where
@@ -28,7 +28,7 @@ peeled_stored r id some = go (get r.objects id) refl some
 pub held_stored : (r : Repository) → HasWholeNames r → (name : Bytes) (id : Id) → id_at r name ≡ Some id → (value : Value) × (get r.objects id ≡ Some value)
 held_stored r w name id at = peeled_stored r id (w.held name id at)
 
--- and it stands for one where a name holds it
+-- and it peels to one if a name holds it
 pub never_unpeeled : (r : Repository) → HasWholeNames r → (name : Bytes) (id : Id) → id_at r name ≡ Some id → peeled r id ≡ None → ⊥
 never_unpeeled r w name id at none = cc (sym (w.held name id at) ∙ ap is_some none)
 
@@ -48,7 +48,7 @@ held_stands r name held is = stands_so r name (option_map held_id held) (sym is.
 pub commit_stands : (r : Repository) (name : Bytes) (held : Option Held) → IsHeld r name held → stands r name ≡ is_some (option_map held_commit held)
 commit_stands r name held is = held_stands r name held is ∙ same_commit held
 
--- a name that doesn't stand holds nothing
+-- a missing name holds nothing
 pub none_held : (r : Repository) (name : Bytes) → None ≡ id_at r name → IsHeld r name None
 none_held r name none = record { id = none; commit = ap (option_and_then (peeled r)) none }
 
@@ -57,17 +57,17 @@ some_held r name id commit at is = record { id = at; commit = is ∙ ap (option_
 
 -- ---- tags
 
--- a name holds a tag where its id stands for another one
+-- a name holds a tag if its id peels to another one
 pub tag_told : (r : Repository) → IsWholeStore r → (name : Bytes) (held : Held) → IsHeld r name (Some held) → unwrap_or (option_map (is_tag r) (id_at r name)) false ≡ not (id_eq (held_id held) (held_commit held))
 tag_told r store name held is =
     ap (λ o. unwrap_or (option_map (is_tag r) o) false) (sym is.id)
     ∙ tags_stand_for_others r (held_id held) (held_commit held) store (ap (option_and_then (peeled r)) is.id ∙ sym is.commit)
 
--- and none where it doesn't stand
+-- and none if it is missing
 pub untagged : (r : Repository) (name : Bytes) → IsHeld r name None → unwrap_or (option_map (is_tag r) (id_at r name)) false ≡ false
 untagged r name is = ap (λ o. unwrap_or (option_map (is_tag r) o) false) (sym is.id)
 
--- ---- what a stored object stands for
+-- ---- what a stored object peels to
 
 module _ (r : Repository) (id : Id) (value : Value) (at : get r.objects id ≡ Some value) where
   peels_to : peeled r id ≡ peeled_value id value

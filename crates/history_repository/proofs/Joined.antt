@@ -45,7 +45,7 @@ use Rattle.history_repository.specs.Opened.{IsOpenedAs}
 use Rattle.history_repository.specs.declared.folder.OpenedFolder.{OpenedFolder}
 use Rattle.history_repository.proofs.NoFlaws.{fault_alone}
 
--- ---- HEAD's text tells the branch
+-- ---- HEAD's text says the branch
 
 same_branch : (a b : Bytes) → head_text a ≡ head_text b → a ≡ b
 same_branch a b e = append_cancel_left (codes "ref: ") a b (append_cancel_right (codes "ref: " ++ a) (codes "ref: " ++ b) (10 ∷ []) e)
@@ -124,7 +124,7 @@ module _ (kind : Kind) (tree : Tree) (values : Values) (holds : HoldsValues kind
           ∙ ap Some (told_so v (sound.written id v e))
           ∙ ap (option_map fact_of) (sym e)
 
--- ---- the halves of a pair that stands for a repository
+-- ---- the halves of a pair that represents a repository
 
 module _ (kind : Kind) (pair : Pair) (r : Repository) (stands : StandsWhole kind pair r) where
   pub of_kind : r.kind ≡ kind
@@ -197,7 +197,7 @@ module _ (kind : Kind) (pair : Pair) (ids : IdSet) (whole : IsOpened kind pair.o
       whole = record { store = whole_on (store_of kind whole.values) part.names opened.branch.items (whole.sound).whole; names = names_stand.whole };
     }
 
-    -- whichever repository the pair stands for
+    -- whichever repository the pair represents
     pub opened_as : (r : Repository) → StandsWhole kind pair r → IsOpenedAs kind pair opened r
     opened_as r stands = record {
       stands = stands;
@@ -206,7 +206,7 @@ module _ (kind : Kind) (pair : Pair) (ids : IdSet) (whole : IsOpened kind pair.o
       known = λ id. ap (λ (set : IdSet). contains_key set id) own ∙ known_as r stands id;
     }
 
-    -- and it stands for one
+    -- and it represents one
     pub opened_as_one : (r : Repository) × IsOpenedAs kind pair opened r
     opened_as_one = (one, opened_as one one_stands)
 

@@ -1,4 +1,4 @@
--- What `names` answers, by what its folder lists.
+-- What `names` returns, by what its folder lists.
 use Rattle.std.proofs.Common.{◌≡◌, ℕ, zero, suc, ◌<◌, arith, get_or, inl, inr, Bool, true, false, cond, not, ◌&&◌, ◌||◌, T, List, [], ◌∷◌, ◌++◌, map, length, refl, sym, ◌∙◌, ap, subst, Option, Some, None, option_map, is_some, unwrap_or, filter, codes, bytes_eq, Vec, Ok}
 use Rattle.std.specs.declared.alloc.Global.{Global}
 use Rattle.std.specs.Ordering.{eq_by_cmp, is_lt}
@@ -52,7 +52,7 @@ use Rattle.history_repository.specs.declared.repository.Repository as own
 
 -- ---- the folder
 
--- the folder of all names, where none is asked for
+-- the folder of all names, if none is given
 abbrev pub asked_folder : Option Bytes → Bytes
 asked_folder folder = unwrap_or folder (codes "refs")
 
@@ -63,7 +63,7 @@ pub asked_is : (folder : Option (Bor Bytes)) (all got : Bor Bytes) → got ≡ u
 asked_is None all got is all_is = ap (λ (b : Bor Bytes). b.now) is ∙ all_is
 asked_is (Some folder) all got is all_is = ap (λ (b : Bor Bytes). b.now) is
 
--- a folder that names can't be asked of is all that `names` is refused for
+-- `names` is refused only for the cause of its folder
 pub names_cause : (r : Repository) (folder : Option Bytes) → first_cause r (Names folder) ≡ folder_cause (asked_folder folder)
 names_cause r None = refl
 names_cause r (Some folder) = by_folder (bytes_eq folder (codes "refs"))
@@ -107,7 +107,7 @@ sorted_held : (es : List (Bytes × Reference)) → is_sorted by_bytes (map held_
 sorted_held [] = refl
 sorted_held (e ∷ es) = λ i. below_held e.0 es i && sorted_held es i
 
--- each id of these names stands for a commit
+-- each id of these names peels to a commit
 abbrev EntriesPeeled : Repository → List (Bytes × Id) → Type 0
 EntriesPeeled r es = AllByRecursion (λ (e : Bytes × Id). IsSome (peeled r e.1)) es
 
@@ -170,7 +170,7 @@ module _ (pair : Pair) (r : Repository) (stand : StandsFor r.kind pair r) (writt
   names_are names lists =
       sym (map_twice (entry_line r) name_entry names) ∙ ap (map (entry_line r)) (lists.are ∙ ids_are lists.ids lists.each) ∙ map_twice (entry_line r) held_entry shown
 
-  -- and each of its ids stands for a commit
+  -- and each of its ids peels to a commit
   pub names_peeled : HasWholeNames r → (names : List NamedId) → ListsAll r.kind pair.names (asked_folder folder) names → ArePeeled r names
   names_peeled w names lists =
       named_peeled r names (subst (EntriesPeeled r) (sym (lists.are ∙ ids_are lists.ids lists.each)) (peeled_kept r (is_in_folder folder) (entries r.names)

@@ -50,7 +50,7 @@ module _ (pair : Pair) (r : Repository) (stand : StandsFor r.kind pair r) (name 
       by_state Absent e = none_held (λ id at. let wrong : Absent ≡ Holds id = sym e ∙ (stand.names name id).1 at in absurd (cc wrong))
       by_state Faulty e = none_held (λ id at. let wrong : Faulty ≡ Holds id = sym e ∙ (stand.names name id).1 at in absurd (cc wrong))
 
-  -- a file at a name's place is one of a name that stands
+  -- a file at a name's place is one of an existing name
   pub name_stands : (text : Bytes) → begins (codes "refs/") name ≡ true → file_at pair.names name ≡ Some text → stands r name ≡ true
   name_stands text front e = one_left (bytes_eq name head_place) (bytes_eq name packed_place) (stands r name) (is_log_place name) _ (other head_place refl) (other packed_place refl) (no_log name front) (stand.places name text e)
     where
@@ -64,7 +64,7 @@ module _ (pair : Pair) (r : Repository) (stand : StandsFor r.kind pair r) (name 
       one_left false false false true m a b c e = cc
       one_left false false false false m a b c e = cc
 
--- a name stands exactly where it holds an id
+-- a name exists exactly if it holds an id
 pub stands_held : (r : Repository) (name : Bytes) → stands r name ≡ is_some (id_at r name)
 stands_held r name = by_ref (get r.names name)
   where

@@ -29,7 +29,7 @@ name_tested name utf8 short = go (is_partial_name name) (begins (codes "refs/") 
         none true = refl
         none false = refl
 
--- what a reading as text tells
+-- bytes are read as text exactly if they are UTF-8
 pub text_read : {S E : Type 0} (bytes : Bytes) (P : S → Type 0) (Q : E → Type 0) (result : Result S E) → MatchResult result (λ s. P s × IsUtf8 bytes) (λ e. (IsUtf8 bytes → ⊥) × Q e) → is_ok result ≡ is_utf8 bytes
 text_read bytes P Q (Ok s) h = sym (is_utf8-from_IsUtf8 bytes h.1)
 text_read bytes P Q (Err e) h = go (is_utf8 bytes) refl

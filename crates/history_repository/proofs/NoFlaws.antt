@@ -48,12 +48,12 @@ module _ (kind : Kind) (tree : Tree) (stored : Values) (holds : HoldsValues kind
   abbrev r : Repository
   r = store_of kind stored
 
-  -- ---- what stands at a place
+  -- ---- what is at a place
 
   text_at : (id : Id) → is_id kind id ≡ true → file_at tree (object_place id) ≡ option_map (value_text kind) (get stored id)
   text_at id formed = holds.files (object_place id) ∙ file_at_id kind stored (sound.whole).own_ids id formed
 
-  -- the value whose text stands there
+  -- the value whose text is there
   text_value : (id : Id) (text : Bytes) → is_id kind id ≡ true → file_at tree (object_place id) ≡ Some text → (v : Value) × (get stored id ≡ Some v) × (text ≡ value_text kind v)
   text_value id text formed stands = go (get stored id) refl (sym (text_at id formed) ∙ stands)
     where
@@ -143,7 +143,7 @@ module _ (kind : Kind) (tree : Tree) (stored : Values) (holds : HoldsValues kind
       let same = one_tree kind (root kind found.0) has.items (items kind found.0) (subst (λ c. SpellsTree kind c has.items) (sym found.2) has.spelled) (items_spelled kind found.0 (plain_map found.0 fits)) in
       (found.0, found.1, item_is kind found.0 item (subst (In item) same (contains_in has.items item has.among)))
 
-  -- a path leads to a file, or to what a file stands below
+  -- a path leads to a file, or to what a file is below
   record LeadsToFile (id : Id) (path : Bytes) : Type 0 where
     files : FileMap
     at : get stored id ≡ Some (StoredFolder files)

@@ -1,4 +1,4 @@
--- What an opened repository stands for.
+-- What an opened repository represents.
 use Rattle.std.proofs.Common.{◌≡◌, sym, ap, subst, ◌∙◌, List, Option, None}
 use Rattle.std.specs.FinMap.{contains_key}
 use Rattle.gix_hash_id.specs.declared.kind.Kind.{Kind}
@@ -35,7 +35,7 @@ module _ {F : Type 0} (IsHonest : F → Type 0) (history : F → History) (opene
   same_pair : trees_of history objects names ≡ pair_of history repository
   same_pair = λ i. record { objects = (history (sym own_objects i)).tree; names = (history (sym own_names i)).tree }
 
-  -- stands for the one that the folder is
+  -- the opened repository represents the one that the folders hold
   pub opened_stands : IsHonest objects → IsHonest names → (r : plain.Repository) → IsOpenedAs kind (trees_of history objects names) opened r → Stands IsHonest history repository r
   opened_stands honest_objects honest_names r is = record {
     honest_objects = subst IsHonest (sym own_objects) honest_objects;

@@ -21,7 +21,7 @@ none_agree kind values = record {
   };
 }
 
--- they agree where more is stored
+-- they agree if more is stored
 pub agree_grown : (kind : Kind) (old new : Values) (rows : List Row) → ((id : Id) (value : Value) → get old id ≡ Some value → get new id ≡ Some value) → AgreeRows kind old rows → AgreeRows kind new rows
 agree_grown kind old new rows keeps agree = record {
   told = λ row c. let is = agree.told row c in record { commit = is.commit; stored = keeps (id_of row.id) (StoredCommit is.commit) is.stored; tree = is.tree; parents = is.parents; time = is.time };

@@ -302,7 +302,7 @@ module _ (r : Repository) where
       go None e h = cc
       go (Some value) e h = (value, e)
 
--- ---- a repository that stands
+-- ---- a repository that represents `r`
 
 module _ {F : Type 0} (IsHonest : F → Type 0) (history : F → History) (repository : own.Repository F) (r : Repository) (stand : Stands IsHonest history repository r) where
   id_form : (id : Id) → contains_key r.objects id ≡ true → HasKind r.kind id

@@ -1,4 +1,4 @@
--- What a repository that stands has stored: its form, and the text at its place.
+-- What a repository has stored: its form, and the text at its place.
 use Rattle.std.proofs.Common.{◌≡◌, ◌∙◌, ◌⊎◌, inl, inr, ap, refl, sym, subst, []}
 use Rattle.std.specs.Prelude.{Option, Some, None, Result, Ok, Err, MatchOption, IsErrAnd, IsTrue, option_map, unwrap_or}
 use Rattle.std.specs.FinMap.{get}

@@ -1,4 +1,4 @@
--- What a store of objects looks up, where it holds those of a repository.
+-- What a store of objects looks up, if it holds those of a repository.
 use Rattle.std.proofs.Common.{◌≡◌, ◌≤◌, ◌<◌, ◌^◌, ℕ, refl, sym, ◌∙◌, ap, subst, arith, Bool, true, false}
 use Rattle.std.specs.Prelude.{Option, Some, None, IsTrue, IsSome, is_some, length, option_map, option_and_then, if◌then◌else◌}
 use Rattle.std.specs.FinMap.{get, contains_key}

@@ -26,7 +26,7 @@ pub no_bad_header : (kind : Kind) (file : Option Bytes) → is_packed_text kind 
 no_bad_header kind None good h = h
 no_bad_header kind (Some text) good h = no_records kind text good (bad_header kind text h)
 
--- where what was surveyed is read again
+-- what was surveyed has no bad line if it is read again
 pub unread : {F : Type 0} (IsHonest : F → Type 0) (history : F → History) (old new : F) (k kind : Kind) (error : Error) (n : ℕ) → error ≡ faults.Iter n → new ≡ old → k ≡ kind → IsHonest old
     → is_packed_text kind (bytes_at (history old).tree packed_place) ≡ true → (IsHonest new → FileFault k (file_at (history new).tree packed_place) error) → ⊥
 unread IsHonest history old new k kind error n is e f honest good told =

@@ -1,4 +1,4 @@
--- What words stand for, and which of their causes a command tells first.
+-- What words mean, and which of their causes a command reports first.
 use Rattle.std.proofs.Common.{◌≡◌, ◌∙◌, ap, refl, sym, Bool, true, false, cond, ◌||◌, List, [], ◌∷◌, map, Option, Some, None, option_map, is_none, Result, Ok, Err}
 use Rattle.std.specs.Prelude.{ok_or}
 use Rattle.std.specs.List.{filter_map, list_any}
@@ -78,7 +78,7 @@ module _ (r : Repository) where
   in_meaning read.Unknown = refl
   in_meaning read.Ambiguous = refl
 
-  -- a word stands for the commit that was read
+  -- a word means the commit that was read
   pub commit_told : (word : Bytes) (m : own.WordMeaning) → meaning_of m ≡ commit_or_cause r word → commit_of r word ≡ option_map id_of (commit_in m)
   commit_told word m is = read_so (word_meaning r word) ∙ ap in_result (sym is) ∙ in_meaning m
 
@@ -116,7 +116,7 @@ module _ (r : Repository) where
       go Unknown e = cc
       go Ambiguous e = cc
 
--- the commits that words stand for are those that were read
+-- the commits that words mean are those that were read
 pub commits_told : (r : Repository) (meanings : List own.WordMeaning) (words : List Bytes) → map meaning_of meanings ≡ map (commit_or_cause r) words → map id_of (filter_map commit_in meanings) ≡ filter_map (commit_of r) words
 commits_told r [] [] e = refl
 commits_told r [] (word ∷ words) e = let z : ⊥ = cc in absurd z
@@ -143,7 +143,7 @@ any_so : (p q : Bytes → Bool) → ((word : Bytes) → p word ≡ q word) → (
 any_so p q same [] = refl
 any_so p q same (word ∷ words) = λ i. same word i || any_so p q same words i
 
--- by the words that stand for these, or for another cause
+-- the first cause that these results of words have, or another cause
 abbrev pub told_by : List (Result Id Cause) → Option Cause → Option Cause
 told_by told rest =
     cond (list_any is_unknown_word told) (Some UnknownWord) (cond (list_any is_ambiguous_word told) (Some AmbiguousWord) (cond (list_any is_unborn_head told) (Some UnbornHead) (cond (list_any is_not_a_commit told) (Some NotACommit) rest)))
@@ -179,7 +179,7 @@ module _ (r : Repository) (words : List Bytes) where
       (cond (list_any (λ word. is_unborn (word_meaning r word)) words) (Some UnbornHead)
       (cond (list_any (λ word. is_no_commit r (word_meaning r word)) words) (Some NotACommit) rest)))
 
-  -- the words tell what those that stand for the same do
+  -- words have the first cause of their results
   pub words_told : (told : List (Result Id Cause)) → ((test : Result Id Cause → Bool) → list_any test told ≡ list_any (λ word. test (commit_or_cause r word)) words) → (rest : Option Cause) → by_words rest ≡ told_by told rest
   words_told told same rest =
       let unknown = any_so (λ word. is_unknown (word_meaning r word)) (λ word. is_unknown_word (commit_or_cause r word)) (λ word. sym (is_unknown_told r (word_meaning r word))) words ∙ sym (same is_unknown_word) in

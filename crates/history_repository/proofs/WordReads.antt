@@ -1,4 +1,4 @@
--- What the names that a word may mean tell of it, read one after another.
+-- What the names that a word may mean say of it, read one after another.
 use Rattle.std.proofs.Common.{◌≡◌, ℕ, suc, ◌+◌, ◌<◌, length, drop, get_or, drop-cons, subst, ◌≤◌, arith, Bool, true, false, cond, not, ◌&&◌, List, [], ◌∷◌, ◌++◌, map, filter, find, refl, sym, ◌∙◌, ap, Option, Some, None, is_some, option_map, unwrap_or, bytes_eq, codes, Bor}
 use Rattle.std.specs.FinMap.{get}
 use Rattle.std.proofs.lemmas.List.{append-nil, drop_all}
@@ -15,7 +15,7 @@ use Rattle.history_repository.proofs.NameReads.{held}
 use Rattle.gix_hash_id.specs.Id.{Id, id_of}
 use Rattle.history_repository.specs.declared.repository.Repository as own
 
--- what stands before and behind a word
+-- what is before and after a word
 abbrev pub Ends : Type 0
 Ends = Bor Bytes × Bor Bytes
 
@@ -25,7 +25,7 @@ whole_name word ends = (ends.0.now ++ word) ++ ends.1.now
 abbrev pub may_mean : Bytes → Bool
 may_mean name = begins (codes "refs/") name && not (is_private name)
 
--- the first that stands of the names that a word may mean, and of those that are still to be read
+-- the first existing name of those that a word may mean, and of those that are still to be read
 pub first_meant : Repository → Bytes → Option Bytes
 first_meant r word = find (stands r) (candidates word)
 
@@ -91,7 +91,7 @@ module _ (r : Repository) (word : Bytes) where
   pub none_first : (items : List Ends) (i : ℕ) → length items ≤ i → first_meant r word ≡ first_left r word (drop i items) → find (stands r) (candidates word) ≡ None
   none_first items i past e = found_first None (e ∙ ap (first_left r word) (drop_all i items past) ∙ none_left)
 
-  -- a word but HEAD reads as the first of its names that stands, or as an id
+  -- a word but HEAD reads as the first of its names that exists, or as an id
   reads_found : bytes_eq word head_word ≡ false → (found : Option Bytes) → find (stands r) (candidates word) ≡ found → word_meaning r word ≡ unwrap_or (option_map (λ name. name_meaning (id_at r name)) found) (id_meaning r word)
   reads_found other found e =
       ap (λ b. cond b (name_meaning (id_at r r.branch)) (unwrap_or (option_map (λ name. name_meaning (id_at r name)) (find (stands r) (candidates word))) (id_meaning r word))) other
@@ -109,7 +109,7 @@ module _ (r : Repository) (word : Bytes) where
   pub branch_reads : (id : Id) → bytes_eq word head_word ≡ true → id_at r r.branch ≡ Some id → word_meaning r word ≡ ReadsAs id
   branch_reads id is at = reads_branch is ∙ ap name_meaning at
 
--- a name that holds an id stands, and one that holds none doesn't
+-- a name that holds an id exists, and one that holds none doesn't
 pub stands_so : (r : Repository) (name : Bytes) (held : Option Id) → id_at r name ≡ held → stands r name ≡ is_some held
 stands_so r name held e = by_ref (get r.names name) ∙ ap is_some e
   where
@@ -125,7 +125,7 @@ module _ {F : Type 0} (IsHonest : F → Type 0) (history : F → History) (repos
   candidate_held place name same e found holds =
       sym (held IsHonest history repository r stand name found (subst (λ p. NameReads repository.names.kind (history (names_part repository)).tree p found) same holds))
 
-  -- a name stands where it reads as an id
+  -- a name exists if it reads as an id
   pub name_stands : (name : Bytes) → is_name name ≡ true → (found : Option ObjectId) → NameReads repository.names.kind (history (names_part repository)).tree name found → stands r name ≡ is_some found
   name_stands name formed found holds =
       stands_so r name (option_map id_of found) (sym (held IsHonest history repository r stand name found holds)) ∙ same_there found
@@ -134,7 +134,7 @@ module _ {F : Type 0} (IsHonest : F → Type 0) (history : F → History) (repos
       same_there None = refl
       same_there (Some id) = refl
 
-  -- HEAD stands for what its branch reads as
+  -- HEAD means what its branch reads as
   branch_held : (place : Bytes) → place ≡ repository.branch.items → (found : Option ObjectId) → NameReads repository.names.kind (history (names_part repository)).tree place found → id_at r r.branch ≡ option_map id_of found
   branch_held place same found holds =
       sym (held IsHonest history repository r stand place found holds
