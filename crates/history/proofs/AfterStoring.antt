@@ -1,4 +1,4 @@
--- What stands once a command's objects are stored, and what its names then pass through and leave.
+-- What holds after a command's objects are stored, and what its names then pass through and leave.
 use Rattle.std.proofs.Common.{◌≡◌, true, List, refl, sym, ◌∙◌, ap, subst, Option, None}
 use Rattle.std.specs.Prelude.{IsFalse, OnOk, Result}
 use Rattle.std.specs.FinMap.{contains_key}
@@ -39,7 +39,7 @@ use Rattle.history_model.specs.Repository as plain
 use Rattle.history_plans.specs.declared.planning.Moves as planned
 
 module _ {F : Type 0} (IsHonest : F → Type 0) (history : F → History) (now : Repository F) where
-  -- where nothing was to be stored, all is as before
+  -- if nothing was to be stored, all is as before
   pub stored_nothing : (r : plain.Repository) (order : Command) → (after r order).objects ≡ r.objects → Stands IsHonest history now r → HasStored IsHonest history now r order
   stored_nothing r order same h = record {
     before = now;
@@ -52,11 +52,11 @@ module _ {F : Type 0} (IsHonest : F → Type 0) (history : F → History) (now :
   }
 
   module _ (r : plain.Repository) (order : Command) (s : HasStored IsHonest history now r order) where
-    -- the names stand as before
+    -- the names are as before
     pub stand_still : NamesStand IsHonest history now r
     stand_still = names_stand IsHonest history s.before now r s.stood s.kept
 
-    -- and so does all, where nothing was to be stored
+    -- and so is all, if nothing was to be stored
     pub all_still : (after r order).objects ≡ r.objects → Stands IsHonest history now r
     all_still same = record {
       honest_objects = s.honest;
@@ -105,7 +105,7 @@ module _ {F : Type 0} (IsHonest : F → Type 0) (history : F → History) (now :
   -- ---- a commit, and a tag
 
   module _ (new : Repository F) (one : planned.Moves) where
-    -- what is said of the move of a name that may come to stand
+    -- what is said of the move of a name, if the name fits
     abbrev pub WhereItFits : Type 0 → Type 0
     WhereItFits P = (r : plain.Repository) → NamesStand IsHonest history now r → FitsAmong r one.name.items → P
 

@@ -1,4 +1,4 @@
--- A command that changes files is answered: by its two halves.
+-- A command that changes files is acted on by its two halves.
 use Rattle.std.proofs.Common.{◌≡◌, ℕ, [], ◌∷◌, ◌++◌, refl, sym, ◌∙◌, ap, subst, codes}
 use Rattle.std.specs.Prelude.{IfOk, Result, Ok, Err, Vec}
 use Rattle.std.specs.declared.alloc.Global.{Global}
@@ -70,7 +70,7 @@ names_told r order moves word text not_commit not_tag are is_word is = absurd ar
 -- ---- what it leaves
 
 module _ (C : Type 0) (StandsNow : plain.Repository → Type 0) (r : plain.Repository) (order : Command) where
-  -- where its objects aren't stored, it is done so far
+  -- if its objects aren't stored, what was reported of that holds of the command
   pub acts_unstored : (S : Type 0) (result : Result Moves Stopped) (ends : Result (Vec ℕ Global) Stopped) (stopped : Stopped) → result ≡ Err stopped → ends ≡ Err stopped → StoresObjects C S r order result → Acts C StandsNow r order ends
   acts_unstored S result ends stopped was is_end h = subst (Acts C StandsNow r order) (sym is_end) (by_case stopped (subst (StoresObjects C S r order) was h))
     where
@@ -80,11 +80,11 @@ module _ (C : Type 0) (StandsNow : plain.Repository → Type 0) (r : plain.Repos
       by_case (why.Fault File) k = k
       by_case (why.Fault IdTaken) k = k
 
-  -- where its reply finds no memory
+  -- if there is no memory for its reply
   pub acts_without_memory : (ends : Result (Vec ℕ Global) Stopped) → ends ≡ Err (why.Fault Memory) → Acts C StandsNow r order ends
   acts_without_memory ends is_end = subst (Acts C StandsNow r order) (sym is_end) tt
 
-  -- where its names don't move
+  -- if its names don't move
   pub acts_unmoved : (B M : Type 0) (result : Result (Unit {0}) Fault) (ends : Result (Vec ℕ Global) Stopped) (fault : Fault) → result ≡ Err fault → ends ≡ Err (why.Fault fault) → (B → C) → LeavesMoved B M result → Acts C StandsNow r order ends
   acts_unmoved B M result ends fault was is_end keep h = subst (Acts C StandsNow r order) (sym is_end) (by_case fault (subst (LeavesMoved B M) was h))
     where
@@ -93,12 +93,12 @@ module _ (C : Type 0) (StandsNow : plain.Repository → Type 0) (r : plain.Repos
       by_case File k = keep k
       by_case IdTaken k = absurd k
 
-  -- and where it is done
+  -- and if it is done
   pub acts_done : (moves : Moves) (text : Vec ℕ Global) → AreMovesOf r order moves → TellsDone r order text.items → StandsNow (after r order) → Acts C StandsNow r order (Ok text)
   acts_done moves text are told stands =
       (told.0, after r order, told.2, record { no_cause = are.none; not_taken = are.free; answer = told.1; result = refl }, stands)
 
--- what is packed, where it isn't done, and where it is
+-- what is packed, if the command isn't done, and if it is
 pub packs_nothing : (r : plain.Repository) (order : Command) (ends : Result (Vec ℕ Global) Stopped) (stopped : Stopped) (old new : Tree) → ends ≡ Err stopped → LeavesFiles r order ends old new
 packs_nothing r order ends stopped old new is_end = subst (λ x. LeavesFiles r order x old new) (sym is_end) (stopped_packs r order stopped old new)
 

@@ -34,7 +34,7 @@ tag_is_name r order none = by_test (is_name order.name) _ (none_of (holds BadNam
     by_test true rest e = refl
     by_test false rest e = cc
 
--- The name of an accepted command may stand: it doesn't collide.
+-- The name of an accepted command fits: it doesn't collide.
 pub commit_fits : (r : plain.Repository) (order : CommitCommand) (moves : Moves) → IsWritten r → HasWholeNames r → first_cause r (Commit order) ≡ None → IsMove r (commit_move r order) moves → FitsAmong r moves.name.items
 commit_fits r order moves written whole none is =
     subst (FitsAmong r) (sym is.name) (fits_so r (branch_or_name r order.name) whole (moved_is_name r order written none) (no_cause r (Commit order) none Collides tests_collides))

@@ -26,12 +26,12 @@ module _ {F : Type 0} (failures : F → ℕ) where
   pub stay_joined : (a b c : Repository F) → KeepsCounts failures a b → KeepsCounts failures b c → KeepsCounts failures a c
   stay_joined a b c h k = record { objects = k.objects ∙ h.objects; names = k.names ∙ h.names }
 
-  -- where the last of two steps is done, none was counted in either
+  -- if the last of two steps is done, no failure was counted in either
   pub ok_joined : {T E : Type 0} (a b c : Repository F) (result : Result T E) → KeepsCounts failures a b → OnOk result (KeepsCounts failures b c) → OnOk result (KeepsCounts failures a c)
   ok_joined a b c (Ok value) h k = stay_joined a b c h k
   ok_joined a b c (Err error) h k = tt
 
-  -- a command that reads leaves the counts, whatever it answers
+  -- a command that reads leaves the counts, whatever it returns
   pub idle_stays : {T E : Type 0} (result : Result T E) (a : Repository F) → OnOk result (KeepsCounts failures a a)
   idle_stays (Ok value) a = stay_same a a refl
   idle_stays (Err error) a = tt

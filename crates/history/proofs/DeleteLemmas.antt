@@ -40,7 +40,8 @@ use Rattle.history_repository.specs.declared.repository.Repository as own
 
 -- ---- the name's files
 
--- a path that isn't that of the lock file of `packed-refs` is as it was, and of that one no file stands
+-- every file is as before: the lock file of `packed-refs` is missing or as before, and no other
+-- file changed
 others_stay : (r : plain.Repository) (old new : Tree) → HoldsNames old r → ((name : Bytes) → stands r name ≡ true → is_name name ≡ true)
     → (file_at new (lock_place packed_place) ≡ None) ⊎ (file_at new (lock_place packed_place) ≡ file_at old (lock_place packed_place))
     → (path : Bytes) → (path ≢ lock_place packed_place → file_at new path ≡ file_at old path) → file_at new path ≡ file_at old path
@@ -67,7 +68,7 @@ packed_room r tree holds = record {
   lock = λ stood. absurd (cc (holds.folders (lock_place packed_place) stood));
 }
 
--- what stands in it is such as a repository has
+-- its packed records have the form that a repository's have
 pub packed_formed : (r : plain.Repository) (tree : Tree) → HoldsNames tree r → IsPackedForm r.kind tree
 packed_formed r tree holds = λ text is. by_file (packed_file r.kind text) (holds.packed text is)
   where
@@ -112,7 +113,7 @@ module _ {F : Type 0} (IsHonest : F → Type 0) (history : F → History) (old :
   }
 
   module _ (name path : Bytes) (at : Option Bytes) (same : path ≡ name) (none : first_cause r (Delete name at) ≡ None) where
-    -- no cause holds, so it is a name that stands
+    -- no cause holds, so the name exists
     no_cause : (form_cause name ≡ None) × (stands r name ≡ true)
     no_cause = (form, there)
       where

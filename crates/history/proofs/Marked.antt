@@ -1,4 +1,5 @@
--- A fault marks a repository as failed: what is said of a fault speaks of no repository that stands.
+-- A fault marks a repository as failed: what is said of a fault is said of no repository that is
+-- whole.
 use Rattle.std.proofs.Common.{Err}
 use Rattle.history_model.specs.Commands.{Command}
 use Rattle.history_model.specs.declared.Fault.TheVariants.{Memory, File, IdTaken}

@@ -1,4 +1,4 @@
--- Where names don't move a fault was met.
+-- If names don't move, a fault was met.
 use Rattle.std.proofs.Common.{◌≡◌, refl, sym, subst}
 use Rattle.std.specs.Prelude.{OnOk, Result, Ok, Err}
 use Rattle.gix_ref_file.specs.declared.files.FileError.{FileError}
@@ -13,7 +13,7 @@ pub met_fault : (C M : Type 0) (error : FileError) (fault : Fault) → fault ≡
 met_fault C M files.Failed fault is failed = subst (λ f. LeavesMoved C M (Err f)) (sym is) (failed refl)
 met_fault C M files.Memory fault is failed = subst (λ f. LeavesMoved C M (Err f)) (sym is) tt
 
--- where one of several moves stops, so do all
+-- if one of several moves stops, so do all
 pub stopped_too : (C D M N : Type 0) (result ends : Result (Unit {0}) Fault) (fault : Fault) → result ≡ Err fault → ends ≡ Err fault → (C → D) → LeavesMoved C M result → LeavesMoved D N ends
 stopped_too C D M N result ends fault was is_end keep h = subst (LeavesMoved D N) (sym is_end) (by_case fault (subst (LeavesMoved C M) was h))
   where
@@ -22,7 +22,7 @@ stopped_too C D M N result ends fault was is_end keep h = subst (LeavesMoved D N
     by_case File k = keep k
     by_case IdTaken k = absurd k
 
--- what follows where all have moved
+-- what follows if all have moved
 pub leaves_so : (C D M N X : Type 0) (result : Result (Unit {0}) Fault) → (C → D) → OnOk result X → (M → X → N) → LeavesMoved C M result → LeavesMoved D N result
 leaves_so C D M N X (Ok done) keep x so m = so m x
 leaves_so C D M N X (Err Memory) keep x so m = tt
@@ -35,7 +35,7 @@ leaves_more C M N (Err Memory) so m = tt
 leaves_more C M N (Err File) so m = m
 leaves_more C M N (Err IdTaken) so m = absurd m
 
--- what all of them leave, where no fault was met
+-- what all of them leave, if no fault was met
 pub where_moved : (C M : Type 0) (result : Result (Unit {0}) Fault) → LeavesMoved C M result → OnOk result M
 where_moved C M (Ok done) m = m
 where_moved C M (Err fault) m = tt

@@ -47,7 +47,7 @@ sound_after : (r : plain.Repository) (order : MoveCommand) → IsSound r → fir
 sound_after r order sound none = steps_keep_sound r (after r (Move order)) (Move order) Moved (names_only r order none).steps sound
 
 module _ {F : Type 0} (IsHonest : F → Type 0) (history : F → History) (failures : F → ℕ) where
-  -- what stands where the names of the lines so far have moved
+  -- what holds after the names of the lines so far have moved
   pub record MovedSo (old now : Repository F) (i : ℕ) (r : plain.Repository) (order : MoveCommand) : Type 0 where
     pub stands : StandsFor r.kind (pair_of history now) (after_lines r order (take i order.to))
     pub records : KeepsRecords now.names (names_tree history now)

@@ -1,4 +1,4 @@
--- The moves of a command that stores nothing, and what is told where there are none.
+-- The moves of a command that stores nothing, and what is reported if there are none.
 use Rattle.std.proofs.Common.{◌≡◌, sym, subst}
 use Rattle.std.specs.Prelude.{Some, Result, Ok, Err, Vec}
 use Rattle.std.specs.declared.alloc.Global.{Global}
@@ -20,7 +20,7 @@ use Rattle.history_model.specs.Repository as plain
 use Rattle.history_plans.specs.declared.planning.Moves as planned
 
 module _ (MayFail : Type 0) (r : plain.Repository) where
-  -- where nothing is planned, there are no moves, for what the plan tells
+  -- if nothing is planned, there are no moves, for the cause that the plan reports
   module _ (ends : Result Moves Stopped) (stopped : Stopped) (is_end : ends ≡ Err stopped) where
     pub moves_unplanned : (order : MoveCommand) (result : Result (Vec planned.Moves Global) Stopped) → result ≡ Err stopped → PlansMoves MayFail r order result → GivesMoves MayFail r (Move order) ends
     moves_unplanned order result was h = subst (GivesMoves MayFail r (Move order)) (sym is_end) (by_case stopped (subst (PlansMoves MayFail r order) was h))
@@ -54,7 +54,7 @@ module _ (MayFail : Type 0) (r : plain.Repository) where
   pub refused_so : (order : Command) (cause : Cause) (ends : Result Moves Stopped) → ends ≡ Err (Refused cause) → first_cause r order ≡ Some cause → GivesMoves MayFail r order ends
   refused_so order cause ends is_end first = subst (GivesMoves MayFail r order) (sym is_end) first
 
-  -- where nothing is to be stored, the moves are all
+  -- if nothing is to be stored, the moves are all
   pub given_stores : (C S : Type 0) (order : Command) (result : Result Moves Stopped) → (MayFail → C) → S → GivesMoves MayFail r order result → StoresObjects C S r order result
   given_stores C S order (Ok moves) may stored h = (h, stored)
   given_stores C S order (Err (Refused cause)) may stored h = h

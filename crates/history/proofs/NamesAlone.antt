@@ -45,7 +45,7 @@ module _ {F : Type 0} (IsHonest : F → Type 0) (history : F → History) (old n
   values_old : HoldsValues r.kind (objects_tree history old) r.objects
   values_old = ((halves_stand r.kind (pair_of history old) r).0 h.whole.stands).1
 
-  -- the repository stands for what the new names stand for
+  -- the repository represents what the new names represent
   pub names_serve : IsHonest (names_part new) → StandsFor r.kind (pair_of history new) (after r order) → KeepsRecords new.names (names_tree history new) → new.names.kind ≡ old.names.kind → Stands IsHonest history new (after r order)
   names_serve honest stands records kind = record {
     honest_objects = subst (λ objects. IsHonest objects.files) (sym kept.objects) h.honest_objects;
@@ -63,6 +63,6 @@ module _ {F : Type 0} (IsHonest : F → Type 0) (history : F → History) (old n
   values_new = subst (λ (values : plain.Values). HoldsValues r.kind (objects_tree history new) values) (sym c.values)
       (subst (λ objects. HoldsValues r.kind (history objects.files).tree r.objects) (sym kept.objects) values_old)
 
-  -- so are names that stand
+  -- so does one whose names are those after the command
   pub stand_serves : NamesStand IsHonest history new (after r order) → new.names.kind ≡ old.names.kind → Stands IsHonest history new (after r order)
   stand_serves stand kind = names_serve stand.honest ((halves_stand r.kind (pair_of history new) (after r order)).1 (refl, values_new, stand.holds)) stand.records kind

@@ -45,7 +45,7 @@ use Rattle.history.proofs.RenameLemmas as renames
 pub names_alone : {F : Type 0} (old new : Repository F) → KeepsAllButNames old new → MovesNamesAlone old new
 names_alone old new kept = record { objects = kept.objects; rows = kept.rows; failed = kept.failed }
 
--- of a `move` no files are told
+-- of the files that a `move` leaves nothing is said
 pub together_alone : {T E : Type 0} (result : Result T E) (each : Vec planned.Moves Global) (r : plain.Repository) (order : Command) (old new : Tree) → AreMovesOf r order (move.Together each) → OnOk result (LeavesAsAsked r order old new)
 together_alone (Ok value) each r (Move c) old new are = tt
 together_alone (Ok value) each r order old new are = absurd are.told

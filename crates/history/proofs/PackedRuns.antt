@@ -17,7 +17,7 @@ use Rattle.history_model.specs.declared.Fault as faults
 
 -- ---- one command
 
--- without an answer nothing is said of what is packed
+-- after a stop nothing is said of what is packed
 pub stopped_packs : (r : Repository) (order : Command) (stopped : Stopped) (old new : Tree) → LeavesFiles r order (Err stopped) old new
 stopped_packs r Pack stopped old new = tt
 stopped_packs r (Commit c) stopped old new = tt
@@ -45,7 +45,7 @@ packs_faulted names r begin (Delete name at) fault finish = tt
 packs_faulted names r begin (Switch name) fault finish = tt
 packs_faulted names r begin order fault finish = tt
 
--- what an answered command leaves packed, between the moments of its two trees
+-- what a command with a reply leaves packed, between the moments of its two trees
 pub packs_answered : (names : History) (r : Repository) (begin : Moment) (order : Command) (reply : Reply) (finish : Moment) (text : Vec ℕ Global) (old new : Tree)
     → StoodAt names begin.names old → StoodAt names finish.names new → LeavesFiles r order (Ok text) old new → ChangesAsSaid names r begin order reply finish
 packs_answered names r begin Pack Packed finish text old new first last goes = record { old = old; new = new; begins = first; ends = last; goes = goes }
@@ -56,7 +56,7 @@ packs_answered names r begin (Delete name at) Deleted finish text old new first 
 packs_answered names r begin (Switch name) Switched finish text old new first last goes = record { old = old; new = new; begins = first; ends = last; goes = goes }
 packs_answered names r begin order reply finish text old new first last goes = tt
 
--- ---- where the files went on since
+-- ---- trees at earlier moments, after more have been added
 
 got_longer : (xs ys : List Tree) (m : ℕ) (tree : Tree) → slice_get xs m ≡ Some tree → slice_get (xs ++ ys) m ≡ Some tree
 got_longer [] ys m tree got = cc

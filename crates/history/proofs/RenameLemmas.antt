@@ -53,7 +53,7 @@ names_only r from to none =
     let accepted : Accepts r (Rename from to) Renamed (after r (Rename from to)) = record { no_cause = none; not_taken = refl; answer = refl; result = refl } in
     record { changes = refl; spoken = refl; free = refl; values = refl; branch = refl; accepts = accepted; steps = accepted }
 
--- where no cause holds the old name stands
+-- if no cause holds, the old name exists
 pub is_there : (r : plain.Repository) (from to : Bytes) → first_cause r (Rename from to) ≡ None → stands r from ≡ true
 is_there r from to none = go (stands r from) (none_passes (λ name. not (stands r name)) (from ∷ []) (no_cause r (Rename from to) none NoSuchName tests_no_such_name) from (inl refl))
   where
@@ -117,7 +117,7 @@ module _ {F : Type 0} (IsHonest : F → Type 0) (history : F → History) (old :
       records = records;
     }
 
-    -- the old name stands still
+    -- the old name still exists
     pub old_stands : stands both from ≡ true
     old_stands = stands_moved r to (held_id r from) history_actor (codes "rename") from ∙ ap (λ b. bytes_eq from to || b) (is_there r from to asked.none) ∙ or_true (bytes_eq from to)
       where

@@ -98,7 +98,7 @@ indexed_by r (Log c) reply h = ap is_indexed h.2
 indexed_by r (Show word None) reply h = ap is_indexed h.3
 indexed_by r (Show word (Some path)) reply h = ap is_indexed h.5
 
--- what the reply is not of an accepted `index`, where the rows stay
+-- if the reply isn't that to an accepted `index`, the rows stay
 follows_stayed : (old new : Option (List Row)) (r : Repository) (order : Command) (reply : Reply) → is_indexed reply ≡ false → new ≡ old → FollowsRows old new r (order ∷ []) (reply ∷ [])
 follows_stayed old new r order reply e same rows keeps =
     subst (λ after. KeepsRows after new) (sym (stays r rows order reply e)) (subst (KeepsRows rows) (sym same) keeps)
@@ -119,7 +119,7 @@ follows_answer old new r (Log c) reply text h leaves = follows_stayed old new r 
 follows_answer old new r (Show word None) reply text h leaves = follows_stayed old new r (Show word None) reply (indexed_by r (Show word None) reply h) leaves
 follows_answer old new r (Show word (Some path)) reply text h leaves = follows_stayed old new r (Show word (Some path)) reply (indexed_by r (Show word (Some path)) reply h) leaves
 
--- without an answer the rows stay
+-- after a stop the rows stay
 pub stopped_leaves : (r : Repository) (order : Command) (stopped : Stopped) (kept : Option (List Row)) → LeavesRows r order (Err stopped) kept kept
 stopped_leaves r Index stopped kept = refl
 stopped_leaves r order stopped kept = refl

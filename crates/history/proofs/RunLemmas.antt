@@ -37,7 +37,7 @@ steps_then old mid new (command ∷ commands) more (reply ∷ replies) others h 
     let unfailed = or_parts (not (goes_on command reply)) (some_failed commands replies) f in
     (h.0, h.1, inl (not-false (goes_on command reply) unfailed.0), steps_then h.0 mid new commands more replies others h.3 unfailed.1 k)
 
--- whether a command failed is told by the later ones, where none of the first did
+-- if none of the first commands failed, one of all failed exactly if one of the later ones did
 pub fails_then : (old mid : Repository) (commands more : List Command) (replies others : List Reply) → Steps old commands replies mid → some_failed commands replies ≡ false
     → some_failed (commands ++ more) (replies ++ others) ≡ some_failed more others
 fails_then old mid [] more [] others h f = refl
@@ -170,7 +170,7 @@ failed_then failures MayFail old mid new k (inr (inr h)) = inr (inr h)
 
 -- ---- streams
 
--- a byte follows, where a reading said so, whatever its error was made to
+-- a byte follows if a reading said so, whatever its error was made to
 pub more_from : {E D : Type 0} (result : Result Bool E) (told : Result Bool D) (P Q : Type 0) (Else : E → Type 0) → told ≡ Ok true → is_ok told ≡ is_ok result
     → MatchResult result (λ x. told ≡ Ok x) Else → IfOk result (λ is_more. MatchBool is_more P Q) → P
 more_from (Ok true) told P Q Else e v k h = h
@@ -187,7 +187,7 @@ appends_then (Some ks) None c xs ys h k = absurd h
 appends_then (Some ks) (Some ls) None xs ys h k = k
 appends_then (Some ks) (Some ls) (Some ms) xs ys h k = k ∙ ap (λ zs. zs ++ ys) h ∙ append_assoc ks xs ys
 
--- what came is what the source gave, where the buffer was empty
+-- what came is what the source gave, if the buffer was empty
 pub consumed : {S : Type 0} (left : S → Option (List ℕ)) (readings : S → ℕ) (s : S) (b : Buffer) (t : S) (c : Buffer) (bytes : List ℕ)
     → unread b ≡ [] → Came left readings s b t c bytes → Consumes (left s) (left t) bytes
 consumed left readings s b t c bytes e h = subst (Consumes (left s) (left t)) (ap (λ xs. xs ++ h.more) (sym e) ∙ h.same) h.came

@@ -27,7 +27,7 @@ use Rattle.history_plans.specs.declared.tagging.Tagged.{Tagged}
 use Rattle.history_plans.proofs.PartsStand.{objects_stand}
 use Rattle.history_model.specs.Repository as plain
 
--- where nothing is planned, nothing is stored
+-- if nothing is planned, nothing is stored
 pub tag_unplanned : (MayFail C S : Type 0) → (MayFail → C) → (r : plain.Repository) (order : TagCommand) (result : Result Tagged Stopped) (ends : Result Moves Stopped) (stopped : Stopped)
     → result ≡ Err stopped → ends ≡ Err stopped → PlansTag MayFail r order result → StoresObjects C S r (Tag order) ends
 tag_unplanned MayFail C S keep r order result ends stopped was is_end h = subst (StoresObjects C S r (Tag order)) (sym is_end) (by_case stopped (subst (PlansTag MayFail r order) was h))

@@ -1,4 +1,5 @@
--- Which fault is told: whose it is where an error is passed on, and that only `fault File` tells of a failed call.
+-- Which fault is reported: whose it is if an error is passed on, and that only `fault File` reports
+-- a failed call.
 use Rattle.std.proofs.Common.{◌≡◌, ◌≢◌, refl, sym, Result, Err}
 use Rattle.gix_hash_id.specs.declared.object_id.ObjectId.{ObjectId}
 use Rattle.gix_ref_file.specs.declared.files.FileError.{FileError}
@@ -27,7 +28,7 @@ passed_on result ends error told was is so = cc (was, same_told ends error told 
 pub fault_passed : {T U : Type 0} (result : Result T Fault) (ends : Result U Stopped) (fault told : Fault) → result ≡ Err fault → ends ≡ Err (stopped.Fault fault) → ends ≡ Err (stopped.Fault told) → result ≡ Err told
 fault_passed result ends fault told was is so = cc (was, same_fault ends fault told is so)
 
--- a fault that is answered is the one that stopped the command
+-- a fault that is the reply is the one that stopped the command
 pub replied : {T : Type 0} (result : Result T Stopped) (stop : Stopped) (answer : own.Reply) (fault told : Fault) → result ≡ Err stop → stop ≡ stopped.Fault fault → answer ≡ reply.Fault fault → answer ≡ reply.Fault told
     → result ≡ Err (stopped.Fault told)
 replied result stop answer fault told was is so says = cc (was, is, so, says)

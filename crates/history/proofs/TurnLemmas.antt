@@ -64,7 +64,7 @@ in_two old new text (count, less, wrote) =
     let long = length-take-le count text within in
     (take count text, drop count text, sym (take-append-drop count text), omega (arith, long, less), wrote)
 
--- ---- of a command that was answered
+-- ---- of a command that was replied to
 module _ (objects names : History) (MayFail : Type 0) (StandsNow RecoversNow : Repository → Type 0) (start finish : Moment) (kept rows : Option (List Row)) (r : Repository) (order : Command) (answer : own.Reply) (failed : Bool)
     (a : IsAnswer objects names MayFail StandsNow RecoversNow start finish kept rows failed r order answer) where
   abbrev CallFailed : Type 0
@@ -219,7 +219,7 @@ module _ (Comes Writes : Bytes → Type 0) (StandsNow RecoversNow : Repository �
     recovers = λ e. never failed unfailed e;
   }
 
-  -- the writer failed within the answer to it
+  -- the writer failed within the reply to the refused bytes
   pub turn_refusal_cut : (bytes : Bytes) (cause : Cause) (front back : Bytes) → bytes ≢ [] → IsCauseOf bytes cause → (cause ≡ Truncated → AtEnd) → Comes bytes
       → reply_text (RefusedFor cause) ≡ front ++ back → length front < length (reply_text (RefusedFor cause)) → Writes front → Here (Err Write)
   turn_refusal_cut bytes cause front back some h end comes e short writes = record {
@@ -288,7 +288,7 @@ module _ (Comes Writes : Bytes → Type 0) (StandsNow RecoversNow : Repository �
     recovers = λ e. never failed unfailed e;
   }
 
--- what a turn tells where a command was answered
+-- what a turn returns if a command was replied to
 pub turn_told : (Takes Comes Writes : Bytes → Type 0) (StandsNow RecoversNow : Repository → Type 0) (Traced : List Command → List Reply → Repository → Type 0) (AtEnd L C : Type 0) (r : Repository) (end : Option End) (failed : Bool)
     → ((end ≡ None) × GoesOn Takes Writes StandsNow Traced C r) ⊎ ((end ≡ Some ByFault) × EndsHere Comes Writes StandsNow RecoversNow Traced AtEnd L C r (Ok ByFault) failed)
     → Turns Takes Comes Writes StandsNow RecoversNow Traced AtEnd L C r (Ok end) failed
@@ -312,7 +312,7 @@ goes_none Takes Writes StandsNow Traced C r takes writes stands traced = record 
   stands = stands;
 }
 
--- what was traced from where a turn left the repository is traced on
+-- what was traced from the repository that a turn left continues the trace
 abbrev pub TracesOn : (List Command → List Reply → Repository → Type 0) → (Repository → List Command → List Reply → Repository → Type 0) → (List Command → List Reply → Repository → Type 0) → Type 0
 TracesOn First Second Both = (commands more : List Command) (replies others : List Reply) (mid new : Repository) → some_failed commands replies ≡ false
     → First commands replies mid → Second mid more others new → Both (commands ++ more) (replies ++ others) new
@@ -353,7 +353,7 @@ run_then Took Comes Reads Wrote Writes Writing Stood StandsNow RecoversNow First
   recovers = k.recovers;
 }
 
--- what was acted on, read, written and left, where this is told
+-- what was acted on, read, written and left, of the result that is returned
 pub run_told : (Reads Writes : Bytes → Type 0) (StandsNow RecoversNow : Repository → Type 0) (Traced : List Command → List Reply → Repository → Type 0) (AtEnd L C : Type 0) (r : Repository) (told result : Result End RunError) (failed : Bool)
     → told ≡ result → EndsHere Reads Writes StandsNow RecoversNow Traced AtEnd L C r result failed
     → (commands : List Command) × (replies : List Reply) × (read written : Bytes) × (new : Repository) × Reads read × Writes written × EndsRun AtEnd L C r commands replies read written told failed new

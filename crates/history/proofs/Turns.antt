@@ -75,7 +75,7 @@ less_by_command left readings s b t c taken command h k =
 pub no_more_by_nothing : {S : Type 0} (left : S → Option (List ℕ)) (readings : S → ℕ) (s : S) (b : Buffer) (t : S) (c : Buffer) → Took left readings s b t c [] → work c ≤ work b
 no_more_by_nothing left readings s b t c h = omega (arith, h.less_work)
 
--- Whether a byte follows is asked of the source only where none stands in the buffer; and a command takes one.
+-- The source is read for a following byte only if the buffer is empty; and a command takes one.
 pub asks_when_empty : {S : Type 0} (left : S → Option (List ℕ)) (readings : S → ℕ) (s : S) (b : Buffer) (t : S) (c : Buffer) (u : S) (taken : List ℕ) (command : Command)
     → Took left readings s b t c [] → (0 < length (unread b) → (t ≡ s) × (c ≡ b)) → Spells taken command → AsksForMore t c u taken → AsksForMore s b u taken
 asks_when_empty left readings s b t c u taken command took idle spells asks all =

@@ -25,7 +25,7 @@ returns-then-is_fault-clause-acted g c = rw (← c.repository.view_is) (λ r ord
           (w.in-Err-Fault.is ∙ ap Err w.in-Err-Fault.field-0-is) w.reply-is changing (c.act.ensures.memory w.in-Err-Fault.fault (w.in-Err-Fault.is ∙ ap Err w.in-Err-Fault.field-0-is)) (λ none. absurd (cc (changing, none))) (c.act.ensures.rows r order asked) stands (c.act.ensures.acts r order asked))
     ])
 
--- where no mark is made the repository is as `act` left it
+-- if no mark is made, the repository is as `act` left it
 kept_else : (g : Given.Over) (c : goal.Joined-else-is_changing g) → c.else-is_changing.repository ≡ c.act.new.repository
 kept_else g c = elim c.else-is_changing.branch [
   | else-is_changing-via-then-is_changing+else-is_fault v ↦ v.repository-is

@@ -126,7 +126,7 @@ returns-in-Pack-clause-passes g c = λ r order asked. adds_same _ _ refl
 pub returns-in-Pack-clause-unfailed : goal.returns-in-Pack-clause-unfailed
 returns-in-Pack-clause-unfailed g c = idle_stays g.F.Files.failures c.plan_pack.result c.args.repository.now
 
--- a command that changes no file isn't asked so
+-- this clause is only of commands that change files
 pub returns-clause-stores : goal.returns-clause-stores
 returns-clause-stores g c = λ r order asked.
     let d = c.in_default in
