@@ -23,7 +23,7 @@ pub record IsObject (digests : Kind) (kind : ObjectKind) (content : Bytes) (obje
   pub of_kind : object.kind ≡ kind
   pub bytes : object.content.items ≡ content
 
--- what stands at the end may stand
+-- at the end the files are as they may be while the text is put
 pub may_at_end : (place text : Bytes) (old new : History) → Adds (MayHold place text old.tree) old new → MayStand place text old.tree new.tree
 may_at_end place text old new adds = by_case (adds_now _ old new adds)
   where
@@ -59,7 +59,7 @@ module _ (digests : Kind) (kind : ObjectKind) (content : Bytes) (object : NewObj
   pub taken_back : (tree : Tree) → IsIdTaken own_id kind content tree → IsTaken object tree
   taken_back tree taken = subst (λ (t : Type 0). t) (sym (λ i. IsIdTaken (is.id i) (is.of_kind i) (is.bytes i) tree)) taken
 
-  -- ---- where it was put
+  -- ---- if it was put
   module _ (old new : Tree) (ids : IdSet) (knows : Knows ids old) (stored : HoldsFile (place_of object) (text_of object) old new) (free : ¬ IsTaken object old) where
     holds : HoldsFile place text old new
     holds = told (λ p t. HoldsFile p t old new) stored
@@ -73,7 +73,7 @@ module _ (digests : Kind) (kind : ObjectKind) (content : Bytes) (object : NewObj
     pub gains_known : length content < 2 ^ 64 → Knows (with_id ids own_id) new
     gains_known fits = knows_more place text old new (inr holds) stays ids knows own_id kind content holds.here fits
 
-  -- ---- where it wasn't
+  -- ---- if it wasn't
   module _ (old new : History) (ids : IdSet) (knows : Knows ids old.tree) (moments : Adds (MayHold (place_of object) (text_of object) old.tree) old new) (once : file_at old.tree (place_of object) ≡ Some (text_of object) → new.tree ≡ old.tree) (untouched : IsTaken object old.tree → new.tree ≡ old.tree) where
     may : MayStand place text old.tree new.tree
     may = may_at_end place text old new (told (λ p t. Adds (MayHold p t old.tree) old new) moments)

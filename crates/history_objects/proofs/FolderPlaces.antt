@@ -1,4 +1,4 @@
--- The folders of objects and names, below which their files stand.
+-- The folders of objects and names, below which their files are.
 use Rattle.std.proofs.Common.{◌≡◌, ◌⊎◌, inl, inr, refl, sym, ◌∙◌, ap, ℕ, zero, suc, ◌<◌, ◌≤◌, Bool, true, false, ◌&&◌, ◌||◌, List, [], ◌∷◌, ◌++◌, take, drop, length, arith}
 use Rattle.std.specs.Prelude.{IsTrue, ◌==◌, nat_lt, Some, codes}
 use Rattle.std.specs.List.{list_all}
@@ -88,7 +88,7 @@ object_above (a ∷ b ∷ h) place long lower (rest, is) = from_first (behind (c
     from_first (inl same) = ap is_object_folder same
     from_first (inr (inner, same, left)) = ap is_object_folder same ∙ from_second inner (behind (a ∷ b ∷ []) h inner rest (no_slash_lower (a ∷ b ∷ []) two_lower) left)
 
--- Where all folders were object folders, they are after a put.
+-- If all folders were object folders, they are after a put.
 pub object_folders_stay : (kind : Kind) (id : Id) (old new : Tree) → is_id kind id ≡ true → FoldersAbove (object_place id) old new
     → ((path : Bytes) → get old path ≡ Some folder → IsTrue (is_object_folder path)) → (path : Bytes) → get new path ≡ Some folder → IsTrue (is_object_folder path)
 object_folders_stay kind id old new formed above before path is = by_case (above path is)

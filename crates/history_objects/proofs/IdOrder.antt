@@ -34,7 +34,7 @@ all_before x (y ∷ ys) h = (before_in_kind x y (when_lt (by_own_id x y) (and_pa
 
 -- ---- across lists
 
--- the id begins with a byte that comes behind this one
+-- the id begins with a byte that is greater than this one
 abbrev BeginsLater : ℕ → ObjectId → Type 0
 BeginsLater byte y = (later : ℕ) × (byte < later) × (belongs_to later y ≡ true)
 

@@ -94,7 +94,7 @@ by_own_id a b = by_id (id_of a) (id_of b)
 abbrev pub AreInOrder : List ObjectId → Type 0
 AreInOrder ids = is_sorted by_id (marked ids) ≡ true
 
--- the id belongs at the place: what stands before it is less, and what stands from there on greater
+-- the id belongs at the place: what comes before it is less, and what comes from there on greater
 abbrev pub BelongsAt : List ObjectId → ℕ → ObjectId → Type 0
 BelongsAt ids place id = IsPartitionPoint (λ y. by_own_id y id ≡ Less) (λ y. by_own_id y id ≡ Greater) ids place
 

@@ -26,11 +26,11 @@ use Rattle.history_model.proofs.RecoveredLemmas.{place_differs}
 abbrev pub table_in : IdSet → Tree → Table
 table_in ids tree id = if contains_key ids id then object_at tree id else None
 
--- an object stands under each id
+-- an object is stored under each id
 abbrev pub Knows : IdSet → Tree → Type 0
 Knows ids tree = (id : Id) → IsTrue (contains_key ids id) → IsSome (object_at tree id)
 
--- a file that stands at the place stands as before
+-- a file at the place stays as it is
 abbrev pub StaysAt : Bytes → Tree → Tree → Type 0
 StaysAt place old new = (other : Bytes) → file_at old place ≡ Some other → file_at new place ≡ Some other
 
@@ -100,7 +100,7 @@ module _ (place text : Bytes) (old new : Tree) (may : MayStand place text old ne
 
 -- ---- that a file at the place stays
 
--- where the text is put and no other stood
+-- if the text is put and no other was there
 pub stays_when_put : (id : Id) (kind : ObjectKind) (content : Bytes) (old new : Tree) → file_at new (object_place id) ≡ Some (object_text kind content) → ¬ IsIdTaken id kind content old → StaysAt (object_place id) old new
 stays_when_put id kind content old new here free other at = by_test (bytes_eq other (object_text kind content)) refl
   where
@@ -108,7 +108,7 @@ stays_when_put id kind content old new here free other at = by_test (bytes_eq ot
     by_test true same = here ∙ ap Some (sym ((bytes_eq-Decides other (object_text kind content)).0 same))
     by_test false unlike = absurd (free (inr (other, at, λ is. absurd (cc (sym unlike ∙ (bytes_eq-Decides other (object_text kind content)).1 is)))))
 
--- where what stood there, the text or another, keeps the files as they were
+-- if what was there, the text or another, keeps the files as they were
 pub stays_when_stood : (id : Id) (kind : ObjectKind) (content : Bytes) (old new : Tree) → (file_at old (object_place id) ≡ Some (object_text kind content) → new ≡ old) → (IsIdTaken id kind content old → new ≡ old) → StaysAt (object_place id) old new
 stays_when_stood id kind content old new once untouched other at = by_test (bytes_eq other (object_text kind content)) refl
   where

@@ -75,7 +75,7 @@ no_deep_folder tree folders (b ∷ path) deep = by_case (get tree (b ∷ path)) 
     by_case (Some (file bytes)) is = refl
     by_case (Some folder) is = absurd (omega (arith, deep, folder_short (b ∷ path) (folders (b ∷ path) is)))
 
--- ---- what an object's place stands below
+-- ---- what an object's place is below
 pub place_above : (place path : Bytes) → IsObjectPlace path → IsAbove place path → IsTrue (is_object_folder place)
 place_above place path (kind, id, is, at) (rest, below) =
     object_above (hex id) place (two_digits kind id is) (hex_lower kind id is) (rest, sym at ∙ below)
@@ -94,7 +94,7 @@ folders_after old new path part placed above place is = by_case (above place is)
     by_case (inl stood) = part.folders place stood
     by_case (inr within) = place_above place path placed within
 
--- `objects/unfinished` stands below `objects` alone, as each object does
+-- `objects/unfinished` needs the folder `objects` alone, as each object does
 pub unfinished_above : (tree : Tree) (path : Bytes) → IsObjectPlace path → HasFoldersAbove path tree → HasFoldersAbove unfinished_place tree
 unfinished_above tree path (kind, id, is, at) above place (rest, below) = from (behind (codes "objects") (codes "unfinished") place rest refl below)
   where

@@ -80,7 +80,7 @@ module _ (ids : List ObjectId) (order : AreInOrder ids) (kind : Kind) where
         omega (arith, here)
   ]
 
-  -- where the first and the last are of one kind, all are
+  -- if the first and the last are of one kind, all are
   pub between : (first last : ObjectId) → first ≡ slice_index_or ids 0 first → last ≡ slice_index_or ids (length ids - 1) last → (id_of first).kind ≡ kind → (id_of last).kind ≡ kind → All (λ id. (id_of id).kind ≡ kind) ids
   between first last at_first at_last is_first is_last = λ k d within.
       let some : 0 < length ids = omega (arith, within) in
@@ -143,7 +143,7 @@ one_at (x ∷ ids) (suc k) d within =
 
 -- ---- the list of a prefix's first two digits
 
--- where that list doesn't stand, no id begins with the prefix
+-- if that list is missing, no id begins with the prefix
 pub none_named : (lists : List (Vec ObjectId Global)) → are_lists 0 lists ≡ true → (byte : ℕ) → length lists ≤ byte → (prefix : Id) → Begins prefix byte → 4 ≤ length prefix.digits → IsHit (set_of (joined lists)) prefix Absent
 none_named lists are byte beyond prefix begins long = λ id found.
     cc (sym (contains-set_of (joined lists) id) ∙ found.known, no_list lists are byte beyond id (begins_alike byte prefix id begins long found.begins))
@@ -158,7 +158,7 @@ module _ (lists : List (Vec ObjectId Global)) (are : are_lists 0 lists ≡ true)
   pub in_order : AreInOrder ids
   in_order = (and_parts _ _ of_byte).1
 
-  -- an id that begins so is in the set exactly where it is in the list
+  -- an id that begins so is in the set exactly if it is in the list
   told : (q : Id) → Begins q byte → contains_key (set_of (joined lists)) q ≡ is_one_of ids q
   told q begins = contains-set_of (joined lists) q ∙ own_list lists are byte list within q begins ∙ ap (λ xs. is_one_of xs q) (sym own_ids)
 
@@ -173,7 +173,7 @@ module _ (lists : List (Vec ObjectId Global)) (are : are_lists 0 lists ≡ true)
   kinds_told kind all = λ k d inside. all (id_of (slice_index_or ids k d)) (known_at k d inside)
 
   module _ (prefix : Id) (begins : Begins prefix byte) (long : 4 ≤ length prefix.digits) (first past : ℕ) (matches : IsMatchingRun ids prefix first past) (fits : past ≤ length ids) where
-    -- a match stands in the run
+    -- a match is in the run
     placed : (id : Id) → IsMatch (set_of (joined lists)) prefix id → (k : ℕ) × (first ≤ k) × (k < past) × ((d : ObjectId) → id ≡ id_of (slice_index_or ids k d))
     placed id found =
         let at = place_of ids id (sym (told id (begins_alike byte prefix id begins long found.begins)) ∙ found.known) in
@@ -181,7 +181,7 @@ module _ (lists : List (Vec ObjectId Global)) (are : are_lists 0 lists ≡ true)
         let run = (matches at.0 x at.1 (default_beyond ids at.0 x (Sha1 []) at.1)).0 (subst (λ (i : Id). IsBeginningOf prefix.digits i.digits) (at.2 (Sha1 [])) found.begins) in
         (at.0, run.0, run.1, at.2)
 
-    -- what stands in the run is a match
+    -- what is in the run is a match
     match_at : (k : ℕ) (d : ObjectId) → first ≤ k → k < past → IsMatch (set_of (joined lists)) prefix (id_of (slice_index_or ids k d))
     match_at k d from to =
         let inside : k < length ids = omega (arith, to, fits) in

@@ -96,14 +96,14 @@ module _ (place text : Bytes) (old made written new : History) where
       let last = after_rename place text written.tree new.tree (text_written is_written) may is_new in
       record { here = last.here; others = λ q apart other. last.others q apart other ∙ kept_when_written first second q apart }
 
--- a text is a front and a content where it begins so and the rest is the content
+-- a text is a front and a content exactly if it begins so and the rest is the content
 pub same_text : (text read front rest content : Bytes) (b : Bool) → text ≡ read → read ≡ front ++ rest → Decides b (rest ≡ content) → (b ≡ true → text ≡ front ++ content) × (text ≡ front ++ content → b ≡ true)
 same_text bytes read front rest content b is_read begins decides = (
   λ same. is_read ∙ begins ∙ ap (λ r. front ++ r) (decides.0 same),
   λ is. decides.1 (append_cancel_left front rest content (sym begins ∙ sym is_read ∙ is)),
 )
 
--- where a file of other bytes stands
+-- if a file of other bytes is there
 pub taken_by_other : (tree : Tree) (stands place header content bytes : Bytes) → stands ≡ place → is_file_at tree stands ≡ true → (bytes_at tree stands ≡ header ++ content → false ≡ true) → bytes ≡ header ++ content
     → (other : Bytes) × (file_at tree place ≡ Some other) × (other ≢ bytes)
 taken_by_other tree stands place header content bytes same is_file differs is =
@@ -127,7 +127,7 @@ pub untaken : (object : NewObject) (tree : Tree) (reserved : Bool) → reserved 
 untaken object tree reserved told free alone (inl taken) = absurd (cc (sym free ∙ told ∙ taken))
 untaken object tree reserved told free alone (inr other) = alone other
 
--- ---- where a failed change changes nothing
+-- ---- if a failed change changes nothing
 
 pub on_err_any : {T E P : Type 0} (r : Result T E) → P → OnErr r P
 on_err_any (Ok x) p = tt

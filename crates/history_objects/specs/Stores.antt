@@ -19,22 +19,22 @@ use Rattle.history_model.specs.Forms.{is_id}
 use Rattle.history_model.specs.Places.{file_at, object_place, unfinished_place, is_object_folder}
 use Rattle.gix_ref_way.specs.Ways.{KeepsFolders, FoldersAbove}
 
--- each file stands as before, but for `objects/unfinished`
+-- each file is as before, but for `objects/unfinished`
 abbrev pub KeepsFiles : Tree → Tree → Type 0
 KeepsFiles old new = (path : Bytes) → path ≢ unfinished_place → file_at new path ≡ file_at old path
 
--- The text stands at the place, and each other file as before, but for `objects/unfinished`.
+-- The text is at the place, and each other file is as before, but for `objects/unfinished`.
 pub record HoldsFile (place text : Bytes) (old new : Tree) : Type 0 where
   pub here : file_at new place ≡ Some text
   pub others : (path : Bytes) → path ≢ unfinished_place → path ≢ place
       → file_at new path ≡ file_at old path
 
--- what stands while a text is put in its place: all as before, or the text whole
+-- the files while a text is put in its place: all as before, or the text whole
 abbrev pub MayStand : Bytes → Bytes → Tree → Tree → Type 0
 MayStand place text old tree = KeepsFiles old tree ⊎ HoldsFile place text old tree
 
--- What stands while the text is put in its place: all as before or the text whole, each folder that stood, and no other but those
--- that its file stands in.
+-- The tree while the text is put in its place: all files as before or the text whole, each folder
+-- of before, and no other folder but those that the text's file is in.
 pub record MayHold (place text : Bytes) (old tree : Tree) : Type 0 where
   pub files : MayStand place text old tree
   pub above : FoldersAbove place old tree
@@ -46,17 +46,17 @@ pub record MayHold (place text : Bytes) (old tree : Tree) : Type 0 where
 abbrev pub IsObjectPlace : Bytes → Type 0
 IsObjectPlace path = (kind : Kind) × (id : Id) × IsTrue (is_id kind id) × (path ≡ object_place id)
 
--- Each file stands at an object's place or is the unfinished one, and each folder is one of objects.
+-- Each file is at an object's place or is the unfinished one, and each folder is one of objects.
 pub record IsObjectPart (tree : Tree) : Type 0 where
   pub files : (path text : Bytes) → file_at tree path ≡ Some text
       → IsObjectPlace path ⊎ (path ≡ unfinished_place)
   pub folders : (path : Bytes) → get tree path ≡ Some folder → IsTrue (is_object_folder path)
 
--- no text of an object stands at the place
+-- no text of an object is at the place
 abbrev pub HoldsNone : Bytes → Tree → Type 0
 HoldsNone place tree = (file_at tree place ≡ None) ⊎ IsNoObject (bytes_at tree place)
 
--- nothing is left where an object is written
+-- no unfinished object is left
 abbrev pub IsFinished : Tree → Type 0
 IsFinished tree = file_at tree unfinished_place ≡ None
 
@@ -66,15 +66,15 @@ IsFinished tree = file_at tree unfinished_place ≡ None
 abbrev pub text_of : NewObject → Bytes
 text_of object = object_text object.kind object.content.items
 
--- where its file stands
+-- the place of its file
 abbrev pub place_of : NewObject → Bytes
 place_of object = object_place (id_of object.id)
 
--- its file stands
+-- its file is stored
 abbrev pub Holds : NewObject → Tree → Type 0
 Holds object tree = file_at tree (place_of object) ≡ Some (text_of object)
 
--- what stands while the object is put
+-- the tree while the object is put
 abbrev pub MayPut : NewObject → Tree → Tree → Type 0
 MayPut object old tree = MayHold (place_of object) (text_of object) old tree
 
@@ -88,7 +88,8 @@ pub record IsObjectOf (digests : Kind) (value : Value) (object : NewObject) : Ty
 abbrev pub AreObjectsOf : Kind → List Value → List NewObject → Type 0
 AreObjectsOf digests values objects = AllZip (IsObjectOf digests) values objects
 
--- why an object of this content can't have the id: it is reserved, or a file of other bytes stands at its place
+-- why an object of this content can't have the id: it is reserved, or a file of other bytes is at
+-- its place
 abbrev pub IsIdTaken : Id → ObjectKind → Bytes → Tree → Type 0
 IsIdTaken id kind content tree =
     (is_reserved id kind content ≡ true)

@@ -97,7 +97,7 @@ impl<F: Files> Objects<F> {
         }
     }
 
-    /// The part, as its files stand.
+    /// Returns the part's files.
     pub fn into_files(self) -> F
         ensures { result ≡ self.files }
     {
@@ -119,8 +119,11 @@ impl<F: Files> Objects<F> {
         self.kind
     }
 
-    /// Puts an object that was made under its id. Nothing is written where it stands already. What it says and names isn't tested,
-    /// as `put` does it: whoever made it knows.
+    /// Puts an object that was made, under its id. Nothing is written if it is stored already. What
+    /// it says and names isn't tested, as `put` does it: whoever made it knows.
+    ///
+    /// Returns `IdTaken` if the id is reserved or a file of other bytes is at its place, `Memory`
+    /// if no memory is left, and `File` if a call of the files failed.
     pub fn put_made(&mut self, alloc: Global, object: &NewObject) -> Result<(), PutMadeError>
         ensures honest { F.is_honest self.old.files → F.is_honest self.new.files }
         ensures kind { self.new.kind ≡ self.old.kind }
@@ -129,7 +132,7 @@ impl<F: Files> Objects<F> {
         ensures stored { Achieves F.is_honest F.history self.old.files self.new.files result
             (HoldsFile (place_of object.now) (text_of object.now)) }
 
-        // No file is left where it was written.
+        // No unfinished file is left.
         ensures unfinished { F.is_honest self.old.files
             → OnOk result (IsFinished (F.history self.new.files).tree
             ⊎ (self.new.files ≡ self.old.files)) }
@@ -139,20 +142,21 @@ impl<F: Files> Objects<F> {
             (kept self.new.ids ≡ with_id (kept self.old.ids) (id_of object.now.id)) }
         ensures unknown { OnErr result (kept self.new.ids ≡ kept self.old.ids) }
 
-        // At each moment the object's file is as before, or there whole; each folder that stood stands, and no other but those
-        // that the object's file stands in.
+        // At each moment the object's file is as before, or there whole; each folder of before
+        // exists, and no other but those that the object's file is in.
         ensures moments { Passes F.is_honest F.history self.old.files self.new.files
             (MayPut object.now) }
 
-        // Where a failed change changes nothing, an error leaves no object's file that is new.
+        // If a failed change changes nothing, an error leaves no object's file that is new.
         ensures kept { F.is_atomic → F.is_honest self.old.files → OnErr result
             (KeepsFiles (F.history self.old.files).tree (F.history self.new.files).tree) }
 
-        // Where the object stands already, nothing is written.
+        // If the object is stored already, nothing is written.
         ensures once { F.is_honest self.old.files → Holds object.now (F.history self.old.files).tree
             → self.new.files ≡ self.old.files }
 
-        // Where the id is taken nothing is written, whatever the answer, and `IdTaken` says that it is.
+        // If the id is taken, nothing is written whatever is returned, and `IdTaken` says that it
+        // is.
         ensures taken { (id : ObjectId) → IsErrOf result (IdTaken id) → id ≡ object.now.id }
         ensures refused { (id : ObjectId) → IsErrOf result (IdTaken id)
             → Finds F.is_honest F.history self.old.files (IsTaken object.now) }
@@ -176,7 +180,7 @@ impl<F: Files> Objects<F> {
         if is_reserved(object) {
             return Err(PutMadeError::IdTaken(object.id));
         }
-        // Once the object stands nothing asks for memory.
+        // After the object is stored, no memory is needed.
         self.ids.make_room(alloc, &object.id)?;
         let place = object_place(alloc, &object.id)?;
         let content = object.content.as_slice();
@@ -268,7 +272,8 @@ impl<F: Files> Objects<F> {
         self.files.rename(alloc, UNFINISHED, place)
     }
 
-    /// Makes more ids known, of objects that stand in the part. After an error some of them may be known.
+    /// Makes more ids known, of objects that are stored in the part. After an error some of them
+    /// may be known.
     pub fn know(&mut self, alloc: Global, ids: &[ObjectId]) -> Result<(), AllocError>
         requires { F.is_honest self.old.files
             → AreStanding self.old.kind (F.history self.old.files).tree ids.now }
@@ -284,7 +289,7 @@ impl<F: Files> Objects<F> {
         Ok(())
     }
 
-    /// The object of this id; `None` where none stands or its file holds no object's text.
+    /// Returns the object of this id; `None` if none is stored or its file holds no object's text.
     pub fn read(&self, alloc: Global, id: &ObjectId) -> Result<Option<Object>, FileError>
         ensures found { Finds F.is_honest F.history self.now.files (λ tree. IfOk result (λ found.
             MatchOption found (HoldsNone (object_place (id_of id.now)) tree) (λ object.

@@ -57,7 +57,7 @@ returns-in_err-write-clause-failed g c = λ honest part failed.
     let folder = c.in_ok-has_folder.ensures.folder honest ∙ ap (λ p. is_folder (node_at (g.F.Files.history c.args.self.now.files).tree (parent p))) (c.deref.ensures.value ∙ sym c.deref-else-is_file.ensures.value) in
     c.write.ensures.failed honest part placed folder same
 
--- an object is stored where no file stands, or where its own does
+-- an object is stored if no file is at its place, or its own is
 pub returns-clause-free : goal.returns-clause-free
 returns-clause-free g c = λ honest.
     let object = c.args.object.now in

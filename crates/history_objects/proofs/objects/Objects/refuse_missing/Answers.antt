@@ -11,7 +11,7 @@ use Rattle.history_texts.specs.declared.written.Named.{Named}
 use Rattle.history_objects.proofs.Maps.{map_length}
 use Rattle.history_objects.proofs.objects.Objects.refuse_missing.Goals as goal
 
--- what stands in the place of an object that isn't there
+-- a placeholder for an object that is missing
 abbrev none : Named
 none = record { id = Sha1 []; kind = Tree }
 
