@@ -1,4 +1,4 @@
--- What is told of all commits, in an order in which each comes before its parents.
+-- The descriptions of all commits, in an order in which each comes before its parents.
 use Rattle.std.proofs.Common.{◌≡◌, ◌∙◌, ◌<◌, ◌+◌, ap, refl, sym, subst, arith, ℕ, zero, suc, Bool, true, false, ◌||◌, List, [], ◌∷◌, ◌++◌, length, map, filter, take, get_or, inl, inr, pos, Option, Some, None, is_some, option_and_then, option_map, unwrap_or}
 use Rattle.std.specs.Prelude.{◌⊎◌, ⊤, Contains, IsSome}
 use Rattle.std.specs.FinMap.{contains_key, get}
@@ -36,7 +36,7 @@ use Rattle.history_queries.specs.Indexing.{AreTheCommits, AreToldOf}
 use Rattle.history_queries.specs.Walked.{AllHold}
 use Rattle.history_queries.proofs.CommitsWalked.{held_parent}
 
--- a row tells its commit as it is stored
+-- a row describes its commit as it is stored
 pub row_stored : (r : Repository) (row : Row) (told : Told) → TellsRow r.kind r.objects row → told.id ≡ row.id → told.tree ≡ row.tree → told.parents.items ≡ row.parents.items → told.time ≡ row.time → TellsStored r told
 row_stored r row told is same tree_is parents_are time_is = record {
   commit = is.commit;
@@ -69,7 +69,7 @@ at_told [] k id a = let z : ⊥ = cc in absurd z
 at_told (x ∷ told) zero id a = (x, refl, cc)
 at_told (x ∷ told) (suc k) id a = at_told told k id a
 
--- what stands behind a place
+-- what comes after a place
 behind_at : {X : Type 0} (before : List X) (x : X) (behind : List X) (j : ℕ) (y : X) → At (before ++ x ∷ behind) j y → length before < j → Contains behind y
 behind_at [] x behind zero y a less = absurd (omega (arith, less))
 behind_at [] x behind (suc j) y a less = contains_from_at behind j y a
@@ -111,7 +111,7 @@ module _ (r : Repository) (store : IsWholeStore r) (written : IsWritten r) (tips
       (logged.1).list.once j k (id_of t.id) (subst (λ (xs : List Id). At xs j (id_of t.id)) (sym finished_is) (subst (λ id. At out j (id_of id)) same (told_at told j s a)))
       (subst (λ (xs : List Id). At xs k (id_of t.id)) (sym finished_is) (told_at told k t b))
 
-  -- a parent comes behind
+  -- a parent comes after its child
   behind : (k j : ℕ) (t s : Told) → At told k t → At told j s → Contains (parents_at r (id_of t.id)) (id_of s.id) → k < j
   behind k j t s a b named =
       let ready = (logged.1).fit j (id_of s.id) (subst (λ (xs : List Id). At xs j (id_of s.id)) (sym finished_is) (told_at told j s b)) in
@@ -153,7 +153,7 @@ module _ (r : Repository) (store : IsWholeStore r) (written : IsWritten r) (tips
     order = in_order [] told refl;
   }
 
--- the same, where it is told that none is hidden
+-- the same, if no commit is hidden
 pub all_told : (r : Repository) (store : IsWholeStore r) (written : IsWritten r) (tips ids : List ObjectId) (told : List Told) → AreTheCommits r tips → (hidden : List ObjectId) → hidden ≡ []
     → IsInOrder (Topological All) (commits_of r) (walk_from (Topological All) (map id_of tips) (map id_of hidden)) (map id_of ids) → AreToldOf r ids told → AreAllTold r told
 all_told r store written tips ids told commits hidden none logged are =
@@ -267,7 +267,7 @@ all_so_far r commits rest so_far none = record { hold = so_far.hold; every = eve
       | inr is ↦ clash is (ap (λ ids. is_one_of ids id) none)
     ]
 
--- ---- what is told of commits, one after another
+-- ---- commits described one after another
 
 pub told_added : (r : Repository) (ids : List ObjectId) (k : ℕ) (d : ObjectId) → k < length ids → (some more : List Told) (told : Told) → AreToldOf r (take k ids) some → more ≡ some ++ told ∷ [] → told.id ≡ get_or ids k d → TellsStored r told
     → AreToldOf r (take (k + 1) ids) more

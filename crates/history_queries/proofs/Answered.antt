@@ -1,4 +1,4 @@
--- What `files` and `show` answer, by what their word stands for.
+-- What `files` and `show` return, by what their word means.
 use Rattle.std.proofs.Common.{◌≡◌, ℕ, Bool, true, false, cond, ◌||◌, List, map, refl, sym, ◌∙◌, ap, subst, Option, Some, None, option_map, option_and_then, option_to_list, unwrap_or, is_none, is_some, codes, Vec, Result, Ok, Err}
 use Rattle.std.specs.FinMap.{get, entries, empty}
 use Rattle.std.specs.Result.{IsErrAnd}
@@ -42,7 +42,7 @@ pub reading_fault : (MayFail : Type 0) (r : Repository) (order : Command) (stopp
 reading_fault MayFail r order (Refused cause) h = absurd h
 reading_fault MayFail r order (Fault fault) h = h
 
--- a word that stands for no commit is told by its cause
+-- a word that means no commit is refused for its cause
 pub unread : (MayFail : Type 0) (r : Repository) (order : Command) (word : Bytes) (stopped : Stopped) → ((cause : Cause) → commit_or_cause r word ≡ Err cause → first_cause r order ≡ Some cause)
     → ReadsMeant MayFail r word (Err stopped) → OnlyAnswers MayFail r order (Err stopped)
 unread MayFail r order word (Refused cause) told h = told cause h
@@ -53,7 +53,7 @@ pub handed_on : (MayFail : Type 0) (r : Repository) (order : Command) (result : 
 handed_on MayFail r order (Ok text) stopped same h = absurd same
 handed_on MayFail r order (Err other) stopped same h = subst (λ (x : Stopped). OnlyAnswers MayFail r order (Err x)) (sym same) h
 
--- what is given answers the command
+-- what is given is what the command returns
 pub given : (MayFail : Type 0) (P : Vec ℕ Global → Type 0) (r : Repository) (order : Command) (result : Result (Vec ℕ Global) Stopped) → GivesMeant MayFail P result → ((text : Vec ℕ Global) → P text → OnlyAnswers MayFail r order (Ok text)) → OnlyAnswers MayFail r order result
 given MayFail P r order (Ok text) h answers = answers text h
 given MayFail P r order (Err stopped) h answers = reading_fault MayFail r order stopped h
@@ -81,7 +81,7 @@ module _ (r : Repository) (w : IsWhole r) where
   show_refused word None cause e = commit_causes word ∙ word_refused r word cause None e
   show_refused word (Some path) cause e = path_causes word path ∙ word_refused r word cause _ e
 
-  -- ---- the commit that a word stands for
+  -- ---- the commit that a word means
 
   pub reads_commit : (word : Bytes) (id : Id) → commit_or_cause r word ≡ Ok id → (commit : CommitValue) × (get r.objects id ≡ Some (StoredCommit commit))
   reads_commit word id reads = go (get r.objects id) refl (read_holds r w.store (word_meaning r word) id (commit_is r word id reads))
@@ -117,7 +117,7 @@ module _ (r : Repository) (w : IsWhole r) where
         (id_of id, value, stands_for word (id_of id) value reads at, refl),
       )
 
-  -- ---- what stands at a path
+  -- ---- what is at a path
 
   word_files_are : (word : Bytes) (id : Id) (commit : CommitValue) → commit_or_cause r word ≡ Ok id → get r.objects id ≡ Some (StoredCommit commit) → word_files r word ≡ commit.files
   word_files_are word id commit reads at =

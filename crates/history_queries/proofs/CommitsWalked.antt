@@ -160,7 +160,7 @@ module _ (r : Repository) (store : IsWholeStore r) (written : IsWritten r) where
   pub are_named : AreNamed id_of read_commits (commits_of r)
   are_named = record { parents = λ x. sym (parents_named x); time = λ x. refl }
 
-  -- ---- what its texts tell
+  -- ---- what its texts say
 
   id_kind : (id : Id) (value : Value) → get r.objects id ≡ Some value → id.kind ≡ r.kind
   id_kind id value at =
@@ -192,7 +192,7 @@ module _ (r : Repository) (store : IsWholeStore r) (written : IsWritten r) where
   abbrev IsCommitText : Bytes → Option Value → Type 0
   IsCommitText content found = option_map object_of found ≡ Some (record { kind = kinds.Commit; content = content })
 
-  -- what stands as a commit is one
+  -- what is stored as a commit is one
   stands_of : (id : Id) (content : Bytes) → Stands table id kinds.Commit content → (value : CommitValue) × (get r.objects id ≡ Some (StoredCommit value)) × (commit_content r.kind value ≡ content)
   stands_of id content stands = go (get r.objects id) refl stands
     where
@@ -225,7 +225,7 @@ module _ (r : Repository) (store : IsWholeStore r) (written : IsWritten r) where
       go (Some (StoredBytes bytes)) at = refl
       go (Some (StoredFolder files)) at = refl
 
-  -- a row tells its commit as it is read
+  -- a row describes its commit as it is read
   rowed_so : (row : Row) → TellsRow r.kind r.objects row → read_commits row.id ≡ commit_of (Some row)
   rowed_so row is =
       let found = ap (option_and_then as_commit) is.stored in
@@ -344,7 +344,7 @@ module _ (r : Repository) (store : IsWholeStore r) (written : IsWritten r) where
   walk_stopped rows tips hidden tips_hold hidden_hold MayFail IsMeant (Err stopped) Broken is (x, met, unheld, unread) = absurd (none_broken tips hidden tips_hold hidden_hold x met unread)
   walk_stopped rows tips hidden tips_hold hidden_hold MayFail IsMeant (Err stopped) Memory is fails = subst (IsReadingFault MayFail) (sym is) tt
 
-  -- ---- where all have rows
+  -- ---- if all have rows
 
   module _ (rows : List Row) (agree : AgreeRows r.kind r.objects rows) where
     held_parent_too : (x y : ObjectId) → Holds rows x → Contains (read_commits x).parents y → Holds rows y

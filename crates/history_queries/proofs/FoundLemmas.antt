@@ -1,4 +1,4 @@
--- What is found is the same exactly where its entries are.
+-- What is found is the same exactly if its entries are.
 use Rattle.std.proofs.Common.{◌≡◌, ap, refl, sym, subst, true, false, List, [], ◌∷◌, map, Option, Some, None, option_map}
 use Rattle.std.specs.Bool.{Decides}
 use Rattle.std.specs.Cmp.Lexicographic.{pointwise}
@@ -21,7 +21,7 @@ use Rattle.history_model.proofs.IdLemmas.{id_itself}
 use Rattle.history_queries.proofs.Answered.{no_file_mode}
 use Rattle.history_files.specs.declared.found.Found.TheVariants as found
 
--- of one mode the ids tell
+-- entries of one mode are the same exactly if their ids are
 one_mode : (mode : Bytes) (a b : ObjectId) → Decides (id_eq (id_of a) (id_of b)) (◌≡◌ {A = Bytes × Id} (mode, id_of a) (mode, id_of b))
 one_mode mode a b = (
   λ e i. (mode, id_eq-same (id_of a) (id_of b) e i),
@@ -51,7 +51,7 @@ found_same None (Some b) = (λ e. cc, λ e. cc)
 found_same (Some a) None = (λ e. cc, λ e. cc)
 found_same (Some a) (Some b) = let same = by_entries a b in (λ e. ap Some (same.0 e), λ e. same.1 (same_Some (entry_of a) (entry_of b) e))
 
--- lists of what is found are the same exactly where their entries are
+-- lists of what is found are the same exactly if their entries are
 pub each_found_same : (a b : List (Option Found)) → Decides (pointwise (option_eq (eq-value).it) a b) (map (option_map entry_of) a ≡ map (option_map entry_of) b)
 each_found_same [] [] = (λ e. refl, λ e. refl)
 each_found_same [] (b ∷ bs) = (λ e. cc, λ e. cc)

@@ -3,7 +3,7 @@ use Rattle.std.proofs.Common.{◌≡◌, ℕ, List, [], ◌∷◌, ◌++◌, len
 use Rattle.std.proofs.lemmas.List.{append-nil}
 use Rattle.std.specs.List.{flat_map, join_with_byte}
 
--- the words behind the first, each behind the byte
+-- the words after the first, each after the byte
 pub join_with_byte-map : {A : Type 0} (now : A → List ℕ) (c : ℕ) (x : A) (xs : List A) → join_with_byte c (map now (x ∷ xs)) ≡ now x ++ flat_map (λ w. c ∷ now w) xs
 join_with_byte-map now c x [] = sym (append-nil (now x))
 join_with_byte-map now c x (y ∷ ys) = ap (λ zs. now x ++ (c ∷ zs)) (join_with_byte-map now c y ys)

@@ -1,4 +1,4 @@
--- The words of a log's items, and what they stand for.
+-- The words of a log's items, and what they mean.
 use Rattle.std.proofs.Common.{◌≡◌, ◌∙◌, ap, refl, sym, ℕ, ◌+◌, ◌<◌, length, List, [], ◌∷◌, ◌++◌, map, take, get_or, Option, Some, None, append-nil}
 use Rattle.std.specs.List.{filter_map, cons_option, AllZip}
 use Rattle.std.proofs.lemmas.List.{map-append, take_more}

@@ -1,4 +1,4 @@
--- What a log's words, its order and its walk tell.
+-- What a log's words, its order and its walk say.
 use Rattle.std.proofs.Common.{◌≡◌, ◌∙◌, ap, refl, sym, subst, ℕ, zero, suc, ℤ, pos, Bool, true, false, cond, not, ◌==◌, ◌||◌, List, [], ◌∷◌, ◌++◌, filter, map, length, ◌<◌, Option, Some, None, option_map, Vec, Ok, Err, arith, tests, append-nil}
 use Rattle.std.specs.declared.alloc.Global.{Global}
 use Rattle.std.specs.Prelude.{Contains, IsErrAnd, Result}
@@ -75,7 +75,7 @@ module _ (r : Repository) (items : List LogItem) (ends : Ends) (are : AreEnds r 
       ∙ (λ i. any_map test (commit_or_cause r) (filter_map tip_word items) i || any_map test (commit_or_cause r) (filter_map hidden_word items) i)
       ∙ any_end (λ word. test (commit_or_cause r word)) items
 
-  -- some commit is hidden where an item says so
+  -- some commit is hidden exactly if an item says so
   pub hides_told : not (length ends.hidden.items == 0) ≡ list_any is_hidden items
   hides_told = go items ends.hidden.items are.hidden
     where
@@ -132,7 +132,7 @@ module _ (r : Repository) (order : LogCommand) where
     pub told_by_order : words_cause (meanings_in ends) ≡ None → list_any is_bad_path order.paths ≡ false → first_cause r (Log order) ≡ Ordered
     told_by_order none good = told_by_path none ∙ ap (λ b. cond b (Some BadPath) Ordered) good
 
--- ---- the commits that words stand for
+-- ---- the commits that words mean
 
 -- each is stored
 pub ids_hold : (r : Repository) → IsWholeStore r → (meanings : List own.WordMeaning) (words : List Bytes) → map meaning_of meanings ≡ map (commit_or_cause r) words → (x : ObjectId) → Contains (filter_map commit_in meanings) x → HoldsCommit r (id_of x)
@@ -176,7 +176,7 @@ walk_told Date first (walk.Date parents) is g tips hidden ids h = subst (λ p. I
 walk_told Topological first (walk.Topological parents) is g tips hidden ids h = subst (λ p. InTopological g (asks tips hidden p None) ids) is h
 walk_told line first made is g tips hidden ids h = absurd is
 
--- ---- the walk's answers
+-- ---- what the walk returns
 
 -- a fault of reading is no refusal
 pub walk_fault : (MayFail : Type 0) (r : Repository) (order : LogCommand) (stopped : Stopped) → IsReadingFault MayFail stopped → Walks MayFail r order (Err stopped)
@@ -188,13 +188,13 @@ pub walk_stops : (MayFail : Type 0) (r : Repository) (order : LogCommand) (resul
 walk_stops MayFail r order (Ok walked) stopped same h = absurd same
 walk_stops MayFail r order (Err other) stopped same h = subst (λ (x : Stopped). Walks MayFail r order (Err x)) (sym same) h
 
--- where no walk is given, its cause is the log's
+-- if there is no walk, its cause is the log's
 pub unwalked : (MayFail : Type 0) (r : Repository) (order : LogCommand) (stopped : Stopped) → Walks MayFail r order (Err stopped) → OnlyAnswers MayFail r (Log order) (Err stopped)
 unwalked MayFail r order (Refused cause) h = h
 unwalked MayFail r order (Fault fault) h = h
 
 module _ (r : Repository) (order : LogCommand) (ends : Ends) (are : AreEnds r order.items ends) where
-  -- the walk that was asked for is the log's
+  -- the requested walk is the log's
   walk_of : (request : Request) (ids : Vec ObjectId Global) → IsOrderOf order.order order.first_parents request.order → request.tips.items ≡ filter_map commit_in ends.tips.items → request.hidden.items ≡ filter_map commit_in ends.hidden.items
       → IsLogged r request ids → IsWalk order.order (commits_of r) (walk_request r order) (map id_of ids.items)
   walk_of request ids is_order tips_are hidden_are walked =
@@ -240,7 +240,7 @@ none_bad (field ∷ fields) (path ∷ paths) are h =
     ap (λ b. b || list_any is_bad_path paths) (sym (h 0 field (omega arith) (omega arith) path are.0))
     ∙ none_bad fields paths are.1 (λ k d low less. h (suc k) d (omega arith) (omega arith))
 
--- whether a test of the fields finds one tells whether a path is none
+-- a test of the fields finds one exactly if one of the paths is bad
 pub any_bad : (fields : List Field) (paths : List Bytes) → ArePaths fields paths → (answer : Bool)
     → MatchBool answer ((k : ℕ) × (k < length fields) × HoldsAt (Tells true) fields k) (AllWithin (Tells false) fields 0 (length fields)) → answer ≡ list_any is_bad_path paths
 any_bad fields paths are true h = sym (some_bad fields paths are h.0 h.1 h.2)

@@ -1,4 +1,4 @@
--- What the word of an order tells of its cutoff.
+-- What the word of an order says of its cutoff.
 use Rattle.std.proofs.Common.{◌≡◌, ◌∙◌, ap, sym, subst, pos, false, not, cond, ◌||◌, ◌⊎◌, inl, inr, Some, None, Vec, ℕ, codes}
 use Rattle.std.specs.Prelude.{unsigned_abs}
 use Rattle.std.specs.declared.alloc.Global.{Global}

@@ -1,4 +1,4 @@
--- Which name a word asks the past of, and why it is refused.
+-- Which name's past a word means, and why it is refused.
 use Rattle.std.proofs.Common.{◌≡◌, ℕ, Bool, true, false, cond, not, ◌||◌, [], ◌∷◌, refl, sym, ◌∙◌, ap, Option, Some, None, find, unwrap_or, bytes_eq, codes, Vec, Ok}
 use Rattle.std.specs.declared.alloc.Global.{Global}
 use Rattle.std.specs.List.{list_any}

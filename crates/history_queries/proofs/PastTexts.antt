@@ -1,4 +1,4 @@
--- The text that tells a name's moves, by the lines of its log.
+-- The text of a name's moves, by the lines of its log.
 use Rattle.std.proofs.Common.{◌≡◌, true, List, [], ◌∷◌, ◌++◌, map, reverse, length, sym, ◌∙◌, ap, arith, Bor}
 use Rattle.std.specs.Prelude.{codes, decimal}
 use Rattle.std.specs.List.{All, flat_map, list_all}

@@ -5,7 +5,7 @@ use Rattle.history_repository.specs.Stands.{Stands}
 use Rattle.history_queries.specs.Walked.{AllHold, AreRead}
 use Rattle.history_queries.proofs.rows.told.Given as goal
 
--- what is told of the commits so far
+-- the commits so far are described
 abbrev pub invariant-ids : goal.invariant-ids
 invariant-ids g l = (r : plain.Repository) → Stands g.F.Files.is_honest g.F.Files.history l.repository r
     → AreRead r l.read → AllHold r l.ids → AreToldOf r (take l.id-index l.ids) l.commits.items
